@@ -31,6 +31,7 @@ uint32_t waywire_c_tables_kind(const struct handle *, uint16_t interface, uint32
 	void waywire_c_##end##_display(const struct handle *, waywire_object *display); \
 	uint32_t waywire_c_##end##_live(const struct handle *, waywire_object, uint16_t *interface, \
 		uint32_t *version); \
+	uint32_t waywire_c_##end##_object_count(const struct handle *); \
 	void waywire_c_##end##_in_room(const struct handle *, waywire_amounts *room); \
 	bool waywire_c_##end##_is_drained(const struct handle *); \
 	void waywire_c_##end##_feed(struct handle *, const void *bytes, size_t length, \
@@ -39,6 +40,12 @@ uint32_t waywire_c_tables_kind(const struct handle *, uint16_t interface, uint32
 		waywire_amounts *amounts); \
 	void waywire_c_##end##_take(struct handle *, void *bytes, size_t length, uint32_t *tokens, \
 		size_t token_count, waywire_amounts *taken); \
+	void waywire_c_##end##_peek(const struct handle *, waywire_part *parts, size_t *tokens); \
+	uint32_t waywire_c_##end##_token_to_go(const struct handle *, size_t place, uint32_t *token); \
+	void waywire_c_##end##_sent(struct handle *, size_t bytes, waywire_amounts *taken); \
+	void waywire_c_##end##_space(const struct handle *, waywire_part *parts); \
+	void waywire_c_##end##_received(struct handle *, size_t bytes, const uint32_t *tokens, \
+		size_t token_count, waywire_amounts *fed); \
 	void waywire_c_##end##_take_waiting_tokens(struct handle *, uint32_t *tokens, \
 		size_t token_count, size_t *taken); \
 	uint32_t waywire_c_##end##_send(struct handle *, waywire_object target, uint16_t opcode, \
@@ -72,6 +79,7 @@ uint32_t waywire_c_inspector_verdict(struct handle *, const void **line, size_t 
 
 SAME(object, sizeof(waywire_object) == 16 && offsetof(waywire_object, id) == 8);
 SAME(amounts, sizeof(waywire_amounts) == 16 && offsetof(waywire_amounts, tokens) == 8);
+SAME(part, sizeof(waywire_part) == 16 && offsetof(waywire_part, length) == 8);
 SAME(sizes, sizeof(waywire_sizes) == 40 && offsetof(waywire_sizes, out_tokens) == 8
 	&& offsetof(waywire_sizes, in_bytes) == 16 && offsetof(waywire_sizes, in_tokens) == 24
 	&& offsetof(waywire_sizes, limit) == 32);
@@ -89,7 +97,8 @@ SAME(report, offsetof(waywire_report, opcode) == 4 && offsetof(waywire_report, t
 	&& offsetof(waywire_report, spelling) == 60);
 SAME(report_parts, offsetof(waywire_report, text) == 64 && offsetof(waywire_report, text_length) == 72
 	&& offsetof(waywire_report, place) == 80 && offsetof(waywire_report, offset) == 88
-	&& offsetof(waywire_report, interface) == 96 && offsetof(waywire_report, version) == 100
+	&& offsetof(waywire_report, interface) == 96 && offsetof(waywire_report, forgotten) == 98
+	&& offsetof(waywire_report, version) == 100
 	&& offsetof(waywire_report, user) == 104 && offsetof(waywire_report, args) == 112
 	&& sizeof(waywire_report) == 112 + 20 * 48); /* an export writes what stands before `user` */
 
@@ -499,6 +508,14 @@ static waywire_status set_user(struct users *users, waywire_object object, void 
 		return it ? user_of(&it->users, object) : NULL; \
 	} \
 \
+	waywire_status waywire_##end##_object_count(const waywire_##end *it, size_t *count) \
+	{ \
+		if (!it || !count) \
+			return WAYWIRE_NULL; \
+		*count = waywire_c_##end##_object_count(&it->handle); \
+		return WAYWIRE_OK; \
+	} \
+\
 	waywire_status waywire_##end##_in_room(const waywire_##end *it, waywire_amounts *room) \
 	{ \
 		if (!it || !room) \
@@ -554,6 +571,48 @@ static waywire_status set_user(struct users *users, waywire_object object, void 
 			waywire_c_##end##_take(&it->handle, (void *)to, length, (uint32_t *)tokens_to, \
 				token_count, taken); \
 		return status; \
+	} \
+\
+	waywire_status waywire_##end##_peek(const waywire_##end *it, waywire_part parts[2], \
+		uint32_t *tokens, size_t room, size_t *token_count) \
+	{ \
+		if (!it || !parts || !token_count || (room && !tokens)) \
+			return WAYWIRE_NULL; \
+		waywire_c_##end##_peek(&it->handle, parts, token_count); \
+		for (size_t place = 0; place < *token_count && place < room; place++) \
+			waywire_c_##end##_token_to_go(&it->handle, place, &tokens[place]); \
+		return WAYWIRE_OK; \
+	} \
+\
+	waywire_status waywire_##end##_sent(waywire_##end *it, size_t bytes, waywire_amounts *taken) \
+	{ \
+		waywire_amounts no_amounts; \
+		if (!it) \
+			return WAYWIRE_NULL; \
+		waywire_c_##end##_sent(&it->handle, bytes, taken ? taken : &no_amounts); \
+		return WAYWIRE_OK; \
+	} \
+\
+	waywire_status waywire_##end##_space(waywire_##end *it, waywire_part parts[2]) \
+	{ \
+		if (!it || !parts) \
+			return WAYWIRE_NULL; \
+		waywire_c_##end##_space(&it->handle, parts); \
+		return WAYWIRE_OK; \
+	} \
+\
+	waywire_status waywire_##end##_received(waywire_##end *it, size_t bytes, \
+		const uint32_t *tokens, size_t token_count, waywire_amounts *fed) \
+	{ \
+		const void *from = tokens; \
+		if (!it || !fed) \
+			return WAYWIRE_NULL; \
+		waywire_status status = slice(&from, token_count, sizeof *tokens); \
+		if (status) \
+			return status; \
+		waywire_c_##end##_received(&it->handle, bytes, from, token_count, fed); \
+		return fed->bytes || fed->tokens || !end##_has_failed(&it->handle) \
+			? WAYWIRE_OK : WAYWIRE_FAILED; \
 	} \
 \
 	waywire_status waywire_##end##_take_waiting_tokens(waywire_##end *it, uint32_t *tokens, \

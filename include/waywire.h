@@ -6,8 +6,10 @@
  *
  *  1. Send.   waywire_client_send and waywire_client_bind write requests; waywire_server_send,
  *             _announce, _drop_object and _post_error write events. They wait in the end's outbox.
- *  2. Take.   `take` moves what waits into the caller's memory: write it to the socket.
- *  3. Feed.   `feed` moves what came from the socket into the end's inbox, in any cut.
+ *  2. Take.   `take` moves what waits into the caller's memory: write it to the socket. Or write what
+ *             `peek` lends, and say by `sent` how much of it went.
+ *  3. Feed.   `feed` moves what came from the socket into the end's inbox, in any cut. Or read into what
+ *             `space` lends, and say by `received` how much came.
  *  4. Next.   `next` reads one message and lends its report. Repeat it until the report says
  *             WAYWIRE_NOTHING.
  *
@@ -263,6 +265,13 @@ typedef struct waywire_amounts {
 	size_t tokens;
 } waywire_amounts;
 
+/* One of two parts in which bytes lie, one after the other. A length may be 0. Where <sys/uio.h> has struct iovec
+ * with the pointer first, as on Linux, it is of that layout. */
+typedef struct waywire_part {
+	void *bytes;
+	size_t length;
+} waywire_part;
+
 /* The limit where the two ends have not agreed on another, in bytes. */
 #define WAYWIRE_USUAL_LIMIT 4096
 
@@ -292,7 +301,7 @@ typedef struct waywire_sizes {
 /* The kinds of reports, and the fields that each uses; the others are 0. */
 typedef enum waywire_report_kind {
 	WAYWIRE_NOTHING = 0,   /* no whole message waits */
-	WAYWIRE_MESSAGE = 1,   /* a request or an event: target, opcode, args */
+	WAYWIRE_MESSAGE = 1,   /* a request or an event: target, opcode, args, forgotten */
 	WAYWIRE_DISCARDED = 2, /* an event for an object that the client has destroyed: target, opcode,
 	                        * and its tokens, so that the caller can close what they stand for */
 	WAYWIRE_DELETED = 3,   /* wl_display.delete_id of an object: target. Its id is free again */
@@ -322,8 +331,11 @@ typedef struct waywire_report {
 	size_t text_length;
 	size_t place;
 	uint64_t offset;
-	uint16_t interface; /* of the target, its place in the tables, and its version: as they were before the */
-	uint32_t version;   /* message, also where it ended the target; version 0 where there is no target */
+	/* Of the target, its place in the tables, and its version: as they were before the message, also where it
+	 * ended the target; version 0 where there is no target. */
+	uint16_t interface;
+	bool forgotten; /* whether it is wl_registry.global, and the client does not remember the global */
+	uint32_t version;
 	void *user; /* what the caller has set of the target, as by waywire_client_set_user; else null */
 	waywire_arg args[WAYWIRE_MAX_ARGS];
 } waywire_report;
@@ -417,7 +429,8 @@ size_t waywire_report_line(const waywire_tables *tables, waywire_sender sender,
 /* ---- a client */
 
 /* The client's end of a connection: its objects, its inbox and outbox, the globals that it was told of. It
- * remembers 1,024 globals at a time; one that it is told of beyond these cannot be bound. */
+ * remembers 1,024 globals at a time. One that it is told of beyond these, or whose interface is not in the
+ * tables, is not remembered, as its report says (`forgotten`), and cannot be bound. */
 typedef struct waywire_client waywire_client;
 
 /* Makes a client with wl_display alone, an empty inbox and an empty outbox. The caller frees it.
@@ -446,6 +459,10 @@ waywire_status waywire_client_set_user(waywire_client *client, waywire_object ob
 /* The pointer that was set of an object, also once it has ended, as long as none was set of a later object with
  * its id; else null. */
 void *waywire_client_user(const waywire_client *client, waywire_object object);
+
+/* How many objects the client has, without going through them: wl_display, those that are live, and those that
+ * it destroyed and that WAYWIRE_DELETED has not ended yet. A server has none of the last. */
+waywire_status waywire_client_object_count(const waywire_client *client, size_t *count);
 
 /* The free bytes and tokens of the inbox; zeros at a failed client. */
 waywire_status waywire_client_in_room(const waywire_client *client, waywire_amounts *room);
@@ -485,6 +502,28 @@ waywire_status waywire_client_goes(const waywire_client *client, size_t bytes, s
 waywire_status waywire_client_take(waywire_client *client, void *bytes, size_t length,
 	uint32_t *tokens, size_t token_count, waywire_amounts *taken);
 
+/* Writes to `parts` where the bytes lie that can go at one time, to be written with sendmsg, and to `tokens`
+ * the first `room` of the tokens that go with the first of them; `token_count` gets how many these are, at most
+ * WAYWIRE_MAX_ARGS. Nothing is taken out: after a sendmsg of n bytes call `sent` with n, or of none not at all.
+ * No message begins behind the first byte that has tokens, so those that went are gone however few bytes
+ * went. The parts are lent until the client's next call of any kind. */
+waywire_status waywire_client_peek(const waywire_client *client, waywire_part parts[2], uint32_t *tokens,
+	size_t room, size_t *token_count);
+
+/* Takes the first bytes out of the outbox, so many or all that wait, with the tokens of the messages that they
+ * begin, as `take` does. `taken` says how much that was, and may be null. */
+waywire_status waywire_client_sent(waywire_client *client, size_t bytes, waywire_amounts *taken);
+
+/* Writes to `parts` where the free bytes of the inbox lie, to be read into with recvmsg; none at a failed
+ * client. The parts are the caller's to write to until the client's next call of any kind. */
+waywire_status waywire_client_space(waywire_client *client, waywire_part parts[2]);
+
+/* Takes in tokens, and the first of the bytes that were written where `space` said, so many of them, as `feed`
+ * does and with its statuses. Where not all tokens fit no byte is taken in: call `next` until they do, and this
+ * again with the same number of bytes and the other tokens. */
+waywire_status waywire_client_received(waywire_client *client, size_t bytes, const uint32_t *tokens,
+	size_t token_count, waywire_amounts *fed);
+
 /* Gives the client up, as at the end of its connection, and moves the tokens that wait in its inbox and its
  * outbox into the caller's memory, so that their descriptors can be closed: each token that was fed is in one
  * report, or is taken so, and each that was sent is taken by `take`, or so. First come those of the inbox, a
@@ -516,6 +555,7 @@ waywire_status waywire_server_live(const waywire_server *server, waywire_object 
 	uint16_t *interface, uint32_t *version);
 waywire_status waywire_server_set_user(waywire_server *server, waywire_object object, void *user);
 void *waywire_server_user(const waywire_server *server, waywire_object object);
+waywire_status waywire_server_object_count(const waywire_server *server, size_t *count);
 waywire_status waywire_server_in_room(const waywire_server *server, waywire_amounts *room);
 waywire_status waywire_server_is_drained(const waywire_server *server, bool *drained);
 waywire_status waywire_server_feed(waywire_server *server, const void *bytes, size_t length,
@@ -524,6 +564,12 @@ waywire_status waywire_server_goes(const waywire_server *server, size_t bytes, s
 	waywire_amounts *amounts);
 waywire_status waywire_server_take(waywire_server *server, void *bytes, size_t length,
 	uint32_t *tokens, size_t token_count, waywire_amounts *taken);
+waywire_status waywire_server_peek(const waywire_server *server, waywire_part parts[2], uint32_t *tokens,
+	size_t room, size_t *token_count);
+waywire_status waywire_server_sent(waywire_server *server, size_t bytes, waywire_amounts *taken);
+waywire_status waywire_server_space(waywire_server *server, waywire_part parts[2]);
+waywire_status waywire_server_received(waywire_server *server, size_t bytes, const uint32_t *tokens,
+	size_t token_count, waywire_amounts *fed);
 waywire_status waywire_server_take_waiting_tokens(waywire_server *server, uint32_t *tokens,
 	size_t token_count, size_t *taken);
 

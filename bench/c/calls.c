@@ -1,16 +1,18 @@
 /* Sends messages between a client and a server in one process, and reads them, so that the
  * instructions of a message can be counted.
  *
- *     calls CASE TIMES
+ *     calls CASE BATCH TIMES
  *
- * damage: wl_surface.damage; motion: wl_pointer.motion; surface: wl_compositor.create_surface,
- * wl_surface.destroy and wl_display.delete_id. */
+ * BATCH times what the case sends is written, then carried, then read. damage: wl_surface.damage;
+ * motion: wl_pointer.motion; surface: wl_compositor.create_surface, wl_surface.destroy and
+ * wl_display.delete_id; title: wl_shell_surface.set_title of 1,000 bytes. */
 #include "../../tests/c/must.h"
+#include <string.h>
 
 static waywire_client *client;
 static waywire_server *server;
 static waywire_tables *tables;
-static unsigned char bytes[65536];
+static unsigned char bytes[131072];
 static waywire_report report;
 
 static void up(void)
@@ -52,56 +54,102 @@ static void add(const char *name, uint32_t version)
 	MUST(!waywire_server_add_global(server, interface, version, NULL));
 }
 
-int main(int argc, char **argv)
+/* The objects to which the messages are sent. */
+static waywire_object compositor, surface, shell_surface, pointer;
+
+static void open_ends(void)
 {
-	waywire_sizes sizes = { 65536, 64, 65536, 64 };
-	waywire_object display = { 0, 1 }, compositor, seat;
-	MUST(argc == 3);
-	long times = atol(argv[2]);
+	/* Room for 100 of any of the messages. */
+	waywire_sizes sizes = { 131072, 64, 131072, 64 };
+	waywire_object display = { 0, 1 }, seat, shell;
 	MUST(!waywire_tables_core(&tables));
 	MUST(!waywire_client_new(tables, &sizes, &client));
 	MUST(!waywire_server_new(tables, &sizes, &server));
 	add("wl_compositor", 6);
 	add("wl_seat", 9);
+	add("wl_shell", 1);
 	waywire_object registry = make(display, WAYWIRE_WL_DISPLAY_REQUEST_GET_REGISTRY);
 	up();
 	request();
 	MUST(!waywire_server_announce(server, NULL));
 	down();
-	event();
-	event();
+	for (int each = 0; each < 3; each++)
+		event();
 	MUST(!waywire_client_bind(client, registry, 1, "wl_compositor", 6, &compositor));
 	MUST(!waywire_client_bind(client, registry, 2, "wl_seat", 9, &seat));
-	waywire_object surface = make(compositor, WAYWIRE_WL_COMPOSITOR_REQUEST_CREATE_SURFACE);
-	waywire_object pointer = make(seat, WAYWIRE_WL_SEAT_REQUEST_GET_POINTER);
+	MUST(!waywire_client_bind(client, registry, 3, "wl_shell", 1, &shell));
+	surface = make(compositor, WAYWIRE_WL_COMPOSITOR_REQUEST_CREATE_SURFACE);
+	pointer = make(seat, WAYWIRE_WL_SEAT_REQUEST_GET_POINTER);
+	waywire_arg args[] = { waywire_new(), waywire_of(surface) };
+	MUST(!waywire_client_send(client, shell, WAYWIRE_WL_SHELL_REQUEST_GET_SHELL_SURFACE, args, 2,
+		&shell_surface, NULL));
 	up();
-	for (int each = 0; each < 4; each++)
+	for (int each = 0; each < 6; each++)
 		request();
-	for (long each = 0; each < times; each++)
-		if (argv[1][0] == 'd') {
-			waywire_arg args[] = { waywire_int((int32_t)each), waywire_int(100), waywire_int(3),
-				waywire_int(4) };
-			MUST(!waywire_client_send(client, surface, WAYWIRE_WL_SURFACE_REQUEST_DAMAGE, args,
-				4, NULL, NULL));
+}
+
+static void send_damage(void)
+{
+	waywire_arg args[] = { waywire_int(1), waywire_int(2), waywire_int(3), waywire_int(4) };
+	MUST(!waywire_client_send(client, surface, WAYWIRE_WL_SURFACE_REQUEST_DAMAGE, args, 4, NULL,
+		NULL));
+}
+
+static void send_motion(void)
+{
+	waywire_arg args[] = { waywire_uint(1), waywire_fixed(256), waywire_fixed(77) };
+	MUST(!waywire_server_send(server, pointer, WAYWIRE_WL_POINTER_EVENT_MOTION, args, 3, NULL,
+		NULL));
+}
+
+static void send_surface(void)
+{
+	waywire_object it = make(compositor, WAYWIRE_WL_COMPOSITOR_REQUEST_CREATE_SURFACE);
+	MUST(!waywire_client_send(client, it, WAYWIRE_WL_SURFACE_REQUEST_DESTROY, NULL, 0, NULL, NULL));
+}
+
+static void send_title(void)
+{
+	static char title[1001];
+	if (!title[0])
+		memset(title, 'a', 1000);
+	waywire_arg args[] = { waywire_string(title) };
+	MUST(!waywire_client_send(client, shell_surface, WAYWIRE_WL_SHELL_SURFACE_REQUEST_SET_TITLE,
+		args, 1, NULL, NULL));
+}
+
+/* What a case sends, and how many requests and events are read for it. */
+static const struct {
+	const char *name;
+	void (*send)(void);
+	int requests, events;
+} cases[] = {
+	{ "damage", send_damage, 1, 0 },
+	{ "motion", send_motion, 0, 1 },
+	{ "surface", send_surface, 2, 1 },
+	{ "title", send_title, 1, 0 },
+};
+
+int main(int argc, char **argv)
+{
+	size_t at = 0;
+	MUST(argc == 4);
+	while (strcmp(cases[at].name, argv[1]))
+		MUST(++at < sizeof cases / sizeof cases[0]);
+	long batch = atol(argv[2]), times = atol(argv[3]);
+	open_ends();
+	for (long round = 0; round < times; round++) {
+		for (long each = 0; each < batch; each++)
+			cases[at].send();
+		if (cases[at].requests)
 			up();
+		for (long each = 0; each < batch * cases[at].requests; each++)
 			request();
-		} else if (argv[1][0] == 'm') {
-			waywire_arg args[] = { waywire_uint((uint32_t)each), waywire_fixed(256),
-				waywire_fixed(77) };
-			MUST(!waywire_server_send(server, pointer, WAYWIRE_WL_POINTER_EVENT_MOTION, args, 3,
-				NULL, NULL));
+		if (cases[at].events)
 			down();
+		for (long each = 0; each < batch * cases[at].events; each++)
 			event();
-		} else {
-			waywire_object it = make(compositor, WAYWIRE_WL_COMPOSITOR_REQUEST_CREATE_SURFACE);
-			MUST(!waywire_client_send(client, it, WAYWIRE_WL_SURFACE_REQUEST_DESTROY, NULL, 0,
-				NULL, NULL));
-			up();
-			request();
-			request();
-			down();
-			event();
-		}
+	}
 	waywire_client_free(client);
 	waywire_server_free(server);
 	return 0;

@@ -180,6 +180,24 @@ static void hear(struct connection *connection, const waywire_report *report)
 		forget(it);
 }
 
+/* The most objects of a client that are kept for it. */
+#define MOST_OBJECTS 50000
+
+/* Ends a client with an error where it opens too many objects. 0, or -1 where it did. */
+static int bound_objects(struct connection *connection)
+{
+	waywire_server *server = connection->link.server;
+	size_t count = 0;
+	waywire_server_object_count(server, &count);
+	if (count <= MOST_OBJECTS)
+		return 0;
+	fprintf(stderr, "connection: the client has %zu objects\n", count);
+	waywire_server_post_error(server, connection->display, WAYWIRE_WL_DISPLAY_ERROR_NO_MEMORY,
+		"too many objects");
+	errno = EPROTO;
+	return -1; /* connection_close writes the error and closes */
+}
+
 /* Reads one report. 0, or -1 where one of the two ends broke a rule, or the other does not read. */
 static int next(struct connection *connection, waywire_report *report)
 {
@@ -189,7 +207,7 @@ static int next(struct connection *connection, waywire_report *report)
 		status = waywire_client_next(link->client, report);
 	} else {
 		/* What was written before is on its way, so that there is room for what this one asks for. */
-		if (link_drain(link, 5000) < 0)
+		if (bound_objects(connection) || link_drain(link, 5000) < 0)
 			return -1;
 		status = waywire_server_next(link->server, report);
 	}

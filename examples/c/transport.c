@@ -51,39 +51,40 @@ int link_listen(const char *path)
 	return fd;
 }
 
-/* Takes what waits in the outbox, once all that was taken before is sent. */
-static void take(struct link *link)
+/* Where the bytes lie that can go at one time; returns how many descriptors go with the first of them. */
+static size_t peek(const struct link *link, struct iovec data[2], uint32_t tokens[WAYWIRE_MAX_ARGS])
 {
-	waywire_amounts taken = { 0, 0 };
-	if (link->from < link->to)
-		return;
+	waywire_part parts[2] = { { NULL, 0 }, { NULL, 0 } };
+	size_t count = 0;
 	if (link->client)
-		waywire_client_take(link->client, link->bytes, LINK_BYTES, link->tokens,
-			LINK_DESCRIPTORS, &taken);
+		waywire_client_peek(link->client, parts, tokens, WAYWIRE_MAX_ARGS, &count);
 	else
-		waywire_server_take(link->server, link->bytes, LINK_BYTES, link->tokens,
-			LINK_DESCRIPTORS, &taken);
-	link->from = 0;
-	link->to = taken.bytes;
-	link->token_count = taken.tokens;
+		waywire_server_peek(link->server, parts, tokens, WAYWIRE_MAX_ARGS, &count);
+	for (int part = 0; part < 2; part++)
+		data[part] = (struct iovec){ parts[part].bytes, parts[part].length };
+	return count;
 }
 
-static void close_tokens(struct link *link)
+/* Whether something waits in the outbox. */
+static bool waits(const struct link *link)
 {
-	while (link->token_count)
-		close((int)link->tokens[--link->token_count]);
+	uint32_t tokens[WAYWIRE_MAX_ARGS];
+	struct iovec data[2];
+	peek(link, data, tokens);
+	return data[0].iov_len || data[1].iov_len;
 }
 
 int link_flush(struct link *link)
 {
-	for (take(link); link->from < link->to; take(link)) {
+	while (waits(link)) {
+		uint32_t tokens[WAYWIRE_MAX_ARGS];
 		union {
-			char bytes[CMSG_SPACE(LINK_DESCRIPTORS * sizeof(int))];
+			char bytes[CMSG_SPACE(sizeof tokens)];
 			struct cmsghdr aligned;
 		} control = { { 0 } };
-		struct iovec data = { link->bytes + link->from, link->to - link->from };
-		struct msghdr message = { .msg_iov = &data, .msg_iovlen = 1 };
-		size_t size = link->token_count * sizeof(int);
+		struct iovec data[2];
+		struct msghdr message = { .msg_iov = data, .msg_iovlen = 2 };
+		size_t count = peek(link, data, tokens), size = count * sizeof(int);
 		if (size) {
 			message.msg_control = control.bytes;
 			message.msg_controllen = CMSG_SPACE(size);
@@ -91,15 +92,19 @@ int link_flush(struct link *link)
 			header->cmsg_level = SOL_SOCKET;
 			header->cmsg_type = SCM_RIGHTS;
 			header->cmsg_len = CMSG_LEN(size);
-			memcpy(CMSG_DATA(header), link->tokens, size);
+			memcpy(CMSG_DATA(header), tokens, size);
 		}
 		ssize_t sent = sendmsg(link->socket, &message, MSG_NOSIGNAL | MSG_DONTWAIT);
 		if (sent < 0 && errno == EINTR)
 			continue;
 		if (sent < 0)
 			return errno == EAGAIN ? 0 : -1;
-		close_tokens(link); /* they went with the first byte */
-		link->from += (size_t)sent;
+		while (count) /* they went with the first byte */
+			close((int)tokens[--count]);
+		if (link->client)
+			waywire_client_sent(link->client, (size_t)sent, NULL);
+		else
+			waywire_server_sent(link->server, (size_t)sent, NULL);
 	}
 	return 0;
 }
@@ -109,7 +114,7 @@ int link_drain(struct link *link, int milliseconds)
 	for (;;) {
 		if (link_flush(link) < 0)
 			return -1;
-		if (link->from == link->to)
+		if (!waits(link))
 			return 0;
 		struct pollfd wanted = { link->socket, POLLOUT, 0 };
 		int ready = poll(&wanted, 1, milliseconds);
@@ -137,23 +142,26 @@ static size_t received(struct msghdr *message, uint32_t *tokens)
 
 int link_fill(struct link *link)
 {
-	unsigned char bytes[LINK_BYTES];
 	uint32_t tokens[LINK_DESCRIPTORS];
 	union {
 		char bytes[CMSG_SPACE(LINK_DESCRIPTORS * sizeof(int))];
 		struct cmsghdr aligned;
 	} control;
 	waywire_amounts room = { 0, 0 }, fed;
-	if (link->client)
+	waywire_part parts[2] = { { NULL, 0 }, { NULL, 0 } };
+	if (link->client) {
 		waywire_client_in_room(link->client, &room);
-	else
+		waywire_client_space(link->client, parts);
+	} else {
 		waywire_server_in_room(link->server, &room);
+		waywire_server_space(link->server, parts);
+	}
 	if (!room.bytes || room.tokens < LINK_DESCRIPTORS) {
 		errno = ENOBUFS;
 		return -1;
 	}
-	struct iovec data = { bytes, room.bytes < sizeof bytes ? room.bytes : sizeof bytes };
-	struct msghdr message = { .msg_iov = &data, .msg_iovlen = 1, .msg_control = control.bytes,
+	struct iovec data[2] = { { parts[0].bytes, parts[0].length }, { parts[1].bytes, parts[1].length } };
+	struct msghdr message = { .msg_iov = data, .msg_iovlen = 2, .msg_control = control.bytes,
 		.msg_controllen = sizeof control.bytes };
 	ssize_t came = recvmsg(link->socket, &message, MSG_CMSG_CLOEXEC | MSG_DONTWAIT);
 	if (came < 0 && (errno == EAGAIN || errno == EINTR))
@@ -164,9 +172,9 @@ int link_fill(struct link *link)
 		return -1;
 	size_t count = received(&message, tokens);
 	if (link->client)
-		waywire_client_feed(link->client, bytes, (size_t)came, tokens, count, &fed);
+		waywire_client_received(link->client, (size_t)came, tokens, count, &fed);
 	else
-		waywire_server_feed(link->server, bytes, (size_t)came, tokens, count, &fed);
+		waywire_server_received(link->server, (size_t)came, tokens, count, &fed);
 	return 1;
 }
 
@@ -176,7 +184,7 @@ int link_wait(struct link *link, int milliseconds)
 		if (link_flush(link) < 0)
 			return -1;
 		struct pollfd wanted = { link->socket, POLLIN, 0 };
-		if (link->from < link->to)
+		if (waits(link))
 			wanted.events |= POLLOUT;
 		int ready = poll(&wanted, 1, milliseconds);
 		if (ready < 0 && errno != EINTR)
@@ -191,14 +199,15 @@ int link_wait(struct link *link, int milliseconds)
 
 void link_close(struct link *link)
 {
+	uint32_t tokens[LINK_DESCRIPTORS];
+	size_t count = 0;
 	do {
-		close_tokens(link);
+		while (count)
+			close((int)tokens[--count]);
 		if (link->client)
-			waywire_client_take_waiting_tokens(link->client, link->tokens, LINK_DESCRIPTORS,
-				&link->token_count);
+			waywire_client_take_waiting_tokens(link->client, tokens, LINK_DESCRIPTORS, &count);
 		else if (link->server)
-			waywire_server_take_waiting_tokens(link->server, link->tokens, LINK_DESCRIPTORS,
-				&link->token_count);
-	} while (link->token_count);
+			waywire_server_take_waiting_tokens(link->server, tokens, LINK_DESCRIPTORS, &count);
+	} while (count);
 	close(link->socket);
 }

@@ -8,7 +8,6 @@
 
 #include <waywire.h>
 
-#define LINK_BYTES 4096
 /* The most descriptors that libwayland takes at once. */
 #define LINK_DESCRIPTORS 28
 
@@ -16,11 +15,6 @@ struct link {
 	int socket;
 	waywire_client *client; /* one of the two is null */
 	waywire_server *server;
-	/* What was taken from the outbox and not yet written to the socket. */
-	unsigned char bytes[LINK_BYTES];
-	size_t from, to;
-	uint32_t tokens[LINK_DESCRIPTORS];
-	size_t token_count;
 };
 
 /* A socket that is connected to the compositor of WAYLAND_DISPLAY; -1 with errno set. */

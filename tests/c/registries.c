@@ -1,5 +1,5 @@
 /* Many open registries cost little: 100,000 of them take less than 40 MB, and what destroys an object takes no
- * longer beside them. */
+ * longer beside them, nor an announce that owes nothing. */
 #include "must.h"
 
 #include <sys/resource.h>
@@ -36,6 +36,13 @@ static uint32_t bind_compositor(uint32_t registry, uint32_t name)
 	return next_id++;
 }
 
+static double nanoseconds(void)
+{
+	struct timespec now;
+	clock_gettime(CLOCK_MONOTONIC, &now);
+	return 1e9 * (double)now.tv_sec + (double)now.tv_nsec;
+}
+
 /* The nanoseconds in which a region is made and destroyed: the fewest of many. */
 static double destroys(uint32_t compositor)
 {
@@ -45,15 +52,35 @@ static double destroys(uint32_t compositor)
 	for (int each = 0; each < 200; each++) {
 		uint32_t create[] = { compositor, 12 << 16 | WAYWIRE_WL_COMPOSITOR_REQUEST_CREATE_REGION, next_id };
 		uint32_t destroy[] = { next_id, 8 << 16 | WAYWIRE_WL_REGION_REQUEST_DESTROY };
-		struct timespec from, to;
-		clock_gettime(CLOCK_MONOTONIC, &from);
+		double from = nanoseconds();
 		request(create, 3);
 		request(destroy, 2);
-		clock_gettime(CLOCK_MONOTONIC, &to);
-		double took = 1e9 * (double)(to.tv_sec - from.tv_sec) + (double)(to.tv_nsec - from.tv_nsec);
+		double took = nanoseconds() - from;
 		if (took < least)
 			least = took;
 		MUST(!waywire_server_take(server, bytes, sizeof bytes, NULL, 0, &taken) && taken.bytes == 12);
+	}
+	return least;
+}
+
+/* Tells each registry all that it is owed, and then gives the nanoseconds of an announce: the fewest of many. */
+static double announces(void)
+{
+	static unsigned char bytes[65536];
+	waywire_amounts taken;
+	size_t count;
+	double least = 1e9;
+	do {
+		MUST(!waywire_server_announce(server, &count));
+		MUST(!waywire_server_take(server, bytes, sizeof bytes, NULL, 0, &taken));
+	} while (count);
+	for (int each = 0; each < 200; each++) {
+		double from = nanoseconds();
+		for (int again = 0; again < 10; again++)
+			MUST(!waywire_server_announce(server, &count) && !count);
+		double took = (nanoseconds() - from) / 10;
+		if (took < least)
+			least = took;
 	}
 	return least;
 }
@@ -74,16 +101,17 @@ int main(void)
 	MUST(!waywire_tables_interface(tables, WAYWIRE_WL_COMPOSITOR_NAME, &place));
 	MUST(!waywire_server_add_global(server, place, 1, &name));
 	uint32_t compositor = bind_compositor(get_registry(), name);
-	double alone = destroys(compositor);
+	double alone = destroys(compositor), announces_alone = announces();
 	long before = kilobytes();
 	for (int each = 0; each < COUNT; each++)
 		get_registry();
 	long took = kilobytes() - before;
-	double beside = destroys(compositor);
-	fprintf(stderr, "registries: %ld KB; an object is destroyed in %.0f ns, and in %.0f beside them\n", took, alone,
-		beside);
+	double beside = destroys(compositor), announces_beside = announces();
+	fprintf(stderr, "registries: %ld KB; an object is destroyed in %.0f ns, and in %.0f beside them; an announce that "
+		"owes nothing takes %.1f ns, and %.1f\n", took, alone, beside, announces_alone, announces_beside);
 	MUST(took < 40000);
 	MUST(beside < 10 * alone);
+	MUST(announces_beside < 10 * announces_alone);
 	waywire_server_free(server);
 	waywire_tables_free(tables);
 	printf("registries: ok\n");

@@ -29,6 +29,8 @@ static void nulls(void)
 	MUST(waywire_server_feed(server, NULL, 0, NULL, 0, &amounts) == WAYWIRE_OK);
 	MUST(waywire_client_send(client, display, 0, NULL, 1, NULL, NULL) == WAYWIRE_NULL);
 	MUST(waywire_client_bind(client, display, 1, NULL, 1, NULL) == WAYWIRE_NULL);
+	MUST(waywire_client_object_count(NULL, &count) == WAYWIRE_NULL && count == 7);
+	MUST(waywire_server_object_count(server, NULL) == WAYWIRE_NULL);
 	MUST(waywire_server_post_error(server, display, 0, NULL) == WAYWIRE_NULL);
 	waywire_tables_free(NULL);
 	waywire_client_free(NULL);
@@ -94,8 +96,11 @@ static void calls(void)
 	MUST(waywire_server_drop_object(server, display) == WAYWIRE_NOT_DROPPABLE);
 	MUST(waywire_server_drop_object(server, stale) == WAYWIRE_STALE);
 	MUST(!waywire_server_announce(server, &count) && count == 0);
+	MUST(!waywire_client_object_count(client, &count) && count == 1);
 	MUST(!waywire_client_send(client, display, 0, &place, 1, &object, NULL));
 	MUST(object.id == 2 && object.birth == 1);
+	MUST(!waywire_client_object_count(client, &count) && count == 2);
+	MUST(!waywire_server_object_count(server, &count) && count == 1);
 }
 
 /* A message that breaks a rule: the fault, and the error that the server then writes. */
@@ -292,7 +297,7 @@ static void limits(void)
 	waywire_tables_free(more);
 }
 
-/* Pointers of the caller's, at objects. */
+/* Pointers of the caller's, at objects; and how many objects there are. */
 static void users(void)
 {
 	waywire_client *one;
@@ -302,6 +307,7 @@ static void users(void)
 	waywire_report report;
 	waywire_amounts amounts;
 	unsigned char bytes[256];
+	size_t count;
 	int here, later;
 	MUST(!waywire_client_new(tables, &sizes, &one) && !waywire_server_new(tables, &sizes, &other));
 	MUST(!waywire_client_send(one, display, WAYWIRE_WL_DISPLAY_REQUEST_SYNC, &new, 1, &callback, NULL));
@@ -311,14 +317,18 @@ static void users(void)
 	MUST(!waywire_server_feed(other, bytes, amounts.bytes, NULL, 0, &amounts));
 	MUST(!waywire_server_next(other, &report) && !report.user);
 	there = report.args[0].object;
+	MUST(!waywire_server_object_count(other, &count) && count == 2);
 	MUST(!waywire_server_set_user(other, there, &later) && waywire_server_user(other, there) == &later);
 	MUST(!waywire_server_send(other, there, WAYWIRE_WL_CALLBACK_EVENT_DONE, &serial, 1, NULL, NULL));
 	MUST(waywire_server_set_user(other, there, NULL) == WAYWIRE_STALE);
+	MUST(!waywire_server_object_count(other, &count) && count == 1);
 	MUST(!waywire_server_take(other, bytes, sizeof bytes, NULL, 0, &amounts));
 	MUST(!waywire_client_feed(one, bytes, amounts.bytes, NULL, 0, &amounts));
 	MUST(!waywire_client_next(one, &report) && report.kind == WAYWIRE_MESSAGE && report.user == &here);
 	MUST(waywire_client_set_user(one, callback, &later) == WAYWIRE_STALE);
+	MUST(!waywire_client_object_count(one, &count) && count == 2); /* it is dead, and not yet gone */
 	MUST(!waywire_client_next(one, &report) && report.kind == WAYWIRE_DELETED && report.user == &here);
+	MUST(!waywire_client_object_count(one, &count) && count == 1);
 	MUST(!waywire_client_next(one, &report) && report.kind == WAYWIRE_NOTHING && !report.user);
 	MUST(!waywire_client_send(one, display, WAYWIRE_WL_DISPLAY_REQUEST_SYNC, &new, 1, &next, NULL));
 	MUST(next.id == callback.id && !waywire_client_user(one, next));
@@ -327,6 +337,46 @@ static void users(void)
 	MUST(!waywire_client_set_user(one, next, NULL) && !waywire_client_user(one, next));
 	waywire_client_free(one);
 	waywire_server_free(other);
+}
+
+/* What a client's report of wl_registry.global says: whether the client does not remember the global. */
+static bool forgets(waywire_client *one, uint32_t name, const char *interface)
+{
+	waywire_report report;
+	waywire_amounts fed;
+	uint32_t length = (uint32_t)strlen(interface) + 1, last = 4 + (length + 3) / 4, size = 4 * (last + 1);
+	uint32_t words[16] = { 2, size << 16 | WAYWIRE_WL_REGISTRY_EVENT_GLOBAL, name, length };
+	memcpy(words + 4, interface, length);
+	words[last] = 1;
+	MUST(!waywire_client_feed(one, words, size, NULL, 0, &fed) && fed.bytes == size);
+	MUST(!waywire_client_next(one, &report) && report.kind == WAYWIRE_MESSAGE && report.arg_count == 3);
+	return report.forgotten;
+}
+
+/* A client remembers 1,024 globals, and says of each further one that it does not. */
+static void globals(void)
+{
+	static const uint32_t remove[] = { 2, 12 << 16 | WAYWIRE_WL_REGISTRY_EVENT_GLOBAL_REMOVE, 7 };
+	waywire_client *one;
+	waywire_arg new = waywire_new();
+	waywire_object registry;
+	waywire_report report;
+	waywire_amounts fed;
+	MUST(!waywire_client_new(tables, &sizes, &one));
+	MUST(!waywire_client_send(one, display, WAYWIRE_WL_DISPLAY_REQUEST_GET_REGISTRY, &new, 1, &registry, NULL));
+	MUST(forgets(one, 1, "no_such"));
+	for (uint32_t name = 1; name <= 1024; name++)
+		MUST(!forgets(one, name, "wl_seat"));
+	MUST(forgets(one, 1025, "wl_seat"));
+	MUST(waywire_client_bind(one, registry, 1025, "wl_seat", 1, NULL) == WAYWIRE_BAD_BIND);
+	MUST(!waywire_client_bind(one, registry, 1024, "wl_seat", 1, NULL));
+	MUST(!forgets(one, 7, "wl_output")); /* in the place of the one that had its name */
+	MUST(!waywire_client_feed(one, remove, sizeof remove, NULL, 0, &fed) && fed.bytes == sizeof remove);
+	MUST(!waywire_client_next(one, &report) && report.opcode == WAYWIRE_WL_REGISTRY_EVENT_GLOBAL_REMOVE);
+	MUST(report.kind == WAYWIRE_MESSAGE && !report.forgotten);
+	MUST(!forgets(one, 1025, "wl_seat") && forgets(one, 1026, "wl_seat") && forgets(one, 1025, "no_such"));
+	MUST(waywire_client_bind(one, registry, 1025, "wl_seat", 1, NULL) == WAYWIRE_BAD_BIND);
+	waywire_client_free(one);
 }
 
 static void texts(void)
@@ -358,6 +408,7 @@ int main(void)
 	messages();
 	limits();
 	users();
+	globals();
 	texts();
 	waywire_client_free(client);
 	waywire_server_free(server);

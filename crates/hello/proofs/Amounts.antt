@@ -1,7 +1,7 @@
 -- What is taken fits where it is put.
 use Rattle.std.proofs.Common.{◌≡◌, ℕ, ◌≤◌, sym, subst, arith}
 use Rattle.wl_message.specs.Outgoing.{Outgoing, goes}
-use Rattle.wl_message.specs.declared.amounts.Taken.{Taken}
+use Rattle.wl_message.specs.declared.amounts.Amounts.{Amounts}
 use Rattle.wl_message.proofs.WhatGoes.{goes_goes}
 
 goes_bytes : (o : Outgoing) (b t : ℕ) → (goes o b t).bytes ≤ b
@@ -14,8 +14,8 @@ goes_tokens o b t =
     let few = g.may.tokens_within in
     omega (arith, e, few)
 
-pub taken_bytes : (o : Outgoing) (b t : ℕ) (taken : Taken) → taken ≡ goes o b t → taken.bytes ≤ b
-taken_bytes o b t taken e = subst (λ (x : Taken). x.bytes ≤ b) (sym e) (goes_bytes o b t)
+pub taken_bytes : (o : Outgoing) (b t : ℕ) (taken : Amounts) → taken ≡ goes o b t → taken.bytes ≤ b
+taken_bytes o b t taken e = subst (λ (x : Amounts). x.bytes ≤ b) (sym e) (goes_bytes o b t)
 
-pub taken_tokens : (o : Outgoing) (b t : ℕ) (taken : Taken) → taken ≡ goes o b t → taken.tokens ≤ t
-taken_tokens o b t taken e = subst (λ (x : Taken). x.tokens ≤ t) (sym e) (goes_tokens o b t)
+pub taken_tokens : (o : Outgoing) (b t : ℕ) (taken : Amounts) → taken ≡ goes o b t → taken.tokens ≤ t
+taken_tokens o b t taken e = subst (λ (x : Amounts). x.tokens ≤ t) (sym e) (goes_tokens o b t)

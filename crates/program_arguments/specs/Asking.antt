@@ -85,17 +85,17 @@ abbrev pub texts_of : {A : Type 0} → List (String A) → List Text
 texts_of = map string_bytes
 
 -- the digits spell the number, of 32 bits; a plus may stand in front of them
-abbrev pub Spells : Text → ℕ → Type 0
-Spells digits n =
+abbrev pub SpellsU32 : Text → ℕ → Type 0
+SpellsU32 digits n =
     IsNumeral 10 (without_leading_plus digits)
     × (n ≡ digits_value 10 (without_leading_plus digits)) × (n < 2 ^ 32)
 
 -- the number that was given for the argument of this name, or none
 abbrev pub IsNumber : Text → List Row → Option ℕ → Type 0
 IsNumber name arguments (Some n) =
-    (digits : Text) × (one_of name arguments ≡ Some digits) × Spells digits n
+    (digits : Text) × (one_of name arguments ≡ Some digits) × SpellsU32 digits n
 IsNumber name arguments None =
-    (digits : Text) (n : ℕ) → one_of name arguments ≡ Some digits → Spells digits n → ⊥
+    (digits : Text) (n : ℕ) → one_of name arguments ≡ Some digits → SpellsU32 digits n → ⊥
 
 -- the limit of the number that was given, or none where there is no limit of that number
 abbrev pub IsLimitOf : List Row → Option Limit → Type 0
@@ -127,11 +127,11 @@ IsJobFor name arguments (Some job) = IsGiven name arguments job
 IsJobFor name arguments None = (job : Job) → IsGiven name arguments job → ⊥
 
 -- the same of the command that was named, if any was
-abbrev pub Names : Option (Text × List Row) → Option Job → Type 0
-Names found (Some job) =
+abbrev pub NamesJob : Option (Text × List Row) → Option Job → Type 0
+NamesJob found (Some job) =
     (name : Text) × (arguments : List Row) × (found ≡ Some (name, arguments))
     × IsGiven name arguments job
-Names found None =
+NamesJob found None =
     (name : Text) (arguments : List Row) (job : Job)
     → found ≡ Some (name, arguments) → IsGiven name arguments job → ⊥
 
@@ -139,7 +139,7 @@ Names found None =
 -- a command with its arguments.
 pub record Asks (words : List Text) (job : Job) : Type 0 where
   pub faultless : fault_of command_line words ≡ []
-  pub named : Names (subcommand_of command_line words) (Some job)
+  pub named : NamesJob (subcommand_of command_line words) (Some job)
 
 -- what is said to one who asked for it: help, or the version
 abbrev pub IsHelp : ErrorKind → Type 0
@@ -161,7 +161,7 @@ HasFault words =
 -- they have none, and yet name no job, as with a limit that is no multiple of 4
 abbrev pub NamesNone : List Text → Type 0
 NamesNone words =
-    (fault_of command_line words ≡ []) × Names (subcommand_of command_line words) None
+    (fault_of command_line words ≡ []) × NamesJob (subcommand_of command_line words) None
 
 -- a stop of this status, with a text
 abbrev pub Says : ℕ → Stop → Type 0

@@ -6,8 +6,8 @@ ghost use Rattle.clap.specs.Words.{rows_of, rule_of, subcommand_of, subcommand_r
 ghost use Rattle.std.specs.Cow.{cow_str_bytes};
 ghost use Rattle.program_arguments.specs.Asking.{Asks, AsksHelp, HasFault, IsAnswer, IsJobFor};
 ghost use Rattle.program_arguments.specs.Asking.{IsLimitOf};
-ghost use Rattle.program_arguments.specs.Asking.{IsNumber, IsOutOfMemory, Names, NamesNone, Says};
-ghost use Rattle.program_arguments.specs.Asking.{Stops, StopsFor, StopsWith, check_command};
+ghost use Rattle.program_arguments.specs.Asking.{IsNumber, IsOutOfMemory, NamesJob, NamesNone};
+ghost use Rattle.program_arguments.specs.Asking.{Says, Stops, StopsFor, StopsWith, check_command};
 ghost use Rattle.program_arguments.specs.Asking.{command_line, demo_command, file_argument};
 ghost use Rattle.program_arguments.specs.Asking.{limit_argument, path_argument, piece_argument};
 ghost use Rattle.program_arguments.specs.Asking.{socket_command, tables_argument, texts_of};
@@ -249,7 +249,7 @@ fn named(alloc: Global, name: &str, given: &ArgMatches<'_>) -> Result<Option<Job
 
 /// The job that a parsed command line asks for, or none.
 fn chosen(alloc: Global, matches: &ArgMatches<'_>) -> Result<Option<Job>, AllocError>
-    ensures { IfOk result (Names (subcommand_rows_of matches.now)) }
+    ensures { IfOk result (NamesJob (subcommand_rows_of matches.now)) }
 {
     match matches.subcommand() {
         Some((name, given)) => named(alloc, name, given),
@@ -260,7 +260,7 @@ fn chosen(alloc: Global, matches: &ArgMatches<'_>) -> Result<Option<Job>, AllocE
 /// The job that the words ask for, or none where they were parsed and name no job.
 fn parsed(alloc: Global, words: &[String]) -> Result<Option<Job>, Error>
     ensures asked { IfOk result (λ r. (fault_of command_line (texts_of words.now) ≡ [])
-        × Names (subcommand_of command_line (texts_of words.now)) r) }
+        × NamesJob (subcommand_of command_line (texts_of words.now)) r) }
     ensures fault { IfErr result (HasKind (fault_of command_line (texts_of words.now))) }
 {
     let matches = command(alloc)?.try_get_matches_from(words)?;

@@ -7,8 +7,8 @@ use Rattle.std.specs.declared.option.Option.{Option}
 use Rattle.std.specs.declared.option.Option.TheVariants.{Some, None}
 use Rattle.std.specs.declared.result.Result.{Result}
 use Rattle.std.specs.declared.result.Result.TheVariants.{Ok, Err}
-use Rattle.wl_message.specs.declared.amounts.Taken.{Taken}
-use Rattle.wl_message.specs.Outgoing.{Message, Outgoing, all_bytes, waiting_bytes, newly_begun, after_taking}
+use Rattle.wl_message.specs.declared.amounts.Amounts.{Amounts}
+use Rattle.wl_message.specs.Outgoing.{QueuedMessage, Outgoing, all_bytes, waiting_bytes, newly_begun, after_taking}
 use Rattle.wl_objects.specs.declared.error.NextError.{NextError}
 use Rattle.wl_client.specs.Reports as events
 use Rattle.wl_client.proofs.ReadsGoOn as client
@@ -17,13 +17,14 @@ use Rattle.wl_server.proofs.ReadsGoOn as server
 use Rattle.theory_connection.specs.Pair.{PairState, Move, Reply, ClientSend, ClientBind, ServerSend}
 use Rattle.theory_connection.specs.Pair.{ServerDrop, PostError, AddGlobal, Withdraw, Announce}
 use Rattle.theory_connection.specs.Pair.{CarryToServer, CarryToClient, ClientNext, ServerNext}
-use Rattle.theory_connection.specs.Pair.{Carried, Does, Carries, moved, no_memory, Nexts, answered}
+use Rattle.theory_connection.specs.Pair.{CarryOutcome, Does, Carries, moved, no_memory, Nexts, answered}
 use Rattle.theory_connection.specs.Pair.{carries, after_carry_to_server, after_carry_to_client}
 use Rattle.theory_connection.specs.Pair.{with_client, with_server}
 use Rattle.theory_connection.proofs.Channels.{gone, goes_there}
 use Rattle.program_demo.specs.Playing.{moves_bytes, finds, does_something}
 
-all_bytes_len : (xs ys : List Message) → length (all_bytes (xs ++ ys)) ≡ length (all_bytes xs) + length (all_bytes ys)
+all_bytes_len : (xs ys : List QueuedMessage) → length (all_bytes (xs ++ ys))
+    ≡ length (all_bytes xs) + length (all_bytes ys)
 all_bytes_len [] ys = omega arith
 all_bytes_len (x ∷ xs) ys = omega (
   arith,
@@ -40,7 +41,8 @@ fewer_left o n there some =
     let g = gone o n there in
     let b = newly_begun o n in
     let after = after_taking o n in
-    let messages = ap (λ (ms : List Message). length (all_bytes ms)) g.messages ∙ all_bytes_len b after.messages in
+    let messages = ap (λ (ms : List QueuedMessage). length (all_bytes ms)) g.messages
+    ∙ all_bytes_len b after.messages in
     let bytes = sym (length-append o.left (all_bytes b)) ∙ ap (λ (xs : List ℕ). length xs) g.bytes
     ∙ length-append (take n (waiting_bytes o)) after.left in
     omega (
@@ -63,7 +65,8 @@ left_for ServerNext p = length p.server.core.inbox.bytes
 left_for ClientNext p = length p.client.core.inbox.bytes
 left_for _ p = 0
 
-carried_less : (taken : Taken) (left : PairState → ℕ) (before after : PairState) {carried : Carried} {last : PairState}
+carried_less : (taken : Amounts) (left : PairState → ℕ) (before after : PairState) {carried : CarryOutcome}
+    {last : PairState}
     → Carries taken before after carried last
     → (0 < taken.bytes → left after < left before) → moves_bytes carried ≡ true → left last < left before
 carried_less taken left before after moved less busy = less (ltb-true 0 taken.bytes busy)

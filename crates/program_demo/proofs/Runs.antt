@@ -8,9 +8,9 @@ use Rattle.theory_connection.specs.World.{World}
 use Rattle.theory_connection.specs.Pair.{PairState, Move, Reply}
 use Rattle.theory_connection.specs.Stands.{Stands}
 use Rattle.theory_connection.specs.Runs.{Runs, DoesAll}
-use Rattle.program_demo.specs.Session.{Part, Until, each_once}
+use Rattle.program_demo.specs.Session.{DemoStep, Until, each_once}
 use Rattle.program_demo.proofs.LessIsLeft.{left_for, less_left}
-use Rattle.program_demo.specs.Playing.{does_something, lacks_memory, Follows, finished, once, again}
+use Rattle.program_demo.specs.Playing.{does_something, lacks_memory, FollowsSteps, finished, once, again}
 use Rattle.program_demo.specs.Playing.{at_last, Ran, Plays}
 
 -- a world in which the last pair of a run stands, and in which the run can go on
@@ -51,15 +51,15 @@ does_on first [] (reply ∷ replies) middle others answers last one two = absurd
 does_on first (move ∷ moves) [] middle others answers last one two = absurd one
 
 -- parts, and then others
-follows_on : {parts others : List Part} {moves rest : List Move} {replies answers : List Reply}
-    → Follows parts moves replies → Follows others rest answers
-    → Follows (parts ++ others) (moves ++ rest) (replies ++ answers)
+follows_on : {parts others : List DemoStep} {moves rest : List Move} {replies answers : List Reply}
+    → FollowsSteps parts moves replies → FollowsSteps others rest answers
+    → FollowsSteps (parts ++ others) (moves ++ rest) (replies ++ answers)
 follows_on finished more = more
 follows_on (once granted f) more = once granted (follows_on f more)
 follows_on (again granted busy f) more = again granted busy (follows_on f more)
 follows_on (at_last granted idle f) more = at_last granted idle (follows_on f more)
 
-pub plays_on : (parts others : List Part) (first middle last : PairState) → Plays parts first middle
+pub plays_on : (parts others : List DemoStep) (first middle last : PairState) → Plays parts first middle
     → Plays others middle last → Plays (parts ++ others) first last
 plays_on parts others first middle last one two = record {
   moves = one.moves ++ two.moves;
@@ -71,7 +71,7 @@ plays_on parts others first middle last one two = record {
       end.goes_on two.moves two.replies last (two.runs end.here end.stands);
 }
 
-pub plays_then : {X E : Type 0} (result : Result X E) (parts others : List Part) (first middle last : PairState)
+pub plays_then : {X E : Type 0} (result : Result X E) (parts others : List DemoStep) (first middle last : PairState)
     → Plays parts first middle → OnOk result (Plays others middle last)
     → OnOk result (Plays (parts ++ others) first last)
 plays_then (Ok x) parts others first middle last one two = plays_on parts others first middle last one two
@@ -95,7 +95,7 @@ any_mapped f test (x ∷ xs) = ap (λ (b : Bool). test (f x) || b) (any_mapped f
 
 follows_once : (pair : PairState) (moves : List Move) (replies : List Reply) (last : PairState)
     → DoesAll pair moves replies last
-    → list_any lacks_memory replies ≡ false → Follows (each_once moves) moves replies
+    → list_any lacks_memory replies ≡ false → FollowsSteps (each_once moves) moves replies
 follows_once pair [] [] last does granted = finished
 follows_once pair (move ∷ moves) (reply ∷ replies) last (next, first, does) granted =
     let g = neither (lacks_memory reply) (list_any lacks_memory replies) granted

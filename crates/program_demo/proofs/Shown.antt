@@ -7,14 +7,14 @@ use Rattle.wl_recording.specs.Piece.{Piece}
 use Rattle.wl_message.specs.Cut.{usual_limit}
 use Rattle.wl_check.specs.Session.{session_of}
 use Rattle.wl_check.specs.Trace.{trace_of}
-use Rattle.theory_connection.specs.World.{opening}
+use Rattle.theory_connection.specs.World.{opening_world}
 use Rattle.theory_connection.specs.Pair.{PairState, new_pair}
 use Rattle.theory_connection.specs.Stands.{Stands}
-use Rattle.program_demo.specs.Session.{session}
+use Rattle.program_demo.specs.Session.{demo_steps}
 use Rattle.program_demo.specs.Playing.{Plays}
 use Rattle.program_session.specs.Agreement.{agreement_line}
 use Rattle.program_session.specs.Session.{sizes}
-use Rattle.program_demo.specs.Demo.{IsShown, Tells}
+use Rattle.program_demo.specs.Demo.{IsShown, TellsOfPair}
 
 -- the lines of what was lent, and behind them the last line
 pub whole_text : (tables : List Interface) (lent pieces : List Piece) (lines text : List ℕ) (agree : Bool)
@@ -31,13 +31,13 @@ whole_text tables lent pieces lines text agree counted objects traced same numbe
 
 -- what tells of a pair that a new one leads to
 pub shown_from_new : {X E : Type 0} (items : X → List ℕ) (tables : List Interface) (piece : ℕ) (pair last : PairState)
-    (result : Result X E) → pair ≡ new_pair tables sizes sizes → Stands pair opening
-    → Plays (session tables piece) pair last → IfOk result (λ x. Tells tables last (items x))
+    (result : Result X E) → pair ≡ new_pair tables sizes sizes → Stands pair opening_world
+    → Plays (demo_steps tables piece) pair last → IfOk result (λ x. TellsOfPair tables last (items x))
     → IfOk result (λ x. IsShown tables piece (items x))
 shown_from_new items tables piece pair last (Ok x) begins standing played told = record {
   last = last;
-  begins = subst (λ (p : PairState). Stands p opening) begins standing;
-  played = subst (λ (p : PairState). Plays (session tables piece) p last) begins played;
+  begins = subst (λ (p : PairState). Stands p opening_world) begins standing;
+  played = subst (λ (p : PairState). Plays (demo_steps tables piece) p last) begins played;
   told = told;
 }
 shown_from_new items tables piece pair last (Err e) begins standing played told = tt

@@ -5,18 +5,18 @@ use Rattle.wl_sigs.specs.Tables.{Interface}
 use Rattle.wl_message.specs.Cut.{usual_limit}
 use Rattle.wl_check.specs.Session.{session_of}
 use Rattle.wl_check.specs.Trace.{trace_of}
-use Rattle.theory_connection.specs.World.{opening}
+use Rattle.theory_connection.specs.World.{opening_world}
 use Rattle.theory_connection.specs.Pair.{PairState, new_pair}
 use Rattle.theory_connection.specs.Stands.{Stands}
 use Rattle.theory_connection.specs.Runs.{Agree}
 use Rattle.program_session.specs.Agreement.{agreement_line}
 use Rattle.program_session.specs.Session.{sizes}
-use Rattle.program_demo.specs.Session.{session}
+use Rattle.program_demo.specs.Session.{demo_steps}
 use Rattle.program_demo.specs.Playing.{Plays}
 
 -- The text is the trace of what was carried between the two ends of this pair, and a last line:
 -- whether both have the same objects, all live, and how many the client has.
-pub record Tells (tables : List Interface) (pair : PairState) (text : List ℕ) : Type 0 where
+pub record TellsOfPair (tables : List Interface) (pair : PairState) (text : List ℕ) : Type 0 where
   pub agree : Bool
   pub exact : IsTrue agree ↔ Agree pair.client.core.view pair.server.core.view
   pub whole : text ≡ trace_of tables (session_of usual_limit pair.recording)
@@ -26,6 +26,6 @@ pub record Tells (tables : List Interface) (pair : PairState) (text : List ℕ) 
 -- at most `piece` bytes.
 pub record IsShown (tables : List Interface) (piece : ℕ) (text : List ℕ) : Type 0 where
   pub last : PairState
-  pub begins : Stands (new_pair tables sizes sizes) opening
-  pub played : Plays (session tables piece) (new_pair tables sizes sizes) last
-  pub told : Tells tables last text
+  pub begins : Stands (new_pair tables sizes sizes) opening_world
+  pub played : Plays (demo_steps tables piece) (new_pair tables sizes sizes) last
+  pub told : TellsOfPair tables last text

@@ -9,13 +9,13 @@ use Rattle.wl_objects.specs.declared.error.NextError.TheVariants as errors
 use Rattle.wl_server.specs.declared.globals.GlobalError.TheVariants as global_errors
 use Rattle.theory_connection.specs.World.{World}
 use Rattle.theory_connection.specs.Pair.{PairState, Move, Reply, ClientSend, ClientBind, ServerSend}
-use Rattle.theory_connection.specs.Pair.{AddGlobal, Announce, CarryToServer, CarryToClient, ClientNext}
-use Rattle.theory_connection.specs.Pair.{ServerNext, Carried, Moved, Memory}
+use Rattle.theory_connection.specs.Pair.{AddGlobal, Announce, CarryToServer, CarryToClient}
+use Rattle.theory_connection.specs.Pair.{ClientNext, ServerNext, CarryOutcome, Moved, Memory}
 use Rattle.theory_connection.specs.Stands.{Stands}
 use Rattle.theory_connection.specs.Runs.{Runs, DoesAll}
-use Rattle.program_demo.specs.Session.{Part, Once, Until}
+use Rattle.program_demo.specs.Session.{DemoStep, Once, Until}
 
-abbrev pub moves_bytes : Carried → Bool
+abbrev pub moves_bytes : CarryOutcome → Bool
 moves_bytes (Moved fed) = nat_lt 0 fed.bytes
 moves_bytes Memory = false
 
@@ -46,21 +46,21 @@ lacks_memory _ = false
 
 -- The moves with their replies are those of a session: each part once, or until the last reply says
 -- that nothing was done; and for each move there was memory.
-pub data Follows : List Part → List Move → List Reply → Type 0 where
-  finished : Follows [] [] []
-  once : {parts : List Part} {move : Move} {moves : List Move}
+pub data FollowsSteps : List DemoStep → List Move → List Reply → Type 0 where
+  finished : FollowsSteps [] [] []
+  once : {parts : List DemoStep} {move : Move} {moves : List Move}
       {reply : Reply} {replies : List Reply}
-      → lacks_memory reply ≡ false → Follows parts moves replies
-      → Follows (Once move ∷ parts) (move ∷ moves) (reply ∷ replies)
-  again : {parts : List Part} {move : Move} {moves : List Move}
+      → lacks_memory reply ≡ false → FollowsSteps parts moves replies
+      → FollowsSteps (Once move ∷ parts) (move ∷ moves) (reply ∷ replies)
+  again : {parts : List DemoStep} {move : Move} {moves : List Move}
       {reply : Reply} {replies : List Reply}
       → lacks_memory reply ≡ false → does_something reply ≡ true
-      → Follows (Until move ∷ parts) moves replies
-      → Follows (Until move ∷ parts) (move ∷ moves) (reply ∷ replies)
-  at_last : {parts : List Part} {move : Move} {moves : List Move}
+      → FollowsSteps (Until move ∷ parts) moves replies
+      → FollowsSteps (Until move ∷ parts) (move ∷ moves) (reply ∷ replies)
+  at_last : {parts : List DemoStep} {move : Move} {moves : List Move}
       {reply : Reply} {replies : List Reply}
-      → lacks_memory reply ≡ false → does_something reply ≡ false → Follows parts moves replies
-      → Follows (Until move ∷ parts) (move ∷ moves) (reply ∷ replies)
+      → lacks_memory reply ≡ false → does_something reply ≡ false → FollowsSteps parts moves replies
+      → FollowsSteps (Until move ∷ parts) (move ∷ moves) (reply ∷ replies)
 
 -- Moves that were done, and there was memory for each of them.
 pub record Ran (pair : PairState) (moves : List Move) (replies : List Reply) (last : PairState)
@@ -71,9 +71,9 @@ pub record Ran (pair : PairState) (moves : List Move) (replies : List Reply) (la
 
 -- A session leads from this pair to that one: both ends do each move and reply as their calls say,
 -- and so, in whatever world the first pair stands, each reply is one that the world allows.
-pub record Plays (parts : List Part) (pair last : PairState) : Type 0 where
+pub record Plays (parts : List DemoStep) (pair last : PairState) : Type 0 where
   pub moves : List Move
   pub replies : List Reply
-  pub follows : Follows parts moves replies
+  pub follows : FollowsSteps parts moves replies
   pub does : DoesAll pair moves replies last
   pub runs : (world : World) → Stands pair world → Runs pair world moves replies last

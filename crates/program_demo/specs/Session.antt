@@ -6,24 +6,24 @@ use Rattle.program_session.specs.Session.{adding_globals, getting_registry, anno
 use Rattle.program_session.specs.Session.{binding_globals, finishing_callback, drawing_surface}
 
 -- A part of a session: a move once, or again and again until it does nothing more.
-pub data Part : Type 0 where
-  Once : Move → Part
-  Until : Move → Part
+pub data DemoStep : Type 0 where
+  Once : Move → DemoStep
+  Until : Move → DemoStep
 
-abbrev pub each_once : List Move → List Part
+abbrev pub each_once : List Move → List DemoStep
 each_once moves = map Once moves
 
 -- all that waits is carried to the server, at most `piece` bytes at once, and read there; and
 -- likewise to the client
-abbrev pub to_server : ℕ → List Part
+abbrev pub to_server : ℕ → List DemoStep
 to_server piece = Until (CarryToServer piece) ∷ Until ServerNext ∷ []
 
-abbrev pub to_client : ℕ → List Part
+abbrev pub to_client : ℕ → List DemoStep
 to_client piece = Until (CarryToClient piece) ∷ Until ClientNext ∷ []
 
 -- the whole session
-abbrev pub session : List Interface → ℕ → List Part
-session tables piece =
+abbrev pub demo_steps : List Interface → ℕ → List DemoStep
+demo_steps tables piece =
     each_once (adding_globals tables)
     ++ each_once getting_registry ++ to_server piece
     ++ each_once announcing_globals ++ to_client piece

@@ -4,7 +4,7 @@ ghost use Rattle.std.specs.List.{list_any};
 ghost use Rattle.wl_session.specs.Meaning.{move_of, moves_of, reply_of, replies_of};
 ghost use Rattle.program_demo.specs.Playing as playing;
 ghost use Rattle.program_demo.specs.Playing.{Plays, Ran};
-ghost use Rattle.program_demo.specs.Session.{Until, each_once, session, to_client, to_server};
+ghost use Rattle.program_demo.specs.Session.{Until, each_once, demo_steps, to_client, to_server};
 
 use crate::session::{
     adding_globals, announcing_globals, binding_globals, drawing_surface, finishing_callback,
@@ -23,7 +23,7 @@ pub fn play<T: Table>(
     pair: &mut Pair<'_, T>,
     piece: usize,
 ) -> Result<(), AllocError>
-    ensures { OnOk result (Plays (session tables.now piece) pair.old pair.new) }
+    ensures { OnOk result (Plays (demo_steps tables.now piece) pair.old pair.new) }
 {
     play_all(pair, &adding_globals(alloc, tables)?)?;
     play_all(pair, &getting_registry(alloc)?)?;

@@ -79,7 +79,8 @@ pub fn drawing_surface<A: Allocator + Clone + Drop>(alloc: &A) -> Result<Moves<A
 /// The move that adds a global. A name that is not in the tables stands for wl_display, which no
 /// server can add.
 fn global<A: Allocator>(tables: &Tables, name: &[u8], version: u32) -> Move<A>
-    ensures { move_of result ≡ AddGlobal (session.named tables.now name.now) version }
+    ensures { move_of result ≡ AddGlobal (session.interface_or_display tables.now name.now)
+        version }
 {
     Move::AddGlobal {
         iface: tables.interface(name).unwrap_or(DISPLAY_INTERFACE),

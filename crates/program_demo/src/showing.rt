@@ -1,6 +1,6 @@
 //! What is printed of the session.
 ghost use Rattle.std.specs.Prelude.{IfOk};
-ghost use Rattle.program_demo.specs.Demo.{IsShown, Tells};
+ghost use Rattle.program_demo.specs.Demo.{IsShown, TellsOfPair};
 
 use crate::playing::play;
 use program_session::{SIZES, write_agreement};
@@ -30,7 +30,7 @@ fn printed<T: Table>(
     tables: &Tables,
     pair: &Pair<'_, T>,
 ) -> Result<Vec<u8, T::Alloc>, AllocError>
-    ensures { IfOk result (λ text. Tells tables.now pair.now text.items) }
+    ensures { IfOk result (λ text. TellsOfPair tables.now pair.now text.items) }
 {
     let (mut text, _verdict) = trace(alloc, pair.recording(), tables, Limit::USUAL)?;
     write_agreement(&mut text, pair.agree(), pair.len())?;

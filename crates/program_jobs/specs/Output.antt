@@ -8,9 +8,9 @@ use Rattle.wl_sigs.specs.Outcome.{outcome}
 use Rattle.wl_interface_text.specs.declared.fault.TableFault.{TableFault}
 use Rattle.wl_interface_text.specs.declared.fault.TableFault.TheVariants as texts
 use Rattle.wl_recording.specs.Piece.{Piece}
-use Rattle.wl_recording.specs.Text.{Recorded, IsFirstBad}
+use Rattle.wl_recording.specs.Text.{TextRecords, IsFirstBad}
 use Rattle.wl_check.specs.declared.verdict.Verdict.{Verdict}
-use Rattle.wl_check.specs.Session.{Answers, session_of}
+use Rattle.wl_check.specs.Session.{IsVerdictOf, session_of}
 use Rattle.wl_check.specs.Trace.{trace_of}
 use Rattle.wl_verdict.specs.Verdict.{verdict_line}
 use Rattle.program_arguments.specs.declared.job.Job.{Job}
@@ -20,7 +20,8 @@ use Rattle.program_socket.specs.Socket.{IsShownOverStreams}
 use Rattle.program_jobs.specs.declared.failure.Failure.{Failure}
 use Rattle.program_jobs.specs.declared.failure.Failure.TheVariants.{CannotRead, TooLong, BadLine}
 use Rattle.program_jobs.specs.declared.failure.Failure.TheVariants.{BadTablesLine, BreaksRule}
-use Rattle.program_jobs.specs.declared.failure.Failure.TheVariants.{CannotWrite, SocketFailed, Memory}
+use Rattle.program_jobs.specs.declared.failure.Failure.TheVariants.{CannotWrite, SocketFailed}
+use Rattle.program_jobs.specs.declared.failure.Failure.TheVariants.{Memory}
 use Rattle.program_jobs.specs.Failing.{failure_line, status_of}
 use Rattle.program_jobs.specs.Writing.{AppendsFront}
 use Rattle.program_jobs.specs.Verdict.{last_line, verdict_status}
@@ -30,9 +31,9 @@ use Rattle.program_jobs.specs.Verdict.{last_line, verdict_status}
 pub record IsChecked (limit : ℕ) (tables : List Interface) (text output : List ℕ) (status : ℕ)
     : Type 0 where
   pub pieces : List Piece
-  pub recorded : Recorded text pieces
+  pub recorded : TextRecords text pieces
   pub verdict : Verdict
-  pub answers : Answers tables (session_of limit pieces) verdict
+  pub answers : IsVerdictOf tables (session_of limit pieces) verdict
   pub whole : output ≡ verdict_line verdict
   pub status_is : status ≡ verdict_status verdict
 
@@ -41,9 +42,9 @@ pub record IsChecked (limit : ℕ) (tables : List Interface) (text output : List
 pub record IsTraced (limit : ℕ) (tables : List Interface) (text output : List ℕ) (status : ℕ)
     : Type 0 where
   pub pieces : List Piece
-  pub recorded : Recorded text pieces
+  pub recorded : TextRecords text pieces
   pub verdict : Verdict
-  pub answers : Answers tables (session_of limit pieces) verdict
+  pub answers : IsVerdictOf tables (session_of limit pieces) verdict
   pub whole : output ≡ trace_of tables (session_of limit pieces) ++ last_line verdict
   pub status_is : status ≡ verdict_status verdict
 
@@ -52,26 +53,27 @@ abbrev pub most_bytes : ℕ
 most_bytes = 16777216
 
 -- The text is all that a reader gives, where that is known, and no more than may be read.
-pub record IsRead (known : Option (List ℕ)) (text : List ℕ) : Type 0 where
+pub record IsFileRead (known : Option (List ℕ)) (text : List ℕ) : Type 0 where
   pub within : length text ≤ most_bytes
   pub all : IfSome known (λ all. text ≡ all)
 
 -- The tables of a job: the core ones, and behind them those of a text that was read, where a file
 -- of tables is named.
-abbrev pub LoadsTables : {A : Type 0} → Option (String A) → Option (List ℕ) → List Interface → Type 0
+abbrev pub LoadsTables : {A : Type 0} → Option (String A) → Option (List ℕ) → List Interface
+    → Type 0
 LoadsTables None known tables = tables ≡ core_tables
 LoadsTables (Some name) known tables =
-    (text : List ℕ) × IsRead known text × (outcome core_tables text ≡ Ok tables)
+    (text : List ℕ) × IsFileRead known text × (outcome core_tables text ≡ Ok tables)
 
 -- What a job prints, and the status that goes with it. A job that has a file prints what it says of
 -- a text that was read, by its tables.
 abbrev pub IsDone : Job → Option (List ℕ) → Option (List ℕ) → List ℕ → ℕ → Type 0
 IsDone (Trace tables limit file) known_tables known output status =
     (all : List Interface) × LoadsTables tables known_tables all
-    × ((text : List ℕ) × IsRead known text × IsTraced limit.bytes all text output status)
+    × ((text : List ℕ) × IsFileRead known text × IsTraced limit.bytes all text output status)
 IsDone (Check tables limit file) known_tables known output status =
     (all : List Interface) × LoadsTables tables known_tables all
-    × ((text : List ℕ) × IsRead known text × IsChecked limit.bytes all text output status)
+    × ((text : List ℕ) × IsFileRead known text × IsChecked limit.bytes all text output status)
 IsDone (Demo piece) known_tables known output status =
     IsShown core_tables piece output × (status ≡ 0)
 IsDone (Socket path) known_tables known output status =
@@ -129,7 +131,8 @@ FindsTables job known = (all : List Interface) × HasTables job known all
 
 -- a text that was read gives no tables, for this fault
 abbrev pub GivesNone : Option (List ℕ) → TableFault → Type 0
-GivesNone known fault = (text : List ℕ) × IsRead known text × (outcome core_tables text ≡ Err fault)
+GivesNone known fault = (text : List ℕ) × IsFileRead known text
+    × (outcome core_tables text ≡ Err fault)
 
 -- more bytes are known than may be read
 abbrev pub IsTooLong : Option (List ℕ) → Type 0
@@ -144,7 +147,7 @@ IsRefused job known_tables known (CannotRead name) =
 IsRefused job known_tables known TooLong =
     (FindsTables job known_tables × IsTooLong known) ⊎ (ReadsTables job × IsTooLong known_tables)
 IsRefused job known_tables known (BadLine n) =
-    FindsTables job known_tables × ((text : List ℕ) × IsRead known text × IsFirstBad text n)
+    FindsTables job known_tables × ((text : List ℕ) × IsFileRead known text × IsFirstBad text n)
 IsRefused job known_tables known (BadTablesLine n) =
     ReadsTables job × GivesNone known_tables (texts.BadLine n)
 IsRefused job known_tables known (BreaksRule n rule) =

@@ -14,7 +14,8 @@ use Rattle.program_arguments.specs.Asking.{Asks, Stops, texts_of}
 use Rattle.program_jobs.specs.declared.failure.Failure.{Failure}
 use Rattle.program_jobs.specs.declared.failure.Failure.TheVariants.{CannotRead, TooLong, BadLine}
 use Rattle.program_jobs.specs.declared.failure.Failure.TheVariants.{BadTablesLine, BreaksRule}
-use Rattle.program_jobs.specs.declared.failure.Failure.TheVariants.{CannotWrite, SocketFailed, Memory}
+use Rattle.program_jobs.specs.declared.failure.Failure.TheVariants.{CannotWrite, SocketFailed}
+use Rattle.program_jobs.specs.declared.failure.Failure.TheVariants.{Memory}
 use Rattle.program_jobs.specs.Failing.{IsSocketFailure, failure_line, status_of}
 use Rattle.program_jobs.specs.Output.{Acted, BindsSocket, NamesFile, NamesPath, NamesTables}
 use Rattle.program_jobs.specs.Output.{ReadsFile, ReadsTables}
@@ -87,21 +88,21 @@ pub data Opened {R S O E : Type 0} (remaining : R → Option (List ℕ))
 -- Help is printed and nothing is said, or the output did not take it, or not all of it; for
 -- anything else nothing is printed, the status is that of the stop, and standard error is given its
 -- text, or the line that says out of memory, as far as it takes that.
-pub data Told {O E : Type 0} (contents : O → Option (List ℕ)) (said : E → Option (List ℕ))
+pub data StopTold {O E : Type 0} (contents : O → Option (List ℕ)) (said : E → Option (List ℕ))
     (stop : Stop) (out out' : O) (err err' : E) (status : ℕ) : Type 0 where
   helped : stop.status ≡ 0 → status ≡ 0
       → Appends (contents out) (contents out') (cow_str_bytes stop.text) → err' ≡ err
-      → Told contents said stop out out' err err' status
+      → StopTold contents said stop out out' err err' status
   not_taken : stop.status ≡ 0 → status ≡ 3
       → AppendsFront (contents out) (contents out') (cow_str_bytes stop.text)
       → AppendsFront (said err) (said err') (failure_line CannotWrite)
-      → Told contents said stop out out' err err' status
+      → StopTold contents said stop out out' err err' status
   no_memory : stop.status ≡ 4 → status ≡ 4
       → out' ≡ out → AppendsFront (said err) (said err') (failure_line Memory)
-      → Told contents said stop out out' err err' status
+      → StopTold contents said stop out out' err err' status
   faulty : stop.status ≢ 0 → stop.status ≢ 4 → status ≡ stop.status
       → out' ≡ out → AppendsFront (said err) (said err') (cow_str_bytes stop.text)
-      → Told contents said stop out out' err err' status
+      → StopTold contents said stop out out' err err' status
 
 -- what is said of words that are no text
 abbrev pub no_text_line : List ℕ
@@ -120,18 +121,18 @@ pub data Unread {E : Type 0} (said : E → Option (List ℕ)) (kind : ErrorKind)
 
 -- The words ask for a job, and this job is done; or they ask for none, and what stops them is told;
 -- or they could not be read.
-pub data Runs {A M R S O E : Type 0} (words : Result (Vec (String A) M) Error)
+pub data RunsWords {A M R S O E : Type 0} (words : Result (Vec (String A) M) Error)
     (remaining : R → Option (List ℕ)) (contents : O → Option (List ℕ))
     (said : E → Option (List ℕ)) (opens : List ℕ → Result R Error → Type 0)
     (binds : List ℕ → Result S Error → Type 0) (out out' : O) (err err' : E) (status : ℕ)
     : Type 0 where
   did : (list : Vec (String A) M) (job : Job) → words ≡ Ok list → Asks (texts_of list.items) job
       → Opened remaining contents said opens binds job out out' err err' status
-      → Runs words remaining contents said opens binds out out' err err' status
+      → RunsWords words remaining contents said opens binds out out' err err' status
   stopped : (list : Vec (String A) M) (stop : Stop)
       → words ≡ Ok list → Stops (texts_of list.items) stop
-      → Told contents said stop out out' err err' status
-      → Runs words remaining contents said opens binds out out' err err' status
+      → StopTold contents said stop out out' err err' status
+      → RunsWords words remaining contents said opens binds out out' err err' status
   not_read : (why : Error) → words ≡ Err why
       → Unread said (error_kind why) err err' status → out' ≡ out
-      → Runs words remaining contents said opens binds out out' err err' status
+      → RunsWords words remaining contents said opens binds out out' err err' status

@@ -2,7 +2,7 @@
 ghost use Rattle.std.specs.Prelude.{◌≡◌, ◌≤◌, ◌⊎◌, ℕ, IfOk, IfErr, IsErr, Option, Some, List, ◌≢◌};
 ghost use Rattle.program_arguments.specs.declared.job.Job.{Job};
 ghost use Rattle.program_jobs.specs.Failing.{IsReadFailure, IsRefusal};
-ghost use Rattle.program_jobs.specs.Output.{Acted, LoadsTables, IsChecked, IsDone, IsRead};
+ghost use Rattle.program_jobs.specs.Output.{Acted, LoadsTables, IsChecked, IsDone, IsFileRead};
 ghost use Rattle.program_jobs.specs.Output.{IsRefused};
 ghost use Rattle.program_jobs.specs.Output.{IsTablesRefusal, IsTraced, ReadsFile};
 ghost use Rattle.wl_recording.specs.Text.{IsFirstBad};
@@ -36,7 +36,7 @@ fn contents<'a, A: Allocator, R: Read>(
     name: &'a str,
     file: &mut R,
 ) -> Result<Vec<u8, A>, Failure<'a>>
-    ensures whole { IfOk result (λ bytes. IsRead (R.remaining file.old) bytes.items) }
+    ensures whole { IfOk result (λ bytes. IsFileRead (R.remaining file.old) bytes.items) }
     ensures refused { IfErr result (IsReadFailure name.entry.now (R.remaining file.old)) }
 {
     let mut bytes = Vec::new(alloc);

@@ -3,7 +3,8 @@ ghost use Rattle.std.specs.Prelude.{◌≡◌, string_bytes};
 ghost use Rattle.std.specs.Fn.{FnOnceReturnsAt, FnReturnsAt};
 ghost use Rattle.std.specs.IoError.{error_kind};
 ghost use Rattle.std.specs.Process.{exit_status};
-ghost use Rattle.program_jobs.specs.Running.{IsOpenFailure, Opened, OpensFile, Runs, Told, Unread};
+ghost use Rattle.program_jobs.specs.Running.{IsOpenFailure, Opened, OpensFile, RunsWords, StopTold};
+ghost use Rattle.program_jobs.specs.Running.{Unread};
 
 use crate::acting::{act, finish};
 use crate::failure::Failure;
@@ -53,7 +54,7 @@ where
     E: Write,
     requires opens { F.IsAlwaysCallable opener }
     requires binds { B.IsAlwaysCallable binder }
-    ensures { Runs words R.remaining O.contents E.contents (FnReturnsAt F.Fn opener)
+    ensures { RunsWords words R.remaining O.contents E.contents (FnReturnsAt F.Fn opener)
         (FnOnceReturnsAt B.FnOnce binder) out.old out.new err.old err.new result.status }
 {
     let status = match words {
@@ -80,7 +81,7 @@ fn not_read<E: Write>(error: &io::Error, err: &mut E) -> u8
 /// Prints help or the version to `out`, and anything else to `err`, and returns the exit status:
 /// that of the stop, or 3 where `out` does not take the text.
 fn report_stop<O: Write, E: Write>(stop: &Stop, out: &mut O, err: &mut E) -> u8
-    ensures { Told O.contents E.contents stop.now out.old out.new err.old err.new result }
+    ensures { StopTold O.contents E.contents stop.now out.old out.new err.old err.new result }
 {
     match stop.status {
         status::SUCCESS => match write_through(out, stop.text.as_str().as_bytes()) {

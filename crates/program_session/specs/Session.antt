@@ -9,31 +9,32 @@ use Rattle.wl_message.specs.declared.amounts.Sizes.{Sizes}
 use Rattle.wl_message.specs.Limits.{usual}
 use Rattle.wl_object_map.specs.declared.object.Object.{Object}
 use Rattle.wl_objects.specs.Writing.{Given}
-use Rattle.theory_connection.specs.Pair.{Move, ClientSend, ClientBind, ServerSend, AddGlobal, Announce}
+use Rattle.theory_connection.specs.Pair.{Move, ClientSend, ClientBind, ServerSend, AddGlobal}
+use Rattle.theory_connection.specs.Pair.{Announce}
 
-abbrev pub object : ℕ → ℕ → Object
-object id birth = record { id = id; birth = birth }
+abbrev pub object_of_birth : ℕ → ℕ → Object
+object_of_birth id birth = record { id = id; birth = birth }
 
 -- the objects of the session; the surface has the id of the callback, which is gone by then
 abbrev pub the_display : Object
-the_display = object 1 0
+the_display = object_of_birth 1 0
 
 abbrev pub the_registry : Object
-the_registry = object 2 1
+the_registry = object_of_birth 2 1
 
 abbrev pub the_compositor : Object
-the_compositor = object 3 2
+the_compositor = object_of_birth 3 2
 
 abbrev pub the_callback : Object
-the_callback = object 5 4
+the_callback = object_of_birth 5 4
 
 abbrev pub the_surface : Object
-the_surface = object 5 5
+the_surface = object_of_birth 5 5
 
 -- the place of the interface of this name; a name that is not in the tables stands for wl_display,
 -- which no server gives
-abbrev pub named : List Interface → List ℕ → Iface
-named tables name = unwrap_or (place_of tables name) display
+abbrev pub interface_or_display : List Interface → List ℕ → Iface
+interface_or_display tables name = unwrap_or (place_of tables name) display
 
 -- a new object, whose place the call finds
 abbrev pub new_object : Given
@@ -42,8 +43,8 @@ new_object = New tt
 -- the server gives wl_compositor of version 6 and wl_seat of version 9
 abbrev pub adding_globals : List Interface → List Move
 adding_globals tables =
-    AddGlobal (named tables (codes "wl_compositor")) 6
-    ∷ AddGlobal (named tables (codes "wl_seat")) 9 ∷ []
+    AddGlobal (interface_or_display tables (codes "wl_compositor")) 6
+    ∷ AddGlobal (interface_or_display tables (codes "wl_seat")) 9 ∷ []
 
 -- wl_display.get_registry
 abbrev pub getting_registry : List Move

@@ -1,21 +1,22 @@
 -- A session over two streams is one over what is known of them.
 use Rattle.std.proofs.Common.{List, ℕ, [], ◌∷◌, ap}
 use Rattle.wl_sigs.specs.Tables.{Interface}
-use Rattle.program_socket.specs.Streams.{Known, Connected}
-use Rattle.program_socket.specs.Playing.{Part, Call, ClientTurn, ServerTurn, PlaysPart, PlaysOver, begin, session}
-use Rattle.program_socket.specs.Socket.{Shows, Told, by_itself, IsShownOverStreams}
+use Rattle.program_socket.specs.Streams.{KnownStream, Connected}
+use Rattle.program_socket.specs.Playing.{SocketStep, Call, ClientTurn, ServerTurn, PlaysPart, PlaysOver, begin}
+use Rattle.program_socket.specs.Playing.{socket_steps}
+use Rattle.program_socket.specs.Socket.{ShowsSession, StreamState, by_itself, IsShownOverStreams}
 
-abbrev pub told : {X : Type 0} → Known X → X → Told
+abbrev pub told : {X : Type 0} → KnownStream X → X → StreamState
 told k x = record { left = k.left x; taken = k.taken x }
 
-abbrev pub all_told : {C S : Type 0} → Known C → Known S → Connected C S → Connected Told Told
+abbrev pub all_told : {C S : Type 0} → KnownStream C → KnownStream S → Connected C S → Connected StreamState StreamState
 all_told c s now = record {
   pair = now.pair;
   client_stream = told c now.client_stream;
   server_stream = told s now.server_stream;
 }
 
-part_told : {C S : Type 0} (c : Known C) (s : Known S) (part : Part) (now next : Connected C S)
+part_told : {C S : Type 0} (c : KnownStream C) (s : KnownStream S) (part : SocketStep) (now next : Connected C S)
     → PlaysPart c s part now next → PlaysPart by_itself by_itself part (all_told c s now) (all_told c s next)
 part_told c s (Call move) now next h = record {
   reply = h.reply;
@@ -37,15 +38,16 @@ part_told c s ServerTurn now next h = record {
   leaves = h.leaves;
 }
 
-parts_told : {C S : Type 0} (c : Known C) (s : Known S) (parts : List Part) (now last : Connected C S)
+parts_told : {C S : Type 0} (c : KnownStream C) (s : KnownStream S) (parts : List SocketStep) (now last : Connected C S)
     → PlaysOver c s parts now last → PlaysOver by_itself by_itself parts (all_told c s now) (all_told c s last)
 parts_told c s [] now last h = ap (all_told c s) h
 parts_told c s (part ∷ parts) now last (next, first, rest) =
     (all_told c s next, part_told c s part now next first, parts_told c s parts next last rest)
 
-pub shown_over_streams : {C S : Type 0} (c : Known C) (s : Known S) (tables : List Interface) (client_stream : C)
+pub shown_over_streams : {C S : Type 0} (c : KnownStream C) (s : KnownStream S) (tables : List Interface)
+    (client_stream : C)
     (server_stream : S) (text : List ℕ)
-    → Shows c s tables client_stream server_stream text → IsShownOverStreams tables text
+    → ShowsSession c s tables client_stream server_stream text → IsShownOverStreams tables text
 shown_over_streams c s tables client_stream server_stream text shows = (
   told c client_stream,
   (
@@ -55,7 +57,7 @@ shown_over_streams c s tables client_stream server_stream text shows = (
       objects = shows.objects;
       ends = record {
         last = all_told c s shows.ends.last;
-        played = parts_told c s (session tables) (begin tables client_stream server_stream) shows.ends.last
+        played = parts_told c s (socket_steps tables) (begin tables client_stream server_stream) shows.ends.last
             shows.ends.played;
         passed = shows.ends.passed;
         exact = shows.ends.exact;

@@ -7,7 +7,7 @@ use Rattle.std.specs.declared.option.Option.TheVariants.{None}
 use Rattle.std.specs.Io.KnownBytes.{Consumes}
 use Rattle.wl_sigs.specs.Tables.{Interface}
 use Rattle.wl_message.specs.Outgoing.{waiting_bytes}
-use Rattle.wl_connection.specs.Reads.{Reads, arrived}
+use Rattle.wl_connection.specs.Reads.{Reads, with_arrivals}
 use Rattle.wl_client.specs.State as client
 use Rattle.wl_client.specs.Reports as events
 use Rattle.wl_client.specs.Streams as client_streams
@@ -17,19 +17,21 @@ use Rattle.wl_server.specs.Streams as server_streams
 use Rattle.wl_recording.specs.Piece.{Piece, passed}
 use Rattle.wl_recording.specs.declared.piece.Direction.TheVariants as ways
 use Rattle.theory_connection.specs.Pair.{Move, AddGlobal}
-use Rattle.program_socket.specs.Streams.{Known, Connected, Sends}
-use Rattle.program_socket.specs.Playing.{Accepts, Part, Call, ClientTurn, ServerTurn, PlaysOver}
+use Rattle.program_socket.specs.Streams.{KnownStream, Connected, Sends}
+use Rattle.program_socket.specs.Playing.{Accepts, SocketStep, Call, ClientTurn, ServerTurn, PlaysOver}
 use Rattle.program_socket.specs.Socket.{Ends}
 
 -- parts, and then others
-pub plays_on : {C S : Type 0} (c : Known C) (s : Known S) (parts others : List Part) (first middle last : Connected C S)
+pub plays_on : {C S : Type 0} (c : KnownStream C) (s : KnownStream S) (parts others : List SocketStep)
+    (first middle last : Connected C S)
     → PlaysOver c s parts first middle → PlaysOver c s others middle last → PlaysOver c s (parts ++ others) first last
 plays_on {C = C} {S = S} c s [] others first middle last one two =
     subst (λ (x : Connected C S). PlaysOver c s others x last) (sym one) two
 plays_on c s (part ∷ parts) others first middle last (next, part_played, one) two =
     (next, part_played, plays_on c s parts others next middle last one two)
 
-pub plays_then : {C S X E : Type 0} (c : Known C) (s : Known S) (result : Result X E) (parts others : List Part)
+pub plays_then : {C S X E : Type 0} (c : KnownStream C) (s : KnownStream S) (result : Result X E)
+    (parts others : List SocketStep)
     (first middle last : Connected C S)
     → PlaysOver c s parts first middle → OnOk result (PlaysOver c s others middle last)
     → OnOk result (PlaysOver c s (parts ++ others) first last)
@@ -37,11 +39,11 @@ plays_then c s (Ok x) parts others first middle last one two = plays_on c s part
 plays_then c s (Err e) parts others first middle last one two = tt
 
 -- one call
-pub plays_call : {C S : Type 0} (c : Known C) (s : Known S) (move other : Move) (first last : Connected C S)
+pub plays_call : {C S : Type 0} (c : KnownStream C) (s : KnownStream S) (move other : Move) (first last : Connected C S)
     → move ≡ other → Accepts move first last → PlaysOver c s (Call other ∷ []) first last
 plays_call c s move other first last same a = (last, subst (λ (m : Move). Accepts m first last) same a, refl)
 
-pub ends_call : {C S X E : Type 0} (c : Known C) (s : Known S) (result : Result X E) (move other : Move)
+pub ends_call : {C S X E : Type 0} (c : KnownStream C) (s : KnownStream S) (result : Result X E) (move other : Move)
     (first last : Connected C S) → move ≡ other
     → OnOk result (Accepts move first last) → OnOk result (PlaysOver c s (Call other ∷ []) first last)
 ends_call c s (Ok x) move other first last same a = plays_call c s move other first last same a
@@ -64,14 +66,16 @@ over c s pieces client_stream server_stream = record {
   server_stream = server_stream;
 }
 
-pub client_turn : {C S X E : Type 0} (c : Known C) (s : Known S) (result : Result X E) (from from' : client.State)
+pub client_turn : {C S X E : Type 0} (c : KnownStream C) (s : KnownStream S) (result : Result X E)
+    (from from' : client.State)
     (to to' : server.State) (pieces pieces' : List Piece) (writer writer' : C) (reader reader' : S)
     (count : ℕ) (bytes recorded delivered : List ℕ) → Sends from.core (c.taken writer) from'.core (c.taken writer')
     → count ≡ length (waiting_bytes from.core.outbox) → from' ≡ client.with_core from from'.core
     → length bytes ≡ count → Consumes (s.left reader) (s.left reader') bytes → recorded ≡ bytes
     → pieces' ≡ pieces ++ passed ways.ToServer recorded 0 → delivered ≡ bytes
     → OnOk result ((reports : List requests.Report)
-    × Reads server_streams.reading (arrived server_streams.reading to delivered []) reports None to')
+    × Reads server_streams.server_reading (with_arrivals server_streams.server_reading to delivered []) reports None
+    to')
     → OnOk result (PlaysOver c s (ClientTurn ∷ []) (over from to pieces writer reader)
     (over from' to' pieces' writer' reader'))
 client_turn c s (Ok x) from from' to to' pieces pieces' writer writer' reader reader' count bytes recorded delivered
@@ -85,8 +89,8 @@ client_turn c s (Ok x) from from' to to' pieces pieces' writer writer' reader re
           as_many = as_many ∙ counted;
           given = given;
           reports = reports;
-          read = subst (λ (xs : List ℕ). Reads server_streams.reading
-              (arrived server_streams.reading to xs []) reports None to') same_delivered read;
+          read = subst (λ (xs : List ℕ). Reads server_streams.server_reading
+              (with_arrivals server_streams.server_reading to xs []) reports None to') same_delivered read;
         };
         leaves = λ i. record { client = others i; server = to'; recording = all i; ended_at = None };
       },
@@ -95,14 +99,16 @@ client_turn c s (Ok x) from from' to to' pieces pieces' writer writer' reader re
 client_turn c s (Err e) from from' to to' pieces pieces' writer writer' reader reader' count bytes recorded delivered
     sends counted others as_many given same_recorded added same_delivered read = tt
 
-pub server_turn : {C S X E : Type 0} (c : Known C) (s : Known S) (result : Result X E) (from from' : server.State)
+pub server_turn : {C S X E : Type 0} (c : KnownStream C) (s : KnownStream S) (result : Result X E)
+    (from from' : server.State)
     (to to' : client.State) (pieces pieces' : List Piece) (writer writer' : S) (reader reader' : C)
     (count : ℕ) (bytes recorded delivered : List ℕ) → Sends from.core (s.taken writer) from'.core (s.taken writer')
     → count ≡ length (waiting_bytes from.core.outbox) → from' ≡ server.with_core from from'.core
     → length bytes ≡ count → Consumes (c.left reader) (c.left reader') bytes → recorded ≡ bytes
     → pieces' ≡ pieces ++ passed ways.ToClient recorded 0 → delivered ≡ bytes
     → OnOk result ((reports : List events.Report)
-    × Reads client_streams.reading (arrived client_streams.reading to delivered []) reports None to')
+    × Reads client_streams.client_reading (with_arrivals client_streams.client_reading to delivered []) reports None
+    to')
     → OnOk result (PlaysOver c s (ServerTurn ∷ []) (over to from pieces reader writer)
     (over to' from' pieces' reader' writer'))
 server_turn c s (Ok x) from from' to to' pieces pieces' writer writer' reader reader' count bytes recorded delivered
@@ -116,8 +122,8 @@ server_turn c s (Ok x) from from' to to' pieces pieces' writer writer' reader re
           as_many = as_many ∙ counted;
           given = given;
           reports = reports;
-          read = subst (λ (xs : List ℕ). Reads client_streams.reading
-              (arrived client_streams.reading to xs []) reports None to') same_delivered read;
+          read = subst (λ (xs : List ℕ). Reads client_streams.client_reading
+              (with_arrivals client_streams.client_reading to xs []) reports None to') same_delivered read;
         };
         leaves = λ i. record { client = to'; server = others i; recording = all i; ended_at = None };
       },
@@ -129,7 +135,7 @@ server_turn c s (Err e) from from' to to' pieces pieces' writer writer' reader r
 -- ---- the end
 
 -- both ends were found to agree
-pub ends_agreeing : {C S : Type 0} (c : Known C) (s : Known S) (tables : List Interface) (client_stream : C)
+pub ends_agreeing : {C S : Type 0} (c : KnownStream C) (s : KnownStream S) (tables : List Interface) (client_stream : C)
     (server_stream : S) (pieces : List Piece) (agree : Bool) (objects : ℕ)
     → agree ≡ true → Ends c s tables client_stream server_stream pieces agree objects
     → Ends c s tables client_stream server_stream pieces true objects

@@ -6,9 +6,9 @@ use Rattle.std.specs.Prelude.{Bool, true, false, Result, Ok, Err, Some, None}
 use Rattle.std.specs.Io.KnownBytes.{Appends}
 use Rattle.std.proofs.lemmas.List.{take_all}
 use Rattle.wl_message.specs.declared.streams.FlushError.{FlushError}
-use Rattle.wl_message.specs.Outgoing.{Message, Outgoing, MayGo, all_tokens, begun, newly_begun}
+use Rattle.wl_message.specs.Outgoing.{QueuedMessage, Outgoing, MayGo, all_tokens, begun, newly_begun}
 use Rattle.wl_message.specs.Outgoing.{waiting_bytes, after_taking}
-use Rattle.wl_message.specs.Streams.{Flushes, written_of}
+use Rattle.wl_message.specs.Streams.{Flushes, bytes_written}
 use Rattle.wl_message.proofs.FlushedParts.{after_none, appends_nothing, newly_more, waiting_after}
 use Rattle.wl_message.proofs.FlushedParts.{after_more, appends_more}
 use Rattle.wl_message.proofs.WhatGoes.{begun_none}
@@ -17,7 +17,7 @@ use Rattle.wl_objects.specs.declared.error.NextError.{NextError}
 use Rattle.wl_objects.specs.declared.error.NextError.TheVariants.{Failed}
 use Rattle.wl_connection.specs.declared.streams.ReadAll.{ReadAll}
 use Rattle.wl_connection.specs.Core.{Core, no_room, with_gone}
-use Rattle.wl_connection.specs.Reads.{IsCoreOf, Reading, Reads, ReadsAll, ReadsUntil, arrived}
+use Rattle.wl_connection.specs.Reads.{IsCoreOf, Reading, Reads, ReadsAll, ReadsUntil, with_arrivals}
 use Rattle.wl_connection.proofs.ReadsGoOn.{arrived_nothing}
 use Rattle.program_socket.specs.Streams.{Sends}
 
@@ -43,7 +43,7 @@ may_more : (o : Outgoing) (count n : ℕ) → MayGo o count 0 count → n ≤ le
     → all_tokens (newly_begun (after_taking o count) n) ≡ [] → MayGo o (count + n) 0 (count + n)
 may_more o count n may there none =
     let waits = ap (λ (xs : List ℕ). length xs) (waiting_after o count may) ∙ length-drop count (waiting_bytes o) in
-    let tokens = ap (λ (ms : List Message). length (all_tokens ms)) (newly_more o count n)
+    let tokens = ap (λ (ms : List QueuedMessage). length (all_tokens ms)) (newly_more o count n)
     ∙ ap (λ (xs : List ℕ). length xs) (tokens_append (newly_begun o count)
     (newly_begun (after_taking o count) n))
     ∙ length-append (all_tokens (newly_begun o count)) (all_tokens (newly_begun (after_taking o count) n)) in
@@ -62,7 +62,7 @@ written_none core with_core laws first held =
     let none : 0 - length o.left ≡ 0 = omega arith in
     let tokens : length (all_tokens (newly_begun o 0)) ≡ 0 =
     ap (λ (n : ℕ). length (all_tokens (begun n o.messages))) none
-    ∙ ap (λ (ms : List Message). length (all_tokens ms)) (begun_none o.messages) in
+    ∙ ap (λ (ms : List QueuedMessage). length (all_tokens ms)) (begun_none o.messages) in
     record {
       may = record { there = omega arith; within = omega arith; tokens_within = omega (arith, tokens) };
       leaves = sym (laws.kept first) ∙ ap (λ (p : Outgoing). with_core first (record (core first) { outbox = p }))
@@ -76,11 +76,11 @@ pub flushed : {E : Type 0} (core : E → Core) (with_core : E → Core → E) �
     (result : Result ℕ FlushError)
     (end' : E) (holds' : Option (List ℕ)) → Written core with_core first held count end holds
     → Flushes (core end).outbox holds result (core end').outbox holds'
-    → end' ≡ with_core end (with_gone (core end) (written_of result))
-    → Written core with_core first held (count + written_of result) end' holds'
+    → end' ≡ with_core end (with_gone (core end) (bytes_written result))
+    → Written core with_core first held (count + bytes_written result) end' holds'
 flushed core with_core laws first held count end holds result end' holds' w f e =
     let o = (core first).outbox in
-    let n = written_of result in
+    let n = bytes_written result in
     let here : (core end).outbox ≡ after_taking o count =
     ap (λ (c : Core). c.outbox) (core_left core with_core laws first held count end holds w) in
     let g : Flushes (after_taking o count) holds result (core end').outbox holds' =
@@ -174,19 +174,19 @@ reads_fed e laws fed end reports answer true f stop read failed =
     absurd (cc (ap (λ (a : ReadAll). a.stop) (failed f), stop))
 reads_fed e laws fed end reports answer false f stop read failed =
     subst (λ s. Reads e s reports None end) (arrived_nothing e laws fed)
-    (subst (λ (o : Option NextError). ReadsUntil e (arrived e fed [] []) reports o end) stop (read f).reads)
+    (subst (λ (o : Option NextError). ReadsUntil e (with_arrivals e fed [] []) reports o end) stop (read f).reads)
 
 -- all of it fits, and nothing stops the reading
 pub delivered : {S R : Type 0} (e : Reading S R) → IsCoreOf e.core e.with_core
     → (state : S) (bytes : List ℕ) (n m : ℕ) (fed end : S) (reports : List R) (answer : ReadAll) → length bytes ≤ n
-    → fed ≡ arrived e state (take n bytes) (take m []) → answer.stop ≡ None
+    → fed ≡ with_arrivals e state (take n bytes) (take m []) → answer.stop ≡ None
     → ((e.core fed).failed ≡ false → ReadsAll e fed [] reports answer end)
     → ((e.core fed).failed ≡ true → answer ≡ not_read)
-    → (all : List R) × Reads e (arrived e state bytes []) all None end
+    → (all : List R) × Reads e (with_arrivals e state bytes []) all None end
 delivered e laws state bytes n m fed end reports answer fits is stop read failed =
-    let whole : fed ≡ arrived e state bytes [] = is
-    ∙ ap (λ (xs : List ℕ). arrived e state xs (take m [])) (take_all n bytes fits)
-    ∙ ap (λ (xs : List ℕ). arrived e state bytes xs) (take_all m [] (omega arith)) in (
+    let whole : fed ≡ with_arrivals e state bytes [] = is
+    ∙ ap (λ (xs : List ℕ). with_arrivals e state xs (take m [])) (take_all n bytes fits)
+    ∙ ap (λ (xs : List ℕ). with_arrivals e state bytes xs) (take_all m [] (omega arith)) in (
       reports,
       subst (λ s. Reads e s reports None end) whole
           (reads_fed e laws fed end reports answer (e.core fed).failed refl stop read failed),

@@ -14,7 +14,7 @@ use Rattle.theory_connection.specs.Pair.{Announce, Does, new_pair}
 use Rattle.program_session.specs.Session.{adding_globals, getting_registry, announcing_globals}
 use Rattle.program_session.specs.Session.{binding_globals, finishing_callback, drawing_surface}
 use Rattle.program_session.specs.Session.{sizes}
-use Rattle.program_socket.specs.Streams.{Known, Connected, Sends, Receives}
+use Rattle.program_socket.specs.Streams.{KnownStream, Connected, Sends, Receives}
 
 -- the call was not refused, and there was memory for it
 abbrev pub IsAccepted : Reply → Type 0
@@ -35,12 +35,14 @@ pub record Accepts {C S : Type 0} (move : Move) (now next : Connected C S) : Typ
 
 -- The turn of the client: all that it has written goes into its stream, and the server's stream
 -- gives as many bytes. These passed as one piece, and the server reads them.
-pub record ToServer {C S : Type 0} (c : Known C) (s : Known S) (now next : Connected C S)
+pub record ToServer {C S : Type 0} (c : KnownStream C) (s : KnownStream S)
+    (now next : Connected C S)
     : Type 0 where
   pub bytes : List ℕ
   pub sends : Sends now.pair.client.core (c.taken now.client_stream) next.pair.client.core
       (c.taken next.client_stream)
-  pub receives : Receives requests.reading (length (waiting_bytes now.pair.client.core.outbox))
+  pub receives : Receives requests.server_reading
+      (length (waiting_bytes now.pair.client.core.outbox))
       bytes now.pair.server (s.left now.server_stream) next.pair.server
       (s.left next.server_stream)
   pub leaves : next.pair ≡ record now.pair {
@@ -50,12 +52,13 @@ pub record ToServer {C S : Type 0} (c : Known C) (s : Known S) (now next : Conne
   }
 
 -- the turn of the server, likewise
-pub record ToClient {C S : Type 0} (c : Known C) (s : Known S) (now next : Connected C S)
+pub record ToClient {C S : Type 0} (c : KnownStream C) (s : KnownStream S)
+    (now next : Connected C S)
     : Type 0 where
   pub bytes : List ℕ
   pub sends : Sends now.pair.server.core (s.taken now.server_stream) next.pair.server.core
       (s.taken next.server_stream)
-  pub receives : Receives events.reading (length (waiting_bytes now.pair.server.core.outbox))
+  pub receives : Receives events.client_reading (length (waiting_bytes now.pair.server.core.outbox))
       bytes now.pair.client (c.left now.client_stream) next.pair.client
       (c.left next.client_stream)
   pub leaves : next.pair ≡ record now.pair {
@@ -65,32 +68,34 @@ pub record ToClient {C S : Type 0} (c : Known C) (s : Known S) (now next : Conne
   }
 
 -- A part of the session: a call, or a turn of the client or of the server.
-pub data Part : Type 0 where
-  Call : Move → Part
-  ClientTurn : Part
-  ServerTurn : Part
+pub data SocketStep : Type 0 where
+  Call : Move → SocketStep
+  ClientTurn : SocketStep
+  ServerTurn : SocketStep
 
 -- What a part does. A turn writes to one stream and reads from the other; what the first has left
 -- to give and what the second was given may change by that, as the other end answers.
-abbrev pub PlaysPart : {C S : Type 0} → Known C → Known S → Part → Connected C S → Connected C S
+abbrev pub PlaysPart : {C S : Type 0} → KnownStream C → KnownStream S → SocketStep → Connected C S
+    → Connected C S
     → Type 0
 PlaysPart c s (Call move) now next = Accepts move now next
 PlaysPart c s ClientTurn now next = ToServer c s now next
 PlaysPart c s ServerTurn now next = ToClient c s now next
 
 -- These parts, one after another, lead from the one to the other.
-abbrev pub PlaysOver : {C S : Type 0} → Known C → Known S → List Part → Connected C S
+abbrev pub PlaysOver : {C S : Type 0} → KnownStream C → KnownStream S → List SocketStep
+    → Connected C S
     → Connected C S → Type 0
 PlaysOver c s [] now last = now ≡ last
 PlaysOver {C = C} {S = S} c s (part ∷ parts) now last =
     (next : Connected C S) × PlaysPart c s part now next × PlaysOver c s parts next last
 
-abbrev pub calls : List Move → List Part
+abbrev pub calls : List Move → List SocketStep
 calls moves = map Call moves
 
 -- The calls of the demonstration. After those of one end all that it has written goes to the other.
-abbrev pub session : List Interface → List Part
-session tables =
+abbrev pub socket_steps : List Interface → List SocketStep
+socket_steps tables =
     calls (adding_globals tables)
     ++ calls getting_registry ++ ClientTurn ∷ []
     ++ calls announcing_globals ++ ServerTurn ∷ []

@@ -9,8 +9,8 @@ use Rattle.wl_check.specs.Session.{session_of}
 use Rattle.wl_check.specs.Trace.{trace_of}
 use Rattle.theory_connection.specs.Runs.{Agree}
 use Rattle.program_session.specs.Agreement.{agreement_line}
-use Rattle.program_socket.specs.Streams.{Known, Connected}
-use Rattle.program_socket.specs.Playing.{PlaysOver, session, begin}
+use Rattle.program_socket.specs.Streams.{KnownStream, Connected}
+use Rattle.program_socket.specs.Playing.{PlaysOver, socket_steps, begin}
 use Rattle.program_socket.specs.declared.error.SocketError.{SocketError}
 use Rattle.program_socket.specs.declared.error.SocketError.TheVariants as socket_error
 
@@ -22,18 +22,19 @@ socket_error_text socket_error.Memory = codes "out of memory"
 -- The session was played over these two streams, from new ends on. These pieces passed; `agree`
 -- says whether the two ends that are left have the same objects, all live, and `objects` how many
 -- the client has.
-pub record Ends {C S : Type 0} (c : Known C) (s : Known S) (tables : List Interface)
+pub record Ends {C S : Type 0} (c : KnownStream C) (s : KnownStream S) (tables : List Interface)
     (client_stream : C) (server_stream : S) (pieces : List Piece) (agree : Bool) (objects : ℕ)
     : Type 0 where
   pub last : Connected C S
-  pub played : PlaysOver c s (session tables) (begin tables client_stream server_stream) last
+  pub played : PlaysOver c s (socket_steps tables) (begin tables client_stream server_stream) last
   pub passed : pieces ≡ last.pair.recording
   pub exact : IsTrue agree ↔ Agree last.pair.client.core.view last.pair.server.core.view
   pub counted : objects ≡ row_count last.pair.client.core.view.rows
 
 -- The text is the trace of what passed in the session over these two streams, and a last line,
 -- which says that both ends have the same objects then, all live, and how many.
-pub record Shows {C S : Type 0} (c : Known C) (s : Known S) (tables : List Interface)
+pub record ShowsSession {C S : Type 0} (c : KnownStream C) (s : KnownStream S)
+    (tables : List Interface)
     (client_stream : C) (server_stream : S) (text : List ℕ) : Type 0 where
   pub pieces : List Piece
   pub objects : ℕ
@@ -41,15 +42,15 @@ pub record Shows {C S : Type 0} (c : Known C) (s : Known S) (tables : List Inter
   pub whole : text ≡ trace_of tables (session_of usual_limit pieces) ++ agreement_line true objects
 
 -- what is known of a stream at one time
-pub record Told : Type 0 where
+pub record StreamState : Type 0 where
   pub left : Option (List ℕ)
   pub taken : Option (List ℕ)
 
-abbrev pub by_itself : Known Told
+abbrev pub by_itself : KnownStream StreamState
 by_itself = record { left = λ told. told.left; taken = λ told. told.taken }
 
 -- The text is what is shown of the session over some two streams, of which this is known.
 abbrev pub IsShownOverStreams : List Interface → List ℕ → Type 0
 IsShownOverStreams tables text =
-    (client_stream : Told) × ((server_stream : Told)
-    × Shows by_itself by_itself tables client_stream server_stream text)
+    (client_stream : StreamState) × ((server_stream : StreamState)
+    × ShowsSession by_itself by_itself tables client_stream server_stream text)

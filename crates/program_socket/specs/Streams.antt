@@ -3,17 +3,18 @@ use Rattle.std.specs.Prelude.{◌≡◌, ℕ, List, [], length, Option, None}
 use Rattle.std.specs.Io.KnownBytes.{Appends, Consumes}
 use Rattle.wl_message.specs.Outgoing.{all_tokens, newly_begun, waiting_bytes}
 use Rattle.wl_connection.specs.Core.{Core, with_gone}
-use Rattle.wl_connection.specs.Reads.{Reading, Reads, arrived}
+use Rattle.wl_connection.specs.Reads.{Reading, Reads, with_arrivals}
 use Rattle.theory_connection.specs.Pair.{PairState}
 
 -- What is known of a stream: the bytes that it has left to give, and those that it was given, each
 -- as far as that is known.
-pub record Known (X : Type 0) : Type 0 where
+pub record KnownStream (X : Type 0) : Type 0 where
   pub left : X → Option (List ℕ)
   pub taken : X → Option (List ℕ)
 
-abbrev pub known : {X : Type 0} → (X → Option (List ℕ)) → (X → Option (List ℕ)) → Known X
-known left taken = record { left = left; taken = taken }
+abbrev pub known_stream : {X : Type 0} → (X → Option (List ℕ)) → (X → Option (List ℕ))
+    → KnownStream X
+known_stream left taken = record { left = left; taken = taken }
 
 -- a client and a server with what has passed, and the stream of each
 pub record Connected (C S : Type 0) : Type 0 where
@@ -37,4 +38,4 @@ pub record Receives {E R : Type 0} (reading : Reading E R) (count : ℕ) (bytes 
   pub as_many : length bytes ≡ count
   pub given : Consumes had has bytes
   pub reports : List R
-  pub read : Reads reading (arrived reading end bytes []) reports None end'
+  pub read : Reads reading (with_arrivals reading end bytes []) reports None end'

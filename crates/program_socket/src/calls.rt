@@ -4,7 +4,7 @@ ghost use Rattle.wl_objects.specs.Writing.{given};
 ghost use Rattle.theory_connection.specs.Pair.{AddGlobal, Announce, ClientBind, ClientSend};
 ghost use Rattle.theory_connection.specs.Pair.{ServerSend};
 ghost use Rattle.program_session.specs.Session as session;
-ghost use Rattle.program_socket.specs.Streams.{known};
+ghost use Rattle.program_socket.specs.Streams.{known_stream};
 ghost use Rattle.program_socket.specs.Playing.{Accepts, PlaysOver, calls};
 ghost use Rattle.program_socket.specs.Sessions.{connected};
 
@@ -19,8 +19,8 @@ use wl_wire::Iface;
 impl<'t, T: Table + Drop, C: Read + Write + Drop, S: Read + Write + Drop> Session<'t, T, C, S> {
     /// The server adds two globals.
     pub(crate) fn add_globals(&mut self, tables: &Tables) -> Result<(), SocketError>
-        ensures { OnOk result (PlaysOver (known C.remaining C.contents)
-            (known S.remaining S.contents) (calls (session.adding_globals tables.now))
+        ensures { OnOk result (PlaysOver (known_stream C.remaining C.contents)
+            (known_stream S.remaining S.contents) (calls (session.adding_globals tables.now))
             (connected self.old) (connected self.new)) }
     {
         self.add_global(interface(tables, b"wl_compositor")?, 6)?;
@@ -29,8 +29,8 @@ impl<'t, T: Table + Drop, C: Read + Write + Drop, S: Read + Write + Drop> Sessio
 
     /// The client asks for the registry.
     pub(crate) fn get_registry(&mut self) -> Result<(), SocketError>
-        ensures { OnOk result (PlaysOver (known C.remaining C.contents)
-            (known S.remaining S.contents) (calls session.getting_registry)
+        ensures { OnOk result (PlaysOver (known_stream C.remaining C.contents)
+            (known_stream S.remaining S.contents) (calls session.getting_registry)
             (connected self.old) (connected self.new)) }
     {
         self.send_request(DISPLAY, request::wl_display::GET_REGISTRY, &[Arg::New])
@@ -38,8 +38,8 @@ impl<'t, T: Table + Drop, C: Read + Write + Drop, S: Read + Write + Drop> Sessio
 
     /// The server writes what it owes to the registry.
     pub(crate) fn announce_globals(&mut self) -> Result<(), SocketError>
-        ensures { OnOk result (PlaysOver (known C.remaining C.contents)
-            (known S.remaining S.contents) (calls session.announcing_globals)
+        ensures { OnOk result (PlaysOver (known_stream C.remaining C.contents)
+            (known_stream S.remaining S.contents) (calls session.announcing_globals)
             (connected self.old) (connected self.new)) }
     {
         self.announce()
@@ -47,8 +47,8 @@ impl<'t, T: Table + Drop, C: Read + Write + Drop, S: Read + Write + Drop> Sessio
 
     /// The client binds both globals and asks for a callback.
     pub(crate) fn bind_globals(&mut self) -> Result<(), SocketError>
-        ensures { OnOk result (PlaysOver (known C.remaining C.contents)
-            (known S.remaining S.contents) (calls session.binding_globals)
+        ensures { OnOk result (PlaysOver (known_stream C.remaining C.contents)
+            (known_stream S.remaining S.contents) (calls session.binding_globals)
             (connected self.old) (connected self.new)) }
     {
         self.bind(1, b"wl_compositor", 6)?;
@@ -58,8 +58,8 @@ impl<'t, T: Table + Drop, C: Read + Write + Drop, S: Read + Write + Drop> Sessio
 
     /// The server is done with the callback.
     pub(crate) fn finish_callback(&mut self) -> Result<(), SocketError>
-        ensures { OnOk result (PlaysOver (known C.remaining C.contents)
-            (known S.remaining S.contents) (calls session.finishing_callback)
+        ensures { OnOk result (PlaysOver (known_stream C.remaining C.contents)
+            (known_stream S.remaining S.contents) (calls session.finishing_callback)
             (connected self.old) (connected self.new)) }
     {
         self.send_event(CALLBACK, event::wl_callback::DONE, &[Arg::Uint(1)])
@@ -67,8 +67,8 @@ impl<'t, T: Table + Drop, C: Read + Write + Drop, S: Read + Write + Drop> Sessio
 
     /// The client makes a surface, commits it and destroys it.
     pub(crate) fn draw_surface(&mut self) -> Result<(), SocketError>
-        ensures { OnOk result (PlaysOver (known C.remaining C.contents)
-            (known S.remaining S.contents) (calls session.drawing_surface)
+        ensures { OnOk result (PlaysOver (known_stream C.remaining C.contents)
+            (known_stream S.remaining S.contents) (calls session.drawing_surface)
             (connected self.old) (connected self.new)) }
     {
         self.send_request(
@@ -132,7 +132,7 @@ impl<'t, T: Table + Drop, C: Read + Write + Drop, S: Read + Write + Drop> Sessio
 
 /// The interface of this name.
 fn interface(tables: &Tables, name: &[u8]) -> Result<Iface, SocketError>
-    ensures { IfOk result (λ iface. session.named tables.now name.now ≡ iface) }
+    ensures { IfOk result (λ iface. session.interface_or_display tables.now name.now ≡ iface) }
 {
     tables.interface(name).ok_or(SocketError::Failed)
 }

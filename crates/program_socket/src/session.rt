@@ -2,8 +2,9 @@
 ghost use Rattle.std.specs.Prelude.{◌≡◌, ◌↔◌, ◌∷◌, [], IfOk, OnOk, IsTrue};
 ghost use Rattle.std.specs.FinMap.{len as row_count};
 ghost use Rattle.theory_connection.specs.Runs.{Agree};
-ghost use Rattle.program_socket.specs.Streams.{known};
-ghost use Rattle.program_socket.specs.Playing.{PlaysOver, ClientTurn, ServerTurn, begin, session};
+ghost use Rattle.program_socket.specs.Streams.{known_stream};
+ghost use Rattle.program_socket.specs.Playing.{PlaysOver, ClientTurn, ServerTurn, begin};
+ghost use Rattle.program_socket.specs.Playing.{socket_steps};
 ghost use Rattle.program_socket.specs.Sessions.{connected};
 ghost use Rattle.program_socket.specs.Socket.{Ends};
 
@@ -46,8 +47,8 @@ where
     A: Allocator + Clone + Drop,
     C: Read + Write + Drop,
     S: Read + Write + Drop,
-    ensures { IfOk result (λ played. Ends (known C.remaining C.contents)
-        (known S.remaining S.contents) tables.now client server played.recording played.agree
+    ensures { IfOk result (λ played. Ends (known_stream C.remaining C.contents)
+        (known_stream S.remaining S.contents) tables.now client server played.recording played.agree
         played.objects) }
 {
     let mut session: Session<'_, SlotTable<A>, C, S> = Session::new(
@@ -94,8 +95,8 @@ impl<'t, T: Table + Drop, C: Read + Write + Drop, S: Read + Write + Drop> Sessio
 
     /// A client binds two globals, asks for a callback, and makes, commits and destroys a surface.
     fn play(&mut self, tables: &Tables) -> Result<(), SocketError>
-        ensures { OnOk result (PlaysOver (known C.remaining C.contents)
-            (known S.remaining S.contents) (session tables.now) (connected self.old)
+        ensures { OnOk result (PlaysOver (known_stream C.remaining C.contents)
+            (known_stream S.remaining S.contents) (socket_steps tables.now) (connected self.old)
             (connected self.new)) }
     {
         self.add_globals(tables)?;
@@ -114,8 +115,8 @@ impl<'t, T: Table + Drop, C: Read + Write + Drop, S: Read + Write + Drop> Sessio
 
     /// What the client has written goes to the server, which reads it.
     fn to_server(&mut self) -> Result<(), SocketError>
-        ensures { OnOk result (PlaysOver (known C.remaining C.contents)
-            (known S.remaining S.contents) (ClientTurn ∷ []) (connected self.old)
+        ensures { OnOk result (PlaysOver (known_stream C.remaining C.contents)
+            (known_stream S.remaining S.contents) (ClientTurn ∷ []) (connected self.old)
             (connected self.new)) }
     {
         let count = flush_all(&mut self.client, &mut self.client_stream, &mut self.retries)?;
@@ -131,8 +132,8 @@ impl<'t, T: Table + Drop, C: Read + Write + Drop, S: Read + Write + Drop> Sessio
 
     /// What the server has written goes to the client, which reads it.
     fn to_client(&mut self) -> Result<(), SocketError>
-        ensures { OnOk result (PlaysOver (known C.remaining C.contents)
-            (known S.remaining S.contents) (ServerTurn ∷ []) (connected self.old)
+        ensures { OnOk result (PlaysOver (known_stream C.remaining C.contents)
+            (known_stream S.remaining S.contents) (ServerTurn ∷ []) (connected self.old)
             (connected self.new)) }
     {
         let count = flush_all(&mut self.server, &mut self.server_stream, &mut self.retries)?;

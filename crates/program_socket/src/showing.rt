@@ -1,7 +1,7 @@
 //! What is printed of the session.
 ghost use Rattle.std.specs.Prelude.{IfOk};
-ghost use Rattle.program_socket.specs.Streams.{known};
-ghost use Rattle.program_socket.specs.Socket.{Shows};
+ghost use Rattle.program_socket.specs.Streams.{known_stream};
+ghost use Rattle.program_socket.specs.Socket.{ShowsSession};
 
 use crate::error::SocketError;
 use crate::session::{SessionOutcome, socket_session};
@@ -25,8 +25,8 @@ where
     A: Allocator + Clone + Drop,
     C: Read + Write + Drop,
     S: Read + Write + Drop,
-    ensures { IfOk result (λ text. Shows (known C.remaining C.contents)
-        (known S.remaining S.contents) tables.now client server text.items) }
+    ensures { IfOk result (λ text. ShowsSession (known_stream C.remaining C.contents)
+        (known_stream S.remaining S.contents) tables.now client server text.items) }
 {
     let played = socket_session(alloc.clone()?, tables, client, server, 0)?;
     if !played.agree {

@@ -4,7 +4,7 @@ ghost use Rattle.std.specs.Prelude.{◌≡◌, ◌<◌, ◌+◌, [], length, IfO
 ghost use Rattle.std.specs.Io.KnownBytes.{Consumes};
 ghost use Rattle.wl_message.specs.Outgoing.{waiting_bytes};
 ghost use Rattle.wl_connection.specs.Core.{with_gone};
-ghost use Rattle.wl_connection.specs.Reads.{Reads, arrived, reading_of};
+ghost use Rattle.wl_connection.specs.Reads.{Reads, with_arrivals, reading_of};
 ghost use Rattle.program_socket.specs.Streams.{Sends};
 
 use crate::error::SocketError;
@@ -79,7 +79,8 @@ pub(crate) fn deliver<E: Receiver, A: Allocator>(
 ) -> Result<(), SocketError>
     ensures { OnOk result ((reports : List E.Seen)
         × Reads (reading_of E.core E.with_core E.answer E.after E.is_last)
-        (arrived (reading_of E.core E.with_core E.answer E.after E.is_last) end.old bytes.now [])
+        (with_arrivals (reading_of E.core E.with_core E.answer E.after E.is_last) end.old bytes.now
+        [])
         reports None end.new) }
 {
     if end.feed(bytes, &[]).bytes < bytes.len() {

@@ -12,7 +12,7 @@ type Way = RefCell<Vec<u8>>;
 
 /// One end of a connection.
 #[derive(Drop)]
-struct End<'a> {
+struct SocketEnd<'a> {
     input: &'a Way,
     output: &'a Way,
 }
@@ -22,7 +22,7 @@ fn busy() -> Error {
     Error::from(ErrorKind::ResourceBusy)
 }
 
-impl Read for End<'_> {
+impl Read for SocketEnd<'_> {
     fn read(&mut self, buf: &mut [u8]) -> io::Result<usize> {
         let mut way = self.input.try_borrow_mut().map_err(|_| busy())?;
         let n = way.len().min(buf.len());
@@ -32,7 +32,7 @@ impl Read for End<'_> {
     }
 }
 
-impl Write for End<'_> {
+impl Write for SocketEnd<'_> {
     fn write(&mut self, buf: &[u8]) -> io::Result<usize> {
         let mut way = self.output.try_borrow_mut().map_err(|_| busy())?;
         way.extend_from_slice(buf)?;
@@ -58,17 +58,17 @@ struct Socket<'a> {
 }
 
 impl<'a> BoundSocket for Socket<'a> {
-    type Stream = End<'a>;
+    type Stream = SocketEnd<'a>;
 
-    fn connect(&self) -> io::Result<End<'a>> {
-        Ok(End {
+    fn connect(&self) -> io::Result<SocketEnd<'a>> {
+        Ok(SocketEnd {
             input: &self.ways.to_client,
             output: &self.ways.to_server,
         })
     }
 
-    fn accept(&self) -> io::Result<End<'a>> {
-        Ok(End {
+    fn accept(&self) -> io::Result<SocketEnd<'a>> {
+        Ok(SocketEnd {
             input: &self.ways.to_server,
             output: &self.ways.to_client,
         })

@@ -16,7 +16,7 @@ use Rattle.wl_sigs.specs.Tables.{Interface, interface_at, place_of}
 use Rattle.wl_sigs.specs.Fixed.{registry}
 use Rattle.wl_sigs.specs.Fixed as fixed
 use Rattle.wl_sigs.specs.Valid.{Valid}
-use Rattle.wl_message.specs.Outgoing.{message}
+use Rattle.wl_message.specs.Outgoing.{queued}
 use Rattle.wl_objects.specs.declared.error.SendError.{SendError}
 use Rattle.wl_object_map.specs.declared.object.Object.{Object}
 use Rattle.wl_object_map.specs.View.{View, max_ids}
@@ -24,16 +24,16 @@ use Rattle.wl_objects.specs.Writing.{message_bytes, message_len}
 use Rattle.wl_connection.specs.Core.{Core}
 use Rattle.wl_connection.specs.Sending.{with_sent}
 use Rattle.wl_server.specs.State as server
-use Rattle.wl_server.specs.State.{Global, Registry, global_of, max_globals}
+use Rattle.wl_server.specs.State.{Global, Registry, global_of}
 use Rattle.wl_server.specs.Calls.{can_be_global, version_in}
 use Rattle.wl_server.specs.Announcing.{after_announce, Owing, Removal, Telling, owes_removal}
 use Rattle.wl_server.specs.Announcing.{owes_telling, owings, owed_to, Due, due_to, owed_in, owed}
-use Rattle.wl_server.specs.Announcing.{name_at, opcode_of, values_of, with_dues, marked, marked_in}
+use Rattle.wl_server.specs.Announcing.{name_at, owed_opcode, values_of, with_dues, marked, marked_in}
 use Rattle.wl_server.specs.Announcing.{all_marked}
 use Rattle.wl_server.specs.Registries.{IsAmong, IsRegistry}
 use Rattle.wl_server.proofs.Registries.{has_marked}
 use Rattle.theory_connection.specs.Meant.{Born, Known, Message, Coming, Event, Arg, renamed, rearg}
-use Rattle.theory_connection.specs.Meant.{born_of, birth_of, wire, tokens, made_in, objects, plain}
+use Rattle.theory_connection.specs.Meant.{born_of, number_of_birth, wire, tokens, made_in, objects, born_of_entry}
 use Rattle.theory_connection.specs.World.{World, Each, event_written}
 use Rattle.theory_connection.specs.Pair.{PairState, Announce, with_server, with_server_core}
 use Rattle.theory_connection.specs.Pair.{Announces, announced, refused}
@@ -42,6 +42,7 @@ use Rattle.theory_connection.specs.Answers.{told_args, WritesThat, AnnouncesThos
 use Rattle.theory_connection.specs.Answers.{before}
 use Rattle.theory_connection.specs.Flight.{IsBelow, Rows, server_rows, tells, all_tells}
 use Rattle.theory_connection.specs.Stands.{StandsBy, TellsFitly, IsGlobal}
+use Rattle.wl_connection.specs.Core.{max_globals}
 use Rattle.theory_connection.proofs.WholeInFlight.{ThereRow, each_more}
 use Rattle.theory_connection.proofs.RowsAfterMessage.{there_row, made_map, Aged}
 use Rattle.theory_connection.proofs.Calls.{row_low}
@@ -104,7 +105,7 @@ dues_of tables given v o (x ∷ os) a i h = (
   record {
     version = i.entry.version;
     some = a o.id i.entry i.row;
-    there = ap (option_map plain) i.row ∙ (λ j. Some
+    there = ap (option_map born_of_entry) i.row ∙ (λ j. Some
         (record { birth = i.birth j; iface = i.iface j; version = i.entry.version }));
     owing = h.0;
   },
@@ -172,7 +173,7 @@ due_args tables (Telling name g) = Uint name ∷ Str (Some (name_at tables g.ifa
 abbrev pub due_message : List Interface → Due → ℕ → Message Known
 due_message tables d version = record {
   target = record { id = d.object.id; born = record { birth = d.object.birth; iface = registry; version = version } };
-  opcode = opcode_of d.owing;
+  opcode = owed_opcode d.owing;
   args = due_args tables d.owing;
   ends = None;
 }
@@ -186,7 +187,7 @@ due_tokens tables (Removal name) = refl
 due_tokens tables (Telling name g) = refl
 
 due_births : (tables : List Interface) (o : Owing)
-    → map (rearg birth_of) (map (rearg born_of) (due_args tables o)) ≡ told_args tables o
+    → map (rearg number_of_birth) (map (rearg born_of) (due_args tables o)) ≡ told_args tables o
 due_births tables (Removal name) = refl
 due_births tables (Telling name g) = refl
 
@@ -243,7 +244,7 @@ pub due_fits : (tables : List Interface) → Valid tables → (given : List Glob
           version = version;
         };
       };
-      opcode = opcode_of o;
+      opcode = owed_opcode o;
       args = due_args tables o;
       ends = None;
     })
@@ -329,18 +330,18 @@ due_can p w asked told s d i =
 -- the server after one event
 abbrev one_told : server.State → Due → server.State
 one_told st d = record st {
-  core = with_sent st.core d.object.id (opcode_of d.owing) (values_of st.core.tables d.owing) [];
+  core = with_sent st.core d.object.id (owed_opcode d.owing) (values_of st.core.tables d.owing) [];
   registries = marked_in d st.registries;
 }
 
 core_is : (c : Core) (d : Due) (version : ℕ) → told_core c (due_message c.tables d version)
-    ≡ with_sent c d.object.id (opcode_of d.owing) (values_of c.tables d.owing) []
+    ≡ with_sent c d.object.id (owed_opcode d.owing) (values_of c.tables d.owing) []
 core_is c d version = λ i. record c {
   outbox = record c.outbox {
-    messages = (append-nil (c.outbox.messages ++ message
-        (message_bytes d.object.id (opcode_of d.owing) (map wire (due_args c.tables d.owing)))
+    messages = (append-nil (c.outbox.messages ++ queued
+        (message_bytes d.object.id (owed_opcode d.owing) (map wire (due_args c.tables d.owing)))
         (tokens (due_args c.tables d.owing)) ∷ [])
-        ∙ (λ j. c.outbox.messages ++ message (message_bytes d.object.id (opcode_of d.owing)
+        ∙ (λ j. c.outbox.messages ++ queued (message_bytes d.object.id (owed_opcode d.owing)
         (due_wire c.tables d.owing j)) (due_tokens c.tables d.owing j) ∷ [])) i;
   };
 }
@@ -387,7 +388,7 @@ one_stands p w asked told s d i =
     let m = due_message p.server.core.tables d i.version in
     let t = tell_stands p w asked told s m can in
     let c = core_is p.server.core d i.version in
-    marked_stands (with_server_core p (with_sent p.server.core d.object.id (opcode_of d.owing)
+    marked_stands (with_server_core p (with_sent p.server.core d.object.id (owed_opcode d.owing)
     (values_of p.server.core.tables d.owing) [])) (event_written w (renamed born_of m)) asked
     (told ++ (Event m ∷ []))
     (subst (λ (x : Core). StandsBy (with_server_core p x) (event_written w (renamed born_of m)) asked
@@ -396,7 +397,7 @@ one_stands p w asked told s d i =
 writes_due : (p : PairState) (w : World) (asked : List (Message Known)) (told : List (Coming Known))
     (s : StandsBy p w asked told) (d : Due) (i : IsDue p.server.core.tables p.server.globals
     (server_rows p.server.core.view) d)
-    → WritesThat p.server.core.tables event_side w d.object.birth (opcode_of d.owing)
+    → WritesThat p.server.core.tables event_side w d.object.birth (owed_opcode d.owing)
     (told_args p.server.core.tables d.owing) None
     (event_written w (renamed born_of (due_message p.server.core.tables d i.version)))
 writes_due p w asked told s d i =
@@ -412,7 +413,7 @@ writes_due p w asked told s d i =
       target_is = refl;
       opcode_is = refl;
       args_are = due_births p.server.core.tables d.owing;
-      new_is = ap (option_map birth_of) (made_map born_of m.args
+      new_is = ap (option_map number_of_birth) (made_map born_of m.args
           ∙ ap (option_map born_of) (due_none p.server.core.tables d.owing));
       steps = tells_world p w asked told s m can;
     }
@@ -453,7 +454,7 @@ tell_all p w asked told s z (d ∷ ds) i =
 -- only the outbox of an end's core is another
 pub only_sent : (c : Core) (ds : List Due) → with_dues c ds ≡ record c { outbox = (with_dues c ds).outbox }
 only_sent c [] = refl
-only_sent c (d ∷ ds) = only_sent (with_sent c d.object.id (opcode_of d.owing) (values_of c.tables d.owing) []) ds
+only_sent c (d ∷ ds) = only_sent (with_sent c d.object.id (owed_opcode d.owing) (values_of c.tables d.owing) []) ds
 
 -- an announcement keeps what stands
 pub announce_keeps : (p : PairState) (w : World) (asked : List (Message Known)) (told : List (Coming Known))

@@ -8,10 +8,11 @@ use Rattle.std.specs.declared.option.Option.TheVariants.{None, Some}
 use Rattle.wl_object_map.specs.declared.object.Entry.{Entry}
 use Rattle.wl_object_map.specs.View.{View, Sound, look, opened_at, closed, zombied, zombie, next_id}
 use Rattle.wl_object_map.specs.View.{can_open, has_room, free_or_next, max_ids}
-use Rattle.wl_object_map.specs.Views.{look-opened_at, look-closed, look-zombied, free_is, is_free, free_or_next-next_id}
-use Rattle.theory_connection.specs.Meant.{Known, plain}
+use Rattle.wl_object_map.specs.Views.{look-opened_at, look-closed, look-zombied, free_is, unheld_is_free}
+use Rattle.wl_object_map.specs.Views.{free_or_next-next_id}
+use Rattle.theory_connection.specs.Meant.{Known, born_of_entry}
 use Rattle.theory_connection.specs.World.{Open, Ending, put}
-use Rattle.theory_connection.specs.Flight.{Rows, at, most, made, row, client_rows, server_rows, Fresh}
+use Rattle.theory_connection.specs.Flight.{Rows, at, most, with_made, row_of_entry, client_rows, server_rows, Fresh}
 
 module _ {X Y : Type 0} (f : X → Y) where
   pub map_put : (g h : ℕ → Option X) (k : ℕ) (o : Option X) → ((q : ℕ) → g q ≡ cond (eqb q k) o (h q)) → (q : ℕ)
@@ -32,33 +33,35 @@ most_max a b = grind (arith, nat_tests)
 
 -- the client's rows with one more open
 pub client_opened : (v : View) (x : Known) → x.born.birth ≡ v.births
-    → client_rows (opened_at v x.id x.born.iface x.born.version) ≡ made (client_rows v) x.id (Open x.born)
+    → client_rows (opened_at v x.id x.born.iface x.born.version) ≡ with_made (client_rows v) x.id (Open x.born)
 client_opened v x e =
     same_rows_at (v.births + 1)
-    (λ q. map_put row (look (opened_at v x.id x.born.iface x.born.version)) (look v) x.id _
+    (λ q. map_put row_of_entry (look (opened_at v x.id x.born.iface x.born.version)) (look v) x.id _
     (look-opened_at v x.id x.born.iface x.born.version) q
-    ∙ ap (λ (n : ℕ). put (λ i. option_map row (look v i)) x.id
+    ∙ ap (λ (n : ℕ). put (λ i. option_map row_of_entry (look v i)) x.id
     (Some (Open (record { birth = n; iface = x.born.iface; version = x.born.version }))) q) (sym e))
     (most_max v.used x.id)
 
 -- the server's rows with one more open
 pub server_opened : (v : View) (x : Known) → x.born.birth ≡ v.births
-    → server_rows (opened_at v x.id x.born.iface x.born.version) ≡ made (server_rows v) x.id x.born
+    → server_rows (opened_at v x.id x.born.iface x.born.version) ≡ with_made (server_rows v) x.id x.born
 server_opened v x e =
     same_rows_at (v.births + 1)
-    (λ q. map_put plain (look (opened_at v x.id x.born.iface x.born.version)) (look v) x.id _
+    (λ q. map_put born_of_entry (look (opened_at v x.id x.born.iface x.born.version)) (look v) x.id _
     (look-opened_at v x.id x.born.iface x.born.version) q
-    ∙ ap (λ (n : ℕ). put (λ i. option_map plain (look v i)) x.id
+    ∙ ap (λ (n : ℕ). put (λ i. option_map born_of_entry (look v i)) x.id
     (Some (record { birth = n; iface = x.born.iface; version = x.born.version })) q) (sym e))
     (most_max v.used x.id)
 
 -- the client's rows with an id closed
 pub client_closed : (v : View) (id : ℕ) → client_rows (closed v id) ≡ at (client_rows v) id None
-client_closed v id = same_rows_at v.births (map_put row (look (closed v id)) (look v) id None (look-closed v id)) refl
+client_closed v id = same_rows_at v.births (map_put row_of_entry (look (closed v id)) (look v) id None
+    (look-closed v id)) refl
 
 -- the server's rows with an id closed
 pub server_closed : (v : View) (id : ℕ) → server_rows (closed v id) ≡ at (server_rows v) id None
-server_closed v id = same_rows_at v.births (map_put plain (look (closed v id)) (look v) id None (look-closed v id)) refl
+server_closed v id = same_rows_at v.births (map_put born_of_entry (look (closed v id)) (look v) id None
+    (look-closed v id)) refl
 
 zombie_at : (v : View) (id : ℕ) (e : Entry) → look v id ≡ Some e → (q : ℕ)
     → look (zombied v id) q ≡ cond (eqb q id) (Some (zombie e)) (look v q)
@@ -69,8 +72,9 @@ zombie_at v id e h q = look-zombied v id q ∙ elim (cases_eq q id) [
 
 -- the client's rows with an object ending
 pub client_zombied : (v : View) (id : ℕ) (e : Entry) → look v id ≡ Some e
-    → client_rows (zombied v id) ≡ at (client_rows v) id (Some (Ending (plain e)))
-client_zombied v id e h = same_rows_at v.births (map_put row (look (zombied v id)) (look v) id (Some (zombie e))
+    → client_rows (zombied v id) ≡ at (client_rows v) id (Some (Ending (born_of_entry e)))
+client_zombied v id e h = same_rows_at v.births (map_put row_of_entry (look (zombied v id)) (look v) id
+    (Some (zombie e))
     (zombie_at v id e h)) refl
 
 -- what is mapped to nothing is nothing
@@ -84,7 +88,7 @@ pub next_fresh : (v : View) (x : Known) → Sound v → can_open v ≡ true → 
 next_fresh v x s o e b =
     let f = free_is v (next_id v) s (free_or_next-next_id v) in
     record {
-      free = ap (λ (i : ℕ). option_map row (look v i)) e ∙ ap (option_map row) f.no_row;
+      free = ap (λ (i : ℕ). option_map row_of_entry (look v i)) e ∙ ap (option_map row_of_entry) f.no_row;
       some = omega (arith, f.above_null, e);
       next = omega (arith, f.at_most_next, e);
       birth = b;
@@ -94,7 +98,7 @@ next_fresh v x s o e b =
 
 -- what fits is free to the server's tests
 pub fresh_free : (v : View) (x : Known) → Sound v → Fresh (server_rows v) x → free_or_next v x.id ≡ true
-fresh_free v x s f = is_free v x.id s (map_none plain (look v x.id) f.free) f.some f.next
+fresh_free v x s f = unheld_is_free v x.id s (map_none born_of_entry (look v x.id) f.free) f.some f.next
 
 -- there is room for what is fresh to the server's rows
 pub fresh_room : (v : View) (x : Known) → Fresh (server_rows v) x → has_room v x.id ≡ true
@@ -104,4 +108,4 @@ fresh_room v x f = let a = f.low in let b = f.left in grind (arith, nat_tests, a
 pub record RowAt (v : View) (x : Known) : Type 0 where
   pub entry : Entry
   pub there : look v x.id ≡ Some entry
-  pub same : plain entry ≡ x.born
+  pub same : born_of_entry entry ≡ x.born

@@ -26,22 +26,24 @@ use Rattle.wl_object_map.specs.View.{View, Sound, look, max_ids, next_id}
 use Rattle.wl_object_map.specs.Views
 use Rattle.wl_objects.specs.Reading.{is_of}
 use Rattle.wl_message.specs.Cut.{greatest_limit}
-use Rattle.wl_objects.specs.Writing.{Given, suits, has_no_nul, wrong_place, lost_place, is_live}
+use Rattle.wl_objects.specs.Writing.{Given, suits, has_no_nul, wrong_place, lost_place}
 use Rattle.wl_objects.specs.Writing.{is_live_as, row_is_of, can_name, wired, tokens_of, message_len}
 use Rattle.wl_objects.specs.Messages.{NewObject, made, live_row, checked, checked_by, checked_as}
 use Rattle.wl_objects.specs.Messages.{unless_hidden, unless_wrong, is_hidden}
-use Rattle.theory_connection.specs.Meant.{Born, Known, Arg, rearg, born_of, birth_of, wire, tokens}
-use Rattle.theory_connection.specs.Meant.{new_in, made_in, or_else, objects, plain, live_entry}
+use Rattle.theory_connection.specs.Meant.{Born, Known, Arg, rearg, born_of, number_of_birth, wire, tokens}
+use Rattle.theory_connection.specs.Meant.{new_object_in, made_in, objects, born_of_entry, live_entry}
 use Rattle.theory_connection.specs.World.{Each, IfThere}
 use Rattle.theory_connection.specs.Answers.{handed}
-use Rattle.theory_connection.specs.Stands.{AreOf, NamesRightly}
-use Rattle.theory_connection.specs.Runs.{IsGiven}
+use Rattle.theory_connection.specs.Stands.{SuitKinds, NamesRightly}
+use Rattle.theory_connection.specs.Runs.{FitsWords}
+use Rattle.wl_object_map.specs.View.{lives}
+use Rattle.wl_objects.specs.Messages.{or_else}
 
 -- ---- what stands where nothing stands against a write
 
 -- what the checks of a call say where nothing stands against it
 pub record Checked (limit : ℕ) (tables : List Interface) (side : Side) (view : View) (target : Object) (opcode : ℕ)
-    (given : List Given) (signature : sigs.Message) : Type 0 where
+    (given : List Given) (signature : sigs.MessageSignature) : Type 0 where
   pub entry : Entry
   pub there : look view target.id ≡ Some entry
   pub birth : entry.birth ≡ target.birth
@@ -53,7 +55,7 @@ pub record Checked (limit : ℕ) (tables : List Interface) (side : Side) (view :
   pub found : lost_place (look view) 0 signature.kinds given ≡ None
   pub len : message_len (map (wired 0) given) ≤ limit
 
-is_live-state : (s : State) → is_live s ≡ true → s ≡ states.Live
+is_live-state : (s : State) → lives s ≡ true → s ≡ states.Live
 is_live-state states.Live h = refl
 is_live-state states.Zombie h = absurd (cc h)
 
@@ -66,7 +68,7 @@ pub record LiveAs (birth : ℕ) (o : Option Entry) : Type 0 where
 -- a live entry with this birth
 pub live_as : (birth : ℕ) (o : Option Entry) → is_live_as birth o ≡ true → LiveAs birth o
 live_as birth None h = absurd (cc h)
-live_as birth (Some e) h = let k = and_parts (nat_eq e.birth birth) (is_live e.state) h
+live_as birth (Some e) h = let k = and_parts (nat_eq e.birth birth) (lives e.state) h
     in record { entry = e; there = refl; birth_is = eqb-true e.birth birth k.0; live = is_live-state e.state k.1 }
 
 live_row_at : (birth : ℕ) (o : Option Entry) (b : Bool) → is_live_as birth o ≡ b → (e : Entry) → cond b o None ≡ Some e
@@ -74,54 +76,55 @@ live_row_at : (birth : ℕ) (o : Option Entry) (b : Bool) → is_live_as birth o
 live_row_at birth o true h e k = (live_as birth o h, k)
 live_row_at birth o false h e k = absurd (cc k)
 
-of_len : (b : Bool) (signature s : sigs.Message) (why : SendError) → cond b (Err why) (Ok signature) ≡ Ok s
+of_len : (b : Bool) (signature s : sigs.MessageSignature) (why : SendError) → cond b (Err why) (Ok signature) ≡ Ok s
     → (b ≡ false) × (signature ≡ s)
 of_len true signature s why h = absurd (cc h)
 of_len false signature s why h = (refl, cc h)
 
-pub record Fine (limit : ℕ) (wrong lost : Option ℕ) (len : ℕ) (signature s : sigs.Message) : Type 0 where
+pub record Fine (limit : ℕ) (wrong lost : Option ℕ) (len : ℕ) (signature s : sigs.MessageSignature) : Type 0 where
   pub suit : wrong ≡ None
   pub found : lost ≡ None
   pub short : len ≤ limit
   pub same : signature ≡ s
 
-fine : (limit : ℕ) (wrong lost : Option ℕ) (len : ℕ) (signature s : sigs.Message)
+fine : (limit : ℕ) (wrong lost : Option ℕ) (len : ℕ) (signature s : sigs.MessageSignature)
     → unless_wrong limit wrong lost len signature ≡ Ok s → Fine limit wrong lost len signature s
 fine limit None None len signature s h = let k = of_len (nat_lt limit len) signature s _ h
     in record { suit = refl; found = refl; short = ltb-false limit len k.0; same = k.1 }
 fine limit None (Some place) len signature s h = absurd (cc h)
 fine limit (Some place) lost len signature s h = absurd (cc h)
 
-record AsChecked (limit : ℕ) (view : View) (given : List Given) (entry : Entry) (o : Option sigs.Message)
-    (s : sigs.Message) : Type 0 where
+record AsChecked (limit : ℕ) (view : View) (given : List Given) (entry : Entry) (o : Option sigs.MessageSignature)
+    (s : sigs.MessageSignature) : Type 0 where
   there : o ≡ Some s
   old_enough : s.since ≤ entry.version
   suit : wrong_place 0 s.kinds given ≡ None
   found : lost_place (look view) 0 s.kinds given ≡ None
   len : message_len (map (wired 0) given) ≤ limit
 
-not_old : (limit : ℕ) (view : View) (given : List Given) (entry : Entry) (s t : sigs.Message) (b : Bool)
+not_old : (limit : ℕ) (view : View) (given : List Given) (entry : Entry) (s t : sigs.MessageSignature) (b : Bool)
     (why : SendError) → nat_lt entry.version s.since ≡ b
     → cond b (Err why) (unless_wrong limit (wrong_place 0 s.kinds given) (lost_place (look view) 0 s.kinds given)
     (message_len (map (wired 0) given)) s) ≡ Ok t → AsChecked limit view given entry (Some s) t
 not_old limit view given entry s t true why e h = absurd (cc h)
 not_old limit view given entry s t false why e h =
     let f = fine limit _ _ _ s t h in
-    subst (λ (x : sigs.Message). AsChecked limit view given entry (Some s) x) f.same
+    subst (λ (x : sigs.MessageSignature). AsChecked limit view given entry (Some s) x) f.same
     (record { there = refl; old_enough = ltb-false _ _ e; suit = f.suit; found = f.found; len = f.short })
 
-as_checked : (limit : ℕ) (view : View) (given : List Given) (entry : Entry) (o : Option sigs.Message) (s : sigs.Message)
+as_checked : (limit : ℕ) (view : View) (given : List Given) (entry : Entry) (o : Option sigs.MessageSignature)
+    (s : sigs.MessageSignature)
     → checked_as limit view given entry o ≡ Ok s → AsChecked limit view given entry o s
 as_checked limit view given entry None s h = absurd (cc h)
 as_checked limit view given entry (Some t) s h = not_old limit view given entry t s _ _ refl h
 
-not_hidden : (b : Bool) (o : Option sigs.Message) (s : sigs.Message) → unless_hidden b o ≡ Some s
+not_hidden : (b : Bool) (o : Option sigs.MessageSignature) (s : sigs.MessageSignature) → unless_hidden b o ≡ Some s
     → (b ≡ false) × (o ≡ Some s)
 not_hidden true o s h = absurd (cc h)
 not_hidden false o s h = (refl, h)
 
 by_checked : (limit : ℕ) (tables : List Interface) (side : Side) (view : View) (target : Object) (opcode : ℕ)
-    (given : List Given) (s : sigs.Message) (o : Option Entry) → live_row view target ≡ o
+    (given : List Given) (s : sigs.MessageSignature) (o : Option Entry) → live_row view target ≡ o
     → checked_by limit tables side view opcode given o ≡ Ok s → Checked limit tables side view target opcode given s
 by_checked limit tables side view target opcode given s None e h = absurd (cc h)
 by_checked limit tables side view target opcode given s (Some entry) e h =
@@ -144,7 +147,7 @@ by_checked limit tables side view target opcode given s (Some entry) e h =
 
 -- a call that nothing stands against is checked
 pub is_checked : (limit : ℕ) (tables : List Interface) (side : Side) (view : View) (target : Object) (opcode : ℕ)
-    (given : List Given) (s : sigs.Message) → checked limit tables side view target opcode given ≡ Ok s
+    (given : List Given) (s : sigs.MessageSignature) → checked limit tables side view target opcode given ≡ Ok s
     → Checked limit tables side view target opcode given s
 is_checked limit tables side view target opcode given s h =
     by_checked limit tables side view target opcode given s _ refl h
@@ -154,7 +157,7 @@ is_checked limit tables side view target opcode given s h =
 -- what an object was born as, by its entry
 abbrev pub born_at : Option Entry → Born
 born_at None = record { birth = 0; iface = record { 0 = 0 }; version = 0 }
-born_at (Some e) = plain e
+born_at (Some e) = born_of_entry e
 
 abbrev pub resolve : View → Option Object → Option Known
 resolve view None = None
@@ -222,7 +225,7 @@ all_right view place (k ∷ ks) (a ∷ given) w l =
 -- ---- it names what was handed
 
 handed_one : (view : View) (new : Known) (births : ℕ) (k : Kind) (a : Given) → new.born.birth ≡ births → Right view k a
-    → rearg birth_of (rearg born_of (meant view new a)) ≡ handed births a
+    → rearg number_of_birth (rearg born_of (meant view new a)) ≡ handed births a
 handed_one view new births k (Obj None) e r = refl
 handed_one view new births k (Obj (Some x)) e r =
     let l = live_as x.birth (look view x.id) (and_parts _ _ r.named).0 in
@@ -234,7 +237,7 @@ handed_one view new births k a e r = refl
 -- what is meant, by births, is what was handed
 pub handed_all : (view : View) (new : Known) (births : ℕ) (ks : List Kind) (given : List Given)
     → new.born.birth ≡ births → AllRight view ks given
-    → map (rearg birth_of) (map (rearg born_of) (map (meant view new) given)) ≡ map (handed births) given
+    → map (rearg number_of_birth) (map (rearg born_of) (map (meant view new) given)) ≡ map (handed births) given
 handed_all view new births [] [] e r = refl
 handed_all view new births [] (a ∷ given) e r = absurd r
 handed_all view new births (k ∷ ks) [] e r = absurd r
@@ -247,7 +250,7 @@ handed_all view new births (k ∷ ks) (a ∷ given) e r =
 pub record LiveAt (view : View) (x : Known) : Type 0 where
   pub entry : Entry
   pub there : look view x.id ≡ Some entry
-  pub same : plain entry ≡ x.born
+  pub same : born_of_entry entry ≡ x.born
   pub live : entry.state ≡ states.Live
 
 pub live_at : (view : View) (k : Kind) (x : Object) → can_name (look view) k (Obj (Some x)) ≡ true
@@ -322,7 +325,7 @@ no_nul text e k d h z =
 
 -- an id with a row is from 1 to the last id
 pub row_low : (view : View) (id : ℕ) (e : Entry) → Sound view → look view id ≡ Some e → (0 < id) × (id ≤ max_ids)
-row_low view id e s h = elim (Views.place_of view s id) [
+row_low view id e s h = elim (Views.place_of_id view s id) [
   | Views.in_row d l t a b ↦ (a, omega (arith, b, s.ids_end))
   | Views.in_list l t a b ↦ absurd (cc (l, h))
   | Views.at_null l t z ↦ absurd (cc (l, h))
@@ -330,7 +333,7 @@ row_low view id e s h = elim (Views.place_of view s id) [
 ]
 
 fit_one : (tables : List Interface) (view : View) (new : Known) (version : ℕ) (k : Kind) (a : Given) → Sound view
-    → new.id < 2 ^ 32 → Right view k a → Matches new version k → IsGiven a → spelled_len (wired 0 a) ≤ greatest_limit
+    → new.id < 2 ^ 32 → Right view k a → Matches new version k → FitsWords a → spelled_len (wired 0 a) ≤ greatest_limit
     → Suits k (wire (meant view new a)) × NamesRightly tables version k (meant view new a)
 fit_one tables view new version kinds.Int (Int z) s n r m g l = (g, tt)
 fit_one tables view new version kinds.Uint (Uint z) s n r m g l = (g, tt)
@@ -348,7 +351,7 @@ fit_one tables view new version (kinds.Obj null iface) (Obj (Some x)) s n r m g 
       (low.0, ap (λ o. is_of iface (live_entry (born_at o))) v.there ∙ same_of iface v.entry ∙ of),
     )
   where
-    same_of : (i : Option Iface) (e : Entry) → is_of i (live_entry (plain e)) ≡ is_of i e
+    same_of : (i : Option Iface) (e : Entry) → is_of i (live_entry (born_of_entry e)) ≡ is_of i e
     same_of None e = refl
     same_of (Some i) e = refl
 fit_one tables view new version (kinds.New (Some iface)) (New x) s n r m g l =
@@ -361,8 +364,8 @@ fit_one tables view new version _ _ s n r m g l = absurd (cc r.suit)
 -- what is meant fits the kinds
 pub fit_all : (tables : List Interface) (view : View) (new : Known) (version : ℕ) (ks : List Kind) (given : List Given)
     → Sound view → new.id < 2 ^ 32 → AllRight view ks given → Each (Matches new version) ks
-    → Each IsGiven given → message_len (map (wired 0) given) ≤ greatest_limit
-    → AreOf tables version ks (map (meant view new) given)
+    → Each FitsWords given → message_len (map (wired 0) given) ≤ greatest_limit
+    → SuitKinds tables version ks (map (meant view new) given)
 fit_all tables view new version [] [] s n r m g l = tt
 fit_all tables view new version [] (a ∷ given) s n r m g l = absurd r
 fit_all tables view new version (k ∷ ks) [] s n r m g l = absurd r
@@ -375,7 +378,7 @@ fit_all tables view new version (k ∷ ks) (a ∷ given) s n r m g l = (
 -- ---- it makes at most one object
 
 abbrev pub NewIs : Known → List (Arg Known) → Type 0
-NewIs new args = Each (λ a. IfThere (λ x. x ≡ new) (new_in a)) args
+NewIs new args = Each (λ a. IfThere (λ x. x ≡ new) (new_object_in a)) args
 
 -- each new object that is meant is this one
 pub new_all : (view : View) (new : Known) (given : List Given) → NewIs new (map (meant view new) given)
@@ -393,22 +396,22 @@ first_is new (Some x) p h q = inr (ap Some h)
 pub made_new : (new : Known) (args : List (Arg Known)) → NewIs new args
     → (made_in args ≡ None) ⊎ (made_in args ≡ Some new)
 made_new new [] h = inl refl
-made_new new (a ∷ args) h = first_is new (new_in a) (made_in args) h.0 (made_new new args h.1)
+made_new new (a ∷ args) h = first_is new (new_object_in a) (made_in args) h.0 (made_new new args h.1)
 
 or_none : (o p : Option Known) → or_else o p ≡ None → (o ≡ None) × (p ≡ None)
 or_none None p h = (refl, h)
 or_none (Some x) p h = absurd (cc h)
 
 none_in : (all args : List (Arg Known)) → made_in args ≡ None
-    → Each (λ a. IfThere (λ x. made_in all ≡ Some x) (new_in a)) args
+    → Each (λ a. IfThere (λ x. made_in all ≡ Some x) (new_object_in a)) args
 none_in all [] h = tt
-none_in all (a ∷ args) h = let k = or_none (new_in a) (made_in args) h
+none_in all (a ∷ args) h = let k = or_none (new_object_in a) (made_in args) h
     in (subst (IfThere (λ x. made_in all ≡ Some x)) (sym k.0) tt, none_in all args k.1)
 
 some_in : (new : Known) (all args : List (Arg Known)) → made_in all ≡ Some new → NewIs new args
-    → Each (λ a. IfThere (λ x. made_in all ≡ Some x) (new_in a)) args
+    → Each (λ a. IfThere (λ x. made_in all ≡ Some x) (new_object_in a)) args
 some_in new all [] h n = tt
-some_in new all (a ∷ args) h n = (step (new_in a) n.0, some_in new all args h n.1)
+some_in new all (a ∷ args) h n = (step (new_object_in a) n.0, some_in new all args h n.1)
   where
     step : (o : Option Known) → IfThere (λ x. x ≡ new) o → IfThere (λ x. made_in all ≡ Some x) o
     step None k = tt
@@ -416,7 +419,7 @@ some_in new all (a ∷ args) h n = (step (new_in a) n.0, some_in new all args h 
 
 -- they make at most one
 pub one_new : (new : Known) (args : List (Arg Known)) → NewIs new args
-    → Each (λ a. IfThere (λ x. made_in args ≡ Some x) (new_in a)) args
+    → Each (λ a. IfThere (λ x. made_in args ≡ Some x) (new_object_in a)) args
 one_new new args h = elim (made_new new args h) [ inl p ↦ none_in args args p | inr p ↦ some_in new args args p h ]
 
 -- a new object has the version that its kind asks for
@@ -457,10 +460,10 @@ no_made view new (kinds.Fd ∷ ks) (Fd z ∷ given) r h = no_made view new ks gi
 no_made view new (_ ∷ ks) (_ ∷ given) r h = absurd (cc r.0.suit)
 
 none_rest : (a : Arg Known) (args : List (Arg Known)) → made_in (a ∷ args) ≡ None → made_in args ≡ None
-none_rest a args h = (or_none (new_in a) (made_in args) h).1
+none_rest a args h = (or_none (new_object_in a) (made_in args) h).1
 
-handed_if : (view : View) (new : Known) (births : ℕ) (k : Kind) (a : Given) → new_in (meant view new a) ≡ None
-    → Right view k a → rearg birth_of (rearg born_of (meant view new a)) ≡ handed births a
+handed_if : (view : View) (new : Known) (births : ℕ) (k : Kind) (a : Given) → new_object_in (meant view new a) ≡ None
+    → Right view k a → rearg number_of_birth (rearg born_of (meant view new a)) ≡ handed births a
 handed_if view new births k (Obj None) e r = refl
 handed_if view new births k (Obj (Some x)) e r =
     let l = live_as x.birth (look view x.id) (and_parts _ _ r.named).0 in
@@ -472,10 +475,10 @@ handed_if view new births k a e r = refl
 -- where nothing is made, no argument hands a new object
 pub handed_none : (view : View) (new : Known) (births : ℕ) (ks : List Kind) (given : List Given)
     → made_in (map (meant view new) given) ≡ None → AllRight view ks given
-    → map (rearg birth_of) (map (rearg born_of) (map (meant view new) given)) ≡ map (handed births) given
+    → map (rearg number_of_birth) (map (rearg born_of) (map (meant view new) given)) ≡ map (handed births) given
 handed_none view new births [] [] e r = refl
 handed_none view new births [] (a ∷ given) e r = absurd r
 handed_none view new births (k ∷ ks) [] e r = absurd r
 handed_none view new births (k ∷ ks) (a ∷ given) e r =
-    let n = or_none (new_in (meant view new a)) (made_in (map (meant view new) given)) e in
+    let n = or_none (new_object_in (meant view new a)) (made_in (map (meant view new) given)) e in
     rw (handed_if view new births k a n.0 r.0, handed_none view new births ks given n.1 r.1) refl

@@ -4,17 +4,17 @@ use Rattle.std.proofs.Common.{drop, length, length-append, arith, ◌-◌, ◌�
 use Rattle.std.specs.Prelude.{nat_le}
 use Rattle.std.proofs.lemmas.Bool.Decides.{nat_tests}
 use Rattle.std.proofs.lemmas.List.{take-append-drop, length-take}
-use Rattle.wl_message.specs.declared.amounts.Fed.{Fed}
-use Rattle.wl_message.specs.Outgoing.{Message as Sent, Outgoing, goes, after_taking, waiting_bytes}
+use Rattle.wl_message.specs.declared.amounts.Amounts.{Amounts}
+use Rattle.wl_message.specs.Outgoing.{QueuedMessage as Sent, Outgoing, goes, after_taking, waiting_bytes}
 use Rattle.wl_message.specs.Outgoing.{waiting_tokens, newly_begun, all_tokens}
 use Rattle.wl_message.specs.Arrived.{Arrived, with_more, free_bytes, free_tokens}
 use Rattle.wl_message.proofs.WhatGoes.{begun_front, goes_goes}
 use Rattle.wl_connection.specs.Core.{Core, in_room, no_room, feeds}
-use Rattle.theory_connection.specs.Meant.{Known, Message, Coming, spelled, spelled_coming}
+use Rattle.theory_connection.specs.Meant.{Known, Message, Coming, spelled_meant, spelled_coming}
 use Rattle.theory_connection.specs.World.{World}
-use Rattle.theory_connection.specs.Pair.{PairState, CarryToServer, CarryToClient, Carried, Carries}
+use Rattle.theory_connection.specs.Pair.{PairState, CarryToServer, CarryToClient, CarryOutcome, Carries}
 use Rattle.theory_connection.specs.Pair.{moved, no_memory, carries, carried_bytes, carried_tokens}
-use Rattle.theory_connection.specs.Pair.{all_of, after_carry_to_server, after_carry_to_client}
+use Rattle.theory_connection.specs.Pair.{after_carry_to_server, after_carry_to_client}
 use Rattle.theory_connection.specs.Answers.{NotEnded, before}
 use Rattle.theory_connection.specs.Stands.{StandsBy, InFlight}
 use Rattle.theory_connection.proofs.Channels.{carried, goes_there, goes_tokens, all_tokens_more}
@@ -39,7 +39,7 @@ to_server_stands p w asked told most s = record {
   server = s.server;
   requests = record {
     in_world = s.requests.in_world;
-    in_boxes = flies p.client.core.outbox p.server.core.inbox (map spelled asked)
+    in_boxes = flies p.client.core.outbox p.server.core.inbox (map spelled_meant asked)
         (min most (in_room p.server.core).bytes) (in_room p.server.core).tokens s.requests.in_boxes;
     fit =
         s.requests.fit;
@@ -74,7 +74,7 @@ to_client_stands p w asked told most s = record {
 
 -- a carry to the server keeps what stands
 pub carry_to_server_keeps : (p : PairState) (w : World) (asked : List (Message Known)) (told : List (Coming Known))
-    → StandsBy p w asked told → NotEnded p w → (most : ℕ) (reply : Carried) (p' : PairState)
+    → StandsBy p w asked told → NotEnded p w → (most : ℕ) (reply : CarryOutcome) (p' : PairState)
     → Carries (carries p.client.core p.server.core most) p
     (after_carry_to_server p (carries p.client.core p.server.core most)) reply p'
     → Moves p w asked told (CarryToServer most) (CarryToServer reply) p'
@@ -89,7 +89,7 @@ carry_to_server_keeps p w asked told s z most reply p' (no_memory h) =
 
 -- a carry to the client keeps what stands
 pub carry_to_client_keeps : (p : PairState) (w : World) (asked : List (Message Known)) (told : List (Coming Known))
-    → StandsBy p w asked told → NotEnded p w → (most : ℕ) (reply : Carried) (p' : PairState)
+    → StandsBy p w asked told → NotEnded p w → (most : ℕ) (reply : CarryOutcome) (p' : PairState)
     → Carries (carries p.server.core p.client.core most) p
     (after_carry_to_client p (carries p.server.core p.client.core most)) reply p'
     → Moves p w asked told (CarryToClient most) (CarryToClient reply) p'
@@ -145,13 +145,13 @@ taken_whole : (to : Core) (b : Bool) (bytes tokens : List ℕ) (nb nt : ℕ) →
     → feeds to bytes tokens ≡ record { bytes = nb; tokens = nt }
 taken_whole to true bytes tokens nb nt e p q h k =
     let room : in_room to ≡ no_room = rw e refl in
-    let x : nb ≡ 0 = let l = ap (λ (r : Fed). r.bytes) room in omega (arith, h, l) in
-    let y : nt ≡ 0 = let l = ap (λ (r : Fed). r.tokens) room in omega (arith, k, l) in
+    let x : nb ≡ 0 = let l = ap (λ (r : Amounts). r.bytes) room in omega (arith, h, l) in
+    let y : nt ≡ 0 = let l = ap (λ (r : Amounts). r.tokens) room in omega (arith, k, l) in
     rw (e, x, y) refl
 taken_whole to false bytes tokens nb nt e p q h k =
     let room : in_room to ≡ record { bytes = free_bytes to.inbox; tokens = free_tokens to.inbox } = rw e refl in
-    let x : nb ≤ free_bytes to.inbox = let l = ap (λ (r : Fed). r.bytes) room in omega (arith, h, l) in
-    let y : nt ≤ free_tokens to.inbox = let l = ap (λ (r : Fed). r.tokens) room in omega (arith, k, l) in
+    let x : nb ≤ free_bytes to.inbox = let l = ap (λ (r : Amounts). r.bytes) room in omega (arith, h, l) in
+    let y : nt ≤ free_tokens to.inbox = let l = ap (λ (r : Amounts). r.tokens) room in omega (arith, k, l) in
     let all : nat_le (length tokens) (free_tokens to.inbox) ≡ true = grind (arith, nat_tests, q, y) in
     let few : min (length bytes) (free_bytes to.inbox) ≡ nb = omega (arith, p, x) in
     let some : min (length tokens) (free_tokens to.inbox) ≡ nt = omega (arith, q, y) in
@@ -159,7 +159,7 @@ taken_whole to false bytes tokens nb nt e p q h k =
 
 -- what is carried is all taken in
 pub carry_whole : (from to : Core) (most : ℕ) → feeds to (carried_bytes from (carries from to most))
-    (carried_tokens from (carries from to most)) ≡ all_of (carries from to most)
+    (carried_tokens from (carries from to most)) ≡ carries from to most
 carry_whole from to most =
     let f = carry_fits from to most in
     taken_whole to to.failed (carried_bytes from (carries from to most)) (carried_tokens from (carries from to most))

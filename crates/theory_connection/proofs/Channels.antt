@@ -5,7 +5,7 @@ use Rattle.std.proofs.lemmas.List.{append_assoc, append-nil, take-append-le, dro
 use Rattle.std.proofs.lemmas.List.{take_all, drop_all, take-append-drop, take_at}
 use Rattle.wl_message.specs.Cut.{front, More, Bad, Whole, IsMessage}
 use Rattle.wl_message.specs.Arrived.{Arrived, with_more, without_first, in_front}
-use Rattle.wl_message.specs.Outgoing.{Message, Outgoing, all_bytes, all_tokens, waiting_bytes}
+use Rattle.wl_message.specs.Outgoing.{QueuedMessage, Outgoing, all_bytes, all_tokens, waiting_bytes}
 use Rattle.wl_message.specs.Outgoing.{waiting_tokens, newly_begun, begun, after_taking, goes}
 use Rattle.wl_message.proofs.Cuts.{front_message, whole_stays, bad_stays, front_none}
 use Rattle.wl_message.proofs.Fronts.{front_stands}
@@ -15,30 +15,30 @@ use Rattle.theory_connection.specs.Stands.{InFlight}
 use Rattle.theory_connection.proofs.WholeInFlight.{each_more, each_rest}
 
 -- the bytes of more messages
-pub all_bytes_more : (xs ys : List Message) → all_bytes (xs ++ ys) ≡ all_bytes xs ++ all_bytes ys
+pub all_bytes_more : (xs ys : List QueuedMessage) → all_bytes (xs ++ ys) ≡ all_bytes xs ++ all_bytes ys
 all_bytes_more [] ys = refl
 all_bytes_more (x ∷ xs) ys = rw (all_bytes_more xs ys) (sym (append_assoc x.bytes (all_bytes xs) (all_bytes ys)))
 
 -- the tokens of more messages
-pub all_tokens_more : (xs ys : List Message) → all_tokens (xs ++ ys) ≡ all_tokens xs ++ all_tokens ys
+pub all_tokens_more : (xs ys : List QueuedMessage) → all_tokens (xs ++ ys) ≡ all_tokens xs ++ all_tokens ys
 all_tokens_more [] ys = refl
 all_tokens_more (x ∷ xs) ys = rw (all_tokens_more xs ys) (sym (append_assoc x.tokens (all_tokens xs) (all_tokens ys)))
 
 -- messages are written
-pub pushed : (o p : Outgoing) (i : Arrived) (ms more : List Message) → InFlight o i ms → p.left ≡ o.left
+pub pushed : (o p : Outgoing) (i : Arrived) (ms more : List QueuedMessage) → InFlight o i ms → p.left ≡ o.left
     → p.messages ≡ o.messages ++ more
     → Each (λ m. IsMessage i.limit.bytes m.bytes) more → InFlight p i (ms ++ more)
 pushed o p i ms more f l e w = record {
   begun = f.begun;
-  all = ap (λ (x : List Message). x ++ more) f.all ∙ append_assoc f.begun o.messages more
-      ∙ ap (λ (x : List Message). f.begun ++ x) (sym e);
+  all = ap (λ (x : List QueuedMessage). x ++ more) f.all ∙ append_assoc f.begun o.messages more
+      ∙ ap (λ (x : List QueuedMessage). f.begun ++ x) (sym e);
   bytes = ap (λ (x : List ℕ). i.bytes ++ x) l ∙ f.bytes;
   tokens = f.tokens;
-  whole = each_more (λ (m : Message). IsMessage i.limit.bytes m.bytes) ms more f.whole w;
+  whole = each_more (λ (m : QueuedMessage). IsMessage i.limit.bytes m.bytes) ms more f.whole w;
 }
 
 -- how many bytes the messages begun by n bytes have: at least so many
-enough : (n : ℕ) (ms : List Message) → n ≤ length (all_bytes ms) → n ≤ length (all_bytes (begun n ms))
+enough : (n : ℕ) (ms : List QueuedMessage) → n ≤ length (all_bytes ms) → n ≤ length (all_bytes (begun n ms))
 enough n [] h = h
 enough zero (m ∷ ms) h = omega arith
 enough (suc n) (m ∷ ms) h =
@@ -52,19 +52,19 @@ pub record Gone (o : Outgoing) (n : ℕ) : Type 0 where
   pub bytes : o.left ++ all_bytes (newly_begun o n) ≡ take n (waiting_bytes o) ++ (after_taking o n).left
   pub tokens : take (length (all_tokens (newly_begun o n))) (waiting_tokens o) ≡ all_tokens (newly_begun o n)
 
-gone_at : (o : Outgoing) (n : ℕ) (b ms rest : List Message) → ms ≡ b ++ rest → o.messages ≡ ms
+gone_at : (o : Outgoing) (n : ℕ) (b ms rest : List QueuedMessage) → ms ≡ b ++ rest → o.messages ≡ ms
     → n ≤ length (o.left ++ all_bytes b)
     → (o.left ++ all_bytes b ≡ take n (o.left ++ all_bytes ms) ++ drop n (o.left ++ all_bytes b))
     × (take (length (all_tokens b)) (all_tokens ms) ≡ all_tokens b)
 gone_at o n b ms rest e f h =
     let whole : o.left ++ all_bytes ms ≡ (o.left ++ all_bytes b) ++ all_bytes rest =
-    ap (λ (x : List Message). o.left ++ all_bytes x) e ∙ ap (λ (x : List ℕ). o.left ++ x) (all_bytes_more b rest)
+    ap (λ (x : List QueuedMessage). o.left ++ all_bytes x) e ∙ ap (λ (x : List ℕ). o.left ++ x) (all_bytes_more b rest)
     ∙ sym (append_assoc o.left (all_bytes b) (all_bytes rest)) in
     let t : take n (o.left ++ all_bytes ms) ≡ take n (o.left ++ all_bytes b) =
     ap (take n) whole ∙ take-append-le n (o.left ++ all_bytes b) (all_bytes rest) h in (
       sym (take-append-drop n (o.left ++ all_bytes b))
           ∙ ap (λ (x : List ℕ). x ++ drop n (o.left ++ all_bytes b)) (sym t),
-      ap (λ (x : List Message). take (length (all_tokens b)) (all_tokens x)) e
+      ap (λ (x : List QueuedMessage). take (length (all_tokens b)) (all_tokens x)) e
           ∙ ap (take (length (all_tokens b))) (all_tokens_more b rest)
           ∙ take_at (all_tokens b) (all_tokens rest) (length (all_tokens b)) refl,
     )
@@ -75,7 +75,7 @@ gone o n h =
     let b = newly_begun o n in
     let rest = drop (length b) o.messages in
     let e : o.messages ≡ b ++ rest = sym (take-append-drop (length b) o.messages)
-    ∙ ap (λ (x : List Message). x ++ rest) (sym (begun_front (n - length o.left) o.messages)) in
+    ∙ ap (λ (x : List QueuedMessage). x ++ rest) (sym (begun_front (n - length o.left) o.messages)) in
     let k : n - length o.left ≤ length (all_bytes o.messages) =
     omega (arith, length-append o.left (all_bytes o.messages)) in
     let r = enough (n - length o.left) o.messages k in
@@ -83,14 +83,15 @@ gone o n h =
     record { messages = e; bytes = g.0; tokens = g.1 }
 
 -- bytes and tokens go
-pub carried : (o : Outgoing) (i : Arrived) (ms : List Message) (n : ℕ) → InFlight o i ms → n ≤ length (waiting_bytes o)
+pub carried : (o : Outgoing) (i : Arrived) (ms : List QueuedMessage) (n : ℕ) → InFlight o i ms
+    → n ≤ length (waiting_bytes o)
     → InFlight (after_taking o n) (with_more i (take n (waiting_bytes o))
     (take (length (all_tokens (newly_begun o n))) (waiting_tokens o))) ms
 carried o i ms n f h =
     let g = gone o n h in
     record {
       begun = f.begun ++ newly_begun o n;
-      all = f.all ∙ ap (λ (l : List Message). f.begun ++ l) g.messages
+      all = f.all ∙ ap (λ (l : List QueuedMessage). f.begun ++ l) g.messages
           ∙ sym (append_assoc f.begun (newly_begun o n) (after_taking o n).messages);
       bytes = append_assoc i.bytes (take n (waiting_bytes o)) (after_taking o n).left
           ∙ ap (λ (l : List ℕ). i.bytes ++ l) (sym g.bytes)
@@ -116,9 +117,9 @@ unfolding goes
 goes_tokens o b t = refl
 
 -- what a read finds
-pub record Pops (o : Outgoing) (i : Arrived) (ms : List Message) (n : ℕ) : Type 0 where
-  pub first : Message
-  pub rest : List Message
+pub record Pops (o : Outgoing) (i : Arrived) (ms : List QueuedMessage) (n : ℕ) : Type 0 where
+  pub first : QueuedMessage
+  pub rest : List QueuedMessage
   pub is : ms ≡ first ∷ rest
   pub size : n ≡ length first.bytes
   pub bytes : take n i.bytes ≡ first.bytes
@@ -141,7 +142,7 @@ pub front_nil : (xs ys : List ℕ) → xs ++ ys ≡ [] → xs ≡ []
 front_nil [] ys h = refl
 front_nil (x ∷ xs) ys h = cc
 
-pops_at : (o : Outgoing) (i : Arrived) (ms : List Message) (n : ℕ) (f : InFlight o i ms) (bs : List Message)
+pops_at : (o : Outgoing) (i : Arrived) (ms : List QueuedMessage) (n : ℕ) (f : InFlight o i ms) (bs : List QueuedMessage)
     → f.begun ≡ bs → in_front i ≡ Whole n
     → Pops o i ms n
 pops_at o i ms n f [] e h =
@@ -180,12 +181,12 @@ pops_at o i ms n f (b ∷ bs) e h =
     }
 
 -- a whole message in front of the inbox is the first in flight
-pub pops : (o : Outgoing) (i : Arrived) (ms : List Message) (n : ℕ) → InFlight o i ms → in_front i ≡ Whole n
+pub pops : (o : Outgoing) (i : Arrived) (ms : List QueuedMessage) (n : ℕ) → InFlight o i ms → in_front i ≡ Whole n
     → Pops o i ms n
 pops o i ms n f h = pops_at o i ms n f f.begun refl h
 
 -- no bad header is met
-never_bad_at : (o : Outgoing) (i : Arrived) (ms bs : List Message) (n : ℕ) (f : InFlight o i ms) → f.begun ≡ bs
+never_bad_at : (o : Outgoing) (i : Arrived) (ms bs : List QueuedMessage) (n : ℕ) (f : InFlight o i ms) → f.begun ≡ bs
     → in_front i ≡ Bad n → ⊥
 never_bad_at o i ms [] n f e h =
     let z = front_nil i.bytes o.left (f.bytes ∙ ap all_bytes e) in
@@ -201,11 +202,12 @@ never_bad_at o i ms (b ∷ bs) n f e h =
     cc (p, q, ap (front i.limit.bytes) eq)
 
 -- no bad header comes
-pub never_bad : (o : Outgoing) (i : Arrived) (ms : List Message) (n : ℕ) → InFlight o i ms → in_front i ≡ Bad n → ⊥
+pub never_bad : (o : Outgoing) (i : Arrived) (ms : List QueuedMessage) (n : ℕ) → InFlight o i ms → in_front i ≡ Bad n
+    → ⊥
 never_bad o i ms n f h = never_bad_at o i ms f.begun n f refl h
 
 -- empty boxes: nothing is in flight
-none_at : (o : Outgoing) (i : Arrived) (ms bs : List Message) (f : InFlight o i ms) → f.begun ≡ bs → i.bytes ≡ []
+none_at : (o : Outgoing) (i : Arrived) (ms bs : List QueuedMessage) (f : InFlight o i ms) → f.begun ≡ bs → i.bytes ≡ []
     → o.left ≡ [] → o.messages ≡ [] → ms ≡ []
 none_at o i ms [] f e x y z = f.all ∙ ap (λ l. l ++ o.messages) e ∙ z
 none_at o i ms (b ∷ bs) f e x y z =
@@ -217,7 +219,8 @@ none_at o i ms (b ∷ bs) f e x y z =
     let l : length b.bytes ≡ 0 = ap length v in
     absurd (omega (arith, l, w.0.size.header))
 
-messages_empty : (limit : ℕ) (ms : List Message) → Each (λ m. IsMessage limit m.bytes) ms → all_bytes ms ≡ [] → ms ≡ []
+messages_empty : (limit : ℕ) (ms : List QueuedMessage) → Each (λ m. IsMessage limit m.bytes) ms → all_bytes ms ≡ []
+    → ms ≡ []
 messages_empty limit [] w e = refl
 messages_empty limit (m ∷ ms) w e = let v = front_nil m.bytes (all_bytes ms) e in let l : length m.bytes ≡ 0 =
     ap length v in absurd (omega (arith, l, w.0.size.header))
@@ -227,11 +230,11 @@ back_nil [] ys h = h
 back_nil (x ∷ xs) ys h = cc
 
 -- with empty boxes nothing is in flight
-pub none_in_flight : (o : Outgoing) (i : Arrived) (ms : List Message) → InFlight o i ms → i.bytes ≡ []
+pub none_in_flight : (o : Outgoing) (i : Arrived) (ms : List QueuedMessage) → InFlight o i ms → i.bytes ≡ []
     → waiting_bytes o ≡ [] → ms ≡ []
 none_in_flight o i ms f x y =
     let l = front_nil o.left (all_bytes o.messages) y in
-    let w = each_rest (λ (m : Message). IsMessage i.limit.bytes m.bytes) f.begun o.messages
+    let w = each_rest (λ (m : QueuedMessage). IsMessage i.limit.bytes m.bytes) f.begun o.messages
     (subst (Each (λ m. IsMessage i.limit.bytes m.bytes)) f.all f.whole) in
     none_at o i ms f.begun f refl x l (messages_empty i.limit.bytes o.messages w
     (back_nil o.left (all_bytes o.messages) y))

@@ -19,7 +19,7 @@ use Rattle.wl_sigs.specs.Tables.{Interface, interface_at, signature_at, place_of
 use Rattle.wl_sigs.specs.Fixed.{registry}
 use Rattle.wl_sigs.specs.Fixed as fixed
 use Rattle.wl_sigs.specs.Valid.{Valid}
-use Rattle.wl_message.specs.Outgoing.{message}
+use Rattle.wl_message.specs.Outgoing.{queued}
 use Rattle.wl_object_map.specs.declared.object.Object.{Object}
 use Rattle.wl_object_map.specs.declared.object.Entry.{Entry}
 use Rattle.wl_object_map.specs.declared.object.State.TheVariants as states
@@ -32,15 +32,15 @@ use Rattle.wl_connection.specs.Sending.{opening_answer}
 use Rattle.wl_client.specs.declared.globals.Global.{Global as Remembered}
 use Rattle.wl_client.specs.State as client
 use Rattle.wl_client.specs.State.{is_named}
-use Rattle.wl_client.specs.Calls.{version_fits, can_bind, iface_or, bound, bind_at, bind_answer, after_bind}
+use Rattle.wl_client.specs.Calls.{version_fits, can_bind, iface_or, bound_object, bind_at, bind_answer, after_bind}
 use Rattle.wl_server.specs.State as server
-use Rattle.wl_server.specs.Requests.{can_bind as bind_fits, name_fits}
-use Rattle.theory_connection.specs.Meant.{Known, Message, Coming, renamed, born_of, plain}
+use Rattle.wl_server.specs.Requests.{was_advertised as bind_fits, name_fits}
+use Rattle.theory_connection.specs.Meant.{Known, Message, Coming, renamed, born_of, born_of_entry}
 use Rattle.theory_connection.specs.World.{World, Open, Each, request_written}
 use Rattle.theory_connection.specs.Pair.{PairState, ClientBind, with_client, Writes, accepted, refused, no_memory}
 use Rattle.theory_connection.specs.Answers.{NotEnded, birth_at, before}
 use Rattle.theory_connection.specs.Answers as answers
-use Rattle.theory_connection.specs.Flight.{client_rows, row, as_row}
+use Rattle.theory_connection.specs.Flight.{client_rows, row_of_entry, as_row}
 use Rattle.theory_connection.specs.Stands.{StandsBy, WasGiven, IsGlobal}
 use Rattle.theory_connection.proofs.Bridges.{next_fresh}
 use Rattle.theory_connection.proofs.EndedObject.{born_ends}
@@ -64,7 +64,7 @@ pub record Bound (st : client.State) (target : Object) (name : ℕ) (iface : Lis
   pub live : entry.state ≡ states.Live
   pub registers : same_iface entry.iface registry ≡ true
   pub binds : can_bind st.core.tables iface version (client.global_of st.globals name) ≡ true
-  pub opens_it : opening_answer st.core (Some (bound st name version)) ≡ Ok new
+  pub opens_it : opening_answer st.core (Some (bound_object st name version)) ≡ Ok new
 
 live_found : (birth : ℕ) (o : Option Entry) (b : Bool) (e : Entry) → is_live_as birth o ≡ b → cond b o None ≡ Some e
     → (o ≡ Some e) × (e.birth ≡ birth) × (e.state ≡ states.Live)
@@ -170,7 +170,7 @@ the_bound v version place = record {
 
 abbrev pub bind_message : View → Entry → Object → ℕ → List ℕ → ℕ → Iface → Message Known
 bind_message v entry target name iface version place = record {
-  target = record { id = target.id; born = plain entry };
+  target = record { id = target.id; born = born_of_entry entry };
   opcode = 0;
   args = Uint name ∷ NewNamed iface version (the_bound v version place) ∷ [];
   ends = None;
@@ -180,8 +180,8 @@ same_is : (a b : Iface) → same_iface a b ≡ true → a ≡ b
 same_is a b h = let e : a.0 ≡ b.0 = eqb-true a.0 b.0 h in λ i. record { 0 = e i }
 
 open_row : (v : View) (id : ℕ) (e : Entry) → look v id ≡ Some e → e.state ≡ states.Live
-    → (client_rows v).rows id ≡ Some (Open (plain e))
-open_row v id e h l = ap (option_map row) h ∙ ap (λ s. Some (as_row s (plain e))) l
+    → (client_rows v).rows id ≡ Some (Open (born_of_entry e))
+open_row v id e h l = ap (option_map row_of_entry) h ∙ ap (λ s. Some (as_row s (born_of_entry e))) l
 
 pub bind_can : (p : PairState) (w : World) (asked : List (Message Known)) (told : List (Coming Known))
     (s : StandsBy p w asked told) (target : Object) (name : ℕ) (iface : List ℕ) (version : ℕ) (new : Option Object)
@@ -287,7 +287,7 @@ left_by st entry target name iface version g e =
         view = opened_at st.core.view (next_id st.core.view) (iface_or (e i)) version;
         outbox = record st.core.outbox {
           messages = st.core.outbox.messages
-              ++ message (message_bytes target.id 0 (bind_values name iface version (next_id st.core.view))) [] ∷ [];
+              ++ queued (message_bytes target.id 0 (bind_values name iface version (next_id st.core.view))) [] ∷ [];
         };
       };
     }
@@ -301,7 +301,7 @@ pub client_bind_keeps : (p : PairState) (w : World) (asked : List (Message Known
     → Moves p w asked told (ClientBind target name iface version) (ClientBind reply) p'
 client_bind_keeps p w asked told s z target name iface version reply p' (accepted {new = new} h) =
     let b = is_bound p.client target name iface version new s.client.lives h in
-    let o = opens p.client.core (Some (bound p.client name version)) new b.opens_it in
+    let o = opens p.client.core (Some (bound_object p.client name version)) new b.opens_it in
     let n = names_at p.server.core.tables p.client.globals iface version name
     (client.global_of p.client.globals name) refl
     (subst (λ (t : List Interface). can_bind t iface version (client.global_of p.client.globals name) ≡ true)
@@ -322,7 +322,7 @@ client_bind_keeps p w asked told s z target name iface version reply p' (accepte
         };
         target_is = b.birth;
         opcode_is = refl;
-        args_are = ap (λ (k : ℕ). answers.bound name iface version k) (sym s.client.births);
+        args_are = ap (λ (k : ℕ). answers.bind_args name iface version k) (sym s.client.births);
         new_is = ap (option_map birth_at) (sym o.is);
         steps = asks_world p w asked told s m can;
       });

@@ -9,13 +9,14 @@ use Rattle.std.proofs.lemmas.Bool.{eqb-true}
 use Rattle.wl_wire.specs.Argument.{Argument, Uint, Obj}
 use Rattle.wl_sigs.specs.Tables.{Interface, place_of}
 use Rattle.wl_client.specs.declared.globals.Global.{Global}
-use Rattle.wl_client.specs.State.{is_named, global_of, max_globals}
+use Rattle.wl_client.specs.State.{is_named, global_of}
 use Rattle.wl_client.specs.Reports.{argument, number_in, text_in, forgotten, replaced, remembered}
 use Rattle.wl_client.specs.Reports.{remembered_as, globals_told}
 use Rattle.wl_server.specs.State as server
 use Rattle.theory_connection.specs.Meant.{Known, Message, Arg, rearg, born_of, wire}
 use Rattle.theory_connection.specs.World.{Each, nameless, is_registry}
 use Rattle.theory_connection.specs.Stands.{TellsGiven, TellsFitly}
+use Rattle.wl_connection.specs.Core.{max_globals}
 
 -- ---- numbers and texts do not hang on how objects are named
 

@@ -14,7 +14,7 @@ use Rattle.wl_sigs.specs.declared.signature.Destroys.{Destroys}
 use Rattle.wl_sigs.specs.declared.signature.Destroys.TheVariants.{Nothing, Target, Arg as ends_arg}
 use Rattle.wl_wire.specs.Argument.{Obj}
 use Rattle.wl_sigs.specs.Valid.{Valid}
-use Rattle.wl_message.specs.Outgoing.{message}
+use Rattle.wl_message.specs.Outgoing.{queued}
 use Rattle.wl_object_map.specs.declared.object.Object.{Object}
 use Rattle.wl_object_map.specs.declared.object.Entry.{Entry}
 use Rattle.wl_objects.specs.declared.error.SendError.{SendError}
@@ -24,15 +24,15 @@ use Rattle.wl_objects.specs.Messages.{NewObject, made, ended_id, Client as clien
 use Rattle.wl_connection.specs.Core.{Core}
 use Rattle.wl_connection.specs.Sending.{send_answer, after_send, after_checked, made_at, version_at, opens_object}
 use Rattle.theory_connection.specs.Meant.{Born, Known, Arg, object_at, ended_by, tokens, wire}
-use Rattle.theory_connection.specs.Meant.{Message, Coming, renamed, born_of, birth_of, made_in}
-use Rattle.theory_connection.specs.Meant.{objects, plain, live_entry}
+use Rattle.theory_connection.specs.Meant.{Message, Coming, renamed, born_of, number_of_birth, made_in}
+use Rattle.theory_connection.specs.Meant.{objects, born_of_entry, live_entry}
 use Rattle.theory_connection.specs.World.{World, display_born, Open, Each, IfThere, IsOpen}
 use Rattle.theory_connection.specs.World.{request_written, Steps, writes_request, WriteRequest}
 use Rattle.theory_connection.specs.Pair.{PairState, ClientSend, with_client_core, Writes, accepted, refused, no_memory}
 use Rattle.theory_connection.specs.Answers.{NotEnded, WritesThat, handed, birth_at, before}
-use Rattle.theory_connection.specs.Flight.{Fresh, client_rows, row, as_row}
-use Rattle.theory_connection.specs.Stands.{StandsBy, Fits, AreOf}
-use Rattle.theory_connection.specs.Runs.{IsGiven}
+use Rattle.theory_connection.specs.Flight.{Fresh, client_rows, row_of_entry, as_row}
+use Rattle.theory_connection.specs.Stands.{StandsBy, FitsSignature, SuitKinds}
+use Rattle.theory_connection.specs.Runs.{FitsWords}
 use Rattle.theory_connection.proofs.WholeInFlight.{OpenRow, each_by}
 use Rattle.theory_connection.proofs.Bridges.{next_fresh}
 use Rattle.theory_connection.proofs.RowsAfterMessage.{made_map, objects_map, each_map}
@@ -46,13 +46,14 @@ use Rattle.theory_connection.proofs.EndedObject.{Mortal, after_is, argument_is, 
 use Rattle.theory_connection.proofs.Moves.{Moves, Outcome, goes_on, stays, asking}
 
 -- the same by other tables
-abbrev pub moved : (t u : List Interface) (side : Side) (m : Message Known) → t ≡ u → Fits t side m → Fits u side m
+abbrev pub moved : (t u : List Interface) (side : Side) (m : Message Known) → t ≡ u → FitsSignature t side m
+    → FitsSignature u side m
 moved t u side m e f = record {
   signature = f.signature;
   there = subst (λ (x : List Interface). signature_at x m.target.born.iface.0 side m.opcode ≡ Some f.signature) e
       f.there;
   old_enough = f.old_enough;
-  args = subst (λ (x : List Interface). AreOf x m.target.born.version f.signature.kinds m.args) e f.args;
+  args = subst (λ (x : List Interface). SuitKinds x m.target.born.version f.signature.kinds m.args) e f.args;
   ends = f.ends;
   len = f.len;
   low = f.low;
@@ -63,7 +64,7 @@ moved t u side m e f = record {
 }
 
 open_live : (v : View) (x : Known) → LiveAt v x → OpenRow (client_rows v) x
-open_live v x l = ap (option_map row) l.there ∙ ap (λ s. Some (as_row s (plain l.entry))) l.live
+open_live v x l = ap (option_map row_of_entry) l.there ∙ ap (λ s. Some (as_row s (born_of_entry l.entry))) l.live
     ∙ ap (λ (b : Born). Some (Open b)) l.same
 
 if_map : {X Y : Type 0} (P : Type 0) (f : X → Y) (o : Option X) → IfThere (λ (y : Y). P) (option_map f o)
@@ -84,7 +85,7 @@ new_fits v new (Some x) s i b h c =
 
 -- wl_display stays
 pub not_display : (p : PairState) (w : World) (asked : List (Message Known)) (told : List (Coming Known))
-    → StandsBy p w asked told → (id opcode : ℕ) (entry : Entry) (signature : sigs.Message)
+    → StandsBy p w asked told → (id opcode : ℕ) (entry : Entry) (signature : sigs.MessageSignature)
     → look p.client.core.view id ≡ Some entry
     → signature_at p.server.core.tables entry.iface.0 Request opcode ≡ Some signature
     → destroys_target signature.destroys ≡ true → id ≢ 1
@@ -101,13 +102,14 @@ pub valid_client : (p : PairState) (w : World) (asked : List (Message Known)) (t
 valid_client p w asked told s = subst Valid (sym s.terms.same_tables) s.terms.valid
 
 -- what a call makes, by the entry of its target
-pub made_same : (core : Core) (target : Object) (given : List Given) (signature : sigs.Message) (entry : Entry)
+pub made_same : (core : Core) (target : Object) (given : List Given) (signature : sigs.MessageSignature) (entry : Entry)
     → look core.view target.id ≡ Some entry → made_at core target signature given ≡ the_made core entry given signature
 made_same core target given signature entry h = ap
     (λ o. made core.tables (version_at o) signature.kinds (map (wired (next_id core.view)) given)) h
 
 signed_there : (p : PairState) (w : World) (asked : List (Message Known)) (told : List (Coming Known))
-    (s : StandsBy p w asked told) (target : Object) (opcode : ℕ) (given : List Given) (signature : sigs.Message)
+    (s : StandsBy p w asked told) (target : Object) (opcode : ℕ) (given : List Given)
+    (signature : sigs.MessageSignature)
     → (c : Checked p.client.core.outbox.limit.bytes p.client.core.tables Request p.client.core.view target opcode given
     signature) → signature_at p.server.core.tables c.entry.iface.0 Request opcode ≡ Some signature
 signed_there p w asked told s target opcode given signature c =
@@ -121,12 +123,12 @@ registry_mortal p w asked told s x l h one =
     let e : Some l.entry ≡ Some (live_entry display_born) =
     sym l.there ∙ ap (look p.client.core.view) one ∙ s.client.display in
     let same : l.entry ≡ live_entry display_born = cc e in
-    let no : 1 ≡ 0 = sym h ∙ ap (λ (b : Born). b.iface.0) (sym l.same ∙ ap plain same) in
+    let no : 1 ≡ 0 = sym h ∙ ap (λ (b : Born). b.iface.0) (sym l.same ∙ ap born_of_entry same) in
     cc no
 
 -- what a call destroys is not wl_display
 call_mortal : (p : PairState) (w : World) (asked : List (Message Known)) (told : List (Coming Known))
-    → StandsBy p w asked told → (target : Object) (opcode : ℕ) (given : List Given) (signature : sigs.Message)
+    → StandsBy p w asked told → (target : Object) (opcode : ℕ) (given : List Given) (signature : sigs.MessageSignature)
     → (c : Checked p.client.core.outbox.limit.bytes p.client.core.tables Request p.client.core.view target opcode given
     signature) (k : CallIs p.client.core Request target opcode given signature c.entry)
     → signature_at p.server.core.tables c.entry.iface.0 Request opcode ≡ Some signature
@@ -144,7 +146,7 @@ call_mortal p w asked told s target opcode given signature c k there = by_what s
         let signed = c.signed in
         let same : k.fits_it.signature ≡ signature = cc (k.fits_it.there, signed) in
         let a = argument_is p.client.core.tables Request m k.fits_it n (valid_client p w asked told s)
-        (ap (λ (x : sigs.Message). x.destroys) same ∙ d) in
+        (ap (λ (x : sigs.MessageSignature). x.destroys) same ∙ d) in
         let live : LiveAt p.client.core.view a.1.it =
         (subst (λ (l : List (Arg Known)). Each (LiveAt p.client.core.view) (objects l)) a.1.are k.live).0 in
         subst (λ (l : List (Arg Known)). IfThere Mortal (object_at l n)) (sym a.1.are)
@@ -152,7 +154,8 @@ call_mortal p w asked told s target opcode given signature c k there = by_what s
         (registry_mortal p w asked told s a.1.it live a.1.registers))
 
 pub client_can : (p : PairState) (w : World) (asked : List (Message Known)) (told : List (Coming Known))
-    (s : StandsBy p w asked told) (target : Object) (opcode : ℕ) (given : List Given) (signature : sigs.Message)
+    (s : StandsBy p w asked told) (target : Object) (opcode : ℕ) (given : List Given)
+    (signature : sigs.MessageSignature)
     (new : Option Object)
     → (c : Checked p.client.core.outbox.limit.bytes p.client.core.tables Request p.client.core.view target opcode given
     signature) (k : CallIs p.client.core Request target opcode given signature c.entry)
@@ -174,7 +177,7 @@ client_can p w asked told s target opcode given signature new c k o =
     record {
       fitly = record { fits = f; binds = λ h. absurd (cc (h, c.hidden)) };
       target = open_live v m.target (record { entry = c.entry; there = c.there; same = refl; live = c.live });
-      target_plain = target_plain tables s.terms.valid (plain c.entry) opcode signature there;
+      target_plain = target_plain tables s.terms.valid (born_of_entry c.entry) opcode signature there;
       args = each_by (LiveAt v) (OpenRow (client_rows v)) (open_live v) (objects m.args) k.live;
       args_plain = objects_plain tables v (the_new core c.entry given signature) signature.kinds given k.right
           (s.terms.valid.no_any_in_requests c.entry.iface.0 opcode signature there)
@@ -187,7 +190,7 @@ client_can p w asked told s target opcode given signature new c k o =
     }
 
 -- the pair is as the call leaves it
-left_by : (core : Core) (target : Object) (opcode : ℕ) (given : List Given) (signature : sigs.Message)
+left_by : (core : Core) (target : Object) (opcode : ℕ) (given : List Given) (signature : sigs.MessageSignature)
     → Valid core.tables → checked core.outbox.limit.bytes core.tables Request core.view target opcode given
     ≡ Ok signature
     → (c : Checked core.outbox.limit.bytes core.tables Request core.view target opcode given signature)
@@ -204,7 +207,7 @@ left_by core target opcode given signature v e c k =
       view = after client_end core.view (mk i) signature.destroys id;
       outbox = record core.outbox {
         messages = core.outbox.messages
-            ++ message (message_bytes target.id opcode (k.wire_is i)) (t i) ∷ [];
+            ++ queued (message_bytes target.id opcode (k.wire_is i)) (t i) ∷ [];
       };
     })
     ∙ (λ i. record core {
@@ -212,12 +215,12 @@ left_by core target opcode given signature v e c k =
           (call_ends core Request target opcode given signature v c k) i;
       outbox = record core.outbox {
         messages = core.outbox.messages
-            ++ message (message_bytes target.id opcode (map wire m.args)) (tokens m.args) ∷ [];
+            ++ queued (message_bytes target.id opcode (map wire m.args)) (tokens m.args) ∷ [];
       };
     }))
 
 new_births : (o : Option Known) (births id : ℕ) → IfThere (λ x. x.born.birth ≡ births) o
-    → option_map birth_of (option_map born_of o) ≡ option_map birth_at
+    → option_map number_of_birth (option_map born_of o) ≡ option_map birth_at
     (option_map (λ (m : NewObject). record { id = id; birth = births }) (option_map made_of o))
 new_births None births id h = refl
 new_births (Some x) births id h = ap Some h
@@ -246,7 +249,8 @@ asks_world p w asked told s m c =
     (rw (made_map born_of m.args, s.client.births) (if_born v.births (made_in m.args) births))
 
 pub sends_that : (p : PairState) (w : World) (asked : List (Message Known)) (told : List (Coming Known))
-    (s : StandsBy p w asked told) (target : Object) (opcode : ℕ) (given : List Given) (signature : sigs.Message)
+    (s : StandsBy p w asked told) (target : Object) (opcode : ℕ) (given : List Given)
+    (signature : sigs.MessageSignature)
     (new : Option Object)
     → (c : Checked p.client.core.outbox.limit.bytes p.client.core.tables Request p.client.core.view target opcode given
     signature) (k : CallIs p.client.core Request target opcode given signature c.entry)
@@ -266,7 +270,7 @@ sends_that p w asked told s target opcode given signature new c k o can =
       opcode_is = refl;
       args_are = handed_all v (the_new core c.entry given signature) w.births signature.kinds given
           (new_birth v (the_made core c.entry given signature) ∙ sym s.client.births) k.right;
-      new_is = ap (option_map birth_of) (made_map born_of m.args)
+      new_is = ap (option_map number_of_birth) (made_map born_of m.args)
           ∙ new_births (made_in m.args) v.births (next_id v) births
           ∙ ap (option_map birth_at) (ap (option_map (λ (y : NewObject). record { id = next_id v; birth = v.births }))
           (sym (made_same core target given signature c.entry c.there ∙ k.made_is)) ∙ sym o.is);
@@ -275,7 +279,8 @@ sends_that p w asked told s target opcode given signature new c k o can =
 
 -- a call of the client keeps what stands
 pub client_send_keeps : (p : PairState) (w : World) (asked : List (Message Known)) (told : List (Coming Known))
-    → StandsBy p w asked told → NotEnded p w → (target : Object) (opcode : ℕ) (given : List Given) → Each IsGiven given
+    → StandsBy p w asked told → NotEnded p w → (target : Object) (opcode : ℕ) (given : List Given)
+    → Each FitsWords given
     → (reply : Result (Option Object) SendError) (p' : PairState)
     → Writes (send_answer p.client.core Request target opcode given)
     (opens_object (checked p.client.core.outbox.limit.bytes p.client.core.tables Request p.client.core.view target

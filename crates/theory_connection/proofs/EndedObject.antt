@@ -8,14 +8,14 @@ use Rattle.wl_wire.specs.Argument.{Int, Uint, Fixed, Str, Obj, New, NewNamed, Ar
 use Rattle.wl_sigs.specs.declared.signature.Destroys.{Destroys}
 use Rattle.wl_sigs.specs.declared.signature.Destroys.TheVariants.{Nothing, Target, Arg as ends_arg}
 use Rattle.wl_sigs.specs.declared.signature.Side.{Side}
-use Rattle.wl_sigs.specs.Tables.{Interface, Message as Signature, destroys_one}
+use Rattle.wl_sigs.specs.Tables.{Interface, MessageSignature as Signature, destroys_one}
 use Rattle.wl_sigs.specs.Fixed as fixed
 use Rattle.wl_sigs.specs.Fixed.{registry}
 use Rattle.wl_sigs.specs.Valid.{Valid}
 use Rattle.wl_object_map.specs.View.{View}
-use Rattle.wl_objects.specs.Messages.{End, NewObject, after, opens, destroyed, ended_id}
+use Rattle.wl_objects.specs.Messages.{Role, NewObject, after, opens, destroyed, ended_id}
 use Rattle.wl_connection.proofs.Ends.{the_destroy, is_the_destroy}
-use Rattle.theory_connection.specs.Stands.{Fits, AreOf}
+use Rattle.theory_connection.specs.Stands.{FitsSignature, SuitKinds}
 use Rattle.theory_connection.specs.Meant.{Known, Message, Arg, born_of, rearg, wire, objects, object_at, ended_by}
 use Rattle.theory_connection.specs.World.{Each, IfThere}
 
@@ -100,7 +100,7 @@ pub record IsArgument (args : List (Arg Known)) : Type 0 where
   pub registers : it.born.iface.0 ≡ 1
 
 argument_by : (tables : List Interface) (version : ℕ) (args : List (Arg Known))
-    → AreOf tables version (fixed.object registry ∷ []) args → IsArgument args
+    → SuitKinds tables version (fixed.object registry ∷ []) args → IsArgument args
 argument_by tables version [] a = absurd a
 argument_by tables version (Obj (Some x) ∷ []) a =
     record { it = x; are = refl; some = a.0.1.0; registers = sym (eqb-true 1 x.born.iface.0 a.0.1.1) }
@@ -109,7 +109,7 @@ argument_by tables version (arg ∷ []) a = absurd a.0.0
 argument_by tables version (x ∷ y ∷ more) a = absurd a.1
 
 -- an argument that a message destroys is its first and only one, and a registry
-pub argument_is : (tables : List Interface) (side : Side) (m : Message Known) (f : Fits tables side m) (k : ℕ)
+pub argument_is : (tables : List Interface) (side : Side) (m : Message Known) (f : FitsSignature tables side m) (k : ℕ)
     → Valid tables → f.signature.destroys ≡ ends_arg k → (k ≡ 0) × IsArgument m.args
 argument_is tables side m f k v d =
     let same : f.signature ≡ the_destroy = is_the_destroy tables m.target.born.iface.0 side m.opcode f.signature k v
@@ -117,7 +117,7 @@ argument_is tables side m f k v d =
     let place : ends_arg k ≡ ends_arg 0 = sym d ∙ ap (λ (s : Signature). s.destroys) same in (
       cc place,
       argument_by tables m.target.born.version m.args
-          (subst (λ (s : Signature). AreOf tables m.target.born.version s.kinds m.args) same f.args),
+          (subst (λ (s : Signature). SuitKinds tables m.target.born.version s.kinds m.args) same f.args),
     )
 
 -- ---- how an end knows it
@@ -128,12 +128,12 @@ pub record EndsAs (what : Destroys) (id : ℕ) (o : Option Known) : Type 0 where
   pub same : IfThere (λ x. x.id ≡ id) o
 
 -- the objects of an end without what a message destroys
-abbrev pub ended_view : End → View → Option Known → View
+abbrev pub ended_view : Role → View → Option Known → View
 ended_view end v None = v
 ended_view end v (Some x) = destroyed end v x.id
 
 -- the view after a message is that with what it ends ended
-pub after_is : (end : End) (v : View) (new : Option NewObject) (what : Destroys) (id : ℕ) (o : Option Known)
+pub after_is : (end : Role) (v : View) (new : Option NewObject) (what : Destroys) (id : ℕ) (o : Option Known)
     → EndsAs what id o → after end v new what id ≡ ended_view end (opens v new) o
 after_is end v new Nothing id None e = refl
 after_is end v new Nothing id (Some x) e = absurd (let f = e.flag in cc f)
@@ -151,7 +151,8 @@ ends_argument target args k z x e =
     (ended_by (ends_arg n) target (Obj (Some x) ∷ []))) (sym z) (record { flag = refl; same = refl }))
 
 -- what a message ends is what its signature destroys
-pub ends_as : (tables : List Interface) (side : Side) (m : Message Known) (f : Fits tables side m) → Valid tables
+pub ends_as : (tables : List Interface) (side : Side) (m : Message Known) (f : FitsSignature tables side m)
+    → Valid tables
     → EndsAs f.signature.destroys (ended_id f.signature.destroys m.target.id (map wire m.args)) m.ends
 ends_as tables side m f v =
     subst (λ (o : Option Known). EndsAs f.signature.destroys
@@ -166,7 +167,8 @@ ends_as tables side m f v =
         in ends_argument m.target m.args k a.0 a.1.it a.1.are
 
 -- what is so of a message's target and of its objects is so of what it ends
-pub ends_have : (P : Known → Type 0) (tables : List Interface) (side : Side) (m : Message Known) → Fits tables side m
+pub ends_have : (P : Known → Type 0) (tables : List Interface) (side : Side) (m : Message Known)
+    → FitsSignature tables side m
     → P m.target → Each P (objects m.args) → IfThere P m.ends
 ends_have P tables side m f x xs = subst (IfThere P) (sym f.ends)
     (ended_has P f.signature.destroys m.target m.args x xs)

@@ -20,7 +20,6 @@ use Rattle.wl_object_map.specs.declared.object.Entry.{Entry}
 use Rattle.wl_object_map.specs.declared.object.State.{State}
 use Rattle.wl_object_map.specs.declared.object.State.TheVariants as states
 use Rattle.wl_object_map.specs.View.{View, look, closed}
-use Rattle.wl_objects.specs.Writing.{is_live}
 use Rattle.wl_objects.specs.Reading.{descriptors}
 use Rattle.wl_objects.specs.Messages.{is_error, is_delete_id, same_iface, Client as client_end}
 use Rattle.wl_objects.specs.Messages.{after, ended_id, after_delete_id}
@@ -31,13 +30,15 @@ use Rattle.wl_client.specs.State as client
 use Rattle.wl_client.specs.Reports.{state_past, globals_told, report}
 use Rattle.wl_client.specs.Reports as reports
 use Rattle.theory_connection.specs.Meant.{Born, Known, Message, Coming, Event, Delete, renamed}
-use Rattle.theory_connection.specs.Meant.{recoming, rearg, born_of, birth_of, wire, tokens, spelled}
-use Rattle.theory_connection.specs.Meant.{spelled_coming, objects, plain, live_entry}
+use Rattle.theory_connection.specs.Meant.{recoming, rearg, born_of, number_of_birth, wire, tokens, spelled_meant}
+use Rattle.theory_connection.specs.Meant.{spelled_coming, objects, born_of_entry, live_entry}
 use Rattle.theory_connection.specs.World.{World, display_born, Row, event_read, delete_read}
-use Rattle.theory_connection.specs.World.{is_open, is_registry, learned, nameless, IfThere}
+use Rattle.theory_connection.specs.World.{is_open_row, is_registry, learned, nameless, IfThere}
 use Rattle.theory_connection.specs.Pair.{PairState, with_client}
-use Rattle.theory_connection.specs.Flight.{Rows, Held, Reads, all_tells, client_rows, row, as_row}
-use Rattle.theory_connection.specs.Stands.{StandsBy, Fits, WasGiven, InFlight, Shows, birth_in}
+use Rattle.theory_connection.specs.Flight.{Rows, IsHeldInRows, ReadsInFlight, all_tells, client_rows, row_of_entry}
+use Rattle.theory_connection.specs.Flight.{as_row}
+use Rattle.theory_connection.specs.Stands.{StandsBy, FitsSignature, WasGiven, InFlight, ShowsBirths, birth_in}
+use Rattle.wl_object_map.specs.View.{lives}
 use Rattle.theory_connection.proofs.WholeInFlight.{client_ends, TellsAt, tells_at, DeletesAt, deletes_at}
 use Rattle.theory_connection.proofs.Bridges.{client_closed}
 use Rattle.theory_connection.proofs.RowsAfterMessage.{held_row, client_after}
@@ -57,19 +58,20 @@ birth_bare states.Zombie b = refl
 pub record SeenAt (v : View) (sets : ℕ → Option Row) (x : Known) : Type 0 where
   pub entry : Entry
   pub there : look v x.id ≡ Some entry
-  pub same : plain entry ≡ x.born
-  pub shown : sets x.born.birth ≡ Some (row entry)
+  pub same : born_of_entry entry ≡ x.born
+  pub shown : sets x.born.birth ≡ Some (row_of_entry entry)
 
-pub seen_at : (v : View) (sets : ℕ → Option Row) → Shows birth_in (client_rows v).rows v.births sets → (x : Known)
-    → Held (client_rows v) x → SeenAt v sets x
+pub seen_at : (v : View) (sets : ℕ → Option Row) → ShowsBirths birth_in (client_rows v).rows v.births sets → (x : Known)
+    → IsHeldInRows (client_rows v) x → SeenAt v sets x
 seen_at v sets s x h =
     let r = held_row v x h in
-    let shown = s.shown x.id (row r.entry) (ap (option_map row) r.there) in
-    let b : birth_in (row r.entry) ≡ x.born.birth = birth_bare r.entry.state (plain r.entry) ∙ ap birth_of r.same in
+    let shown = s.shown x.id (row_of_entry r.entry) (ap (option_map row_of_entry) r.there) in
+    let b : birth_in (row_of_entry r.entry) ≡ x.born.birth = birth_bare r.entry.state (born_of_entry r.entry)
+    ∙ ap number_of_birth r.same in
     record { entry = r.entry; there = r.there; same = r.same; shown = ap sets (sym b) ∙ shown }
 
-pub held_at_client : (v : View) (sets : ℕ → Option Row) → Shows birth_in (client_rows v).rows v.births sets
-    → (x : Known) → 0 < x.id → Held (client_rows v) x → HeldAt v sets x
+pub held_at_client : (v : View) (sets : ℕ → Option Row) → ShowsBirths birth_in (client_rows v).rows v.births sets
+    → (x : Known) → 0 < x.id → IsHeldInRows (client_rows v) x → HeldAt v sets x
 held_at_client v sets s x some h = let r = seen_at v sets s x h
     in record { some = some; entry = r.entry; there = r.there; same = r.same; shown = r.shown }
 
@@ -88,21 +90,22 @@ pub record InEvent (p : PairState) (w : World) (m : Message Known) (cs : List (C
   pub more : List ℕ
   pub tokens_are : p.client.core.inbox.tokens ≡ tokens m.args ++ more
 
-fits_at : (t u : List Interface) (m : Message Known) → t ≡ u → Fits t event_side m → Fits u event_side m
-fits_at t u m e f = subst (λ (x : List Interface). Fits x event_side m) e f
+fits_at : (t u : List Interface) (m : Message Known) → t ≡ u → FitsSignature t event_side m
+    → FitsSignature u event_side m
+fits_at t u m e f = subst (λ (x : List Interface). FitsSignature x event_side m) e f
 
 -- the first of what comes, where it is an event and whole
 pub in_event : (p : PairState) (w : World) (m : Message Known) (cs : List (Coming Known)) (asked : List (Message Known))
     (s : StandsBy p w asked (Event m ∷ cs)) (n : ℕ)
     → in_front p.client.core.inbox ≡ Whole n → InEvent p w m cs asked s n
 in_event p w m cs asked s n e =
-    let q = first_read p.server.core.outbox p.client.core.inbox (spelled m)
+    let q = first_read p.server.core.outbox p.client.core.inbox (spelled_meant m)
     (map spelled_coming cs) n s.events.in_boxes e in
     let t = tells_at m.target (objects m.args) m.ends s.meet.reads in
     let r = seen_at p.client.core.view w.client s.client.sets m.target t.target in
     let f = s.events.fit.0.fits in
     let met = all_met p.server.core.tables m.target.born.version p.client.core.view w.client
-    (Held (client_rows p.client.core.view)) (held_at_client p.client.core.view w.client s.client.sets)
+    (IsHeldInRows (client_rows p.client.core.view)) (held_at_client p.client.core.view w.client s.client.sets)
     f.signature.kinds m.args f.args t.args (news_none p.client.core.view m.args m.args s.events.fit.0.makes_none
     f.new_is) in
     let core' : Core = record p.client.core { tables = p.server.core.tables } in
@@ -132,19 +135,20 @@ after_event st m n teaches = record {
 
 -- an event of a live registry teaches the client
 abbrev pub teaches : Message Known → Entry → Bool
-teaches m entry = is_registry m.target.born && is_live entry.state
+teaches m entry = is_registry m.target.born && lives entry.state
 
 -- what is told of an event that is neither wl_display.error nor delete_id
 pub record EventAnswer (p : PairState) (m : Message Known) (n : ℕ) (entry : Entry)
-    (signature : sigs.Message) : Type 0 where
+    (signature : sigs.MessageSignature) : Type 0 where
   pub tells_it : report p.client.core (the_found n m entry signature)
       ≡ reports.plain_report p.client.core m.opcode (the_message m entry signature) entry.state
   pub leaves : state_past p.client (the_found n m entry signature) ≡ after_event p.client m n (teaches m entry)
 
 -- what the client says of an event, and how it leaves the client
 pub event_answer : (p : PairState) (m : Message Known) (n : ℕ) (entry : Entry) (tables : List Interface)
-    (f : Fits tables event_side m) → Valid tables → is_delete_id event_side m.target.born.iface m.opcode ≡ false
-    → plain entry ≡ m.target.born
+    (f : FitsSignature tables event_side m) → Valid tables
+    → is_delete_id event_side m.target.born.iface m.opcode ≡ false
+    → born_of_entry entry ≡ m.target.born
     → EventAnswer p m n entry f.signature
 event_answer p m n entry tables f valid d s =
     let error : is_error event_side entry.iface m.opcode ≡ false =
@@ -169,14 +173,14 @@ event_answer p m n entry tables f valid d s =
           read = min (p.client.core.read + n) 18446744073709551615;
           failed = error i;
         };
-        globals = cond (registers i && is_live entry.state)
+        globals = cond (registers i && lives entry.state)
             (globals_told p.client.core.tables p.client.globals m.opcode (map wire m.args)) p.client.globals;
       };
     }
 
 -- ---- the pair stands again
 
-open_is : (s : State) (b : Born) → is_open (Some (as_row s b)) ≡ is_live s
+open_is : (s : State) (b : Born) → is_open_row (Some (as_row s b)) ≡ lives s
 open_is states.Live b = refl
 open_is states.Zombie b = refl
 
@@ -186,8 +190,8 @@ learned_is : (p : PairState) (w : World) (m : Message Known) (asked : List (Mess
     ≡ cond (teaches m t.entry) (globals_told p.client.core.tables p.client.globals m.opcode (map wire m.args))
     p.client.globals
 learned_is p w m asked told s t =
-    let live : is_open (w.client m.target.born.birth) ≡ is_live t.entry.state =
-    ap is_open t.shown ∙ open_is t.entry.state (plain t.entry) in
+    let live : is_open_row (w.client m.target.born.birth) ≡ lives t.entry.state =
+    ap is_open_row t.shown ∙ open_is t.entry.state (born_of_entry t.entry) in
     let same : globals_told p.client.core.tables p.client.globals m.opcode (map nameless (map (rearg born_of) m.args))
     ≡ globals_told p.client.core.tables p.client.globals m.opcode (map wire m.args) =
     sym (told_same p.client.core.tables p.client.globals m.opcode m.args) in
@@ -206,8 +210,8 @@ event_stands p w m cs asked s n i y =
     let f = s.events.fit.0.fits in
     let v = p.client.core.view in
     let t = i.tells_it in
-    let held : IfThere (Held (client_rows v)) m.ends =
-    ends_have (Held (client_rows v)) p.server.core.tables event_side m f t.target t.args in
+    let held : IfThere (IsHeldInRows (client_rows v)) m.ends =
+    ends_have (IsHeldInRows (client_rows v)) p.server.core.tables event_side m f t.target t.args in
     let rows : client_rows (ended_view client_end v m.ends) ≡ client_ends m.ends (client_rows v) =
     client_after v None m.ends tt (if_by (held_row v) m.ends held) in
     record {
@@ -219,7 +223,7 @@ event_stands p w m cs asked s n i y =
       deletes_follow = s.deletes_follow.1;
       meet = record {
         middle = s.meet.middle;
-        reads = subst (λ (x : Rows Row). Reads (test_of p) (all_tells cs) x s.meet.middle) (sym rows) t.rest;
+        reads = subst (λ (x : Rows Row). ReadsInFlight (test_of p) (all_tells cs) x s.meet.middle) (sym rows) t.rest;
         tied = s.meet.tied;
       };
       globals = record {
@@ -228,7 +232,7 @@ event_stands p w m cs asked s n i y =
         remembers = learns (λ g. WasGiven p.server.globals g.name g.iface g.version) p.server.core.tables
             p.client.core.tables p.server.globals p.client.globals m s.terms.same_tables s.events.fit.0
             (λ h e t. t.was_given) s.globals.remembers (teaches m i.target.entry)
-            (λ h. (and_parts (is_registry m.target.born) (is_live i.target.entry.state) h).0);
+            (λ h. (and_parts (is_registry m.target.born) (lives i.target.entry.state) h).0);
         globals = s.globals.globals;
         few_globals = s.globals.few_globals;
       };
@@ -239,14 +243,14 @@ event_stands p w m cs asked s n i y =
 
 -- wl_display does not end by an event, so what does is not id 1
 held_mortal : (p : PairState) (w : World) (asked : List (Message Known)) (told : List (Coming Known))
-    → StandsBy p w asked told → (x : Known) → Held (client_rows p.client.core.view) x
+    → StandsBy p w asked told → (x : Known) → IsHeldInRows (client_rows p.client.core.view) x
     → test_of p x.born ≡ true → x.id ≢ 1
 held_mortal p w asked told s x h d one =
     let r = held_row p.client.core.view x h in
     let e : Some r.entry ≡ Some (live_entry display_born) =
     sym r.there ∙ ap (look p.client.core.view) one ∙ s.client.display in
     let entry : r.entry ≡ live_entry display_born = cc e in
-    let born : x.born ≡ display_born = sym r.same ∙ ap plain entry in
+    let born : x.born ≡ display_born = sym r.same ∙ ap born_of_entry entry in
     let plain_display : test_of p display_born ≡ false = rw s.terms.valid.fixed_four.display refl in
     let no : true ≡ false = sym d ∙ ap (test_of p) born ∙ plain_display in
     cc no
@@ -259,7 +263,8 @@ event_mortal p w m cs asked s n i =
     let t = i.tells_it in
     let f = s.events.fit.0.fits in
     both_if (held_mortal p w asked (Event m ∷ cs) s) m.ends
-    (ends_have (Held (client_rows p.client.core.view)) p.server.core.tables event_side m f t.target t.args) t.ends_it
+    (ends_have (IsHeldInRows (client_rows p.client.core.view)) p.server.core.tables event_side m f t.target t.args)
+    t.ends_it
 
 -- the event wl_display.delete_id of an object
 abbrev pub deleting : Known → Message Known
@@ -268,7 +273,7 @@ deleting x = record { target = record { id = 1; born = display_born }; opcode = 
 -- it fits the signature of wl_display.delete_id
 pub delete_signature : (tables : List Interface) → signature_at tables 0 event_side 1
     ≡ Some (fixed.message (codes "delete_id") 1 (fixed.uint ∷ []) Nothing) → (x : Known) → x.id ≤ 1048576
-    → Fits tables event_side (deleting x)
+    → FitsSignature tables event_side (deleting x)
 delete_signature tables e x h = record {
   signature = fixed.message (codes "delete_id") 1 (fixed.uint ∷ []) Nothing;
   there = e;
@@ -287,8 +292,8 @@ delete_signature tables e x h = record {
 pub record InDelete (p : PairState) (x : Known) (cs : List (Coming Known)) (middle : Rows Row) (n : ℕ) : Type 0 where
   pub entry : Entry
   pub there : look p.client.core.view x.id ≡ Some entry
-  pub same : plain entry ≡ x.born
-  pub signature : sigs.Message
+  pub same : born_of_entry entry ≡ x.born
+  pub signature : sigs.MessageSignature
   pub some_kinds : not (is_none signature.kinds) ≡ true
   pub finds_it : found p.client.core event_side ≡ Ok
       (Some (the_found n (deleting x) (live_entry display_born) signature))
@@ -303,7 +308,7 @@ pub in_delete : (p : PairState) (w : World) (x : Known) (cs : List (Coming Known
     → in_front p.client.core.inbox ≡ Whole n → InDelete p x cs s.meet.middle n
 unfolding delete_signature
 in_delete p w x cs asked s n e =
-    let q = first_read p.server.core.outbox p.client.core.inbox (spelled (deleting x))
+    let q = first_read p.server.core.outbox p.client.core.inbox (spelled_meant (deleting x))
     (map spelled_coming cs) n s.events.in_boxes e in
     let t = deletes_at x s.meet.reads in
     let r = held_row p.client.core.view x t.held in
@@ -339,14 +344,15 @@ after_delete st x n = record st {
   };
 }
 
-pub record DeleteAnswer (p : PairState) (x : Known) (n : ℕ) (entry : Entry) (signature : sigs.Message) : Type 0 where
+pub record DeleteAnswer (p : PairState) (x : Known) (n : ℕ) (entry : Entry) (signature : sigs.MessageSignature) : Type
+    0 where
   pub tells_it : report p.client.core (the_found n (deleting x) (live_entry display_born) signature)
       ≡ reports.Deleted (record { id = x.id; birth = entry.birth })
   pub leaves : state_past p.client (the_found n (deleting x) (live_entry display_born) signature)
       ≡ after_delete p.client x n
 
 -- what the client says of a delete, and how it leaves the client
-pub delete_answer : (p : PairState) (x : Known) (n : ℕ) (entry : Entry) (signature : sigs.Message) → x.id ≢ 1
+pub delete_answer : (p : PairState) (x : Known) (n : ℕ) (entry : Entry) (signature : sigs.MessageSignature) → x.id ≢ 1
     → look p.client.core.view x.id ≡ Some entry → descriptors signature.kinds ≡ 0 → DeleteAnswer p x n entry signature
 delete_answer p x n entry signature y l c =
     let b : nat_eq x.id 1 ≡ false = ne_eqb x.id 1 y in
@@ -379,7 +385,7 @@ delete_stands p w x cs asked s n i =
       deletes_follow = s.deletes_follow;
       meet = record {
         middle = s.meet.middle;
-        reads = subst (λ (y : Rows Row). Reads (test_of p) (all_tells cs) y s.meet.middle)
+        reads = subst (λ (y : Rows Row). ReadsInFlight (test_of p) (all_tells cs) y s.meet.middle)
             (sym (client_closed p.client.core.view x.id)) t.rest;
         tied = s.meet.tied;
       };

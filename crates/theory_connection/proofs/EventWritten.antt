@@ -10,11 +10,11 @@ use Rattle.wl_connection.specs.Core.{Core}
 use Rattle.wl_connection.proofs.Messages.{whole_within}
 use Rattle.wl_server.proofs.Registries.{has_fewer}
 use Rattle.theory_connection.specs.Meant.{Born, Known, Message, Coming, Event, Delete, renamed}
-use Rattle.theory_connection.specs.Meant.{born_of, wire, spelled, spelled_coming, objects, plain}
+use Rattle.theory_connection.specs.Meant.{born_of, wire, spelled_meant, spelled_coming, objects, born_of_entry}
 use Rattle.theory_connection.specs.Meant.{live_entry}
 use Rattle.theory_connection.specs.World.{World, display_born, Each, delete, event_written, dropped, IfThere}
 use Rattle.theory_connection.specs.Pair.{PairState, with_server_core}
-use Rattle.theory_connection.specs.Flight.{Rows, Meets, tells, all_asks, all_tells, client_rows, server_rows}
+use Rattle.theory_connection.specs.Flight.{Rows, MeetInMiddle, tells, all_asks, all_tells, client_rows, server_rows}
 use Rattle.theory_connection.specs.Stands.{StandsBy, TellsFitly}
 use Rattle.theory_connection.proofs.WholeInFlight.{ThereRow, server_ends, tell_meets, drop_meets, all_tells_more}
 use Rattle.theory_connection.proofs.Bridges.{server_closed}
@@ -43,7 +43,7 @@ there_mortal p w asked told s x h e one =
     let q : Some r.entry ≡ Some (live_entry display_born) =
     sym r.there ∙ ap (look p.server.core.view) one ∙ s.server.display in
     let same : r.entry ≡ live_entry display_born = cc q in
-    let born : x.born ≡ display_born = sym r.same ∙ ap plain same in
+    let born : x.born ≡ display_born = sym r.same ∙ ap born_of_entry same in
     let no : true ≡ false = sym e ∙ ap (test_of p) born ∙ display_plain p.server.core.tables s.terms.valid in
     cc no
 
@@ -51,7 +51,10 @@ there_mortal p w asked told s x h e one =
 abbrev pub told_core : Core → Message Known → Core
 told_core c m = record c {
   view = ended_view server_end c.view m.ends;
-  outbox = record c.outbox { messages = (c.outbox.messages ++ spelled m ∷ []) ++ map spelled_coming (delete m.ends) };
+  outbox = record c.outbox {
+    messages = (c.outbox.messages ++ spelled_meant m ∷ [])
+        ++ map spelled_coming (delete m.ends);
+  };
 }
 
 -- a pair stands again after the server has written an event
@@ -76,7 +79,7 @@ tell_stands p w asked told s m c =
       events = travel_more p.server.core.outbox (told_core p.server.core m).outbox p.client.core.inbox w.events _ told
           news s.events
           (ap (λ (l : List (Coming Born)). w.events ++ (Event (renamed born_of m) ∷ l)) (sym (map_delete m.ends))) refl
-          (append_assoc p.server.core.outbox.messages (spelled m ∷ []) (map spelled_coming (delete m.ends))) (
+          (append_assoc p.server.core.outbox.messages (spelled_meant m ∷ []) (map spelled_coming (delete m.ends))) (
             whole_within p.client.core.inbox.limit m.target.id m.opcode (map wire m.args) f.opcode
                 (subst (λ (l : ℕ). message_len (map wire m.args) ≤ l) s.terms.down_limit c.short),
             delete_whole
@@ -85,7 +88,8 @@ tell_stands p w asked told s m c =
           (c.fitly, delete_fits p m.ends (if_by (low_there v s.server.sound) m.ends there));
       deletes_follow = follow_more told news s.deletes_follow (begins_delete m.ends, follow_delete m.ends);
       meet = rw (all_tells_more told news) (subst
-          (λ (r : Rows Born). Meets (test_of p) (all_tells told ++ (tells (Event m) ++ all_tells (delete m.ends)))
+          (λ (r : Rows Born). MeetInMiddle (test_of p)
+          (all_tells told ++ (tells (Event m) ++ all_tells (delete m.ends)))
           (all_asks asked) (client_rows p.client.core.view) r) (sym rows)
           (tell_meets m.target (objects m.args) m.ends s.meet c.target c.args c.ends mortal there));
       globals = s.globals;
@@ -125,7 +129,7 @@ drop_stands p w asked told s x h e low =
           told news s.events refl refl refl (delete_whole p.client.core.inbox.limit (Some x)) (low, tt);
       deletes_follow = follow_more told news s.deletes_follow tt;
       meet = rw (all_tells_more told news) (subst
-          (λ (r : Rows Born). Meets (test_of p) (all_tells told ++ all_tells news) (all_asks asked)
+          (λ (r : Rows Born). MeetInMiddle (test_of p) (all_tells told ++ all_tells news) (all_asks asked)
           (client_rows p.client.core.view) r) (sym rows)
           (drop_meets x s.meet mortal h e));
       globals = s.globals;

@@ -6,8 +6,8 @@ use Rattle.std.specs.declared.option.Option.{Option}
 use Rattle.std.specs.declared.option.Option.TheVariants.{None, Some}
 use Rattle.theory_connection.specs.Meant.{Born, Known}
 use Rattle.theory_connection.specs.World.{Row, Open, Ending, put}
-use Rattle.theory_connection.specs.Flight.{Rows, at, most, made, Ask, Use, Make, Destroy, Tell}
-use Rattle.theory_connection.specs.Flight.{at_client, Held, Fresh, Reads, done, name, end, delete}
+use Rattle.theory_connection.specs.Flight.{Rows, at, most, with_made, Ask, Use, Make, Destroy, Tell}
+use Rattle.theory_connection.specs.Flight.{at_client, IsHeldInRows, Fresh, ReadsInFlight, done, name, end, delete}
 use Rattle.theory_connection.specs.Flight.{Tied, drained, use_, make, destroy}
 
 module _ {X : Type 0} where
@@ -34,11 +34,12 @@ module _ {X : Type 0} where
       λ k q. each q k
 
 -- what is held stays held when another id changes
-pub held_other : (v : Rows Row) (n : Known) (i : ℕ) (o : Option Row) → Held v n → n.id ≢ i → Held (at v i o) n
+pub held_other : (v : Rows Row) (n : Known) (i : ℕ) (o : Option Row) → IsHeldInRows v n → n.id ≢ i
+    → IsHeldInRows (at v i o) n
 held_other v n i o h ne = grind (arith, put_tells)
 
 -- what is held has a row
-pub held_some : (v : Rows Row) (n : Known) (i : ℕ) → Held v n → v.rows i ≡ None → n.id ≢ i
+pub held_some : (v : Rows Row) (n : Known) (i : ℕ) → IsHeldInRows v n → v.rows i ≡ None → n.id ≢ i
 held_some v n i h e = grind arith
 
 open_at_server : (o : Option Born) (e : Born) → at_client o ≡ Some (Open e) → o ≡ Some e
@@ -51,7 +52,8 @@ none_at_server (Some x) h = cc
 
 module _ {test : Born → Bool} where
   -- a live object of an interface without a destroying event is live after the events too
-  pub live_after : {es : List Tell} {v w : Rows Row} (i : ℕ) (e : Born) → Reads test es v w → v.rows i ≡ Some (Open e)
+  pub live_after : {es : List Tell} {v w : Rows Row} (i : ℕ) (e : Born) → ReadsInFlight test es v w
+      → v.rows i ≡ Some (Open e)
       → test e ≡ false → w.rows i ≡ Some (Open e)
   live_after i e done h f = h
   live_after i e (name a r) h f = live_after i e r h f
@@ -59,30 +61,32 @@ module _ {test : Born → Bool} where
   live_after i e (delete {x = n} z a b r) h f = live_after i e r (grind (arith, put_tells)) f
 
   -- a free id is free after the events
-  pub free_after : {es : List Tell} {v w : Rows Row} (i : ℕ) → Reads test es v w → v.rows i ≡ None → w.rows i ≡ None
+  pub free_after : {es : List Tell} {v w : Rows Row} (i : ℕ) → ReadsInFlight test es v w → v.rows i ≡ None
+      → w.rows i ≡ None
   free_after i done h = h
   free_after i (name a r) h = free_after i r h
   free_after i (end b a r) h = free_after i r (grind (arith, put_tells))
   free_after i (delete z a b r) h = free_after i r (grind (arith, put_tells))
 
   -- no event changes the counts
-  pub counts_after : {es : List Tell} {v w : Rows Row} → Reads test es v w → (w.used ≡ v.used) × (w.births ≡ v.births)
+  pub counts_after : {es : List Tell} {v w : Rows Row} → ReadsInFlight test es v w
+      → (w.used ≡ v.used) × (w.births ≡ v.births)
   counts_after done = (refl, refl)
   counts_after (name a r) = counts_after r
   counts_after (end b a r) = counts_after r
   counts_after (delete z a b r) = counts_after r
 
   pub reads_rows : {es : List Tell} {w : Rows Row} {f g : ℕ → Option Row} {u b : ℕ} → f ≡ g
-      → Reads test es (record { rows = f; used = u; births = b }) w
-      → Reads test es (record { rows = g; used = u; births = b }) w
+      → ReadsInFlight test es (record { rows = f; used = u; births = b }) w
+      → ReadsInFlight test es (record { rows = g; used = u; births = b }) w
   reads_rows {es} {w} {f} {g} {u} {b} e r = subst
-      (λ (h : ℕ → Option Row). Reads test es (record { rows = h; used = u; births = b }) w) e r
+      (λ (h : ℕ → Option Row). ReadsInFlight test es (record { rows = h; used = u; births = b }) w) e r
 
   -- what is held at an id is held after a put at another id
 
   -- the client makes an object while events are in flight
-  pub make_before : {es : List Tell} {v w : Rows Row} (i : ℕ) (x : Row) → Reads test es v w → v.rows i ≡ None
-      → Reads test es (made v i x) (made w i x)
+  pub make_before : {es : List Tell} {v w : Rows Row} (i : ℕ) (x : Row) → ReadsInFlight test es v w → v.rows i ≡ None
+      → ReadsInFlight test es (with_made v i x) (with_made w i x)
   make_before i x done h = done
   make_before i x (name {v = v} {x = n} a r) h = name (held_other v n i (Some x) a (held_some v n i a h))
       (make_before i x r h)
@@ -96,9 +100,9 @@ module _ {test : Born → Bool} where
       (reads_rows (put_swap _ _ _ _ _ ne) (make_before i x r (grind (arith, put_tells))))
 
   -- the client destroys an object while events are in flight
-  pub destroy_before : {es : List Tell} {v w : Rows Row} (i : ℕ) (e : Born) → Reads test es v w
+  pub destroy_before : {es : List Tell} {v w : Rows Row} (i : ℕ) (e : Born) → ReadsInFlight test es v w
       → v.rows i ≡ Some (Open e) → test e ≡ false
-      → Reads test es (at v i (Some (Ending e))) (at w i (Some (Ending e)))
+      → ReadsInFlight test es (at v i (Some (Ending e))) (at w i (Some (Ending e)))
   destroy_before i e done h f = done
   destroy_before i e (name {v = v} {x = n} a r) h f = name (grind (arith, put_tells)) (destroy_before i e r h f)
   destroy_before i e (end {v = v} {x = n} b a r) h f =
@@ -111,8 +115,8 @@ module _ {test : Born → Bool} where
       (reads_rows (put_swap _ _ _ _ _ ne) (destroy_before i e r (grind (arith, put_tells)) f))
 
   -- events follow events
-  pub reads_more : {es fs : List Tell} {u v w : Rows Row} → Reads test es u v → Reads test fs v w
-      → Reads test (es ++ fs) u w
+  pub reads_more : {es fs : List Tell} {u v w : Rows Row} → ReadsInFlight test es u v → ReadsInFlight test fs v w
+      → ReadsInFlight test (es ++ fs) u w
   reads_more done r = r
   reads_more (name a r) q = name a (reads_more r q)
   reads_more (end b a r) q = end b a (reads_more r q)
@@ -132,14 +136,14 @@ module _ {test : Born → Bool} where
 
   -- what the server has is at the client when it has read all events
   pub held_at_client : {qs : List Ask} {s : Rows Born} {m : Rows Row} (n : Known) → Tied test qs s m
-      → s.rows n.id ≡ Some n.born → Held m n
+      → s.rows n.id ≡ Some n.born → IsHeldInRows m n
   held_at_client n (drained rows u b) h = grind (arith, rows n.id)
   held_at_client n (use_ a b t) h = held_at_client n t h
   held_at_client n (make {x = n'} a t) h = held_at_client n t (grind (arith, put_tells, a.free))
   held_at_client n (destroy {s = s} {m = m} {x = n'} z a b c t) h =
       elim (put_tells s.rows n'.id None n.id) [
         | inl p ↦ grind arith
-        | inr p ↦ let g : Held (at m n'.id None) n = held_at_client n t (p.1 ∙ h) in grind (arith, put_tells)
+        | inr p ↦ let g : IsHeldInRows (at m n'.id None) n = held_at_client n t (p.1 ∙ h) in grind (arith, put_tells)
       ]
 
   -- the server ends an object by an event, or drops it
@@ -176,7 +180,7 @@ module _ {test : Born → Bool} where
 
   -- requests still tie where one more makes an object
   pub make_more : {qs : List Ask} {s : Rows Born} {m : Rows Row} (n : Known) → Tied test qs s m → Fresh m n
-      → Tied test (qs ++ Make n ∷ []) s (made m n.id (Open n.born))
+      → Tied test (qs ++ Make n ∷ []) s (with_made m n.id (Open n.born))
   make_more n (drained {s = s} {m = m} rows u b) g =
       make (record {
         free = none_at_server _ (sym (rows n.id) ∙ g.free);

@@ -18,17 +18,18 @@ use Rattle.wl_objects.specs.Writing.{spelled as spelled_values, message_bytes}
 use Rattle.wl_objects.specs.Messages.{reader_of, Received, received}
 use Rattle.wl_connection.specs.Core.{Core}
 use Rattle.wl_connection.specs.Receiving.{Found, found, found_at, found_in, header_of}
-use Rattle.theory_connection.specs.Meant.{Known, Message, Arg, wire, tokens, spelled, new_in, made_in, objects, plain}
+use Rattle.theory_connection.specs.Meant.{Known, Message, Arg, wire, tokens, spelled_meant, new_object_in, made_in}
+use Rattle.theory_connection.specs.Meant.{objects, born_of_entry}
 use Rattle.theory_connection.specs.World.{Row, Each, IfThere}
 use Rattle.theory_connection.specs.Flight.{Fresh, server_rows}
-use Rattle.theory_connection.specs.Stands.{Fits, AreOf}
+use Rattle.theory_connection.specs.Stands.{FitsSignature, SuitKinds}
 use Rattle.theory_connection.proofs.Bridges.{fresh_free, fresh_room}
 use Rattle.theory_connection.proofs.WholeInFlight.{each_by}
 use Rattle.theory_connection.proofs.EndedObject.{if_by}
 use Rattle.theory_connection.proofs.ReadAsMeant.{HeldAt, FreeAt, AllMet, received_right, parted}
 
 -- the message that is found
-abbrev pub the_message : Message Known → Entry → sigs.Message → Received
+abbrev pub the_message : Message Known → Entry → sigs.MessageSignature → Received
 the_message m entry signature = record {
   target = record { id = m.target.id; birth = entry.birth };
   entry = entry;
@@ -37,14 +38,14 @@ the_message m entry signature = record {
 }
 
 -- this many bytes, with that message
-abbrev pub the_found : ℕ → Message Known → Entry → sigs.Message → Found
+abbrev pub the_found : ℕ → Message Known → Entry → sigs.MessageSignature → Found
 the_found n m entry signature = record { size = n; opcode = m.opcode; message = the_message m entry signature }
 
 -- a message in front that fits, whose objects are held, is found
 pub finds : (core : Core) (side : Side) (m : Message Known) (n : ℕ) (rows : ℕ → Option Row) (entry : Entry)
-    (f : Fits core.tables side m)
-    → in_front core.inbox ≡ Whole n → take n core.inbox.bytes ≡ (spelled m).bytes
-    → look core.view m.target.id ≡ Some entry → plain entry ≡ m.target.born
+    (f : FitsSignature core.tables side m)
+    → in_front core.inbox ≡ Whole n → take n core.inbox.bytes ≡ (spelled_meant m).bytes
+    → look core.view m.target.id ≡ Some entry → born_of_entry entry ≡ m.target.born
     → AllMet core.view rows m.args → length (tokens m.args) ≤ length core.inbox.tokens
     → found core side ≡ Ok (Some (the_found n m entry f.signature))
 finds core side m n rows entry f e b l s k t =
@@ -67,8 +68,8 @@ finds core side m n rows entry f e b l s k t =
 -- each argument meets its object or a free id
 pub all_met : (tables : List Interface) (version : ℕ) (view : View) (rows : ℕ → Option Row) (There : Known → Type 0)
     → ((x : Known) → 0 < x.id → There x → HeldAt view rows x)
-    → (ks : List Kind) (args : List (Arg Known)) → AreOf tables version ks args → Each There (objects args)
-    → Each (λ a. IfThere (FreeAt view) (new_in a)) args → AllMet view rows args
+    → (ks : List Kind) (args : List (Arg Known)) → SuitKinds tables version ks args → Each There (objects args)
+    → Each (λ a. IfThere (FreeAt view) (new_object_in a)) args → AllMet view rows args
 all_met tables version view rows There f [] [] a o n = tt
 all_met tables version view rows There f (k ∷ ks) [] a o n = absurd a
 all_met tables version view rows There f [] (x ∷ args) a o n = absurd a
@@ -85,21 +86,23 @@ all_met tables version view rows There f (k ∷ ks) (arg ∷ args) a o n =
 
 -- what is fresh is free to the server's tests
 pub news_free : (view : View) (args all : List (Arg Known)) → Sound view
-    → IfThere (Fresh (server_rows view)) (made_in all) → Each (λ a. IfThere (λ x. made_in all ≡ Some x) (new_in a)) args
-    → Each (λ a. IfThere (FreeAt view) (new_in a)) args
+    → IfThere (Fresh (server_rows view)) (made_in all)
+    → Each (λ a. IfThere (λ x. made_in all ≡ Some x) (new_object_in a)) args
+    → Each (λ a. IfThere (FreeAt view) (new_object_in a)) args
 news_free view args all s g h =
-    each_by (λ (a : Arg Known). IfThere (λ x. made_in all ≡ Some x) (new_in a))
-    (λ (a : Arg Known). IfThere (FreeAt view) (new_in a))
+    each_by (λ (a : Arg Known). IfThere (λ x. made_in all ≡ Some x) (new_object_in a))
+    (λ (a : Arg Known). IfThere (FreeAt view) (new_object_in a))
     (λ a k. if_by {P = λ (x : Known). made_in all ≡ Some x} {Q = FreeAt view}
     (λ x e. let f : Fresh (server_rows view) x = subst (IfThere (Fresh (server_rows view))) e g
-    in record { free = fresh_free view x s f; room = fresh_room view x f; birth = f.birth }) (new_in a) k) args h
+    in record { free = fresh_free view x s f; room = fresh_room view x f; birth = f.birth }) (new_object_in a) k) args h
 
 -- none is new
 pub news_none : (view : View) (args all : List (Arg Known)) → made_in all ≡ None
-    → Each (λ a. IfThere (λ x. made_in all ≡ Some x) (new_in a)) args
-    → Each (λ a. IfThere (FreeAt view) (new_in a)) args
+    → Each (λ a. IfThere (λ x. made_in all ≡ Some x) (new_object_in a)) args
+    → Each (λ a. IfThere (FreeAt view) (new_object_in a)) args
 news_none view args all g h =
-    each_by (λ (a : Arg Known). IfThere (λ x. made_in all ≡ Some x) (new_in a))
-    (λ (a : Arg Known). IfThere (FreeAt view) (new_in a))
-    (λ a k. if_by {P = λ (x : Known). made_in all ≡ Some x} {Q = FreeAt view} (λ x e. absurd (cc (g, e))) (new_in a) k)
+    each_by (λ (a : Arg Known). IfThere (λ x. made_in all ≡ Some x) (new_object_in a))
+    (λ (a : Arg Known). IfThere (FreeAt view) (new_object_in a))
+    (λ a k. if_by {P = λ (x : Known). made_in all ≡ Some x} {Q = FreeAt view} (λ x e. absurd (cc (g, e)))
+    (new_object_in a) k)
     args h

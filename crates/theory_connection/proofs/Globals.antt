@@ -10,8 +10,8 @@ use Rattle.std.proofs.lemmas.Bool.{ltb-true}
 use Rattle.wl_wire.specs.declared.kind.Iface.{Iface}
 use Rattle.wl_sigs.specs.Tables.{Interface}
 use Rattle.wl_server.specs.State as server
-use Rattle.wl_server.specs.State.{Global, global_of, max_globals}
-use Rattle.wl_server.specs.Requests.{can_bind as bind_fits}
+use Rattle.wl_server.specs.State.{Global, global_of}
+use Rattle.wl_server.specs.Requests.{was_advertised as bind_fits}
 use Rattle.wl_server.specs.Calls.{can_be_global, add_refusal, withdraw_refusal, with_global}
 use Rattle.wl_server.specs.Calls.{next_name, withdrawn, without_at, after_withdraw}
 use Rattle.wl_client.specs.declared.globals.Global.{Global as Remembered}
@@ -23,6 +23,7 @@ use Rattle.wl_server.specs.declared.globals.GlobalError.{GlobalError}
 use Rattle.wl_server.specs.declared.globals.GlobalError.TheVariants.{Failed, BadGlobal, TooMany}
 use Rattle.theory_connection.specs.Answers.{NotEnded, before}
 use Rattle.theory_connection.specs.Stands.{StandsBy, WasGiven, AsksFitly, ComesFitly, IsGlobal}
+use Rattle.wl_connection.specs.Core.{max_globals}
 use Rattle.theory_connection.proofs.WholeInFlight.{each_by, each_more}
 use Rattle.theory_connection.proofs.Stands.{travel_by}
 use Rattle.theory_connection.proofs.Moves.{Moves, goes_on, stays, giving}

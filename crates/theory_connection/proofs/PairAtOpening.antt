@@ -17,17 +17,18 @@ use Rattle.wl_object_map.specs.declared.object.State.TheVariants as states
 use Rattle.wl_object_map.specs.View.{look, opening as opening_view}
 use Rattle.wl_object_map.specs.Views.{look-opening}
 use Rattle.wl_object_map.specs.Sounds.{Sound-opening}
-use Rattle.wl_objects.specs.Messages.{is_empty}
 use Rattle.wl_connection.specs.Core.{Core, is_drained}
 use Rattle.wl_server.proofs.Registries.{has_none}
-use Rattle.theory_connection.specs.Meant.{Known, Message, Coming, birth_of, spelled, spelled_coming, plain, live_entry}
-use Rattle.theory_connection.specs.World.{World, Open, put, nothing, display_born, opening}
+use Rattle.theory_connection.specs.Meant.{Known, Message, Coming, number_of_birth, spelled_meant, spelled_coming}
+use Rattle.theory_connection.specs.Meant.{born_of_entry, live_entry}
+use Rattle.theory_connection.specs.World.{World, Open, put, nothing, display_born, opening_world}
 use Rattle.theory_connection.specs.Pair.{PairState, Move, Reply, new_pair, drained}
 use Rattle.theory_connection.specs.Answers.{Answers}
-use Rattle.theory_connection.specs.Flight.{client_rows, server_rows, row, as_row, at_client, Reads}
+use Rattle.theory_connection.specs.Flight.{client_rows, server_rows, row_of_entry, as_row, at_client, ReadsInFlight}
 use Rattle.theory_connection.specs.Flight.{done, Tied, drained as nothing_left, all_asks, all_tells}
-use Rattle.theory_connection.specs.Stands.{Stands, stands, ended, StandsBy, InFlight, Shows, birth_in, by_event}
+use Rattle.theory_connection.specs.Stands.{Stands, stands, ended, StandsBy, InFlight, ShowsBirths, birth_in, by_event}
 use Rattle.theory_connection.specs.Runs.{Runs, Agree, Keeps}
+use Rattle.wl_sigs.specs.Rules.{is_empty}
 use Rattle.theory_connection.proofs.WholeInFlight.{same_rows}
 use Rattle.theory_connection.proofs.Sets.{shows_make, no_object}
 use Rattle.theory_connection.proofs.Channels.{none_in_flight}
@@ -47,14 +48,14 @@ opening_rows f q = ap (option_map f) (look-opening display q) ∙ pushed (nat_eq
     pushed false = refl
 
 shows_opening : {X : Type 0} (birth : X → ℕ) (f : Entry → X) → birth (f (live_entry display_born)) ≡ 0
-    → Shows birth (λ q. option_map f (look (opening_view display) q)) 1
+    → ShowsBirths birth (λ q. option_map f (look (opening_view display) q)) 1
     (put nothing 0 (Some (f (live_entry display_born))))
 shows_opening birth f e =
     let k = shows_make birth nothing 0 nothing 1 (f (live_entry display_born)) (no_object birth) (is_nothing 1) e in
     let rows : (λ (q : ℕ). option_map f (look (opening_view display) q))
     ≡ put nothing 1 (Some (f (live_entry display_born))) = λ i q. opening_rows f q i in
-    subst (λ (g : ℕ → Option _). Shows birth g 1 (put nothing 0 (Some (f (live_entry display_born))))) (sym rows)
-    (subst (λ (b : ℕ). Shows birth (put nothing 1 (Some (f (live_entry display_born)))) 1
+    subst (λ (g : ℕ → Option _). ShowsBirths birth g 1 (put nothing 0 (Some (f (live_entry display_born))))) (sym rows)
+    (subst (λ (b : ℕ). ShowsBirths birth (put nothing 1 (Some (f (live_entry display_born)))) 1
     (put nothing b (Some (f (live_entry display_born))))) e k)
 
 opening_live : (b : Bool) (e : Entry) → cond b (Some (live_entry display_born)) None ≡ Some e → e.state ≡ states.Live
@@ -73,11 +74,11 @@ nothing_flies from to a b c d = record { begun = []; all = sym b; bytes = rw (c,
 -- a new pair stands, with nothing in flight
 pub new_stands_by : (tables : List Interface) (client_sizes server_sizes : Sizes)
     → client_sizes.limit.bytes ≡ server_sizes.limit.bytes → Valid tables
-    → StandsBy (new_pair tables client_sizes server_sizes) opening [] []
+    → StandsBy (new_pair tables client_sizes server_sizes) opening_world [] []
 new_stands_by tables client_sizes server_sizes one v = record {
   terms = record { same_tables = refl; valid = v; up_limit = one; down_limit = sym one; one_limit = one };
   client = record {
-    sets = shows_opening birth_in row refl;
+    sets = shows_opening birth_in row_of_entry refl;
     births = refl;
     sound = Sound-opening display;
     display = look-opening display 1;
@@ -85,7 +86,7 @@ new_stands_by tables client_sizes server_sizes one v = record {
     lives = refl;
   };
   server = record {
-    sets = shows_opening birth_of plain refl;
+    sets = shows_opening number_of_birth born_of_entry refl;
     sound = Sound-opening display;
     display = look-opening display 1;
     versions = λ id e h. opening_aged (nat_eq id 1) e (sym (look-opening display id) ∙ h);
@@ -105,19 +106,19 @@ new_stands_by tables client_sizes server_sizes one v = record {
   registries = record { told = refl; open_registries = has_none };
 }
   where
-    live_row : (e : Entry) (s : State) → s ≡ states.Live → as_row s (plain e) ≡ Open (plain e)
+    live_row : (e : Entry) (s : State) → s ≡ states.Live → as_row s (born_of_entry e) ≡ Open (born_of_entry e)
     live_row e states.Live h = refl
     live_row e states.Zombie h = absurd (cc h)
 
     both : (o : Option Entry) → ((e : Entry) → o ≡ Some e → e.state ≡ states.Live)
-        → option_map row o ≡ at_client (option_map plain o)
+        → option_map row_of_entry o ≡ at_client (option_map born_of_entry o)
     both None h = refl
     both (Some e) h = ap Some (live_row e e.state (h e refl))
 
 -- a new pair stands for the opening world
 pub new_stands : (tables : List Interface) (client_sizes server_sizes : Sizes)
     → client_sizes.limit.bytes ≡ server_sizes.limit.bytes → Valid tables
-    → Stands (new_pair tables client_sizes server_sizes) opening
+    → Stands (new_pair tables client_sizes server_sizes) opening_world
 new_stands tables client_sizes server_sizes one v =
     stands [] [] (refl, refl) (new_stands_by tables client_sizes server_sizes one v)
 
@@ -143,17 +144,17 @@ none_of : {A B : Type 0} (f : A → B) (l : List A) → map f l ≡ [] → l ≡
 none_of f [] h = refl
 none_of f (x ∷ xs) h = absurd (cc h)
 
-entry_of : (d e : Entry) → e.state ≡ states.Live → row d ≡ Open (plain e) → d ≡ e
+entry_of : (d e : Entry) → e.state ≡ states.Live → row_of_entry d ≡ Open (born_of_entry e) → d ≡ e
 entry_of d e l h = same d.state h
   where
-    same : (s : State) → as_row s (plain d) ≡ Open (plain e)
+    same : (s : State) → as_row s (born_of_entry d) ≡ Open (born_of_entry e)
         → record { birth = d.birth; iface = d.iface; version = d.version; state = s } ≡ e
-    same states.Live k = let q : plain d ≡ plain e = cc k
+    same states.Live k = let q : born_of_entry d ≡ born_of_entry e = cc k
         in λ i. record { birth = (q i).birth; iface = (q i).iface; version = (q i).version; state = sym l i }
     same states.Zombie k = absurd (cc k)
 
 rows_same : (c o : Option Entry) → ((e : Entry) → o ≡ Some e → e.state ≡ states.Live)
-    → option_map row c ≡ at_client (option_map plain o) → c ≡ o
+    → option_map row_of_entry c ≡ at_client (option_map born_of_entry o) → c ≡ o
 rows_same None None l h = refl
 rows_same None (Some e) l h = absurd (cc h)
 rows_same (Some d) None l h = absurd (cc h)
@@ -164,11 +165,12 @@ agree_by : (p : PairState) (w : World) (asked : List (Message Known)) (told : Li
 agree_by p w asked told s d =
     let c = empty_boxes p.client.core d.0 in
     let v = empty_boxes p.server.core d.1 in
-    let a = none_of spelled asked (none_in_flight p.client.core.outbox p.server.core.inbox
-    (map spelled asked) s.requests.in_boxes v.inbox c.outbox) in
+    let a = none_of spelled_meant asked (none_in_flight p.client.core.outbox p.server.core.inbox
+    (map spelled_meant asked) s.requests.in_boxes v.inbox c.outbox) in
     let t = none_of spelled_coming told (none_in_flight p.server.core.outbox p.client.core.inbox
     (map spelled_coming told) s.events.in_boxes c.inbox v.outbox) in
-    let rows = same_rows (subst (λ (l : List (Coming Known)). Reads (by_event p.server.core.tables) (all_tells l)
+    let rows = same_rows (subst (λ (l : List (Coming Known)). ReadsInFlight (by_event p.server.core.tables)
+    (all_tells l)
     (client_rows p.client.core.view) s.meet.middle) t s.meet.reads)
     (subst (λ (l : List (Message Known)). Tied (by_event p.server.core.tables) (all_asks l)
     (server_rows p.server.core.view) s.meet.middle) a s.meet.tied) in

@@ -9,7 +9,7 @@ use Rattle.std.proofs.lemmas.Slice.Eq.{bytes_eq-Decides}
 use Rattle.std.proofs.lemmas.Option.{slice_get_within}
 use Rattle.wl_wire.specs.declared.kind.Iface.{Iface}
 use Rattle.wl_sigs.specs.Tables.{Interface, interface_at, place_of}
-use Rattle.wl_sigs.specs.Valid.{Valid, IsName, IsNameByte}
+use Rattle.wl_sigs.specs.Valid.{Valid, IsTableName, IsNameByte}
 use Rattle.wl_wire.specs.Spelling.{IsText}
 
 module _ {X : Type 0} (p : X → Bool) where
@@ -55,5 +55,5 @@ name_byte : (b : ℕ) → IsNameByte b → b ≢ 0
 name_byte b h z = grind (arith, h, z)
 
 -- a name is a text, and not long
-pub name_text : (name : List ℕ) → IsName name → IsText name
+pub name_text : (name : List ℕ) → IsTableName name → IsText name
 name_text name h = record { no_nul = λ k d l. name_byte (get_or name k d) (h.bytes k d l); len = omega (arith, h.few) }

@@ -6,27 +6,28 @@ use Rattle.std.specs.declared.option.Option.TheVariants.{None, Some}
 use Rattle.theory_connection.specs.Meant.{Born, Known}
 use Rattle.theory_connection.specs.World.{Row, Open, Ending, Each}
 use Rattle.theory_connection.specs.Flight.{Rows, at, Ask, Make, Destroy, Tell, Delete, at_client}
-use Rattle.theory_connection.specs.Flight.{Held, Reads, done, name, end, delete, Tied, drained}
-use Rattle.theory_connection.specs.Flight.{use_, make, destroy, Meets}
+use Rattle.theory_connection.specs.Flight.{IsHeldInRows, ReadsInFlight, done, name, end, delete, Tied, drained}
+use Rattle.theory_connection.specs.Flight.{use_, make, destroy, MeetInMiddle}
 use Rattle.theory_connection.specs.Plain.{tell_id, ask_id, In}
 use Rattle.theory_connection.proofs.Flight.{put_tells, put_same, held_at_client, held_other, held_some, free_after}
 
 -- what is held when another ends was held before
-pub kept_end : (v : Rows Row) (x y : Known) → Held v y → Held (at v y.id (Some (Ending y.born))) x → Held v x
+pub kept_end : (v : Rows Row) (x y : Known) → IsHeldInRows v y → IsHeldInRows (at v y.id (Some (Ending y.born))) x
+    → IsHeldInRows v x
 kept_end v x y a h = elim (put_tells v.rows y.id (Some (Ending y.born)) x.id) [
   | inl p ↦ (let e : x.born ≡ y.born = grind arith
-      in let k : ◌≡◌ {A = Known} y x = λ i. record { id = sym p.0 i; born = sym e i } in subst (Held v) k a)
+      in let k : ◌≡◌ {A = Known} y x = λ i. record { id = sym p.0 i; born = sym e i } in subst (IsHeldInRows v) k a)
   | inr p ↦ elim h [ inl q ↦ inl (sym p.1 ∙ q) | inr q ↦ inr (sym p.1 ∙ q) ]
 ]
 
 -- what is held when an id is closed was held before
-pub kept_delete : (v : Rows Row) (x : Known) (i : ℕ) → Held (at v i None) x → Held v x
+pub kept_delete : (v : Rows Row) (x : Known) (i : ℕ) → IsHeldInRows (at v i None) x → IsHeldInRows v x
 kept_delete v x i h = elim (put_tells v.rows i None x.id) [
   | inl p ↦ elim h [ inl q ↦ absurd (cc (p.1, q)) | inr q ↦ absurd (cc (p.1, q)) ]
   | inr p ↦ elim h [ inl q ↦ inl (sym p.1 ∙ q) | inr q ↦ inr (sym p.1 ∙ q) ]
 ]
 
-held_some_row : (m : Rows Row) (x : Known) → Held m x → m.rows x.id ≡ None → ⊥
+held_some_row : (m : Rows Row) (x : Known) → IsHeldInRows m x → m.rows x.id ≡ None → ⊥
 held_some_row m x h n = elim h [ inl p ↦ cc (p, n) | inr p ↦ cc (p, n) ]
 
 no_ending : (o : Option Born) (e : Born) → at_client o ≡ Some (Ending e) → ⊥
@@ -40,7 +41,7 @@ pub record Asked (test : Born → Bool) (m : Rows Row) (n : Known) : Type 0 wher
 
 module _ {test : Born → Bool} where
   -- a free id at the client occurs in no event in flight
-  free_tells : {es : List Tell} {v w : Rows Row} (i : ℕ) → Reads test es v w → v.rows i ≡ None
+  free_tells : {es : List Tell} {v w : Rows Row} (i : ℕ) → ReadsInFlight test es v w → v.rows i ≡ None
       → Each (λ t. tell_id t ≢ i) es
   free_tells i done h = tt
   free_tells i (name {v = v} {x = n} a r) h = (held_some v n i a h, free_tells i r h)
@@ -58,13 +59,14 @@ module _ {test : Born → Bool} where
       (held_some m n i (inr c) h, free_asks i t (grind (arith, put_tells)))
 
   -- an id with no row at the client is named nowhere in flight
-  pub free_nowhere : {es : List Tell} {qs : List Ask} {v : Rows Row} {s : Rows Born} (i : ℕ) → Meets test es qs v s
+  pub free_nowhere : {es : List Tell} {qs : List Ask} {v : Rows Row} {s : Rows Born} (i : ℕ)
+      → MeetInMiddle test es qs v s
       → v.rows i ≡ None → Each (λ t. tell_id t ≢ i) es × Each (λ a. ask_id a ≢ i) qs
   free_nowhere i m h = (free_tells i m.reads h, free_asks i m.tied (free_after i m.reads h))
 
   -- what the client holds has its delete in an event in flight, or is held once the events are read
-  deleted_or : {es : List Tell} {v w : Rows Row} (n : Known) → Reads test es v w → Held v n
-      → In (Delete n) es ⊎ Held w n
+  deleted_or : {es : List Tell} {v w : Rows Row} (n : Known) → ReadsInFlight test es v w → IsHeldInRows v n
+      → In (Delete n) es ⊎ IsHeldInRows w n
   deleted_or n done h = inr h
   deleted_or n (name a r) h = elim (deleted_or n r h) [ inl p ↦ inl (inr p) | inr p ↦ inr p ]
   deleted_or n (end {v = v} {x = x} b a r) h =
@@ -79,8 +81,9 @@ module _ {test : Born → Bool} where
   ]
 
   -- what the client holds is deleted on the way, open at the server, or made on the way
-  pub held_where : {es : List Tell} {qs : List Ask} {v : Rows Row} {s : Rows Born} (n : Known) → Meets test es qs v s
-      → Held v n → In (Delete n) es ⊎ (s.rows n.id ≡ Some n.born) ⊎ In (Make n) qs
+  pub held_where : {es : List Tell} {qs : List Ask} {v : Rows Row} {s : Rows Born} (n : Known)
+      → MeetInMiddle test es qs v s
+      → IsHeldInRows v n → In (Delete n) es ⊎ (s.rows n.id ≡ Some n.born) ⊎ In (Make n) qs
   held_where n m h = elim (deleted_or n m.reads h) [ inl p ↦ inl p | inr p ↦ inr (open_or_made n m.tied p) ]
     where
       at_some : (o : Option Born) (e : Born) → (at_client o ≡ Some (Open e)) ⊎ (at_client o ≡ Some (Ending e))
@@ -88,7 +91,7 @@ module _ {test : Born → Bool} where
       at_some None e h = elim h [ inl p ↦ absurd (cc p) | inr p ↦ absurd (cc p) ]
       at_some (Some x) e h = elim h [ inl p ↦ cc | inr p ↦ absurd (cc p) ]
 
-      open_or_made : {qs : List Ask} {s : Rows Born} {m : Rows Row} (n : Known) → Tied test qs s m → Held m n
+      open_or_made : {qs : List Ask} {s : Rows Born} {m : Rows Row} (n : Known) → Tied test qs s m → IsHeldInRows m n
           → (s.rows n.id ≡ Some n.born) ⊎ In (Make n) qs
       open_or_made n (drained {s = s} rows u b) h =
           inl (at_some (s.rows n.id) n.born (elim h
@@ -113,7 +116,7 @@ module _ {test : Born → Bool} where
 
   -- nothing after a delete in flight names its object's id
   pub deleted_last : (before after : List Tell) (x : Known) {v w : Rows Row}
-      → Reads test (before ++ (Delete x ∷ after)) v w → Each (λ t. tell_id t ≢ x.id) after
+      → ReadsInFlight test (before ++ (Delete x ∷ after)) v w → Each (λ t. tell_id t ≢ x.id) after
   deleted_last [] after x (delete {v = v} z a b r) = free_tells x.id r (grind (arith, put_tells))
   deleted_last (b ∷ bs) after x (name h r) = deleted_last bs after x r
   deleted_last (b ∷ bs) after x (end t h r) = deleted_last bs after x r
@@ -121,32 +124,35 @@ module _ {test : Born → Bool} where
 
   -- ---- and back, and only one of these
 
-  held_before : {es : List Tell} (x : Known) {v w : Rows Row} → Reads test es v w → Held w x → Held v x
+  held_before : {es : List Tell} (x : Known) {v w : Rows Row} → ReadsInFlight test es v w → IsHeldInRows w x
+      → IsHeldInRows v x
   held_before x done h = h
   held_before x (name a r) h = held_before x r h
   held_before x (end {v = v} {x = y} b a r) h = kept_end v x y a (held_before x r h)
   held_before x (delete {v = v} {x = y} z a b r) h = kept_delete v x y.id (held_before x r h)
 
-  deleted_held : {es : List Tell} (x : Known) {v w : Rows Row} → Reads test es v w → In (Delete x) es
-      → Held v x × (w.rows x.id ≡ None)
+  deleted_held : {es : List Tell} (x : Known) {v w : Rows Row} → ReadsInFlight test es v w → In (Delete x) es
+      → IsHeldInRows v x × (w.rows x.id ≡ None)
   deleted_held x done i = absurd i
   deleted_held x (name a r) i = elim i [ inl p ↦ absurd (cc p) | inr p ↦ deleted_held x r p ]
   deleted_held x (end {v = v} {x = y} b a r) i = elim i
       [ inl p ↦ absurd (cc p) | inr p ↦ (let k = deleted_held x r p in (kept_end v x y a k.0, k.1)) ]
   deleted_held x (delete {v = v} {w = w} {x = y} z a b r) i = elim i [
     | inl p ↦ (let e : y ≡ x = cc p in (
-      subst (Held v) e a,
+      subst (IsHeldInRows v) e a,
       subst (λ (k : Known). w.rows k.id ≡ None) e
           (free_after y.id r (put_same v.rows y.id None)),
     ))
     | inr p ↦ (let k = deleted_held x r p in (kept_delete v x y.id k.0, k.1))
   ]
 
-  make_held : {qs : List Ask} (x : Known) {s : Rows Born} {m : Rows Row} → Tied test qs s m → In (Make x) qs → Held m x
+  make_held : {qs : List Ask} (x : Known) {s : Rows Born} {m : Rows Row} → Tied test qs s m → In (Make x) qs
+      → IsHeldInRows m x
   make_held x (drained r u b) i = absurd i
   make_held x (use_ a b t) i = elim i [ inl p ↦ absurd (cc p) | inr p ↦ make_held x t p ]
   make_held x (make {s = s} {m = m} {x = y} a t) i = elim i [
-    | inl p ↦ (let e : y ≡ x = cc p in subst (Held m) e (held_at_client y t (put_same s.rows y.id (Some y.born))))
+    | inl p ↦ (let e : y ≡ x = cc p in subst (IsHeldInRows m) e
+        (held_at_client y t (put_same s.rows y.id (Some y.born))))
     | inr p ↦ make_held x t p
   ]
   make_held x (destroy {m = m} {x = y} z a b c t) i =
@@ -164,8 +170,9 @@ module _ {test : Born → Bool} where
   make_new x (destroy z a b c t) i = elim i [ inl p ↦ absurd (cc p) | inr p ↦ make_new x t p ]
 
   -- and what is one of these the client holds
-  pub held_back : {es : List Tell} {qs : List Ask} {v : Rows Row} {s : Rows Born} (x : Known) → Meets test es qs v s
-      → In (Delete x) es ⊎ (s.rows x.id ≡ Some x.born) ⊎ In (Make x) qs → Held v x
+  pub held_back : {es : List Tell} {qs : List Ask} {v : Rows Row} {s : Rows Born} (x : Known)
+      → MeetInMiddle test es qs v s
+      → In (Delete x) es ⊎ (s.rows x.id ≡ Some x.born) ⊎ In (Make x) qs → IsHeldInRows v x
   held_back x m h = elim h [
     | inl p ↦ (deleted_held x m.reads p).0
     | inr p ↦ elim p [
@@ -177,22 +184,23 @@ module _ {test : Born → Bool} where
 
   -- what is open at the server has no delete on the way
   pub not_open_deleted : {es : List Tell} {qs : List Ask} {v : Rows Row} {s : Rows Born} (x : Known)
-      → Meets test es qs v s → s.rows x.id ≡ Some x.born → In (Delete x) es → ⊥
+      → MeetInMiddle test es qs v s → s.rows x.id ≡ Some x.born → In (Delete x) es → ⊥
   not_open_deleted x m h d = held_some_row m.middle x (held_at_client x m.tied h) (deleted_held x m.reads d).1
 
   -- what is made on the way has no delete on the way
   pub not_made_deleted : {es : List Tell} {qs : List Ask} {v : Rows Row} {s : Rows Born} (x : Known)
-      → Meets test es qs v s → In (Make x) qs → In (Delete x) es → ⊥
+      → MeetInMiddle test es qs v s → In (Make x) qs → In (Delete x) es → ⊥
   not_made_deleted x m h d = held_some_row m.middle x (make_held x m.tied h) (deleted_held x m.reads d).1
 
   -- what is made on the way was not counted by the server
   pub not_made_counted : {es : List Tell} {qs : List Ask} {v : Rows Row} {s : Rows Born} (x : Known)
-      → Meets test es qs v s → In (Make x) qs → x.born.birth < s.births → ⊥
+      → MeetInMiddle test es qs v s → In (Make x) qs → x.born.birth < s.births → ⊥
   not_made_counted x m h l = let k = make_new x m.tied h in absurd (omega (arith, k, l))
 
   -- ---- what is ending
 
-  ending_read : {es : List Tell} {v w : Rows Row} (n : Known) → Reads test es v w → v.rows n.id ≡ Some (Ending n.born)
+  ending_read : {es : List Tell} {v w : Rows Row} (n : Known) → ReadsInFlight test es v w
+      → v.rows n.id ≡ Some (Ending n.born)
       → In (Delete n) es ⊎ (w.rows n.id ≡ Some (Ending n.born))
   ending_read n done h = inr h
   ending_read n (name a r) h = elim (ending_read n r h) [ inl p ↦ inl (inr p) | inr p ↦ inr p ]
@@ -222,7 +230,8 @@ module _ {test : Born → Bool} where
   ]
 
   -- what is ending at the client is deleted or destroyed on the way
-  pub ending_where : {es : List Tell} {qs : List Ask} {v : Rows Row} {s : Rows Born} (n : Known) → Meets test es qs v s
+  pub ending_where : {es : List Tell} {qs : List Ask} {v : Rows Row} {s : Rows Born} (n : Known)
+      → MeetInMiddle test es qs v s
       → v.rows n.id ≡ Some (Ending n.born) → In (Delete n) es ⊎ In (Destroy n) qs
   ending_where n m h = elim (ending_read n m.reads h) [ inl p ↦ inl p | inr p ↦ inr (ending_asked n m.tied p) ]
 
@@ -240,7 +249,8 @@ module _ {test : Born → Bool} where
     })
   ]
 
-  open_read : {es : List Tell} {v w : Rows Row} (n : Known) → Reads test es v w → v.rows n.id ≡ Some (Open n.born)
+  open_read : {es : List Tell} {v w : Rows Row} (n : Known) → ReadsInFlight test es v w
+      → v.rows n.id ≡ Some (Open n.born)
       → w.rows n.id ≡ Some (Ending n.born) → test n.born ≡ true
   open_read n done h k = absurd (cc (h, k))
   open_read n (name a r) h k = open_read n r h k
@@ -255,12 +265,13 @@ module _ {test : Born → Bool} where
   ]
 
   -- no request on the way destroys what is open at the client
-  pub open_unasked : {es : List Tell} {qs : List Ask} {v : Rows Row} {s : Rows Born} (n : Known) → Meets test es qs v s
+  pub open_unasked : {es : List Tell} {qs : List Ask} {v : Rows Row} {s : Rows Born} (n : Known)
+      → MeetInMiddle test es qs v s
       → v.rows n.id ≡ Some (Open n.born) → In (Destroy n) qs → ⊥
   open_unasked n m h i = let k = asked_ending n m.tied i in cc (open_read n m.reads h k.ending, k.test_is)
 
   -- a destroying event alone makes an open object's delete come before its turn
-  pub open_deleted : {es : List Tell} {v w : Rows Row} (n : Known) → Reads test es v w
+  pub open_deleted : {es : List Tell} {v w : Rows Row} (n : Known) → ReadsInFlight test es v w
       → v.rows n.id ≡ Some (Open n.born) → In (Delete n) es → test n.born ≡ true
   open_deleted n done h i = absurd i
   open_deleted n (name a r) h i = elim i [ inl p ↦ absurd (cc p) | inr p ↦ open_deleted n r h p ]
@@ -285,11 +296,11 @@ module _ {test : Born → Bool} where
 
   -- what a request in flight destroys the client holds, and no delete of it is in flight
   pub destroyed_held : {es : List Tell} {qs : List Ask} {v : Rows Row} {s : Rows Born} (n : Known)
-      → Meets test es qs v s → In (Destroy n) qs → Held v n
+      → MeetInMiddle test es qs v s → In (Destroy n) qs → IsHeldInRows v n
   destroyed_held n m i = held_before n m.reads (inr (asked_ending n m.tied i).ending)
 
   -- nothing is both destroyed and deleted on the way
   pub not_destroyed_deleted : {es : List Tell} {qs : List Ask} {v : Rows Row} {s : Rows Born} (n : Known)
-      → Meets test es qs v s → In (Destroy n) qs → In (Delete n) es → ⊥
+      → MeetInMiddle test es qs v s → In (Destroy n) qs → In (Delete n) es → ⊥
   not_destroyed_deleted n m i d = let k = (asked_ending n m.tied i).ending in let g = (deleted_held n m.reads d).1
       in cc (k, g)

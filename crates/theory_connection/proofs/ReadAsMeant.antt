@@ -26,26 +26,27 @@ use Rattle.wl_object_map.specs.declared.object.State.{State}
 use Rattle.wl_object_map.specs.declared.object.State.TheVariants as states
 use Rattle.wl_object_map.specs.View.{View, look, free_or_next, has_room}
 use Rattle.wl_objects.specs.declared.lookup.NewId.TheVariants.{Free}
-use Rattle.wl_objects.specs.Reading.{Reader, value_fault, iface_of, is_of, arguments_at, judged}
-use Rattle.wl_objects.specs.Reading.{descriptors, is_descriptor_kind, in_state, report_of}
-use Rattle.wl_objects.specs.Reading.{reports_of, first_or, tokens_after}
+use Rattle.wl_objects.specs.Reading.{Reader, value_fault, iface_of, is_of, arguments_at, value_or_fault}
+use Rattle.wl_objects.specs.Reading.{descriptors, is_descriptor_kind, in_state, reported_argument}
+use Rattle.wl_objects.specs.Reading.{reports_of, head_or, tokens_after}
 use Rattle.wl_objects.specs.Writing.{spelled as spelled_values, message_len, message_bytes}
 use Rattle.wl_objects.specs.Messages.{reader_of, received, is_error, NewObject, made_by, made, or_else as made_or_else}
-use Rattle.theory_connection.specs.Meant.{Born, Known, Message, Arg, rearg, born_of, birth_of, wire}
-use Rattle.theory_connection.specs.Meant.{tokens, token_in, new_in, made_in, or_else, plain}
+use Rattle.theory_connection.specs.Meant.{Born, Known, Message, Arg, rearg, born_of, number_of_birth, wire}
+use Rattle.theory_connection.specs.Meant.{tokens, token_in, new_object_in, made_in, born_of_entry}
 use Rattle.theory_connection.specs.Meant.{live_entry}
 use Rattle.theory_connection.specs.World.{Row, Each}
-use Rattle.theory_connection.specs.Flight.{row, as_row}
-use Rattle.theory_connection.specs.Answers.{Seen, Live, Dead, seen, seen_by, by_row, birth_at}
-use Rattle.theory_connection.specs.Stands.{Fits, AreOf, NamesRightly}
+use Rattle.theory_connection.specs.Flight.{row_of_entry, as_row}
+use Rattle.theory_connection.specs.Answers.{Seen, Live, Dead, seen_named, seen_by, by_row, birth_at}
+use Rattle.theory_connection.specs.Stands.{FitsSignature, SuitKinds, NamesRightly}
+use Rattle.wl_objects.specs.Messages.{or_else}
 
 -- the object of an argument is held where its reader stands, and the rows of the world show it
 pub record HeldAt (view : View) (rows : ℕ → Option Row) (x : Known) : Type 0 where
   pub some : 0 < x.id
   pub entry : Entry
   pub there : look view x.id ≡ Some entry
-  pub same : plain entry ≡ x.born
-  pub shown : rows x.born.birth ≡ Some (row entry)
+  pub same : born_of_entry entry ≡ x.born
+  pub shown : rows x.born.birth ≡ Some (row_of_entry entry)
 
 -- a new object fits
 pub record FreeAt (view : View) (x : Known) : Type 0 where
@@ -108,12 +109,12 @@ read_one : (r : Reader) (place : ℕ) (kind : Kind) (ks : List Kind) (v : Argume
 read_one r place kind ks v rest vs s g h =
     let back : drop (spelled_len v) (canonical v ++ rest) ≡ rest =
     drop_at (canonical v) rest (spelled_len v) (canonical-len v) in
-    let found : judged (strict r) place kind (reading kind (canonical v ++ rest)) ≡ Ok (v, spelled_len v) =
-    rw (reading-canonical kind v rest s, judged, g) refl in
+    let found : value_or_fault (strict r) place kind (reading kind (canonical v ++ rest)) ≡ Ok (v, spelled_len v) =
+    rw (reading-canonical kind v rest s, value_or_fault, g) refl in
     rw (found, back, h) refl
 
 values_read : (tables : List Interface) (version place : ℕ) (r : Reader) (ks : List Kind) (args : List (Arg Known))
-    → AreOf tables version ks args → Each (Finds r) args
+    → SuitKinds tables version ks args → Each (Finds r) args
     → arguments_at (strict r) place ks (spelled_values (map wire args)) ≡ Ok (map wire args, [])
 values_read tables version place r [] [] f m = refl
 values_read tables version place r (kind ∷ ks) [] f m = absurd f
@@ -145,7 +146,7 @@ tokens_one _ _ s = absurd s
 
 -- the kinds take as many tokens as the arguments have
 pub tokens_taken : (tables : List Interface) (version : ℕ) (ks : List Kind) (args : List (Arg Known))
-    → AreOf tables version ks args → descriptors ks ≡ length (tokens args)
+    → SuitKinds tables version ks args → descriptors ks ≡ length (tokens args)
 tokens_taken tables version [] [] f = refl
 tokens_taken tables version (kind ∷ ks) [] f = absurd f
 tokens_taken tables version [] (a ∷ args) f = absurd f
@@ -163,7 +164,7 @@ tokens_taken tables version (kind ∷ ks) (a ∷ args) f =
 
 -- by any reader that knows what it names
 pub received_by_any : (tables : List Interface) (side : Side) (r : Reader) (m : Message Known) (header : Header)
-    (waiting : ℕ) (o : HasObject r m.target) (f : Fits tables side m)
+    (waiting : ℕ) (o : HasObject r m.target) (f : FitsSignature tables side m)
     → header.object ≡ m.target.id → header.opcode ≡ m.opcode → Each (Finds r) m.args → length (tokens m.args) ≤ waiting
     → received tables side r header (spelled_values (map wire m.args)) waiting
     ≡ Ok (record {
@@ -217,9 +218,9 @@ all_found view rows (a ∷ args) m = (one_found view rows a m.0, all_found view 
 
 -- by an end
 pub received_right : (tables : List Interface) (side : Side) (view : View) (rows : ℕ → Option Row) (m : Message Known)
-    (header : Header) (waiting : ℕ) (entry : Entry) (f : Fits tables side m)
+    (header : Header) (waiting : ℕ) (entry : Entry) (f : FitsSignature tables side m)
     → header.object ≡ m.target.id → header.opcode ≡ m.opcode → look view m.target.id ≡ Some entry
-    → plain entry ≡ m.target.born → AllMet view rows m.args → length (tokens m.args) ≤ waiting
+    → born_of_entry entry ≡ m.target.born → AllMet view rows m.args → length (tokens m.args) ≤ waiting
     → received tables side (reader_of view) header (spelled_values (map wire m.args)) waiting
     ≡ Ok (record {
       target = record { id = m.target.id; birth = entry.birth };
@@ -241,17 +242,18 @@ received_right tables side view rows m header waiting entry f ho hp l s k w =
 
 pub report_one : (view : View) (rows : ℕ → Option Row) (a : Arg Known) (args : List (Arg Known)) (more : List ℕ)
     → Met view rows a
-    → reshaped seen birth_at (λ t. t) (report_of (reader_of view) (first_or (tokens (a ∷ args) ++ more) 0) (wire a))
-    ≡ reshaped (seen_by rows) birth_of (λ t. t) (rearg born_of a)
+    → reshaped seen_named birth_at (λ t. t) (reported_argument (reader_of view) (head_or (tokens (a ∷ args) ++ more) 0)
+    (wire a))
+    ≡ reshaped (seen_by rows) number_of_birth (λ t. t) (rearg born_of a)
 report_one view rows (Obj None) args more m = refl
 report_one view rows (Obj (Some x)) args more m =
     let some : nat_eq x.id 0 ≡ false = ne_eqb x.id 0 (λ h. omega (arith, m.some)) in
     rw (some, m.there, m.shown) (ap (λ (s : Seen). Obj s)
-    (by_state m.entry.state (record { id = x.id; birth = m.entry.birth }) (plain m.entry) x.born.birth
+    (by_state m.entry.state (record { id = x.id; birth = m.entry.birth }) (born_of_entry m.entry) x.born.birth
     (ap (λ (b : Born). b.birth) m.same)))
   where
     by_state : (s : State) (object : Object) (b : Born) (birth : ℕ) → object.birth ≡ birth
-        → seen (in_state s object) ≡ by_row birth (Some (as_row s b))
+        → seen_named (in_state s object) ≡ by_row birth (Some (as_row s b))
     by_state states.Live object b birth e = ap Live e
     by_state states.Zombie object b birth e = ap Dead e
 report_one view rows (New x) args more m = ap (λ (b : ℕ). New b) (sym m.birth)
@@ -266,8 +268,8 @@ tokens_left a args more = refl
 -- the reports of arguments, by births
 pub reports_right : (view : View) (rows : ℕ → Option Row) (args : List (Arg Known)) (more : List ℕ)
     → AllMet view rows args
-    → map (reshaped seen birth_at (λ t. t)) (reports_of (reader_of view) (tokens args ++ more) (map wire args))
-    ≡ map (reshaped (seen_by rows) birth_of (λ t. t)) (map (rearg born_of) args)
+    → map (reshaped seen_named birth_at (λ t. t)) (reports_of (reader_of view) (tokens args ++ more) (map wire args))
+    ≡ map (reshaped (seen_by rows) number_of_birth (λ t. t)) (map (rearg born_of) args)
 reports_right view rows [] more m = refl
 reports_right view rows (a ∷ args) more m =
     rw (tokens_left a args more, report_one view rows a args more m.0, reports_right view rows args more m.1) refl
@@ -279,7 +281,7 @@ abbrev pub made_of : Known → NewObject
 made_of x = record { id = x.id; iface = x.born.iface; version = x.born.version }
 
 made_one : (tables : List Interface) (version : ℕ) (kind : Kind) (a : Arg Known) → Suits kind (wire a)
-    → NamesRightly tables version kind a → made_by tables version kind (wire a) ≡ option_map made_of (new_in a)
+    → NamesRightly tables version kind a → made_by tables version kind (wire a) ≡ option_map made_of (new_object_in a)
 made_one tables version kinds.Int (Int z) s n = refl
 made_one tables version kinds.Uint (Uint z) s n = refl
 made_one tables version kinds.Fixed (Fixed z) s n = refl
@@ -299,13 +301,13 @@ or_made (Some x) b = refl
 
 -- what arguments make is what the kinds make of them
 pub made_read : (tables : List Interface) (version : ℕ) (ks : List Kind) (args : List (Arg Known))
-    → AreOf tables version ks args → made tables version ks (map wire args) ≡ option_map made_of (made_in args)
+    → SuitKinds tables version ks args → made tables version ks (map wire args) ≡ option_map made_of (made_in args)
 made_read tables version [] [] f = refl
 made_read tables version (kind ∷ ks) [] f = absurd f
 made_read tables version [] (a ∷ args) f = absurd f
 made_read tables version (kind ∷ ks) (a ∷ args) f =
     rw (made_one tables version kind a f.0.0 f.0.1, made_read tables version ks args f.1)
-    (or_made (new_in a) (made_in args))
+    (or_made (new_object_in a) (made_in args))
 
 -- ---- the header of a message
 

@@ -8,14 +8,14 @@ use Rattle.wl_object_map.specs.declared.object.Object.{Object}
 use Rattle.wl_objects.specs.declared.error.SendError.{SendError}
 use Rattle.wl_objects.specs.declared.error.NextError.{NextError}
 use Rattle.wl_server.specs.declared.globals.GlobalError.{GlobalError}
-use Rattle.wl_message.specs.declared.amounts.Taken.{Taken}
+use Rattle.wl_message.specs.declared.amounts.Amounts.{Amounts}
 use Rattle.wl_recording.specs.Piece.{Piece}
 use Rattle.theory_connection.specs.Pair.{PairState, Move, Reply, ClientSend, ClientBind, ServerSend}
 use Rattle.theory_connection.specs.Pair.{ServerDrop, PostError, AddGlobal, Withdraw, Announce}
 use Rattle.theory_connection.specs.Pair.{CarryToServer, CarryToClient, ClientNext, ServerNext, Does}
-use Rattle.theory_connection.specs.Pair.{Writes, Calls, Adds, Announces, Nexts, Carries, Carried}
+use Rattle.theory_connection.specs.Pair.{Writes, Calls, Adds, Announces, Nexts, Carries, CarryOutcome}
 use Rattle.theory_connection.specs.Pair.{accepted, refused, no_memory, done, added, announced}
-use Rattle.theory_connection.specs.Pair.{answered, moved, marked}
+use Rattle.theory_connection.specs.Pair.{answered, moved, ended_mark}
 use Rattle.theory_connection.specs.Answers.{KeepsRecord}
 
 pub unchanged : (p : PairState) → KeepsRecord p p
@@ -53,7 +53,7 @@ by_next : {R : Type 0} (needs : R → Bool) (answer : Result (Option R) NextErro
 by_next needs answer p after reply p' k answered = k
 by_next needs answer p after reply p' k (no_memory h o) = unchanged p
 
-by_carry : (taken : Taken) (p after : PairState) (reply : Carried) (p' : PairState) → KeepsRecord p after
+by_carry : (taken : Amounts) (p after : PairState) (reply : CarryOutcome) (p' : PairState) → KeepsRecord p after
     → Carries taken p after reply p' → KeepsRecord p p'
 by_carry taken p after reply p' k moved = k
 by_carry taken p after reply p' k (no_memory h) = unchanged p
@@ -62,12 +62,13 @@ grown : (p p' : PairState) (more : List Piece) → p'.recording ≡ p.recording 
     → KeepsRecord p p'
 grown p p' more r e = record { more = more; pieces = r; mark = λ count h. e ∙ h }
 
-mark_stays : (o : Option ℕ) (n count : ℕ) → o ≡ Some count → marked o n ≡ Some count
+mark_stays : (o : Option ℕ) (n count : ℕ) → o ≡ Some count → ended_mark o n ≡ Some count
 mark_stays None n count h = absurd (cc h)
 mark_stays (Some first) n count h = h
 
 -- An error marks the end, where none is marked.
-posted : (p p' : PairState) (n : ℕ) → p'.recording ≡ p.recording → p'.ended_at ≡ marked p.ended_at n → KeepsRecord p p'
+posted : (p p' : PairState) (n : ℕ) → p'.recording ≡ p.recording → p'.ended_at ≡ ended_mark p.ended_at n
+    → KeepsRecord p p'
 posted p p' n r e = record {
   more = [];
   pieces = r ∙ sym (append-nil p.recording);

@@ -13,13 +13,13 @@ use Rattle.wl_objects.specs.Messages.{same_iface, opens, Server as server_end}
 use Rattle.wl_connection.specs.Core.{Core}
 use Rattle.wl_server.specs.State as server
 use Rattle.wl_server.specs.State.{untold}
-use Rattle.wl_server.specs.Registries.{without_registry, registry_birth, IsFresh, HasRegistries}
+use Rattle.wl_server.specs.Registries.{without_registry, registry_birth, IsFreshId, HasRegistries}
 use Rattle.wl_server.specs.Requests.{registries_after}
 use Rattle.wl_server.proofs.Registries.{has_opened, has_closed, has_fewer, row_kept, births_opened, births_of_sound}
 use Rattle.wl_sigs.specs.Rules.{is_ended_by_event}
-use Rattle.theory_connection.specs.Meant.{Born, Known, born_of, plain}
-use Rattle.theory_connection.specs.World.{Marks, IfThere, marks_birth, registries_without}
-use Rattle.theory_connection.specs.World.{registries_after as marks_after}
+use Rattle.theory_connection.specs.Meant.{Born, Known, born_of, born_of_entry}
+use Rattle.theory_connection.specs.World.{Marks, IfThere, marks_birth, without_marks}
+use Rattle.theory_connection.specs.World.{marks_after}
 use Rattle.theory_connection.specs.Flight.{server_rows, Fresh}
 use Rattle.theory_connection.specs.Answers.{marks_of}
 use Rattle.theory_connection.specs.Stands.{by_event}
@@ -67,7 +67,7 @@ registries_left (Some x) rs = without_registry registry_birth true x.born.birth 
 
 -- the marks without those of a registry that is closed
 pub marks_left : (o : Option Known) (rs : List server.Registry)
-    → map marks_of (registries_left o rs) ≡ registries_without (option_map born_of o) (map marks_of rs)
+    → map marks_of (registries_left o rs) ≡ without_marks (option_map born_of o) (map marks_of rs)
 marks_left None rs = refl
 marks_left (Some x) rs = marks_without true x.born.birth rs
 
@@ -98,18 +98,18 @@ no_registry tables valid v x t e d row is =
 
 -- ---- the list after a request and after an event
 
-fresh_look : (o : Option Entry) → option_map plain o ≡ None → o ≡ None
+fresh_look : (o : Option Entry) → option_map born_of_entry o ≡ None → o ≡ None
 fresh_look None h = refl
 fresh_look (Some e) h = absurd (cc h)
 
 -- what is fresh has no row
-pub fresh_row : (v : View) (n : Option Known) → IfThere (Fresh (server_rows v)) n → IsFresh v (option_map made_of n)
+pub fresh_row : (v : View) (n : Option Known) → IfThere (Fresh (server_rows v)) n → IsFreshId v (option_map made_of n)
 fresh_row v None f = tt
 fresh_row v (Some x) f = fresh_look (look v x.id) f.free
 
 -- the registries stand after a request is read
 pub has_read : (c : Core) (rs : List server.Registry) (n o : Option Known) → Sound c.view
-    → IsFresh c.view (option_map made_of n) → IfThere (HeldRow c.view) o → HasRegistries c.view rs
+    → IsFreshId c.view (option_map made_of n) → IfThere (HeldRow c.view) o → HasRegistries c.view rs
     → HasRegistries (ended_view server_end (opens c.view (option_map made_of n)) o)
     (registries_left o (registries_after c rs (option_map made_of n)))
 has_read c rs n None s f r h = has_opened c rs (option_map made_of n) f h

@@ -15,7 +15,7 @@ use Rattle.wl_sigs.specs.Valid.{Valid}
 use Rattle.wl_message.specs.declared.limit.Limit.{Limit}
 use Rattle.wl_message.specs.Arrived.{without_first, in_front}
 use Rattle.wl_message.specs.Cut.{Whole, IsMessage}
-use Rattle.wl_message.specs.Outgoing.{message}
+use Rattle.wl_message.specs.Outgoing.{queued}
 use Rattle.wl_message.specs.Outgoing as boxes
 use Rattle.wl_wire.specs.Argument.{Uint, Obj}
 use Rattle.wl_object_map.specs.declared.object.Entry.{Entry}
@@ -26,19 +26,19 @@ use Rattle.wl_connection.specs.Core.{Core, past, with_view}
 use Rattle.wl_connection.specs.Receiving.{Found, found}
 use Rattle.wl_connection.specs.Sending.{with_following}
 use Rattle.wl_server.specs.State as server
-use Rattle.wl_server.specs.Requests.{judged, request, is_good_bind, made_in as made_by_message}
-use Rattle.wl_server.specs.Requests.{state_past, registries_after, object_in, ended_object, ended}
+use Rattle.wl_server.specs.Requests.{unless_bad_bind, request, is_good_bind, made_by_request as made_by_message}
+use Rattle.wl_server.specs.Requests.{state_past, registries_after, reported_object, ended_object, ended}
 use Rattle.wl_server.specs.Requests.{report}
 use Rattle.wl_server.specs.Registries.{without_registry, registry_birth}
 use Rattle.theory_connection.specs.Meant.{Event, Delete, Born, Known, Message, Coming, Arg, renamed}
-use Rattle.theory_connection.specs.Meant.{recoming, rearg, born_of, birth_of, wire, tokens, spelled}
-use Rattle.theory_connection.specs.Meant.{spelled_coming, made_in, objects, plain, ended_by}
+use Rattle.theory_connection.specs.Meant.{recoming, rearg, born_of, number_of_birth, wire, tokens, spelled_meant}
+use Rattle.theory_connection.specs.Meant.{spelled_coming, made_in, objects, born_of_entry, ended_by}
 use Rattle.theory_connection.specs.World.{World, Open, Each, IfThere, delete, request_read, same}
-use Rattle.theory_connection.specs.World.{registries_without, registries_after as marks_after}
+use Rattle.theory_connection.specs.World.{without_marks, marks_after}
 use Rattle.theory_connection.specs.Pair.{PairState, with_server}
 use Rattle.theory_connection.specs.Answers.{rows_of_server}
 use Rattle.theory_connection.specs.Flight.{Rows, Fresh, Tied, all_asks, server_rows, as_row}
-use Rattle.theory_connection.specs.Stands.{DeletesFollow, BeginsWithDelete, StandsBy, Fits}
+use Rattle.theory_connection.specs.Stands.{DeletesFollow, BeginsWithDelete, StandsBy, FitsSignature}
 use Rattle.theory_connection.specs.Stands.{ComesFitly, InFlight, by_event}
 use Rattle.theory_connection.proofs.Flight.{reads_more}
 use Rattle.theory_connection.proofs.WholeInFlight.{ThereRow, asks_at, AsksAt, all_tells_more}
@@ -59,7 +59,7 @@ use Rattle.wl_server.proofs.Fronts.{named_object}
 pub record InFront (p : PairState) (w : World) (m : Message Known) (n : ℕ) : Type 0 where
   pub entry : Entry
   pub there : look p.server.core.view m.target.id ≡ Some entry
-  pub same_target : plain entry ≡ m.target.born
+  pub same_target : born_of_entry entry ≡ m.target.born
   pub met : AllMet p.server.core.view (rows_of_server w) m.args
 
 held_at_server : (p : PairState) (w : World) (asked : List (Message Known)) (told : List (Coming Known))
@@ -75,7 +75,7 @@ held_at_server p w asked told s x some h =
       there = r.there;
       same = r.same;
       shown = ap (option_map Open) shown ∙ ap (λ (b : Born). Some (Open b)) (sym r.same)
-          ∙ ap (λ st. Some (as_row st (plain r.entry))) (sym live);
+          ∙ ap (λ st. Some (as_row st (born_of_entry r.entry))) (sym live);
     }
 
 -- the test for a destroying event, by the pair's tables
@@ -117,7 +117,7 @@ followed b id (Some x) c f h = λ i. with_following (f i) (sym h i) c
 
 -- a delete is a whole message within the limit
 pub delete_whole : (limit : Limit) (o : Option Known)
-    → Each (λ (m : boxes.Message). IsMessage limit.bytes m.bytes) (map spelled_coming (delete o))
+    → Each (λ (m : boxes.QueuedMessage). IsMessage limit.bytes m.bytes) (map spelled_coming (delete o))
 delete_whole limit None = tt
 delete_whole limit (Some x) = (
   whole_within limit 1 1 (Uint x.id ∷ []) (omega arith)
@@ -163,23 +163,25 @@ record EndsRightly (what : Destroys) (object : Object) (o : Option Known) : Type
 
 ends_named : (c : Core) (target : Known) (args : List (Arg Known)) (k : ℕ) (x : Known) (waiting : List ℕ) → k ≡ 0
     → args ≡ Obj (Some x) ∷ [] → 0 < x.id → ThereRow (server_rows c.view) x
-    → EndsRightly (ends_arg k) (object_in (slice_get (reports_of (reader_of c.view) waiting (map wire args)) k))
+    → EndsRightly (ends_arg k) (reported_object (slice_get (reports_of (reader_of c.view) waiting (map wire args)) k))
     (ended_by (ends_arg k) target args)
 ends_named c target args k x waiting z e some h =
     let r = there_row c.view x h in
     let named = named_object (reader_of c.view) waiting x.id r.entry
     (ne_eqb x.id 0 (λ n. (omega (arith, n, some)))) r.there in
     subst (λ (l : List (Arg Known)). EndsRightly (ends_arg k)
-    (object_in (slice_get (reports_of (reader_of c.view) waiting (map wire l)) k)) (ended_by (ends_arg k) target l))
+    (reported_object (slice_get (reports_of (reader_of c.view) waiting (map wire l)) k))
+    (ended_by (ends_arg k) target l))
     (sym e)
-    (subst (λ (n : ℕ). EndsRightly (ends_arg n) (object_in
+    (subst (λ (n : ℕ). EndsRightly (ends_arg n) (reported_object
     (slice_get (reports_of (reader_of c.view) waiting (map wire (Obj (Some x) ∷ []))) n))
     (ended_by (ends_arg n) target (Obj (Some x) ∷ []))) (sym z)
     (subst (λ (object : Object). EndsRightly (ends_arg 0) object (Some x)) (sym named)
-    (record { ends = record { flag = refl; same = refl }; birth = sym (ap birth_of r.same) })))
+    (record { ends = record { flag = refl; same = refl }; birth = sym (ap number_of_birth r.same) })))
 
-ends_rightly : (st : server.State) (m : Message Known) (n : ℕ) (entry : Entry) (f : Fits st.core.tables request_side m)
-    → Valid st.core.tables → plain entry ≡ m.target.born
+ends_rightly : (st : server.State) (m : Message Known) (n : ℕ) (entry : Entry)
+    (f : FitsSignature st.core.tables request_side m)
+    → Valid st.core.tables → born_of_entry entry ≡ m.target.born
     → ThereRow (server_rows st.core.view) m.target → Each (ThereRow (server_rows st.core.view)) (objects m.args)
     → EndsRightly f.signature.destroys (ended st.core (the_found n m entry f.signature)) m.ends
 ends_rightly st m n entry f v s h hs = subst (EndsRightly f.signature.destroys
@@ -189,7 +191,7 @@ ends_rightly st m n entry f v s h hs = subst (EndsRightly f.signature.destroys
         → EndsRightly what (ended_object what (report st.core (the_found n m entry f.signature)))
         (ended_by what m.target m.args)
     by_what Nothing d = record { ends = record { flag = refl; same = tt }; birth = tt }
-    by_what Target d = record { ends = record { flag = refl; same = refl }; birth = sym (ap birth_of s) }
+    by_what Target d = record { ends = record { flag = refl; same = refl }; birth = sym (ap number_of_birth s) }
     by_what (ends_arg k) d =
         let a = argument_is st.core.tables request_side m f k v d in
         let there : ThereRow (server_rows st.core.view) a.1.it =
@@ -198,8 +200,9 @@ ends_rightly st m n entry f v s h hs = subst (EndsRightly f.signature.destroys
         ends_named st.core m.target m.args k a.1.it st.core.inbox.tokens a.0 a.1.are a.1.some there
 
 -- reading a request leaves the server so
-pub left_is : (st : server.State) (m : Message Known) (n : ℕ) (entry : Entry) (f : Fits st.core.tables request_side m)
-    → Valid st.core.tables → plain entry ≡ m.target.born
+pub left_is : (st : server.State) (m : Message Known) (n : ℕ) (entry : Entry)
+    (f : FitsSignature st.core.tables request_side m)
+    → Valid st.core.tables → born_of_entry entry ≡ m.target.born
     → ThereRow (server_rows st.core.view) m.target → Each (ThereRow (server_rows st.core.view)) (objects m.args)
     → state_past st (the_found n m entry f.signature) ≡ left_state st m n
 left_is st m n entry f v s h hs =
@@ -268,7 +271,8 @@ pub server_read_stands : (p : PairState) (w : World) (m : Message Known) (ms : L
     (told : List (Coming Known)) (s : StandsBy p w (m ∷ ms) told) (n : ℕ)
     → AsksAt (test_of p) (all_asks ms) (server_rows p.server.core.view) s.meet.middle m.target (objects m.args)
     (made_in m.args) m.ends
-    → InFlight p.client.core.outbox (without_first p.server.core.inbox n (length (tokens m.args))) (map spelled ms)
+    → InFlight p.client.core.outbox (without_first p.server.core.inbox n (length (tokens m.args)))
+    (map spelled_meant ms)
     → StandsBy (with_server p (left_state p.server m n))
     (request_read w (renamed born_of m) (map (renamed born_of) ms)) ms (told ++ delete m.ends)
 server_read_stands p w m ms told s n a up =
@@ -296,9 +300,9 @@ server_read_stands p w m ms told s n a up =
       };
       globals = s.globals;
       registries = record {
-        told = rw world_new (ap (λ (l : List _). registries_without (option_map born_of m.ends)
+        told = rw world_new (ap (λ (l : List _). without_marks (option_map born_of m.ends)
             (marks_after (option_map born_of new) l)) s.registries.told
-            ∙ ap (registries_without (option_map born_of m.ends))
+            ∙ ap (without_marks (option_map born_of m.ends))
             (sym (marks_with p.server.core p.server.registries new (births_of v new a.new)))
             ∙ sym (marks_left m.ends (registries_after p.server.core p.server.registries (option_map made_of new))));
         open_registries = has_read p.server.core p.server.registries new m.ends s.server.sound (fresh_row v new a.new)
@@ -312,26 +316,28 @@ server_read_stands p w m ms told s n a up =
 pub record InRequest (p : PairState) (w : World) (m : Message Known) (ms : List (Message Known))
     (told : List (Coming Known)) (s : StandsBy p w (m ∷ ms) told) (n : ℕ) : Type 0 where
   pub entry : Entry
-  pub same_target : plain entry ≡ m.target.born
+  pub same_target : born_of_entry entry ≡ m.target.born
   pub met : AllMet p.server.core.view (rows_of_server w) m.args
   pub finds_it : request p.server ≡ Ok (Some (the_found n m entry s.requests.fit.0.fits.signature))
   pub asks_it : AsksAt (test_of p) (all_asks ms) (server_rows p.server.core.view) s.meet.middle m.target
       (objects m.args) (made_in m.args) m.ends
-  pub up : InFlight p.client.core.outbox (without_first p.server.core.inbox n (length (tokens m.args))) (map spelled ms)
+  pub up : InFlight p.client.core.outbox (without_first p.server.core.inbox n (length (tokens m.args)))
+      (map spelled_meant ms)
   pub more : List ℕ
   pub tokens_are : p.server.core.inbox.tokens ≡ tokens m.args ++ more
 
 judge : (st : server.State) (f : Found) → (is_bind request_side f.message.entry.iface f.opcode
     && not (is_good_bind st f.message.values)) ≡ false → found st.core request_side ≡ Ok (Some f)
     → request st ≡ Ok (Some f)
-judge st f h e = ap (judged st) e ∙ rw h refl
+judge st f h e = ap (unless_bad_bind st) e ∙ rw h refl
 
 -- the first request, where it is whole
 pub in_request : (p : PairState) (w : World) (m : Message Known) (ms : List (Message Known))
     (told : List (Coming Known)) (s : StandsBy p w (m ∷ ms) told) (n : ℕ)
     → in_front p.server.core.inbox ≡ Whole n → InRequest p w m ms told s n
 in_request p w m ms told s n e =
-    let q = first_read p.client.core.outbox p.server.core.inbox (spelled m) (map spelled ms) n s.requests.in_boxes e in
+    let q = first_read p.client.core.outbox p.server.core.inbox (spelled_meant m) (map spelled_meant ms) n
+    s.requests.in_boxes e in
     let a = asks_at m.target (objects m.args) (made_in m.args) m.ends s.meet.tied in
     let i = request_front p w m ms told s n a in
     let f = s.requests.fit.0.fits in

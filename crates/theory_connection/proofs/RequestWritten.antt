@@ -10,10 +10,11 @@ use Rattle.wl_objects.specs.Messages.{Client as client_end, opens as opens_view}
 use Rattle.wl_connection.specs.Core.{Core}
 use Rattle.wl_connection.proofs.Messages.{whole_within}
 use Rattle.theory_connection.specs.Meant.{Known, Message, Coming, renamed, rearg, born_of, wire}
-use Rattle.theory_connection.specs.Meant.{spelled, made_in, objects}
+use Rattle.theory_connection.specs.Meant.{spelled_meant, made_in, objects}
 use Rattle.theory_connection.specs.World.{World, Row, Each, IfThere, request_written}
 use Rattle.theory_connection.specs.Pair.{PairState, with_client_core}
-use Rattle.theory_connection.specs.Flight.{Rows, Fresh, Meets, asks, all_asks, all_tells, client_rows, server_rows}
+use Rattle.theory_connection.specs.Flight.{Rows, Fresh, MeetInMiddle, asks, all_asks, all_tells, client_rows}
+use Rattle.theory_connection.specs.Flight.{server_rows}
 use Rattle.theory_connection.specs.Stands.{StandsBy, AsksFitly}
 use Rattle.theory_connection.proofs.WholeInFlight.{OpenRow, client_makes, client_ends, ask_meets}
 use Rattle.theory_connection.proofs.WholeInFlight.{all_asks_more, live_made_if}
@@ -43,7 +44,7 @@ pub record CanAsk (p : PairState) (m : Message Known) : Type 0 where
 abbrev pub asked_core : Core → Message Known → Core
 asked_core c m = record c {
   view = ended_view client_end (opens_view c.view (option_map made_of (made_in m.args))) m.ends;
-  outbox = record c.outbox { messages = c.outbox.messages ++ spelled m ∷ [] };
+  outbox = record c.outbox { messages = c.outbox.messages ++ spelled_meant m ∷ [] };
 }
 
 -- the pair with it
@@ -89,7 +90,7 @@ ask_stands p w asked told s m c =
           ) (c.fitly, tt);
       events = s.events;
       deletes_follow = s.deletes_follow;
-      meet = rw (all_asks_more asked m) (subst (λ (x : Rows Row). Meets (test_of p) (all_tells told)
+      meet = rw (all_asks_more asked m) (subst (λ (x : Rows Row). MeetInMiddle (test_of p) (all_tells told)
           (all_asks asked ++ asks m) x (server_rows p.server.core.view)) (sym rows)
           (ask_meets m.target (objects m.args) new m.ends s.meet c.target c.target_plain c.args c.args_plain c.new
           opened no_event c.mortal));

@@ -13,10 +13,12 @@ use Rattle.wl_object_map.specs.View.{View, Sound, look, opened_at, closed, zombi
 use Rattle.wl_object_map.specs.Views.{look-opened_at, row-opened_at, row-closed, row-zombied}
 use Rattle.wl_object_map.specs.Sounds.{Sound-opened_at, Sound-closed, Sound-zombied}
 use Rattle.wl_objects.specs.Messages.{Client, Server, opens}
-use Rattle.theory_connection.specs.Meant.{Born, Known, Arg, rearg, object_in, objects, new_in}
-use Rattle.theory_connection.specs.Meant.{made_in, or_else, token_in, tokens, plain}
+use Rattle.theory_connection.specs.Meant.{Born, Known, Arg, rearg, objects_in_arg, objects, new_object_in}
+use Rattle.theory_connection.specs.Meant.{made_in, token_in, tokens, born_of_entry}
 use Rattle.theory_connection.specs.World.{Row, Open, Ending, IfThere, Each}
-use Rattle.theory_connection.specs.Flight.{Rows, at, row, as_row, client_rows, server_rows, Fresh, Held}
+use Rattle.theory_connection.specs.Flight.{Rows, at, row_of_entry, as_row, client_rows, server_rows, Fresh}
+use Rattle.theory_connection.specs.Flight.{IsHeldInRows}
+use Rattle.wl_objects.specs.Messages.{or_else}
 use Rattle.theory_connection.proofs.WholeInFlight.{ThereRow, client_makes, client_ends, server_makes, server_ends}
 use Rattle.theory_connection.proofs.Sets.{there_kept}
 use Rattle.theory_connection.proofs.Bridges.{map_none, client_opened, server_opened, server_closed}
@@ -43,20 +45,21 @@ row_born states.Zombie b x h = elim h [ inl p ↦ absurd (cc p) | inr p ↦ cc ]
 pub record HeldRow (v : View) (x : Known) : Type 0 where
   pub entry : Entry
   pub there : look v x.id ≡ Some entry
-  pub same : plain entry ≡ x.born
+  pub same : born_of_entry entry ≡ x.born
 
 -- the entry of what the client holds
-pub held_row : (v : View) (x : Known) → Held (client_rows v) x → HeldRow v x
+pub held_row : (v : View) (x : Known) → IsHeldInRows (client_rows v) x → HeldRow v x
 held_row v x h = elim h [
-  | inl p ↦ (let m = map_some row (look v x.id) (Open x.born) p
-      in record { entry = m.0; there = m.1; same = row_born m.0.state (plain m.0) x.born (inl m.2) })
-  | inr p ↦ (let m = map_some row (look v x.id) (Ending x.born) p
-      in record { entry = m.0; there = m.1; same = row_born m.0.state (plain m.0) x.born (inr m.2) })
+  | inl p ↦ (let m = map_some row_of_entry (look v x.id) (Open x.born) p
+      in record { entry = m.0; there = m.1; same = row_born m.0.state (born_of_entry m.0) x.born (inl m.2) })
+  | inr p ↦ (let m = map_some row_of_entry (look v x.id) (Ending x.born) p
+      in record { entry = m.0; there = m.1; same = row_born m.0.state (born_of_entry m.0) x.born (inr m.2) })
 ]
 
 -- the entry of what is open at the server
 pub there_row : (v : View) (x : Known) → ThereRow (server_rows v) x → HeldRow v x
-there_row v x h = let m = map_some plain (look v x.id) x.born h in record { entry = m.0; there = m.1; same = m.2 }
+there_row v x h = let m = map_some born_of_entry (look v x.id) x.born h
+    in record { entry = m.0; there = m.1; same = m.2 }
 
 -- ---- the rows
 
@@ -73,7 +76,7 @@ server_after v (Some y) (Some x) g = server_closed (opened_at v y.id y.born.ifac
 apart : (v : View) (y : Known) (id : ℕ) (e : Entry) → (client_rows v).rows y.id ≡ None → look v id ≡ Some e
     → look (opened_at v y.id y.born.iface y.born.version) id ≡ Some e
 apart v y id e f h =
-    let n = map_none row (look v y.id) f in
+    let n = map_none row_of_entry (look v y.id) f in
     let ne : id ≢ y.id = λ s. (let k = sym h ∙ ap (look v) s ∙ n in cc) in
     let b : eqb id y.id ≡ false = grind (arith, nat_tests) in
     look-opened_at v y.id y.born.iface y.born.version id ∙ rw b h
@@ -157,16 +160,16 @@ module _ {A B : Type 0} (f : A → B) where
   or_map None b = refl
   or_map (Some x) b = refl
 
-  new_map : (a : Arg A) → new_in (rearg f a) ≡ option_map f (new_in a)
+  new_map : (a : Arg A) → new_object_in (rearg f a) ≡ option_map f (new_object_in a)
   new_map (Obj None) = refl
   new_map a = refl
 
   -- what arguments make, with objects named otherwise
   pub made_map : (args : List (Arg A)) → made_in (map (rearg f) args) ≡ option_map f (made_in args)
   made_map [] = refl
-  made_map (a ∷ args) = rw (new_map a, made_map args) (or_map (new_in a) (made_in args))
+  made_map (a ∷ args) = rw (new_map a, made_map args) (or_map (new_object_in a) (made_in args))
 
-  object_map : (a : Arg A) (xs : List A) → object_in (rearg f a) ++ map f xs ≡ map f (object_in a ++ xs)
+  object_map : (a : Arg A) (xs : List A) → objects_in_arg (rearg f a) ++ map f xs ≡ map f (objects_in_arg a ++ xs)
   object_map (Obj None) xs = refl
   object_map a xs = refl
 

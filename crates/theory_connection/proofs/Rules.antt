@@ -16,7 +16,7 @@ use Rattle.wl_wire.specs.declared.kind.Iface.{Iface}
 use Rattle.wl_wire.specs.Argument.{Int, Obj, New}
 use Rattle.wl_sigs.specs.declared.signature.Side.{Side}
 use Rattle.wl_sigs.specs.declared.signature.Side.TheVariants.{Request, Event}
-use Rattle.wl_sigs.specs.Tables.{Message, Interface, interface_at, signature_at, messages_of}
+use Rattle.wl_sigs.specs.Tables.{MessageSignature, Interface, interface_at, signature_at, messages_of}
 use Rattle.wl_sigs.specs.Tables.{message_of, new_objects, has_destroying_event, destroys_target}
 use Rattle.wl_sigs.specs.Fixed.{wl_display}
 use Rattle.wl_sigs.specs.Valid.{Valid}
@@ -32,23 +32,24 @@ use Rattle.theory_connection.specs.Stands.{by_event}
 use Rattle.theory_connection.proofs.Calls.{AllRight, meant, born_at, live_as}
 
 -- the interface of a message
-pub record Of (tables : List Interface) (place : ℕ) (side : Side) (opcode : ℕ) (m : Message) : Type 0 where
+pub record Of (tables : List Interface) (place : ℕ) (side : Side) (opcode : ℕ) (m : MessageSignature) : Type 0 where
   pub interface : Interface
   pub there : interface_at tables place ≡ Some interface
   pub message : slice_get (messages_of side interface) opcode ≡ Some m
 
-of_at : (tables : List Interface) (place : ℕ) (side : Side) (opcode : ℕ) (m : Message) (o : Option Interface)
+of_at : (tables : List Interface) (place : ℕ) (side : Side) (opcode : ℕ) (m : MessageSignature) (o : Option Interface)
     → interface_at tables place ≡ o → option_and_then (message_of side opcode) o ≡ Some m
     → Of tables place side opcode m
 of_at tables place side opcode m None e h = absurd (cc h)
 of_at tables place side opcode m (Some i) e h = record { interface = i; there = e; message = h }
 
-pub of_message : (tables : List Interface) (place : ℕ) (side : Side) (opcode : ℕ) (m : Message)
+pub of_message : (tables : List Interface) (place : ℕ) (side : Side) (opcode : ℕ) (m : MessageSignature)
     → signature_at tables place side opcode ≡ Some m → Of tables place side opcode m
 of_message tables place side opcode m h = of_at tables place side opcode m (interface_at tables place) refl h
 
 -- an opcode that has a signature is below 65536
-pub opcode_low : (tables : List Interface) → Valid tables → (place : ℕ) (side : Side) (opcode : ℕ) (m : Message)
+pub opcode_low : (tables : List Interface) → Valid tables
+    → (place : ℕ) (side : Side) (opcode : ℕ) (m : MessageSignature)
     → signature_at tables place side opcode ≡ Some m → opcode < 65536
 opcode_low tables v place side opcode m h =
     let o = of_message tables place side opcode m h in
@@ -57,17 +58,17 @@ opcode_low tables v place side opcode m h =
     omega (arith, a, b)
 
 -- an interface with a request has no destroying event
-with_event : (i : Interface) (b : Bool) (opcode : ℕ) (m : Message) → has_destroying_event i ≡ b
+with_event : (i : Interface) (b : Bool) (opcode : ℕ) (m : MessageSignature) → has_destroying_event i ≡ b
     → (has_destroying_event i ≡ true → i.requests ≡ []) → slice_get i.requests opcode ≡ Some m → b ≡ false
 with_event i false opcode m e h k = refl
 with_event i true opcode m e h k =
-    let n : ◌≡◌ {A = Option Message} (slice_get [] opcode) None = slice_get_past [] opcode (omega arith) in
-    let q : ◌≡◌ {A = Option Message} None (Some m) =
-    sym n ∙ ap (λ (l : List Message). slice_get l opcode) (sym (h e)) ∙ k in
+    let n : ◌≡◌ {A = Option MessageSignature} (slice_get [] opcode) None = slice_get_past [] opcode (omega arith) in
+    let q : ◌≡◌ {A = Option MessageSignature} None (Some m) =
+    sym n ∙ ap (λ (l : List MessageSignature). slice_get l opcode) (sym (h e)) ∙ k in
     absurd (cc q)
 
 -- an interface with a request has no destroying event
-pub target_plain : (tables : List Interface) → Valid tables → (x : Born) (opcode : ℕ) (m : Message)
+pub target_plain : (tables : List Interface) → Valid tables → (x : Born) (opcode : ℕ) (m : MessageSignature)
     → signature_at tables x.iface.0 Request opcode ≡ Some m → by_event tables x ≡ false
 target_plain tables v x opcode m h =
     let o = of_message tables x.iface.0 Request opcode m h in
@@ -128,7 +129,8 @@ objects_plain tables view new (k ∷ ks) (a ∷ given) r n p =
     objects_plain tables view new ks given r.1 (All-tail NamedKind k ks n) (All-tail (PlainKind tables) k ks p)
 
 -- what `send` writes makes no object without an interface in its signature
-pub unnamed_none : (tables : List Interface) → Valid tables → (iface : Iface) (side : Side) (opcode : ℕ) (m : Message)
+pub unnamed_none : (tables : List Interface) → Valid tables
+    → (iface : Iface) (side : Side) (opcode : ℕ) (m : MessageSignature)
     → signature_at tables iface.0 side opcode ≡ Some m → is_hidden side iface opcode ≡ false
     → All (λ k. k ≢ kinds.New None) m.kinds
 unnamed_none tables v iface Request opcode m h hid = elim (v.unnamed_new_in_bind_alone iface.0 Request opcode m h) [
@@ -142,45 +144,46 @@ unnamed_none tables v iface Event opcode m h hid = elim (v.unnamed_new_in_bind_a
 ]
 
 -- a signature makes at most one object
-pub few_new : (tables : List Interface) → Valid tables → (place : ℕ) (side : Side) (opcode : ℕ) (m : Message)
+pub few_new : (tables : List Interface) → Valid tables → (place : ℕ) (side : Side) (opcode : ℕ) (m : MessageSignature)
     → signature_at tables place side opcode ≡ Some m → length (new_objects m.kinds) ≤ 1
 few_new tables v place Request opcode m h = v.few_objects_made.requests place opcode m h
 few_new tables v place Event opcode m h = let e = ap length (v.few_objects_made.events place opcode m h)
     in omega (arith, e)
 
 -- no request of wl_display destroys it
-abbrev KeepsTarget : Option Message → Type 0
+abbrev KeepsTarget : Option MessageSignature → Type 0
 KeepsTarget None = ⊥
 KeepsTarget (Some m) = destroys_target m.destroys ≡ false
 
-display_keeps : (opcode : ℕ) (m : Message) → slice_get wl_display.requests opcode ≡ Some m
+display_keeps : (opcode : ℕ) (m : MessageSignature) → slice_get wl_display.requests opcode ≡ Some m
     → destroys_target m.destroys ≡ false
 display_keeps zero m h = subst KeepsTarget h refl
 display_keeps (suc zero) m h = subst KeepsTarget h refl
 display_keeps (suc (suc n)) m h = absurd (cc h)
 
 -- no request of wl_display destroys it
-pub display_lasts : (tables : List Interface) → Valid tables → (opcode : ℕ) (m : Message)
+pub display_lasts : (tables : List Interface) → Valid tables → (opcode : ℕ) (m : MessageSignature)
     → signature_at tables 0 Request opcode ≡ Some m → destroys_target m.destroys ≡ false
 display_lasts tables v opcode m h = display_keeps opcode m
     (ap (option_and_then (message_of Request opcode)) (sym v.fixed_four.display) ∙ h)
 
 -- an interface with a destroying event has one
-event_ends : (i : Interface) (opcode : ℕ) (m : Message) → slice_get i.events opcode ≡ Some m
+event_ends : (i : Interface) (opcode : ℕ) (m : MessageSignature) → slice_get i.events opcode ≡ Some m
     → destroys_target m.destroys ≡ true → has_destroying_event i ≡ true
 event_ends i opcode m h d =
-    list_any_at (λ (x : Message). destroys_target x.destroys) i.events opcode m (slice_get_within i.events opcode m h)
-    (ap (λ (x : Message). destroys_target x.destroys) (get_or_from_slice_get i.events opcode m m h) ∙ d)
+    list_any_at (λ (x : MessageSignature). destroys_target x.destroys) i.events opcode m
+    (slice_get_within i.events opcode m h)
+    (ap (λ (x : MessageSignature). destroys_target x.destroys) (get_or_from_slice_get i.events opcode m m h) ∙ d)
 
 -- an interface with an event that destroys its target has a destroying event
-pub ends_so : (tables : List Interface) (x : Born) (opcode : ℕ) (m : Message)
+pub ends_so : (tables : List Interface) (x : Born) (opcode : ℕ) (m : MessageSignature)
     → signature_at tables x.iface.0 Event opcode ≡ Some m → destroys_target m.destroys ≡ true → by_event tables x ≡ true
 ends_so tables x opcode m h d =
     let o = of_message tables x.iface.0 Event opcode m h in
     ap is_ended_by_event o.there ∙ event_ends o.interface opcode m o.message d
 
 -- no event makes an object
-pub no_event_new : (tables : List Interface) → Valid tables → (place opcode : ℕ) (m : Message)
+pub no_event_new : (tables : List Interface) → Valid tables → (place opcode : ℕ) (m : MessageSignature)
     → signature_at tables place Event opcode ≡ Some m → length (new_objects m.kinds) ≤ 0
 no_event_new tables v place opcode m h = let e = ap length (v.few_objects_made.events place opcode m h)
     in omega (arith, e)

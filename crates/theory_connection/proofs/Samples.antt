@@ -4,7 +4,7 @@ use Rattle.wl_sigs.specs.Tables.{Interface}
 use Rattle.theory_connection.specs.Meant.{Delete}
 use Rattle.theory_connection.specs.World.{put, nothing, writes_request, reads_request, writes_event}
 use Rattle.theory_connection.specs.World.{reads_event, reads_delete}
-use Rattle.theory_connection.specs.Samples.{CallbackLives, sync, done, called, DeadArgument, enter}
+use Rattle.theory_connection.specs.Samples.{CallbackLives, sync, done, sample_callback, DeadArgument, enter}
 use Rattle.theory_connection.specs.Samples.{destroy, DeadRegistry, tell, destroy_registry}
 use Rattle.theory_connection.specs.Samples.{registered}
 
@@ -15,8 +15,8 @@ callback_lives tables = record {
   asks = writes_request sync refl tt refl;
   reads = reads_request sync [] refl;
   tells = writes_event done refl tt;
-  sees = reads_event done (Delete called ∷ []) refl;
-  forgets = reads_delete called [] refl;
+  sees = reads_event done (Delete sample_callback ∷ []) refl;
+  forgets = reads_delete sample_callback [] refl;
   ends_here = refl;
   not_at_client = refl;
   not_at_server = refl;

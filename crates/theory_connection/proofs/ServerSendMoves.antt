@@ -14,7 +14,7 @@ use Rattle.wl_sigs.specs.Tables as sigs
 use Rattle.wl_sigs.specs.declared.signature.Destroys.{Destroys}
 use Rattle.wl_sigs.specs.declared.signature.Destroys.TheVariants.{Nothing, Target, Arg as ends_arg}
 use Rattle.wl_sigs.specs.Fixed.{display, registry}
-use Rattle.wl_message.specs.Outgoing.{message}
+use Rattle.wl_message.specs.Outgoing.{queued}
 use Rattle.wl_object_map.specs.declared.object.Object.{Object}
 use Rattle.wl_object_map.specs.declared.object.Entry.{Entry}
 use Rattle.wl_objects.specs.declared.error.SendError.{SendError}
@@ -28,17 +28,17 @@ use Rattle.wl_connection.proofs.Ends.{no_event}
 use Rattle.wl_sigs.specs.Rules.{is_ended_by_event}
 use Rattle.wl_server.specs.Calls.{drop_refusal, drop_at, after_drop, error_refusal}
 use Rattle.theory_connection.specs.Meant.{Known, Arg, ended_by, Message, Coming, Event as event_of}
-use Rattle.theory_connection.specs.Meant.{Delete, renamed, born_of, birth_of, spelled, made_in}
-use Rattle.theory_connection.specs.Meant.{objects, plain}
+use Rattle.theory_connection.specs.Meant.{Delete, renamed, born_of, number_of_birth, spelled_meant, made_in}
+use Rattle.theory_connection.specs.Meant.{objects, born_of_entry}
 use Rattle.theory_connection.specs.World.{World, Each, IfThere, IsThere, delete, event_written}
 use Rattle.theory_connection.specs.World.{dropped, Steps, writes_event, drops, WriteEvent}
-use Rattle.theory_connection.specs.Pair.{marked, after_post, PairState, ServerSend, ServerDrop}
+use Rattle.theory_connection.specs.Pair.{ended_mark, after_post, PairState, ServerSend, ServerDrop}
 use Rattle.theory_connection.specs.Pair.{PostError, with_server_core, Writes, accepted, refused}
 use Rattle.theory_connection.specs.Pair.{no_memory, Calls, done}
 use Rattle.theory_connection.specs.Answers.{NotEnded, birth_at, before}
 use Rattle.theory_connection.specs.Flight.{IsBelow, server_rows, tells, all_tells}
 use Rattle.theory_connection.specs.Stands.{StandsBy, by_event}
-use Rattle.theory_connection.specs.Runs.{IsGiven}
+use Rattle.theory_connection.specs.Runs.{FitsWords}
 use Rattle.theory_connection.proofs.WholeInFlight.{ThereRow, each_by, each_more}
 use Rattle.theory_connection.proofs.RowsAfterMessage.{made_map, objects_map, each_map}
 use Rattle.theory_connection.proofs.ReadAsMeant.{made_of}
@@ -55,14 +55,14 @@ use Rattle.theory_connection.proofs.Moves.{LeadsTo, Moves, Outcome, goes_on, end
 use Rattle.theory_connection.proofs.Moves.{telling, event_below, delete_below}
 
 there_live : (v : View) (x : Known) → LiveAt v x → ThereRow (server_rows v) x
-there_live v x l = ap (option_map plain) l.there ∙ ap Some l.same
+there_live v x l = ap (option_map born_of_entry) l.there ∙ ap Some l.same
 
 no_registry : (a b : Bool) → (a || b) ≡ false → b ≡ false
 no_registry true b h = absurd (cc h)
 no_registry false b h = h
 
 event_ends : (tables : List Interface) → Valid tables
-    → (x : Known) (args : List (Arg Known)) (opcode : ℕ) (m : sigs.Message)
+    → (x : Known) (args : List (Arg Known)) (opcode : ℕ) (m : sigs.MessageSignature)
     → signature_at tables x.born.iface.0 Event opcode ≡ Some m
     → IfThere (λ y. by_event tables y.born ≡ true) (ended_by m.destroys x args)
 event_ends tables v x args opcode m h = by_what m.destroys refl
@@ -74,7 +74,8 @@ event_ends tables v x args opcode m h = by_what m.destroys refl
     by_what (ends_arg k) d = absurd (no_event tables x.born.iface.0 opcode m k v h d)
 
 pub server_can : (p : PairState) (w : World) (asked : List (Message Known)) (told : List (Coming Known))
-    (s : StandsBy p w asked told) (target : Object) (opcode : ℕ) (given : List Given) (signature : sigs.Message)
+    (s : StandsBy p w asked told) (target : Object) (opcode : ℕ) (given : List Given)
+    (signature : sigs.MessageSignature)
     → (c : Checked p.server.core.outbox.limit.bytes p.server.core.tables Event p.server.core.view target opcode given
     signature) (k : CallIs p.server.core Event target opcode given signature c.entry)
     → (made_in (the_args p.server.core c.entry given signature) ≡ None)
@@ -96,7 +97,7 @@ server_can p w asked told s target opcode given signature c k n =
       short = k.short;
     }
 
-left_by : (core : Core) (target : Object) (opcode : ℕ) (given : List Given) (signature : sigs.Message)
+left_by : (core : Core) (target : Object) (opcode : ℕ) (given : List Given) (signature : sigs.MessageSignature)
     → Valid core.tables → checked core.outbox.limit.bytes core.tables Event core.view target opcode given ≡ Ok signature
     → (c : Checked core.outbox.limit.bytes core.tables Event core.view target opcode given signature)
     (k : CallIs core Event target opcode given signature c.entry)
@@ -114,16 +115,16 @@ left_by core target opcode given signature v e c k n =
       view = after server_end core.view (mk i) signature.destroys id;
       outbox = record core.outbox {
         messages = core.outbox.messages
-            ++ message (message_bytes target.id opcode (k.wire_is i)) (t i) ∷ [];
+            ++ queued (message_bytes target.id opcode (k.wire_is i)) (t i) ∷ [];
       };
     }))
     ∙ (λ i. with_following (destroys_one signature.destroys) id (record core {
       view = after_is server_end core.view None signature.destroys id m.ends ended i;
-      outbox = record core.outbox { messages = core.outbox.messages ++ spelled m ∷ [] };
+      outbox = record core.outbox { messages = core.outbox.messages ++ spelled_meant m ∷ [] };
     }))
     ∙ followed (destroys_one signature.destroys) id m.ends (record core {
       view = ended_view server_end core.view m.ends;
-      outbox = record core.outbox { messages = core.outbox.messages ++ spelled m ∷ [] };
+      outbox = record core.outbox { messages = core.outbox.messages ++ spelled_meant m ∷ [] };
     }) ended.flag ended.same
 
 -- in the world it is a step
@@ -161,7 +162,8 @@ tells_one p w asked told s m c =
 
 -- a call of the server keeps what stands
 pub server_send_keeps : (p : PairState) (w : World) (asked : List (Message Known)) (told : List (Coming Known))
-    → StandsBy p w asked told → NotEnded p w → (target : Object) (opcode : ℕ) (given : List Given) → Each IsGiven given
+    → StandsBy p w asked told → NotEnded p w → (target : Object) (opcode : ℕ) (given : List Given)
+    → Each FitsWords given
     → (reply : Result (Option Object) SendError) (p' : PairState)
     → Writes (send_answer p.server.core Event target opcode given)
     (opens_object (checked p.server.core.outbox.limit.bytes p.server.core.tables Event p.server.core.view target opcode
@@ -192,7 +194,7 @@ server_send_keeps p w asked told s z target opcode given g reply p' (accepted {n
         opcode_is = refl;
         args_are = handed_none core.view (the_new core c.entry given a.signature) w.births a.signature.kinds given n
             k.right;
-        new_is = ap (option_map birth_of) (made_map born_of args ∙ ap (option_map born_of) n)
+        new_is = ap (option_map number_of_birth) (made_map born_of args ∙ ap (option_map born_of) n)
             ∙ ap (option_map birth_at) (sym none);
         steps = tells_world p w asked told s m can;
       });
@@ -248,8 +250,8 @@ pub server_drop_keeps : (p : PairState) (w : World) (asked : List (Message Known
     → Moves p w asked told (ServerDrop object) (ServerDrop reply) p'
 server_drop_keeps p w asked told s z object reply p' (done h) =
     let d = droppable p.server.core object s.server.lives h in
-    let x : Known = record { id = object.id; born = plain d.entry } in
-    let there : ThereRow (server_rows p.server.core.view) x = ap (option_map plain) d.there in
+    let x : Known = record { id = object.id; born = born_of_entry d.entry } in
+    let there : ThereRow (server_rows p.server.core.view) x = ap (option_map born_of_entry) d.there in
     let low = (row_low p.server.core.view object.id d.entry s.server.sound d.there).1 in
     record {
       world = dropped w x.born;
@@ -281,7 +283,7 @@ post_error_keeps p w asked told s z object code text reply p' (done h) =
         tables = refl;
         limit = refl;
         pieces = refl;
-        mark = ap (λ (o : Option ℕ). marked o (length p.recording)) z.1;
+        mark = ap (λ (o : Option ℕ). ended_mark o (length p.recording)) z.1;
       });
     }
 post_error_keeps p w asked told s z object code text reply p' (refused h) =

@@ -3,18 +3,18 @@ use Rattle.std.proofs.Common.{◌≡◌, ℕ, ◌+◌, inl, inr, refl, sym, ◌�
 use Rattle.std.specs.declared.option.Option.{Option}
 use Rattle.std.specs.declared.option.Option.TheVariants.{None, Some}
 use Rattle.std.specs.Prelude.{option_map}
-use Rattle.theory_connection.specs.Meant.{Born, Known, birth_of, born_of}
+use Rattle.theory_connection.specs.Meant.{Born, Known, number_of_birth, born_of}
 use Rattle.theory_connection.specs.World.{Row, Open, Ending, put, nothing, born_into, same, ending}
-use Rattle.theory_connection.specs.World.{gone, counted, IfThere}
-use Rattle.theory_connection.specs.Flight.{Rows, at, Held, Fresh}
-use Rattle.theory_connection.specs.Stands.{Shows, birth_in}
+use Rattle.theory_connection.specs.World.{gone, births_counted, IfThere}
+use Rattle.theory_connection.specs.Flight.{Rows, at, IsHeldInRows, Fresh}
+use Rattle.theory_connection.specs.Stands.{ShowsBirths, birth_in}
 use Rattle.theory_connection.proofs.Flight.{put_tells}
 use Rattle.theory_connection.proofs.WholeInFlight.{ThereRow, client_makes, client_ends, server_makes, server_ends}
 
 module _ {X : Type 0} (birth : X → ℕ) where
-  pub shows_put : (rows : ℕ → Option X) (n : ℕ) (w : ℕ → Option X) (i : ℕ) (x y : X) → Shows birth rows n w
+  pub shows_put : (rows : ℕ → Option X) (n : ℕ) (w : ℕ → Option X) (i : ℕ) (x y : X) → ShowsBirths birth rows n w
       → rows i ≡ Some x → birth y ≡ birth x
-      → Shows birth (put rows i (Some y)) n (put w (birth y) (Some y))
+      → ShowsBirths birth (put rows i (Some y)) n (put w (birth y) (Some y))
   shows_put rows n w i x y s h e = record {
     below = λ j z k. grind (arith, put_tells, s.below j z, s.below i x);
     one = λ j k a b p q r. grind (arith, put_tells, s.one j k a b, s.one i k x b, s.one j i a x);
@@ -25,9 +25,9 @@ module _ {X : Type 0} (birth : X → ℕ) where
     ];
   }
 
-  pub shows_drop : (rows : ℕ → Option X) (n : ℕ) (w : ℕ → Option X) (i : ℕ) (x : X) → Shows birth rows n w
+  pub shows_drop : (rows : ℕ → Option X) (n : ℕ) (w : ℕ → Option X) (i : ℕ) (x : X) → ShowsBirths birth rows n w
       → rows i ≡ Some x
-      → Shows birth (put rows i None) n (put w (birth x) None)
+      → ShowsBirths birth (put rows i None) n (put w (birth x) None)
   shows_drop rows n w i x s h = record {
     below = λ j z k. grind (arith, put_tells, s.below j z);
     one = λ j k a b p q r. grind (arith, put_tells, s.one j k a b);
@@ -39,9 +39,9 @@ module _ {X : Type 0} (birth : X → ℕ) where
   }
 
   -- the set with one more birth
-  pub shows_make : (rows : ℕ → Option X) (n : ℕ) (w : ℕ → Option X) (i : ℕ) (y : X) → Shows birth rows n w
+  pub shows_make : (rows : ℕ → Option X) (n : ℕ) (w : ℕ → Option X) (i : ℕ) (y : X) → ShowsBirths birth rows n w
       → rows i ≡ None → birth y ≡ n
-      → Shows birth (put rows i (Some y)) (n + 1) (put w (birth y) (Some y))
+      → ShowsBirths birth (put rows i (Some y)) (n + 1) (put w (birth y) (Some y))
   shows_make rows n w i y s h e = record {
     below = λ j z k. grind (arith, put_tells, s.below j z);
     one = λ j k a b p q r. grind (arith, put_tells, s.one j k a b, s.below j a, s.below k b);
@@ -60,21 +60,22 @@ births_ends (Some x) v = refl
 births_ends None v = refl
 
 -- what is made is counted
-pub births_makes : (v : Rows Row) (n : Option Known) → (client_makes v n).births ≡ counted n v.births
+pub births_makes : (v : Rows Row) (n : Option Known) → (client_makes v n).births ≡ births_counted n v.births
 births_makes v None = refl
 births_makes v (Some n) = refl
 
 -- the client's set with what is made
-pub client_made : (v : Rows Row) (w : ℕ → Option Row) (n : Option Known) → Shows birth_in v.rows v.births w
+pub client_made : (v : Rows Row) (w : ℕ → Option Row) (n : Option Known) → ShowsBirths birth_in v.rows v.births w
     → IfThere (Fresh v) n
-    → Shows birth_in (client_makes v n).rows (client_makes v n).births (born_into Open (option_map (λ x. x.born) n) w)
+    → ShowsBirths birth_in (client_makes v n).rows (client_makes v n).births
+    (born_into Open (option_map (λ x. x.born) n) w)
 client_made v w None s c = s
 client_made v w (Some n) s c = shows_make birth_in v.rows v.births w n.id (Open n.born) s c.free c.birth
 
 -- the client's set with what is ending
-pub client_ended : (v : Rows Row) (w : ℕ → Option Row) (o : Option Known) → Shows birth_in v.rows v.births w
-    → IfThere (Held v) o
-    → Shows birth_in (client_ends o v).rows (client_ends o v).births (ending (option_map born_of o) w)
+pub client_ended : (v : Rows Row) (w : ℕ → Option Row) (o : Option Known) → ShowsBirths birth_in v.rows v.births w
+    → IfThere (IsHeldInRows v) o
+    → ShowsBirths birth_in (client_ends o v).rows (client_ends o v).births (ending (option_map born_of o) w)
 client_ended v w None s h = s
 client_ended v w (Some x) s h = elim h [
   | inl p ↦ shows_put birth_in v.rows v.births w x.id (Open x.born) (Ending x.born) s p refl
@@ -82,8 +83,9 @@ client_ended v w (Some x) s h = elim h [
 ]
 
 -- the client's set without what is deleted
-pub client_deleted : (v : Rows Row) (w : ℕ → Option Row) (x : Known) → Shows birth_in v.rows v.births w → Held v x
-    → Shows birth_in (at v x.id None).rows v.births (put w x.born.birth None)
+pub client_deleted : (v : Rows Row) (w : ℕ → Option Row) (x : Known) → ShowsBirths birth_in v.rows v.births w
+    → IsHeldInRows v x
+    → ShowsBirths birth_in (at v x.id None).rows v.births (put w x.born.birth None)
 client_deleted v w x s h = elim h [
   | inl p ↦ shows_drop birth_in v.rows v.births w x.id (Open x.born) s p
   | inr p ↦ shows_drop birth_in v.rows v.births w x.id (Ending x.born) s p
@@ -92,18 +94,21 @@ client_deleted v w x s h = elim h [
 -- ---- the server's
 
 -- the server's set with what is made
-pub server_made : (s : Rows Born) (w : ℕ → Option Born) (n : Option Known) → Shows birth_of s.rows s.births w
+pub server_made : (s : Rows Born) (w : ℕ → Option Born) (n : Option Known)
+    → ShowsBirths number_of_birth s.rows s.births w
     → IfThere (Fresh s) n
-    → Shows birth_of (server_makes s n).rows (server_makes s n).births (born_into same (option_map (λ x. x.born) n) w)
+    → ShowsBirths number_of_birth (server_makes s n).rows (server_makes s n).births
+    (born_into same (option_map (λ x. x.born) n) w)
 server_made s w None h g = h
-server_made s w (Some n) h g = shows_make birth_of s.rows s.births w n.id n.born h g.free g.birth
+server_made s w (Some n) h g = shows_make number_of_birth s.rows s.births w n.id n.born h g.free g.birth
 
 -- the server's set without what ends
-pub server_ended : (s : Rows Born) (w : ℕ → Option Born) (o : Option Known) → Shows birth_of s.rows s.births w
+pub server_ended : (s : Rows Born) (w : ℕ → Option Born) (o : Option Known)
+    → ShowsBirths number_of_birth s.rows s.births w
     → IfThere (ThereRow s) o
-    → Shows birth_of (server_ends o s).rows (server_ends o s).births (gone (option_map born_of o) w)
+    → ShowsBirths number_of_birth (server_ends o s).rows (server_ends o s).births (gone (option_map born_of o) w)
 server_ended s w None h g = h
-server_ended s w (Some x) h g = shows_drop birth_of s.rows s.births w x.id x.born h g
+server_ended s w (Some x) h g = shows_drop number_of_birth s.rows s.births w x.id x.born h g
 
 -- what is open stays open when another is made
 pub there_kept : (s : Rows Born) (n : Option Known) (x : Known) → IfThere (Fresh s) n → ThereRow s x
@@ -114,6 +119,6 @@ there_kept s (Some n) x g h = grind (arith, put_tells, g.free)
 -- ---- at the beginning
 
 -- no rows are the empty set
-pub no_object : {X : Type 0} (birth : X → ℕ) → Shows birth nothing 0 nothing
+pub no_object : {X : Type 0} (birth : X → ℕ) → ShowsBirths birth nothing 0 nothing
 unfolding nothing
 no_object birth = record { below = λ i x h. cc; one = λ i j x y h k e. cc; shown = λ i x h. cc; only = λ b x h. cc }

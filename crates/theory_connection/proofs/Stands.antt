@@ -14,11 +14,11 @@ use Rattle.wl_object_map.specs.declared.object.Entry.{Entry}
 use Rattle.wl_object_map.specs.View.{View, Sound, look, closed}
 use Rattle.wl_object_map.specs.Views.{look-opened_at, look-closed, look-zombied}
 use Rattle.wl_object_map.specs.Sounds.{Sound-closed}
-use Rattle.wl_objects.specs.Messages.{End, Client, Server, opens}
-use Rattle.theory_connection.specs.Meant.{Born, Known, born_of, birth_of, plain}
-use Rattle.theory_connection.specs.World.{Row, Open, Each, IfThere, born_into, same, ending, gone, put, counted}
-use Rattle.theory_connection.specs.Flight.{Rows, Fresh, Held, client_rows, server_rows, row}
-use Rattle.theory_connection.specs.Stands.{ClientStands, ServerStands, Travel, InFlight, Shows, birth_in}
+use Rattle.wl_objects.specs.Messages.{Role, Client, Server, opens}
+use Rattle.theory_connection.specs.Meant.{Born, Known, born_of, number_of_birth, born_of_entry}
+use Rattle.theory_connection.specs.World.{Row, Open, Each, IfThere, born_into, same, ending, gone, put, births_counted}
+use Rattle.theory_connection.specs.Flight.{Rows, Fresh, IsHeldInRows, client_rows, server_rows, row_of_entry}
+use Rattle.theory_connection.specs.Stands.{ClientStands, ServerStands, Travel, InFlight, ShowsBirths, birth_in}
 use Rattle.theory_connection.proofs.WholeInFlight.{ThereRow, client_makes, server_makes, each_more, each_by}
 use Rattle.theory_connection.proofs.Sets.{births_ends, births_makes, client_made, client_ended}
 use Rattle.theory_connection.proofs.Sets.{client_deleted, server_made, server_ended, there_kept}
@@ -43,7 +43,7 @@ display_opens {X = X} f v (Some x) e g h = look-opened_at v x.id x.born.iface x.
     other i g = ne_eqb 1 i (λ k. (let q : ◌≡◌ {A = Option X} (Some (f e)) None = ap (option_map f)
         (sym h ∙ ap (look v) k) ∙ g in cc q))
 
-display_ends : (end : End) (v : View) (o : Option Known) (e : Entry) → IfThere Mortal o → look v 1 ≡ Some e
+display_ends : (end : Role) (v : View) (o : Option Known) (e : Entry) → IfThere Mortal o → look v 1 ≡ Some e
     → look (ended_view end v o) 1 ≡ Some e
 display_ends end v None e y h = h
 display_ends Client v (Some x) e y h = let b : nat_eq 1 x.id ≡ false = ne_eqb 1 x.id (λ k. y (sym k))
@@ -53,7 +53,7 @@ display_ends Server v (Some x) e y h = let b : nat_eq 1 x.id ≡ false = ne_eqb 
 
 -- ---- the client's objects
 
-counted_map : (f : Known → Born) (n : Option Known) (b : ℕ) → counted (option_map f n) b ≡ counted n b
+counted_map : (f : Known → Born) (n : Option Known) (b : ℕ) → births_counted (option_map f n) b ≡ births_counted n b
 counted_map f None b = refl
 counted_map f (Some x) b = refl
 
@@ -62,32 +62,33 @@ module _ {view : View} {failed : Bool} {births : ℕ} {held : ℕ → Option Row
   -- A message makes this at the client, and ends that: the client's objects stand again.
   pub client_message : (new ends : Option Known) → Sound (opens view (option_map made_of new))
       → IfThere (Fresh (client_rows view)) new → IfThere (λ x. 1 ≤ x.born.version) new
-      → IfThere (Held (client_rows view)) ends → IfThere (Held (client_makes (client_rows view) new)) ends
+      → IfThere (IsHeldInRows (client_rows view)) ends
+      → IfThere (IsHeldInRows (client_makes (client_rows view) new)) ends
       → IfThere Mortal ends → (now : Bool) → now ≡ false
       → ClientStands (ended_view Client (opens view (option_map made_of new)) ends) now
-      (counted (option_map born_of new) births) (ending (option_map born_of ends)
+      (births_counted (option_map born_of new) births) (ending (option_map born_of ends)
       (born_into Open (option_map born_of new) held))
   client_message new ends sound fresh version there still mortal now lives =
       let made = client_makes (client_rows view) new in
       let rows = client_after view new ends fresh (if_by (held_row view) ends there) in
       record {
-        sets = subst (λ (x : Rows Row). Shows birth_in x.rows x.births
+        sets = subst (λ (x : Rows Row). ShowsBirths birth_in x.rows x.births
             (ending (option_map born_of ends) (born_into Open (option_map born_of new) held))) (sym rows)
             (client_ended made _ ends (client_made (client_rows view) held new s.sets fresh) still);
-        births = counted_map born_of new births ∙ ap (counted new) s.births
+        births = counted_map born_of new births ∙ ap (births_counted new) s.births
             ∙ sym (ap (λ (x : Rows Row). x.births) rows ∙ births_ends ends made ∙ births_makes (client_rows view) new);
         sound = client_sound view new ends sound mortal;
         display = display_ends Client (opens view (option_map made_of new)) ends _ mortal
-            (display_opens row view new _ (if_by (λ x f. f.free) new fresh) s.display);
+            (display_opens row_of_entry view new _ (if_by (λ x f. f.free) new fresh) s.display);
         versions = client_aged view new ends version s.versions;
         lives = lives;
       }
 
   -- A delete of what the client holds: the client's objects stand again.
-  pub client_delete : (x : Known) → Held (client_rows view) x → x.id ≢ 1 → (now : Bool) → now ≡ false
+  pub client_delete : (x : Known) → IsHeldInRows (client_rows view) x → x.id ≢ 1 → (now : Bool) → now ≡ false
       → ClientStands (closed view x.id) now births (put held x.born.birth None)
   client_delete x there mortal now lives = record {
-    sets = subst (λ (y : Rows Row). Shows birth_in y.rows y.births (put held x.born.birth None))
+    sets = subst (λ (y : Rows Row). ShowsBirths birth_in y.rows y.births (put held x.born.birth None))
         (sym (client_closed view x.id)) (client_deleted (client_rows view) held x s.sets there);
     births = s.births;
     sound = Sound-closed view x.id s.sound (ap is_some (held_row view x there).there) mortal;
@@ -105,7 +106,7 @@ module _ {view : View} {failed : Bool} {there : ℕ → Option Born} (s : Server
       → ServerStands (ended_view Server (opens view (option_map made_of new)) ends) failed
       (gone (option_map born_of ends) (born_into same (option_map born_of new) there))
   server_message new ends fresh version has mortal = record {
-    sets = subst (λ (r : Rows Born). Shows birth_of r.rows r.births
+    sets = subst (λ (r : Rows Born). ShowsBirths number_of_birth r.rows r.births
         (gone (option_map born_of ends) (born_into same (option_map born_of new) there)))
         (sym (server_after view new ends fresh))
         (server_ended (server_makes (server_rows view) new) _ ends
@@ -113,7 +114,7 @@ module _ {view : View} {failed : Bool} {there : ℕ → Option Born} (s : Server
         (if_by (λ x h. there_kept (server_rows view) new x fresh h) ends has));
     sound = server_sound view new ends s.sound fresh has mortal;
     display = display_ends Server (opens view (option_map made_of new)) ends _ mortal
-        (display_opens plain view new _ (if_by (λ x f. f.free) new fresh) s.display);
+        (display_opens born_of_entry view new _ (if_by (λ x f. f.free) new fresh) s.display);
     versions = server_aged view new ends version s.versions;
     live = server_live view new ends s.live;
     lives = s.lives;
@@ -122,7 +123,7 @@ module _ {view : View} {failed : Bool} {there : ℕ → Option Born} (s : Server
 -- ---- what is in flight, either way
 
 -- what a read of the first message finds, and what is in flight behind it
-pub record First (from : Outgoing) (to : Arrived) (first : boxes.Message) (rest : List boxes.Message)
+pub record First (from : Outgoing) (to : Arrived) (first : boxes.QueuedMessage) (rest : List boxes.QueuedMessage)
     (n : ℕ) : Type 0 where
   pub size : n ≡ length first.bytes
   pub bytes : take n to.bytes ≡ first.bytes
@@ -132,24 +133,25 @@ pub record First (from : Outgoing) (to : Arrived) (first : boxes.Message) (rest 
   pub stay : InFlight from (without_first to n (length first.tokens)) rest
 
 -- The first message in flight is read.
-pub first_read : (from : Outgoing) (to : Arrived) (first : boxes.Message) (rest : List boxes.Message) (n : ℕ)
+pub first_read : (from : Outgoing) (to : Arrived) (first : boxes.QueuedMessage) (rest : List boxes.QueuedMessage)
+    (n : ℕ)
     → InFlight from to (first ∷ rest) → in_front to ≡ Whole n → First from to first rest n
 first_read from to first rest n f e =
     let q = pops from to (first ∷ rest) n f e in
     let own : q.first ≡ first = cc q.is in
     let others : q.rest ≡ rest = cc q.is in
-    let tokens : q.first.tokens ≡ first.tokens = ap (λ (x : boxes.Message). x.tokens) own in
+    let tokens : q.first.tokens ≡ first.tokens = ap (λ (x : boxes.QueuedMessage). x.tokens) own in
     record {
-      size = q.size ∙ ap (λ (x : boxes.Message). length x.bytes) own;
-      bytes = q.bytes ∙ ap (λ (x : boxes.Message). x.bytes) own;
+      size = q.size ∙ ap (λ (x : boxes.QueuedMessage). length x.bytes) own;
+      bytes = q.bytes ∙ ap (λ (x : boxes.QueuedMessage). x.bytes) own;
       enough = let k = ap length tokens in omega (arith, q.enough, k);
       more = q.more;
       tokens = q.tokens ∙ ap (λ (l : List ℕ). l ++ q.more) tokens;
-      stay = subst (λ (l : List boxes.Message). InFlight from (without_first to n (length first.tokens)) l) others
+      stay = subst (λ (l : List boxes.QueuedMessage). InFlight from (without_first to n (length first.tokens)) l) others
           (subst (λ (l : List ℕ). InFlight from (without_first to n (length l)) q.rest) tokens q.stay);
     }
 
-module _ {M W : Type 0} {as_born : M → W} {as_sent : M → boxes.Message} {Fitly : M → Type 0} where
+module _ {M W : Type 0} {as_born : M → W} {as_sent : M → boxes.QueuedMessage} {Fitly : M → Type 0} where
   -- More messages are written: they travel behind those in flight.
   pub travel_more : (from after : Outgoing) (to : Arrived) (births now : List W) (messages more : List M)
       → Travel as_born as_sent Fitly from to births messages → now ≡ births ++ map as_born more
@@ -158,7 +160,7 @@ module _ {M W : Type 0} {as_born : M → W} {as_sent : M → boxes.Message} {Fit
       → Travel as_born as_sent Fitly after to now (messages ++ more)
   travel_more from after to births now messages more t n l e w f = record {
     in_world = n ∙ ap (λ (bs : List W). bs ++ map as_born more) t.in_world ∙ sym (map-append as_born messages more);
-    in_boxes = subst (λ (ms : List boxes.Message). InFlight after to ms) (sym (map-append as_sent messages more))
+    in_boxes = subst (λ (ms : List boxes.QueuedMessage). InFlight after to ms) (sym (map-append as_sent messages more))
         (pushed from after to (map as_sent messages) (map as_sent more) t.in_boxes l e w);
     fit = each_more Fitly messages more t.fit f;
   }

@@ -6,10 +6,10 @@ use Rattle.std.specs.declared.option.Option.{Option}
 use Rattle.std.specs.declared.option.Option.TheVariants.{None, Some}
 use Rattle.theory_connection.specs.Meant.{Born, Known, Message, Coming}
 use Rattle.theory_connection.specs.World.{Row, Open, Ending, put, Each, IfThere, delete as following}
-use Rattle.theory_connection.specs.Flight.{Rows, at, made, Ask, Use, Tell, Name, Delete, makes}
-use Rattle.theory_connection.specs.Flight.{destroys, ends, asks, tells, all_asks, all_tells}
-use Rattle.theory_connection.specs.Flight.{at_client, Held, Fresh, Reads, done, name, end, delete}
-use Rattle.theory_connection.specs.Flight.{Tied, drained, use_, make, destroy, Meets}
+use Rattle.theory_connection.specs.Flight.{Rows, at, with_made, Ask, Use, Tell, Name, Delete, make_ask}
+use Rattle.theory_connection.specs.Flight.{destroy_ask, ends, asks, tells, all_asks, all_tells}
+use Rattle.theory_connection.specs.Flight.{at_client, IsHeldInRows, Fresh, ReadsInFlight, done, name, end, delete}
+use Rattle.theory_connection.specs.Flight.{Tied, drained, use_, make, destroy, MeetInMiddle}
 use Rattle.theory_connection.proofs.EndedObject.{Mortal}
 use Rattle.theory_connection.proofs.Flight.{put_tells, put_over, live_after, free_after}
 use Rattle.theory_connection.proofs.Flight.{counts_after, make_before, destroy_before, reads_more}
@@ -27,7 +27,7 @@ ThereRow s x = s.rows x.id ≡ Some x.born
 -- the client's rows with what is made
 abbrev pub client_makes : Rows Row → Option Known → Rows Row
 client_makes v None = v
-client_makes v (Some x) = made v x.id (Open x.born)
+client_makes v (Some x) = with_made v x.id (Open x.born)
 
 -- the client's rows with what is ending
 abbrev pub client_ends : Option Known → Rows Row → Rows Row
@@ -37,7 +37,7 @@ client_ends (Some x) v = at v x.id (Some (Ending x.born))
 -- the server's rows with what is made
 abbrev pub server_makes : Rows Born → Option Known → Rows Born
 server_makes s None = s
-server_makes s (Some x) = made s x.id x.born
+server_makes s (Some x) = with_made s x.id x.born
 
 -- the server's rows without what ends
 abbrev pub server_ends : Option Known → Rows Born → Rows Born
@@ -61,7 +61,7 @@ put_tells_same m x = grind (arith, put_tells)
 -- what the client reads next, and what is in flight after it
 pub record Past (test : Born → Bool) (qs : List Ask) (s : Rows Born) (m : Rows Row) (es : List Tell) : Type 0 where
   pub middle : Rows Row
-  pub reads : Reads test es m middle
+  pub reads : ReadsInFlight test es m middle
   pub tied : Tied test qs s middle
 
 -- the first request, where its turn has come
@@ -76,16 +76,16 @@ pub record AsksAt (test : Born → Bool) (qs : List Ask) (s : Rows Born) (m : Ro
 -- the first event, where its turn has come
 pub record TellsAt (test : Born → Bool) (es : List Tell) (v w : Rows Row) (x : Known) (xs : List Known)
     (o : Option Known) : Type 0 where
-  pub target : Held v x
-  pub args : Each (Held v) xs
-  pub rest : Reads test es (client_ends o v) w
+  pub target : IsHeldInRows v x
+  pub args : Each (IsHeldInRows v) xs
+  pub rest : ReadsInFlight test es (client_ends o v) w
   pub ends_it : IfThere (λ x. test x.born ≡ true) o
 
 -- the first delete, where its turn has come
 pub record DeletesAt (test : Born → Bool) (es : List Tell) (v w : Rows Row) (x : Known) : Type 0 where
   pub mortal : x.id ≢ 1
-  pub held : Held v x
-  pub rest : Reads test es (at v x.id None) w
+  pub held : IsHeldInRows v x
+  pub rest : ReadsInFlight test es (at v x.id None) w
 
 module _ {test : Born → Bool} where
   -- ---- the client writes a request
@@ -99,18 +99,19 @@ module _ {test : Born → Bool} where
       (uses_more xs (use_more x t h.0 f.0) h.1 f.1)
 
   -- what is open and ends by no event is open after what comes is read
-  pub all_live_after : {es : List Tell} {v m : Rows Row} (xs : List Known) → Reads test es v m → Each (OpenRow v) xs
+  pub all_live_after : {es : List Tell} {v m : Rows Row} (xs : List Known) → ReadsInFlight test es v m
+      → Each (OpenRow v) xs
       → Each (λ x. test x.born ≡ false) xs → Each (OpenRow m) xs
   all_live_after [] r h f = tt
   all_live_after (x ∷ xs) r h f = (live_after x.id x.born r h.0 f.0, all_live_after xs r h.1 f.1)
 
   meets_makes : {es : List Tell} {qs : List Ask} {v : Rows Row} {s : Rows Born} (n : Option Known)
-      → Meets test es qs v s → IfThere (Fresh v) n → Meets test es (qs ++ makes n) (client_makes v n) s
-  meets_makes {es} {qs} {v} {s} None g c = subst (λ (l : List Ask). Meets test es l v s) (sym (append-nil qs)) g
+      → MeetInMiddle test es qs v s → IfThere (Fresh v) n → MeetInMiddle test es (qs ++ make_ask n) (client_makes v n) s
+  meets_makes {es} {qs} {v} {s} None g c = subst (λ (l : List Ask). MeetInMiddle test es l v s) (sym (append-nil qs)) g
   meets_makes (Some n) g c =
       let k = counts_after g.reads in
       record {
-        middle = made g.middle n.id (Open n.born);
+        middle = with_made g.middle n.id (Open n.born);
         reads = make_before n.id (Open n.born) g.reads c.free;
         tied = make_more n g.tied (record {
           free = free_after n.id g.reads c.free;
@@ -123,9 +124,10 @@ module _ {test : Born → Bool} where
       }
 
   meets_ends : {es : List Tell} {qs : List Ask} {v : Rows Row} {s : Rows Born} (o : Option Known)
-      → Meets test es qs v s → IfThere (OpenRow v) o → IfThere (λ x. test x.born ≡ false) o → IfThere Mortal o
-      → Meets test es (qs ++ destroys o) (client_ends o v) s
-  meets_ends {es} {qs} {v} {s} None g h f y = subst (λ (l : List Ask). Meets test es l v s) (sym (append-nil qs)) g
+      → MeetInMiddle test es qs v s → IfThere (OpenRow v) o → IfThere (λ x. test x.born ≡ false) o → IfThere Mortal o
+      → MeetInMiddle test es (qs ++ destroy_ask o) (client_ends o v) s
+  meets_ends {es} {qs} {v} {s} None g h f y = subst (λ (l : List Ask). MeetInMiddle test es l v s)
+      (sym (append-nil qs)) g
   meets_ends (Some x) g h f y = record {
     middle = at g.middle x.id (Some (Ending x.born));
     reads = destroy_before x.id x.born g.reads h f;
@@ -135,18 +137,19 @@ module _ {test : Born → Bool} where
   -- the ends still meet after a request is written
   pub ask_meets : {es : List Tell} {qs : List Ask} {v : Rows Row} {s : Rows Born} (x : Known) (xs : List Known)
       (n : Option Known) (o : Option Known)
-      → Meets test es qs v s → OpenRow v x → test x.born ≡ false → Each (OpenRow v) xs
+      → MeetInMiddle test es qs v s → OpenRow v x → test x.born ≡ false → Each (OpenRow v) xs
       → Each (λ o. test o.born ≡ false) xs → IfThere (Fresh v) n
       → IfThere (OpenRow v) o → IfThere (λ x. test x.born ≡ false) o → IfThere Mortal o
-      → Meets test es (qs ++ (Use x ∷ (map Use xs ++ (makes n ++ destroys o)))) (client_ends o (client_makes v n)) s
+      → MeetInMiddle test es (qs ++ (Use x ∷ (map Use xs ++ (make_ask n ++ destroy_ask o))))
+      (client_ends o (client_makes v n)) s
   ask_meets {es} {qs} {v} {s} x xs n o g h f hs fs c oh of y =
       let a1 = use_more x g.tied (live_after _ _ g.reads h f) f in
       let b1 = uses_more xs a1 (all_live_after xs g.reads hs fs) fs in
-      let d1 : Meets test es ((qs ++ Use x ∷ []) ++ map Use xs) v s =
+      let d1 : MeetInMiddle test es ((qs ++ Use x ∷ []) ++ map Use xs) v s =
       record { middle = g.middle; reads = g.reads; tied = b1 } in
       let e1 = meets_makes n d1 c in
       let f1 = meets_ends o e1 (live_made_if v n o c oh) of y in
-      subst (λ (l : List Ask). Meets test es l (client_ends o (client_makes v n)) s) (simp append_assoc) f1
+      subst (λ (l : List Ask). MeetInMiddle test es l (client_ends o (client_makes v n)) s) (simp append_assoc) f1
 
   -- ---- the server reads a request
 
@@ -155,7 +158,7 @@ module _ {test : Born → Bool} where
   tied_uses [] t = (tt, t)
   tied_uses (x ∷ xs) (use_ a b t) = let r = tied_uses xs t in ((a, r.0), r.1)
 
-  past_ends : {qs : List Ask} {s : Rows Born} {m : Rows Row} (o : Option Known) → Tied test (destroys o ++ qs) s m
+  past_ends : {qs : List Ask} {s : Rows Born} {m : Rows Row} (o : Option Known) → Tied test (destroy_ask o ++ qs) s m
       → Past test qs (server_ends o s) m (all_tells (following o)) × IfThere Mortal o
   past_ends {m = m} None t = (record { middle = m; reads = done; tied = t }, tt)
   past_ends {m = m} (Some x) (destroy z a b c t) =
@@ -163,7 +166,7 @@ module _ {test : Born → Bool} where
 
   asks_new : {qs : List Ask} {s : Rows Born} {m : Rows Row} (x : Known) (xs : List Known) (n : Option Known)
       (b : Option Known)
-      → ThereRow s x → Each (ThereRow s) xs → Tied test (makes n ++ (destroys b ++ qs)) s m
+      → ThereRow s x → Each (ThereRow s) xs → Tied test (make_ask n ++ (destroy_ask b ++ qs)) s m
       → AsksAt test qs s m x xs n b
   asks_new {s = s} x xs None b h k c = let p = past_ends b c
       in record { target = h; args = k; new = tt; past = p.0; mortal = p.1 }
@@ -173,7 +176,7 @@ module _ {test : Born → Bool} where
   -- a request in front is about what is open at the server
   pub asks_at : {qs : List Ask} {s : Rows Born} {m : Rows Row} (x : Known) (xs : List Known) (n : Option Known)
       (b : Option Known)
-      → Tied test ((Use x ∷ (map Use xs ++ (makes n ++ destroys b))) ++ qs) s m → AsksAt test qs s m x xs n b
+      → Tied test ((Use x ∷ (map Use xs ++ (make_ask n ++ destroy_ask b))) ++ qs) s m → AsksAt test qs s m x xs n b
   asks_at {qs} {s} {m} x xs n b (use_ h f t) =
       let u = tied_uses xs (subst (λ (l : List Ask). Tied test l s m) (simp append_assoc) t) in
       asks_new x xs n b h u.0 u.1
@@ -181,25 +184,28 @@ module _ {test : Born → Bool} where
   -- ---- the server writes an event
 
   all_held : {qs : List Ask} {s : Rows Born} {m : Rows Row} (xs : List Known) → Tied test qs s m → Each (ThereRow s) xs
-      → Each (Held m) xs
+      → Each (IsHeldInRows m) xs
   all_held [] t h = tt
   all_held (x ∷ xs) t h = (held_at_client x t h.0, all_held xs t h.1)
 
-  reads_names : {es : List Tell} {v w : Rows Row} (xs : List Known) → Each (Held v) xs → Reads test es v w
-      → Reads test (map Name xs ++ es) v w
+  reads_names : {es : List Tell} {v w : Rows Row} (xs : List Known) → Each (IsHeldInRows v) xs
+      → ReadsInFlight test es v w
+      → ReadsInFlight test (map Name xs ++ es) v w
   reads_names [] h r = r
   reads_names (x ∷ xs) h r = name h.0 (reads_names xs h.1 r)
 
   reads_last : {f g : ℕ → Option Row} {u b : ℕ} → f ≡ g
-      → Reads test [] (record { rows = f; used = u; births = b }) (record { rows = g; used = u; births = b })
-  reads_last {f} {g} {u} {b} e = subst (λ (h : ℕ → Option Row). Reads test []
+      → ReadsInFlight test [] (record { rows = f; used = u; births = b }) (record { rows = g; used = u; births = b })
+  reads_last {f} {g} {u} {b} e = subst (λ (h : ℕ → Option Row). ReadsInFlight test []
       (record { rows = f; used = u; births = b }) (record { rows = h; used = u; births = b })) e done
 
   -- the last actions of an event, and the delete that follows
   ends_meets : {es : List Tell} {qs : List Ask} {v : Rows Row} {s : Rows Born} (o : Option Known)
       → IfThere (λ x. test x.born ≡ true) o → IfThere Mortal o → IfThere (ThereRow s) o
-      → Meets test es qs v s → Meets test (es ++ (ends o ++ all_tells (following o))) qs v (server_ends o s)
-  ends_meets {es} {qs} {v} {s} None f y h g = subst (λ (l : List Tell). Meets test l qs v s) (sym (append-nil es)) g
+      → MeetInMiddle test es qs v s → MeetInMiddle test (es ++ (ends o ++ all_tells (following o))) qs v
+      (server_ends o s)
+  ends_meets {es} {qs} {v} {s} None f y h g = subst (λ (l : List Tell). MeetInMiddle test l qs v s)
+      (sym (append-nil es)) g
   ends_meets {es} {qs} {v} {s} (Some x) f y h g =
       let k = held_at_client x g.tied h in
       record {
@@ -212,20 +218,20 @@ module _ {test : Born → Bool} where
   -- the ends still meet after an event is written
   pub tell_meets : {es : List Tell} {qs : List Ask} {v : Rows Row} {s : Rows Born} (x : Known) (xs : List Known)
       (o : Option Known)
-      → Meets test es qs v s → ThereRow s x → Each (ThereRow s) xs → IfThere (λ x. test x.born ≡ true) o
+      → MeetInMiddle test es qs v s → ThereRow s x → Each (ThereRow s) xs → IfThere (λ x. test x.born ≡ true) o
       → IfThere Mortal o → IfThere (ThereRow s) o
-      → Meets test (es ++ ((Name x ∷ (map Name xs ++ ends o)) ++ all_tells (following o))) qs v (server_ends o s)
+      → MeetInMiddle test (es ++ ((Name x ∷ (map Name xs ++ ends o)) ++ all_tells (following o))) qs v (server_ends o s)
   tell_meets {es} {qs} {v} {s} x xs o g h hs f y oh =
       let r = reads_more g.reads (reads_names (x ∷ xs) (all_held (x ∷ xs) g.tied (h, hs)) done) in
-      let e : Meets test (es ++ (map Name (x ∷ xs) ++ [])) qs v s =
+      let e : MeetInMiddle test (es ++ (map Name (x ∷ xs) ++ [])) qs v s =
       record { middle = g.middle; reads = r; tied = g.tied } in
       let d = ends_meets o f y oh e in
-      subst (λ (l : List Tell). Meets test l qs v (server_ends o s)) (simp (append_assoc, append-nil)) d
+      subst (λ (l : List Tell). MeetInMiddle test l qs v (server_ends o s)) (simp (append_assoc, append-nil)) d
 
   -- the ends still meet after an object is dropped
   pub drop_meets : {es : List Tell} {qs : List Ask} {v : Rows Row} {s : Rows Born} (x : Known)
-      → Meets test es qs v s → x.id ≢ 1 → ThereRow s x → test x.born ≡ true
-      → Meets test (es ++ Delete x ∷ []) qs v (at s x.id None)
+      → MeetInMiddle test es qs v s → x.id ≢ 1 → ThereRow s x → test x.born ≡ true
+      → MeetInMiddle test (es ++ Delete x ∷ []) qs v (at s x.id None)
   drop_meets x g y h f = record {
     middle = at g.middle x.id None;
     reads = reads_more g.reads (delete y (held_at_client x g.tied h) (inl f) done);
@@ -235,25 +241,25 @@ module _ {test : Born → Bool} where
   -- ---- the client reads what comes
 
   -- what is named is held, and the rest is read on
-  pub reads_all : {es : List Tell} {v w : Rows Row} (xs : List Known) → Reads test (map Name xs ++ es) v w
-      → Each (Held v) xs × Reads test es v w
+  pub reads_all : {es : List Tell} {v w : Rows Row} (xs : List Known) → ReadsInFlight test (map Name xs ++ es) v w
+      → Each (IsHeldInRows v) xs × ReadsInFlight test es v w
   reads_all [] r = (tt, r)
   reads_all (x ∷ xs) (name h r) = let k = reads_all xs r in ((h, k.0), k.1)
 
-  rest_ends : {es : List Tell} {v w : Rows Row} (o : Option Known) → Reads test (ends o ++ es) v w
-      → Reads test es (client_ends o v) w × IfThere (λ x. test x.born ≡ true) o
+  rest_ends : {es : List Tell} {v w : Rows Row} (o : Option Known) → ReadsInFlight test (ends o ++ es) v w
+      → ReadsInFlight test es (client_ends o v) w × IfThere (λ x. test x.born ≡ true) o
   rest_ends None r = (r, tt)
   rest_ends (Some x) (end a b r) = (r, a)
 
   -- an event in front is about what the client holds
   pub tells_at : {es : List Tell} {v w : Rows Row} (x : Known) (xs : List Known) (b : Option Known)
-      → Reads test ((Name x ∷ (map Name xs ++ ends b)) ++ es) v w → TellsAt test es v w x xs b
+      → ReadsInFlight test ((Name x ∷ (map Name xs ++ ends b)) ++ es) v w → TellsAt test es v w x xs b
   tells_at {es} {v} {w} x xs b (name h r) =
-      let k = reads_all xs (subst (λ (l : List Tell). Reads test l v w) (simp append_assoc) r) in
+      let k = reads_all xs (subst (λ (l : List Tell). ReadsInFlight test l v w) (simp append_assoc) r) in
       let e = rest_ends b k.1 in record { target = h; args = k.0; rest = e.0; ends_it = e.1 }
 
   -- a delete in front is of what the client holds
-  pub deletes_at : {es : List Tell} {v w : Rows Row} (x : Known) → Reads test (Delete x ∷ es) v w
+  pub deletes_at : {es : List Tell} {v w : Rows Row} (x : Known) → ReadsInFlight test (Delete x ∷ es) v w
       → DeletesAt test es v w x
   deletes_at x (delete z h c r) = record { mortal = z; held = h; rest = r }
 
@@ -295,6 +301,7 @@ each_by P Q f [] h = tt
 each_by P Q f (x ∷ xs) h = (f x h.0, each_by P Q f xs h.1)
 
 -- drained ends have the same objects
-pub same_rows : {test : Born → Bool} {v m : Rows Row} {s : Rows Born} → Reads test [] v m → Tied test [] s m → (id : ℕ)
+pub same_rows : {test : Born → Bool} {v m : Rows Row} {s : Rows Born} → ReadsInFlight test [] v m → Tied test [] s m
+    → (id : ℕ)
     → v.rows id ≡ at_client (s.rows id)
 same_rows done (drained rows u b) id = rows id

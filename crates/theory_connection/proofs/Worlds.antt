@@ -10,18 +10,18 @@ use Rattle.wl_object_map.specs.declared.object.Object.{Object}
 use Rattle.wl_server.specs.State as server
 use Rattle.wl_server.specs.Registries.{IsAmong}
 use Rattle.theory_connection.specs.Meant.{Born, Known, Message, Coming, Event, Delete as delete_of}
-use Rattle.theory_connection.specs.Meant.{renamed, recoming, born_of, birth_of, id_of, objects}
-use Rattle.theory_connection.specs.Meant.{made_in, plain as plain_of}
+use Rattle.theory_connection.specs.Meant.{renamed, recoming, born_of, number_of_birth, known_id, objects}
+use Rattle.theory_connection.specs.Meant.{made_in, born_of_entry as plain_of}
 use Rattle.theory_connection.specs.World.{World, Row, Open, Ending, IsThere, Each, marks_birth}
 use Rattle.theory_connection.specs.Flight.{Rows, most, Ask, Use, Make, Destroy, Tell, Name, Delete}
-use Rattle.theory_connection.specs.Flight.{Held, Reads, done, name, end, delete, Tied, drained}
+use Rattle.theory_connection.specs.Flight.{IsHeldInRows, ReadsInFlight, done, name, end, delete, Tied, drained}
 use Rattle.theory_connection.specs.Flight.{use_, make, destroy, client_rows, server_rows, asks}
-use Rattle.theory_connection.specs.Flight.{tells, all_asks, all_tells, makes, destroys, ends}
+use Rattle.theory_connection.specs.Flight.{tells, all_asks, all_tells, make_ask, destroy_ask, ends}
 use Rattle.theory_connection.specs.Pair.{PairState}
 use Rattle.theory_connection.specs.Answers.{marks_of}
 use Rattle.theory_connection.specs.Stands.{Stands, stands, ended, StandsBy, by_event}
-use Rattle.theory_connection.specs.Plain.{In, IsHeld, DeleteComes, MakeComes, DestroyComes}
-use Rattle.theory_connection.specs.Plain.{IsSomewhere, Names, StandsIn, IsUnnamed, listed, news}
+use Rattle.theory_connection.specs.Plain.{In, IsHeldAtClient, DeleteComes, MakeComes, DestroyComes}
+use Rattle.theory_connection.specs.Plain.{IsSomewhere, NamesBirth, StandsIn, IsUnnamed, option_list, news}
 use Rattle.theory_connection.specs.Plain.{tell_id}
 use Rattle.theory_connection.proofs.Flight.{counts_after}
 use Rattle.theory_connection.proofs.WholeInFlight.{all_tells_more}
@@ -157,60 +157,61 @@ uses a (x ∷ xs) i = elim i [ inl p ↦ subst IsUse (sym p) tt | inr p ↦ uses
 make_asked : (k : Known) (m : Message Known) → In (Make k) (asks m) → made_in m.args ≡ Some k
 make_asked k m i = elim i [
   | inl p ↦ absurd (cc p)
-  | inr p ↦ elim (in_either (Make k) (map Use (objects m.args)) (makes (made_in m.args) ++ destroys m.ends) p) [
+  | inr p ↦ elim (in_either (Make k) (map Use (objects m.args)) (make_ask (made_in m.args) ++ destroy_ask m.ends) p) [
     | inl q ↦ absurd (uses (Make k) (objects m.args) q)
-    | inr q ↦ elim (in_either (Make k) (makes (made_in m.args)) (destroys m.ends) q)
+    | inr q ↦ elim (in_either (Make k) (make_ask (made_in m.args)) (destroy_ask m.ends) q)
         [ inl r ↦ of_made (made_in m.args) r | inr r ↦ absurd (of_destroyed m.ends r) ]
   ]
 ]
   where
-    of_made : (o : Option Known) → In (Make k) (makes o) → o ≡ Some k
+    of_made : (o : Option Known) → In (Make k) (make_ask o) → o ≡ Some k
     of_made None j = absurd j
     of_made (Some x) j = elim j [ inl p ↦ (let e : k ≡ x = cc p in ap Some (sym e)) | inr p ↦ absurd p ]
 
-    of_destroyed : (o : Option Known) → In (Make k) (destroys o) → ⊥
+    of_destroyed : (o : Option Known) → In (Make k) (destroy_ask o) → ⊥
     of_destroyed None j = j
     of_destroyed (Some x) j = elim j [ inl p ↦ cc p | inr p ↦ p ]
 
 destroy_asked : (k : Known) (m : Message Known) → In (Destroy k) (asks m) → m.ends ≡ Some k
 destroy_asked k m i = elim i [
   | inl p ↦ absurd (cc p)
-  | inr p ↦ elim (in_either (Destroy k) (map Use (objects m.args)) (makes (made_in m.args) ++ destroys m.ends) p) [
+  | inr p ↦ elim (in_either (Destroy k) (map Use (objects m.args)) (make_ask (made_in m.args) ++ destroy_ask m.ends) p) [
     | inl q ↦ absurd (uses (Destroy k) (objects m.args) q)
-    | inr q ↦ elim (in_either (Destroy k) (makes (made_in m.args)) (destroys m.ends) q)
+    | inr q ↦ elim (in_either (Destroy k) (make_ask (made_in m.args)) (destroy_ask m.ends) q)
         [ inl r ↦ absurd (of_made (made_in m.args) r) | inr r ↦ of_destroyed m.ends r ]
   ]
 ]
   where
-    of_made : (o : Option Known) → In (Destroy k) (makes o) → ⊥
+    of_made : (o : Option Known) → In (Destroy k) (make_ask o) → ⊥
     of_made None j = j
     of_made (Some x) j = elim j [ inl p ↦ cc p | inr p ↦ p ]
 
-    of_destroyed : (o : Option Known) → In (Destroy k) (destroys o) → o ≡ Some k
+    of_destroyed : (o : Option Known) → In (Destroy k) (destroy_ask o) → o ≡ Some k
     of_destroyed None j = absurd j
     of_destroyed (Some x) j = elim j [ inl p ↦ (let e : k ≡ x = cc p in ap Some (sym e)) | inr p ↦ absurd p ]
 
 asked_make : (k : Known) (m : Message Known) → made_in m.args ≡ Some k → In (Make k) (asks m)
 asked_make k m e =
-    inr (in_right (Make k) (map Use (objects m.args)) (makes (made_in m.args) ++ destroys m.ends)
-    (in_left (Make k) (makes (made_in m.args)) (destroys m.ends)
-    (subst (λ (o : Option Known). In (Make k) (makes o)) (sym e) (inl refl))))
+    inr (in_right (Make k) (map Use (objects m.args)) (make_ask (made_in m.args) ++ destroy_ask m.ends)
+    (in_left (Make k) (make_ask (made_in m.args)) (destroy_ask m.ends)
+    (subst (λ (o : Option Known). In (Make k) (make_ask o)) (sym e) (inl refl))))
 
 asked_destroy : (k : Known) (m : Message Known) → m.ends ≡ Some k → In (Destroy k) (asks m)
 asked_destroy k m e =
-    inr (in_right (Destroy k) (map Use (objects m.args)) (makes (made_in m.args) ++ destroys m.ends)
-    (in_right (Destroy k) (makes (made_in m.args)) (destroys m.ends)
-    (subst (λ (o : Option Known). In (Destroy k) (destroys o)) (sym e) (inl refl))))
+    inr (in_right (Destroy k) (map Use (objects m.args)) (make_ask (made_in m.args) ++ destroy_ask m.ends)
+    (in_right (Destroy k) (make_ask (made_in m.args)) (destroy_ask m.ends)
+    (subst (λ (o : Option Known). In (Destroy k) (destroy_ask o)) (sym e) (inl refl))))
 
 -- ---- more of what is read
 
 module _ {test : Born → Bool} where
   -- what an event names the client holds
-  named_held : {es : List Tell} (x : Known) {v w : Rows Row} → Reads test es v w → In (Name x) es → Held v x
+  named_held : {es : List Tell} (x : Known) {v w : Rows Row} → ReadsInFlight test es v w → In (Name x) es
+      → IsHeldInRows v x
   named_held x done i = absurd i
   named_held x (name {v = v} a r) i = elim i [
     | inl p ↦
-        (let e : _ ≡ x = cc p in subst (Held v) e a)
+        (let e : _ ≡ x = cc p in subst (IsHeldInRows v) e a)
     | inr p ↦ named_held x r p
   ]
   named_held x (end {v = v} {x = y} b a r) i = elim i
@@ -288,7 +289,7 @@ module _ {test : Born → Bool} where
 
 -- ---- what is made on the way
 
-one_listed : {O : Type 0} (x : O) (o : Option O) → In x (listed o) → o ≡ Some x
+one_listed : {O : Type 0} (x : O) (o : Option O) → In x (option_list o) → o ≡ Some x
 one_listed x None i = absurd i
 one_listed x (Some y) i = elim i [ inl a ↦ ap Some (sym a) | inr a ↦ absurd a ]
 
@@ -300,7 +301,7 @@ record Maker {O : Type 0} (x : O) (ms : List (Message O)) : Type 0 where
 
 maker : {O : Type 0} (x : O) (ms : List (Message O)) → In x (news ms) → Maker x ms
 maker x [] i = absurd i
-maker x (m ∷ ms) i = elim (in_either x (listed (made_in m.args)) (news ms) i) [
+maker x (m ∷ ms) i = elim (in_either x (option_list (made_in m.args)) (news ms) i) [
   | inl a ↦ record { message = m; there = inl refl; makes_it = one_listed x (made_in m.args) a }
   | inr a ↦ (let k = maker x ms a in record { message = k.message; there = inr k.there; makes_it = k.makes_it })
 ]
@@ -309,9 +310,9 @@ made_news : {O : Type 0} (x : O) (m : Message O) (ms : List (Message O)) → In 
     → In x (news ms)
 made_news x m [] i e = absurd i
 made_news x m (n ∷ ms) i e = elim i [
-  | inl a ↦ in_left x (listed (made_in n.args)) (news ms)
-      (subst (λ k. In x (listed k)) (sym e ∙ ap (λ k. made_in k.args) a) (inl refl))
-  | inr a ↦ in_right x (listed (made_in n.args)) (news ms) (made_news x m ms a e)
+  | inl a ↦ in_left x (option_list (made_in n.args)) (news ms)
+      (subst (λ k. In x (option_list k)) (sym e ∙ ap (λ k. made_in k.args) a) (inl refl))
+  | inr a ↦ in_right x (option_list (made_in n.args)) (news ms) (made_news x m ms a e)
 ]
 
 news_made : (x : Known) (asked : List (Message Known)) → In x (news asked) → In (Make x) (all_asks asked)
@@ -389,13 +390,13 @@ module _ (p : PairState) (w : World) (asked : List (Message Known)) (told : List
 
   -- ---- rows
 
-  held_known : (x : Born) → IsHeld w x → (k : Known) × (Held v k × (k.born ≡ x))
+  held_known : (x : Born) → IsHeldAtClient w x → (k : Known) × (IsHeldInRows v k × (k.born ≡ x))
   held_known x h = elim h [
     | inl p ↦ (let r = (s.client.sets.only x.birth (Open x) p).1 in (record { id = r.0; born = x }, (inl r.1, refl)))
     | inr p ↦ (let r = (s.client.sets.only x.birth (Ending x) p).1 in (record { id = r.0; born = x }, (inr r.1, refl)))
   ]
 
-  held_world : (k : Known) → Held v k → IsHeld w k.born
+  held_world : (k : Known) → IsHeldInRows v k → IsHeldAtClient w k.born
   held_world k h = elim h [
     | inl p ↦ inl (s.client.sets.shown k.id (Open k.born) p)
     | inr p ↦ inr
@@ -406,9 +407,9 @@ module _ (p : PairState) (w : World) (asked : List (Message Known)) (told : List
   there_known x h = let r = (s.server.sets.only x.birth x h).1 in (record { id = r.0; born = x }, (r.1, refl))
 
   -- an object that the client holds has one id
-  one_id : (j k : Known) → Held v j → Held v k → j.born ≡ k.born → j ≡ k
+  one_id : (j k : Known) → IsHeldInRows v j → IsHeldInRows v k → j.born ≡ k.born → j ≡ k
   one_id j k h i e =
-      let b : j.born.birth ≡ k.born.birth = ap birth_of e in
+      let b : j.born.birth ≡ k.born.birth = ap number_of_birth e in
       let q : j.id ≡ k.id = elim h [
         | inl a ↦ elim i [
           | inl c ↦ s.client.sets.one j.id k.id (Open j.born)
@@ -426,7 +427,7 @@ module _ (p : PairState) (w : World) (asked : List (Message Known)) (told : List
   -- ---- the laws
 
   -- what the client holds is somewhere on the way or at the server
-  pub where_held : (x : Born) → IsHeld w x → IsSomewhere w x
+  pub where_held : (x : Born) → IsHeldAtClient w x → IsSomewhere w x
   where_held x h =
       let k = held_known x h in
       elim (plain.held_where k.0 s.meet k.1.0) [
@@ -437,17 +438,17 @@ module _ (p : PairState) (w : World) (asked : List (Message Known)) (told : List
         ]
       ]
 
-  deleted_is_held : (k : Known) → In (Delete k) (all_tells told) → Held v k
+  deleted_is_held : (k : Known) → In (Delete k) (all_tells told) → IsHeldInRows v k
   deleted_is_held k a = plain.held_back k s.meet (inl a)
 
   -- and what is there the client holds
-  pub back_held : (x : Born) → IsSomewhere w x → IsHeld w x
+  pub back_held : (x : Born) → IsSomewhere w x → IsHeldAtClient w x
   back_held x h = elim h [
-    | inl a ↦ (let k = delete_known x a in subst (IsHeld w) k.1.1 (held_world k.0 (deleted_is_held k.0 k.1.0)))
+    | inl a ↦ (let k = delete_known x a in subst (IsHeldAtClient w) k.1.1 (held_world k.0 (deleted_is_held k.0 k.1.0)))
     | inr a ↦ elim a [
-      | inl b ↦ (let k = there_known x b in subst (IsHeld w) k.1.1
+      | inl b ↦ (let k = there_known x b in subst (IsHeldAtClient w) k.1.1
           (held_world k.0 (plain.held_back k.0 s.meet (inr (inl k.1.0)))))
-      | inr b ↦ (let k = make_known x b in subst (IsHeld w) k.1.1
+      | inr b ↦ (let k = make_known x b in subst (IsHeldAtClient w) k.1.1
           (held_world k.0 (plain.held_back k.0 s.meet (inr (inr k.1.0)))))
     ]
   ]
@@ -476,7 +477,7 @@ module _ (p : PairState) (w : World) (asked : List (Message Known)) (told : List
       let j = make_known x h in
       let k = there_known x i in
       plain.not_made_counted j.0 s.meet j.1.0 (let l = s.server.sets.below k.0.id k.0.born k.1.0
-      in let b = ap birth_of (j.1.1 ∙ sym k.1.1) in omega (arith, l, b))
+      in let b = ap number_of_birth (j.1.1 ∙ sym k.1.1) in omega (arith, l, b))
 
   -- what is made on the way was not counted by the server
   pub made_not_counted : (x : Born) → MakeComes w x → x.birth < p.server.core.view.births → ⊥
@@ -499,7 +500,7 @@ module _ (p : PairState) (w : World) (asked : List (Message Known)) (told : List
       let e = one_id j.0 k.0 (deleted_is_held j.0 j.1.0) (plain.destroyed_held k.0 s.meet k.1.0) (j.1.1 ∙ sym k.1.1) in
       plain.not_destroyed_deleted k.0 s.meet k.1.0 (subst (λ (n : Known). In (Delete n) (all_tells told)) e j.1.0)
 
-  open_row : (x : Born) → w.client x.birth ≡ Some (Open x) → (k : Known) → Held v k → k.born ≡ x
+  open_row : (x : Born) → w.client x.birth ≡ Some (Open x) → (k : Known) → IsHeldInRows v k → k.born ≡ x
       → v.rows k.id ≡ Some (Open k.born)
   open_row x h k i e =
       let r = (s.client.sets.only x.birth (Open x) h).1 in
@@ -527,15 +528,15 @@ module _ (p : PairState) (w : World) (asked : List (Message Known)) (told : List
       let all : all_tells told ≡ all_tells front ++ (Delete k ∷ all_tells rest) =
       ap all_tells e ∙ all_tells_more front (delete_of k ∷ rest) in
       plain.deleted_last (all_tells front) (all_tells rest) k
-      (subst (λ (l : List Tell). Reads (by_event p.server.core.tables) l v s.meet.middle) all s.meet.reads)
+      (subst (λ (l : List Tell). ReadsInFlight (by_event p.server.core.tables) l v s.meet.middle) all s.meet.reads)
 
   -- no event names an object behind its delete
   pub last_deleted : (before after : List (Coming Born)) (x : Born) → w.events ≡ before ++ delete_of x ∷ after
-      → (c : Coming Born) → In c after → Names x c → ⊥
+      → (c : Coming Born) → In c after → NamesBirth x c → ⊥
   last_deleted before after x h c i n =
       let t = parted (recoming born_of) told before (delete_of x) after (sym s.events.in_world ∙ h) in
       let f = from_map (recoming born_of) c t.rest (subst (In c) (sym t.rest_is) i) in
-      at_delete t.front t.it t.rest t.whole t.it_is f.it f.there (subst (Names x) (sym f.is) n)
+      at_delete t.front t.it t.rest t.whole t.it_is f.it f.there (subst (NamesBirth x) (sym f.is) n)
     where
       at_name : (front rest : List (Coming Known)) (k : Known) → told ≡ front ++ delete_of k ∷ rest → k.born ≡ x
           → (t : Tell) (j : Known) → (t ≡ Name j) ⊎ (t ≡ Delete j) → In t (all_tells rest) → j.born ≡ x → ⊥
@@ -547,7 +548,7 @@ module _ (p : PairState) (w : World) (asked : List (Message Known)) (told : List
           let first : In (Delete k) (all_tells told) =
           subst (In (Delete k)) (sym all)
           (in_right (Delete k) (all_tells front) (Delete k ∷ all_tells rest) (inl refl)) in
-          let held : Held v j = elim is [
+          let held : IsHeldInRows v j = elim is [
             | inl a ↦ named_held j s.meet.reads (subst (λ (u : Tell). In u (all_tells told)) a later)
             | inr a ↦ deleted_is_held j (subst (λ (u : Tell). In u (all_tells told)) a later)
           ] in
@@ -557,7 +558,7 @@ module _ (p : PairState) (w : World) (asked : List (Message Known)) (told : List
           (id ∙ ap (λ (n : Known). n.id) one)
 
       at_coming : (front rest : List (Coming Known)) (k : Known) → told ≡ front ++ delete_of k ∷ rest → k.born ≡ x
-          → (d : Coming Known) → In d rest → Names x (recoming born_of d) → ⊥
+          → (d : Coming Known) → In d rest → NamesBirth x (recoming born_of d) → ⊥
       at_coming front rest k e b (Event m) i n = elim n [
         | inl a ↦ at_name front rest k e b (Name m.target) m.target (inl refl)
             (tells_in (Name m.target) (Event m) rest i (inl refl)) a
@@ -572,7 +573,7 @@ module _ (p : PairState) (w : World) (asked : List (Message Known)) (told : List
 
       at_delete : (front : List (Coming Known)) (it : Coming Known) (rest : List (Coming Known))
           → told ≡ front ++ it ∷ rest → recoming born_of it ≡ delete_of x → (d : Coming Known) → In d rest
-          → Names x (recoming born_of d) → ⊥
+          → NamesBirth x (recoming born_of d) → ⊥
       at_delete front (Event m) rest e b d i n = cc b
       at_delete front (delete_of k) rest e b d i n = at_coming front rest k e (cc b) d i n
 
@@ -584,17 +585,17 @@ module _ (p : PairState) (w : World) (asked : List (Message Known)) (told : List
 
   -- the ids used at the client are those used at the server and those made on the way
   pub ids_counted : (id : ℕ) → 0 < id → (id ≤ p.client.core.view.used) ↔
-      ((id ≤ p.server.core.view.used) ⊎ In id (map id_of (news asked)))
+      ((id ≤ p.server.core.view.used) ⊎ In id (map known_id (news asked)))
   ids_counted id some =
       let c = (counts_after s.meet.reads).0 in (
         λ h. elim (used_tied id s.meet.tied (omega (arith, h, c))) [
           | inl a ↦ inl a
-          | inr a ↦ inr (subst (λ (n : ℕ). In n (map id_of (news asked))) a.1.1
-              (in_map id_of a.0 (news asked) (make_news a.0 a.1.0)))
+          | inr a ↦ inr (subst (λ (n : ℕ). In n (map known_id (news asked))) a.1.1
+              (in_map known_id a.0 (news asked) (make_news a.0 a.1.0)))
         ],
         λ h. elim h [
           | inl a ↦ (let k = tied_used s.meet.tied in omega (arith, a, k, c))
-          | inr a ↦ (let f = from_map id_of id (news asked) a
+          | inr a ↦ (let f = from_map known_id id (news asked) a
               in let k = (made_used f.it s.meet.tied (news_made f.it asked f.there)).1 in let e = f.is
               in omega (arith, e, k, c))
         ],
@@ -602,19 +603,19 @@ module _ (p : PairState) (w : World) (asked : List (Message Known)) (told : List
 
   -- the births counted at the client are those counted at the server and those made on the way
   pub births_counted : (birth : ℕ) → (birth < p.client.core.view.births) ↔
-      ((birth < p.server.core.view.births) ⊎ In birth (map birth_of (news w.requests)))
+      ((birth < p.server.core.view.births) ⊎ In birth (map number_of_birth (news w.requests)))
   births_counted birth =
       let c = (counts_after s.meet.reads).1 in (
         λ h. elim (births_tied birth s.meet.tied (omega (arith, h, c))) [
           | inl a ↦ inl a
-          | inr a ↦ inr (subst (λ (n : ℕ). In n (map birth_of (news w.requests))) a.1.1
-              (in_map birth_of a.0.born (news w.requests) (comes_news a.0.born (make_comes a.0 a.1.0))))
+          | inr a ↦ inr (subst (λ (n : ℕ). In n (map number_of_birth (news w.requests))) a.1.1
+              (in_map number_of_birth a.0.born (news w.requests) (comes_news a.0.born (make_comes a.0 a.1.0))))
         ],
         λ h. elim h [
           | inl a ↦ (let k = tied_births s.meet.tied in omega (arith, a, k, c))
-          | inr a ↦ (let f = from_map birth_of birth (news w.requests) a
+          | inr a ↦ (let f = from_map number_of_birth birth (news w.requests) a
               in let k = make_known f.it (news_comes f.it f.there) in
-              let less = made_births k.0 s.meet.tied k.1.0 in let e = f.is in let b = ap birth_of k.1.1
+              let less = made_births k.0 s.meet.tied k.1.0 in let e = f.is in let b = ap number_of_birth k.1.1
               in omega (arith, e, less, b, c))
         ],
       )
@@ -637,7 +638,7 @@ module _ (p : PairState) (w : World) (asked : List (Message Known)) (told : List
       let same : plain_of r.entry ≡ x = r.same ∙ k.1.1 in
       let at = s.registries.open_registries.all k.0.id r.entry r.there (ap (λ (b : Born). b.iface) same ∙ i) in
       subst (λ (l : List _). In x.birth (map marks_birth l)) (sym s.registries.told)
-      (subst (λ (n : ℕ). In n (map marks_birth (map marks_of p.server.registries))) (ap birth_of same)
+      (subst (λ (n : ℕ). In n (map marks_birth (map marks_of p.server.registries))) (ap number_of_birth same)
       (among_marks (record { id = k.0.id; birth = r.entry.birth }) p.server.registries at))
 
 -- ---- a pair that stands in a world

@@ -30,10 +30,10 @@ use Rattle.wl_objects.specs.Messages.{is_hidden, is_error, is_delete_id, same_if
 use Rattle.wl_objects.proofs.Calls.{len-any}
 use Rattle.wl_connection.specs.Core.{Core}
 use Rattle.wl_connection.specs.Sending.{opening_answer, answer_of, send_answer, made_at}
-use Rattle.theory_connection.specs.Meant.{Known, Message, Arg, wire, made_in, objects, plain, ended_by}
+use Rattle.theory_connection.specs.Meant.{Known, Message, Arg, wire, made_in, objects, born_of_entry, ended_by}
 use Rattle.theory_connection.specs.World.{Each, IfThere}
-use Rattle.theory_connection.specs.Stands.{Fits}
-use Rattle.theory_connection.specs.Runs.{IsGiven}
+use Rattle.theory_connection.specs.Stands.{FitsSignature}
+use Rattle.theory_connection.specs.Runs.{FitsWords}
 use Rattle.theory_connection.proofs.ReadAsMeant.{made_of, made_read}
 use Rattle.theory_connection.proofs.Calls.{Checked, AllRight, all_right, meant, new_known, wire_all}
 use Rattle.theory_connection.proofs.Calls.{LiveAt, all_live, matches, fit_all, row_low, new_all}
@@ -41,25 +41,25 @@ use Rattle.theory_connection.proofs.Calls.{one_new, made_new, version_of}
 use Rattle.theory_connection.proofs.Rules.{opcode_low, few_new, unnamed_none}
 
 -- what a call makes
-abbrev pub the_made : Core → Entry → List Given → sigs.Message → Option NewObject
+abbrev pub the_made : Core → Entry → List Given → sigs.MessageSignature → Option NewObject
 the_made core entry given signature = made core.tables entry.version signature.kinds
     (map (wired (next_id core.view)) given)
 
 -- the new object of a call
-abbrev pub the_new : Core → Entry → List Given → sigs.Message → Known
+abbrev pub the_new : Core → Entry → List Given → sigs.MessageSignature → Known
 the_new core entry given signature = new_known core.view (the_made core entry given signature)
 
 -- the arguments of a call, as they are meant
-abbrev pub the_args : Core → Entry → List Given → sigs.Message → List (Arg Known)
+abbrev pub the_args : Core → Entry → List Given → sigs.MessageSignature → List (Arg Known)
 the_args core entry given signature = map (meant core.view (the_new core entry given signature)) given
 
 -- the message of a call
-abbrev pub the_call : Core → Entry → Object → ℕ → List Given → sigs.Message → Message Known
+abbrev pub the_call : Core → Entry → Object → ℕ → List Given → sigs.MessageSignature → Message Known
 the_call core entry target opcode given signature = record {
-  target = record { id = target.id; born = plain entry };
+  target = record { id = target.id; born = born_of_entry entry };
   opcode = opcode;
   args = the_args core entry given signature;
-  ends = ended_by signature.destroys (record { id = target.id; born = plain entry })
+  ends = ended_by signature.destroys (record { id = target.id; born = born_of_entry entry })
       (the_args core entry given signature);
 }
 
@@ -88,9 +88,9 @@ no_delete Event iface opcode h = and_left (same_iface iface display) (nat_eq opc
 
 -- what is so of the message of a call
 pub record CallIs (core : Core) (side : Side) (target : Object) (opcode : ℕ) (given : List Given)
-    (signature : sigs.Message) (entry : Entry) : Type 0 where
+    (signature : sigs.MessageSignature) (entry : Entry) : Type 0 where
   pub right : AllRight core.view signature.kinds given
-  pub fits_it : Fits core.tables side (the_call core entry target opcode given signature)
+  pub fits_it : FitsSignature core.tables side (the_call core entry target opcode given signature)
   pub made_is : the_made core entry given signature ≡ option_map made_of (made_in (the_args core entry given signature))
   pub new : (made_in (the_args core entry given signature) ≡ None)
       ⊎ (made_in (the_args core entry given signature) ≡ Some (the_new core entry given signature))
@@ -104,8 +104,9 @@ if_made P None x h f = tt
 if_made P (Some y) x h f = elim h [ inl p ↦ absurd (cc p) | inr p ↦ subst (IfThere P) (sym p) (f (λ e. cc e)) ]
 
 -- the message of a call that nothing stands against is so
-pub call_is : (core : Core) (side : Side) (target : Object) (opcode : ℕ) (given : List Given) (signature : sigs.Message)
-    → Valid core.tables → Sound core.view → Each IsGiven given
+pub call_is : (core : Core) (side : Side) (target : Object) (opcode : ℕ) (given : List Given)
+    (signature : sigs.MessageSignature)
+    → Valid core.tables → Sound core.view → Each FitsWords given
     → (c : Checked core.outbox.limit.bytes core.tables side core.view target opcode given signature)
     → CallIs core side target opcode given signature c.entry
 call_is core side target opcode given signature v s g c =
@@ -179,7 +180,7 @@ ids_wired (ends_arg k) id n given = at_wired n given k
 
 -- what a call destroys, by its id, is what its message means
 pub call_ends : (core : Core) (side : Side) (target : Object) (opcode : ℕ) (given : List Given)
-    (signature : sigs.Message) → Valid core.tables
+    (signature : sigs.MessageSignature) → Valid core.tables
     → (c : Checked core.outbox.limit.bytes core.tables side core.view target opcode given signature)
     (k : CallIs core side target opcode given signature c.entry)
     → EndsAs signature.destroys (ended_id signature.destroys target.id (map (wired 0) given))
@@ -191,14 +192,15 @@ call_ends core side target opcode given signature v c k =
     let ids = ids_wired signature.destroys target.id (next_id core.view) given
     ∙ ap (ended_id signature.destroys target.id) k.wire_is in
     subst (λ (n : ℕ). EndsAs signature.destroys n m.ends) (sym ids)
-    (subst (λ (x : sigs.Message). EndsAs x.destroys (ended_id x.destroys target.id (map wire m.args)) m.ends) same
+    (subst (λ (x : sigs.MessageSignature). EndsAs x.destroys (ended_id x.destroys target.id (map wire m.args)) m.ends)
+    same
     (ends_as core.tables side m k.fits_it v))
 
 -- ---- what an accepted call answered
 
 pub record Accepted (core : Core) (side : Side) (target : Object) (opcode : ℕ) (given : List Given)
     (new : Option Object) : Type 0 where
-  pub signature : sigs.Message
+  pub signature : sigs.MessageSignature
   pub checks : checked core.outbox.limit.bytes core.tables side core.view target opcode given ≡ Ok signature
   pub opens_it : opening_answer core (made_at core target signature given) ≡ Ok new
 
@@ -208,7 +210,8 @@ fitting true x new why h = h
 fitting false x new why h = absurd (cc h)
 
 accepted_by : (core : Core) (side : Side) (target : Object) (opcode : ℕ) (given : List Given) (new : Option Object)
-    (r : Result sigs.Message SendError) → checked core.outbox.limit.bytes core.tables side core.view target opcode given
+    (r : Result sigs.MessageSignature SendError) → checked core.outbox.limit.bytes core.tables side core.view target
+    opcode given
     ≡ r
     → answer_of core side target given r ≡ Ok new → Accepted core side target opcode given new
 accepted_by core side target opcode given new (Err why) e h = absurd (cc h)

@@ -24,21 +24,22 @@ use Rattle.wl_client.specs.Reports as events
 use Rattle.wl_server.specs.State as server
 use Rattle.wl_server.specs.Requests as requests
 use Rattle.wl_server.specs.Calls.{without_at}
-use Rattle.wl_server.specs.Announcing.{Owing, Due, owed_to, marked_in, opcode_of, values_of}
+use Rattle.wl_server.specs.Announcing.{Owing, Due, owed_to, marked_in, owed_opcode, values_of}
 use Rattle.wl_recording.specs.Piece.{Piece}
-use Rattle.theory_connection.specs.Meant.{Born, Message, Coming, Event, Delete, Arg, rearg, birth_of}
-use Rattle.theory_connection.specs.Meant.{made_in, ended_by, tokens}
-use Rattle.theory_connection.specs.World.{World, Row, Open, Ending, Marks, Action, WriteRequest, ReadRequest}
-use Rattle.theory_connection.specs.World.{WriteEvent, Drop, ReadEvent, Steps, IsOpen, IsEnding, IsThere}
+use Rattle.theory_connection.specs.Meant.{Born, Message, Coming, Event, Delete, Arg, rearg}
+use Rattle.theory_connection.specs.Meant.{number_of_birth, made_in, ended_by, tokens}
+use Rattle.theory_connection.specs.World.{World, Row, Open, Ending, Marks, Action, WriteRequest}
+use Rattle.theory_connection.specs.World.{ReadRequest, WriteEvent, Drop, ReadEvent, Steps, IsOpen}
+use Rattle.theory_connection.specs.World.{IsEnding, IsThere}
 use Rattle.theory_connection.specs.Pair.{PairState, Move, Reply, ClientSend, ClientBind, ServerSend}
-use Rattle.theory_connection.specs.Pair.{ServerDrop, PostError, AddGlobal, Withdraw, Announce, CarryToServer}
-use Rattle.theory_connection.specs.Pair.{CarryToClient, ClientNext, ServerNext, Does}
+use Rattle.theory_connection.specs.Pair.{ServerDrop, PostError, AddGlobal, Withdraw, Announce}
+use Rattle.theory_connection.specs.Pair.{CarryToServer, CarryToClient, ClientNext, ServerNext, Does}
 
 -- ---- writes
 
 -- what a message destroys, by its signature
 pub record IsMessageOf (tables : List Interface) (side : Side) (m : Message Born) : Type 0 where
-  pub signature : sigs.Message
+  pub signature : sigs.MessageSignature
   pub there : signature_at tables m.target.iface.0 side m.opcode ≡ Some signature
   pub ends : m.ends ≡ ended_by signature.destroys m.target m.args
 
@@ -61,13 +62,13 @@ pub record WritesThat (tables : List Interface) (side : Side) (w : World) (targe
   pub is : IsMessageOf tables side message
   pub target_is : message.target.birth ≡ target
   pub opcode_is : message.opcode ≡ opcode
-  pub args_are : map (rearg birth_of) message.args ≡ args
-  pub new_is : option_map birth_of (made_in message.args) ≡ option_map birth_at new
+  pub args_are : map (rearg number_of_birth) message.args ≡ args
+  pub new_is : option_map number_of_birth (made_in message.args) ≡ option_map birth_at new
   pub steps : Steps tables w (writing side message) w'
 
 -- the arguments of a bind
-abbrev pub bound : ℕ → List ℕ → ℕ → ℕ → List (Arg ℕ)
-bound name iface version births = Uint name ∷ NewNamed iface version births ∷ []
+abbrev pub bind_args : ℕ → List ℕ → ℕ → ℕ → List (Arg ℕ)
+bind_args name iface version births = Uint name ∷ NewNamed iface version births ∷ []
 
 -- only an acceptance does anything
 abbrev pub IfAccepted : {X E : Type 0} → Result X E → World → World → (X → Type 0) → Type 0
@@ -113,7 +114,7 @@ told_args tables owing =
 pub data AnnouncesThose (tables : List Interface) : World → List Owed → World → Type 0 where
   none : {w : World} → AnnouncesThose tables w [] w
   more : {w between w' : World} {o : Owed} {others : List Owed}
-      → WritesThat tables event_side w o.birth (opcode_of o.owing)
+      → WritesThat tables event_side w o.birth (owed_opcode o.owing)
       (told_args tables o.owing) None between
       → AnnouncesThose tables (record between { registries = mark_in o between.registries })
       others w'
@@ -129,10 +130,10 @@ pub data Seen : Type 0 where
   Dead : ℕ → Seen
   Unheld : Seen
 
-abbrev pub seen : Named → Seen
-seen named_as.Null = Null
-seen (named_as.Live object) = Live object.birth
-seen (named_as.Dead object) = Dead object.birth
+abbrev pub seen_named : Named → Seen
+seen_named named_as.Null = Null
+seen_named (named_as.Live object) = Live object.birth
+seen_named (named_as.Dead object) = Dead object.birth
 
 abbrev pub by_row : ℕ → Option Row → Seen
 by_row birth None = Unheld
@@ -148,8 +149,8 @@ seen_by rows (Some x) = by_row x.birth (rows x.birth)
 -- rows, and each token.
 abbrev pub ReportsArgs : (ℕ → Option Row) → List (Arg Born) → List Reported → Type 0
 ReportsArgs rows args reported =
-    map (reshaped seen birth_at (λ t. t)) reported
-    ≡ map (reshaped (seen_by rows) birth_of (λ t. t)) args
+    map (reshaped seen_named birth_at (λ t. t)) reported
+    ≡ map (reshaped (seen_by rows) number_of_birth (λ t. t)) args
 
 abbrev pub rows_of_server : World → ℕ → Option Row
 rows_of_server w birth = option_map Open (w.server birth)
@@ -264,7 +265,7 @@ Means p w (ClientSend target opcode given) (ClientSend reply) w' =
     (map (handed w.births) given) new w')
 Means p w (ClientBind target name iface version) (ClientBind reply) w' =
     IfAccepted reply w w' (λ new. WritesThat p.client.core.tables request_side w target.birth 0
-    (bound name iface version w.births) new w')
+    (bind_args name iface version w.births) new w')
 Means p w (ServerSend target opcode given) (ServerSend reply) w' =
     IfAccepted reply w w' (λ new. WritesThat p.server.core.tables event_side w target.birth opcode
     (map (handed w.births) given) new w')

@@ -5,8 +5,8 @@ use Rattle.wl_object_map.specs.View.{View, look, max_ids, max_births}
 use Rattle.wl_object_map.specs.declared.object.Entry.{Entry}
 use Rattle.wl_object_map.specs.declared.object.State.{State}
 use Rattle.wl_object_map.specs.declared.object.State.TheVariants as states
-use Rattle.theory_connection.specs.Meant.{Born, Known, Message, Coming, Event, Delete as delete_of, objects}
-use Rattle.theory_connection.specs.Meant.{made_in, plain}
+use Rattle.theory_connection.specs.Meant.{Born, Known, Message, Coming, Event, Delete as delete_of}
+use Rattle.theory_connection.specs.Meant.{objects, made_in, born_of_entry}
 use Rattle.theory_connection.specs.World.{Row, Open, Ending, put}
 
 -- what an end's objects are: by id, with the number of ids used and of births counted
@@ -23,27 +23,31 @@ abbrev pub most : ℕ → ℕ → ℕ
 most a b = cond (ltb a b) b a
 
 -- with a new object at an id
-abbrev pub made : {X : Type 0} → Rows X → ℕ → X → Rows X
-made s id x = record { rows = put s.rows id (Some x); used = most s.used id; births = s.births + 1 }
+abbrev pub with_made : {X : Type 0} → Rows X → ℕ → X → Rows X
+with_made s id x = record {
+  rows = put s.rows id (Some x);
+  used = most s.used id;
+  births = s.births + 1;
+}
 
 -- an object in a table, by its state: open or ending
 abbrev pub as_row : State → Born → Row
 as_row states.Live x = Open x
 as_row states.Zombie x = Ending x
 
-abbrev pub row : Entry → Row
-row e = as_row e.state (plain e)
+abbrev pub row_of_entry : Entry → Row
+row_of_entry e = as_row e.state (born_of_entry e)
 
 abbrev pub client_rows : View → Rows Row
 client_rows view = record {
-  rows = λ id. option_map row (look view id);
+  rows = λ id. option_map row_of_entry (look view id);
   used = view.used;
   births = view.births;
 }
 
 abbrev pub server_rows : View → Rows Born
 server_rows view = record {
-  rows = λ id. option_map plain (look view id);
+  rows = λ id. option_map born_of_entry (look view id);
   used = view.used;
   births = view.births;
 }
@@ -59,24 +63,25 @@ pub data Ask : Type 0 where
 -- what an event does
 pub data Tell : Type 0 where
   Name : Known → Tell
-  End : Known → Tell
+  Destroyed : Known → Tell
   Delete : Known → Tell
 
-abbrev pub makes : Option Known → List Ask
-makes None = []
-makes (Some x) = Make x ∷ []
+abbrev pub make_ask : Option Known → List Ask
+make_ask None = []
+make_ask (Some x) = Make x ∷ []
 
-abbrev pub destroys : Option Known → List Ask
-destroys None = []
-destroys (Some x) = Destroy x ∷ []
+abbrev pub destroy_ask : Option Known → List Ask
+destroy_ask None = []
+destroy_ask (Some x) = Destroy x ∷ []
 
 abbrev pub ends : Option Known → List Tell
 ends None = []
-ends (Some x) = End x ∷ []
+ends (Some x) = Destroyed x ∷ []
 
 -- a request uses its target and its objects, then makes, then destroys
 abbrev pub asks : Message Known → List Ask
-asks m = Use m.target ∷ (map Use (objects m.args) ++ (makes (made_in m.args) ++ destroys m.ends))
+asks m = Use m.target ∷ (map Use (objects m.args)
+    ++ (make_ask (made_in m.args) ++ destroy_ask m.ends))
 
 -- an event names its target and its objects, then ends the object that it destroys
 abbrev pub tells : Coming Known → List Tell
@@ -94,7 +99,7 @@ all_tells (c ∷ cs) = tells c ++ all_tells cs
 -- the object that an event's action is about
 abbrev pub about : Tell → Known
 about (Name x) = x
-about (End x) = x
+about (Destroyed x) = x
 about (Delete x) = x
 
 -- its birth is one of the first of this number
@@ -104,8 +109,8 @@ IsBelow births t = (about t).born.birth < births
 -- ---- what they lead to
 
 -- an object is held at the client, open or ending
-abbrev pub Held : Rows Row → Known → Type 0
-Held v x = (v.rows x.id ≡ Some (Open x.born)) ⊎ (v.rows x.id ≡ Some (Ending x.born))
+abbrev pub IsHeldInRows : Rows Row → Known → Type 0
+IsHeldInRows v x = (v.rows x.id ≡ Some (Open x.born)) ⊎ (v.rows x.id ≡ Some (Ending x.born))
 
 -- a new object fits an end's table: its id is free or the next one, and it is the next birth
 pub record Fresh {X : Type 0} (v : Rows X) (x : Known) : Type 0 where
@@ -122,19 +127,20 @@ at_client o = option_map Open o
 
 -- The client at v can read all of these events: each object is there as it was meant, when its turn
 -- comes. Then it is at w. The test says which objects have an interface with a destroying event.
-pub data Reads (by_event : Born → Bool) : List Tell → Rows Row → Rows Row → Type 0 where
-  done : {v : Rows Row} → Reads by_event [] v v
+pub data ReadsInFlight (by_event : Born → Bool) : List Tell → Rows Row → Rows Row → Type 0 where
+  done : {v : Rows Row} → ReadsInFlight by_event [] v v
   -- what an event names is held at the client, open or ending
-  name : {es : List Tell} {v w : Rows Row} {x : Known} → Held v x
-      → Reads by_event es v w → Reads by_event (Name x ∷ es) v w
+  name : {es : List Tell} {v w : Rows Row} {x : Known} → IsHeldInRows v x
+      → ReadsInFlight by_event es v w → ReadsInFlight by_event (Name x ∷ es) v w
   -- an object that an event destroys has an interface with a destroying event, and becomes ending
-  end : {es : List Tell} {v w : Rows Row} {x : Known} → by_event x.born ≡ true → Held v x
-      → Reads by_event es (at v x.id (Some (Ending x.born))) w → Reads by_event (End x ∷ es) v w
+  end : {es : List Tell} {v w : Rows Row} {x : Known} → by_event x.born ≡ true → IsHeldInRows v x
+      → ReadsInFlight by_event es (at v x.id (Some (Ending x.born))) w
+      → ReadsInFlight by_event (Destroyed x ∷ es) v w
   -- a deleted object is held, is not id 1, and is ending where its interface has no destroying
   -- event; nothing names it afterwards
-  delete : {es : List Tell} {v w : Rows Row} {x : Known} → x.id ≢ 1 → Held v x
+  delete : {es : List Tell} {v w : Rows Row} {x : Known} → x.id ≢ 1 → IsHeldInRows v x
       → (by_event x.born ≡ true) ⊎ (v.rows x.id ≡ Some (Ending x.born))
-      → Reads by_event es (at v x.id None) w → Reads by_event (Delete x ∷ es) v w
+      → ReadsInFlight by_event es (at v x.id None) w → ReadsInFlight by_event (Delete x ∷ es) v w
 
 -- The server at s can read all of these requests, while the client, which will be at m once it has
 -- read all events written so far, reads the deletes that they bring. In the end both have the same
@@ -150,7 +156,7 @@ pub data Tied (by_event : Born → Bool) : List Ask → Rows Born → Rows Row �
   -- the births made in requests are, in order, those from the server's number on, and each one's id
   -- is free or next at the server
   make : {qs : List Ask} {s : Rows Born} {m : Rows Row} {x : Known} → Fresh s x
-      → Tied by_event qs (made s x.id x.born) m → Tied by_event (Make x ∷ qs) s m
+      → Tied by_event qs (with_made s x.id x.born) m → Tied by_event (Make x ∷ qs) s m
   -- what a request destroys is open at the server and ending at the client; its delete will come
   destroy : {qs : List Ask} {s : Rows Born} {m : Rows Row} {x : Known}
       → x.id ≢ 1 → s.rows x.id ≡ Some x.born → by_event x.born ≡ false
@@ -159,8 +165,8 @@ pub data Tied (by_event : Born → Bool) : List Ask → Rows Born → Rows Row �
 
 -- Reading the events in flight leaves the client in the middle, and with that middle the server can
 -- read the requests in flight.
-pub record Meets (by_event : Born → Bool) (es : List Tell) (qs : List Ask) (v : Rows Row)
+pub record MeetInMiddle (by_event : Born → Bool) (es : List Tell) (qs : List Ask) (v : Rows Row)
     (s : Rows Born) : Type 0 where
   pub middle : Rows Row
-  pub reads : Reads by_event es v middle
+  pub reads : ReadsInFlight by_event es v middle
   pub tied : Tied by_event qs s middle

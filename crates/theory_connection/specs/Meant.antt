@@ -9,6 +9,7 @@ use Rattle.wl_object_map.specs.declared.object.Entry.{Entry}
 use Rattle.wl_object_map.specs.declared.object.State.TheVariants as states
 use Rattle.wl_message.specs.Outgoing as boxes
 use Rattle.wl_objects.specs.Writing.{message_bytes}
+use Rattle.wl_objects.specs.Messages.{or_else}
 
 -- an object as both ends mean it: its birth, its interface and its version
 pub record Born : Type 0 where
@@ -58,19 +59,19 @@ recoming f (Delete x) = Delete (f x)
 abbrev pub born_of : Known → Born
 born_of x = x.born
 
-abbrev pub birth_of : Born → ℕ
-birth_of x = x.birth
+abbrev pub number_of_birth : Born → ℕ
+number_of_birth x = x.birth
 
 -- ---- what a message names
 
 -- the object that an argument names
-abbrev pub object_in : {O : Type 0} → Arg O → List O
-object_in (Obj (Some x)) = x ∷ []
-object_in _ = []
+abbrev pub objects_in_arg : {O : Type 0} → Arg O → List O
+objects_in_arg (Obj (Some x)) = x ∷ []
+objects_in_arg _ = []
 
 abbrev pub objects : {O : Type 0} → List (Arg O) → List O
 objects [] = []
-objects (a ∷ more) = object_in a ++ objects more
+objects (a ∷ more) = objects_in_arg a ++ objects more
 
 -- the object that the argument at a place names
 abbrev pub object_at : {O : Type 0} → List (Arg O) → ℕ → Option O
@@ -86,19 +87,15 @@ ended_by Target target args = Some target
 ended_by (ends_arg place) target args = object_at args place
 
 -- the object that an argument makes
-abbrev pub new_in : {O : Type 0} → Arg O → Option O
-new_in (New x) = Some x
-new_in (NewNamed iface version x) = Some x
-new_in _ = None
-
-abbrev pub or_else : {O : Type 0} → Option O → Option O → Option O
-or_else None other = other
-or_else (Some x) other = Some x
+abbrev pub new_object_in : {O : Type 0} → Arg O → Option O
+new_object_in (New x) = Some x
+new_object_in (NewNamed iface version x) = Some x
+new_object_in _ = None
 
 -- the object that a message makes
 abbrev pub made_in : {O : Type 0} → List (Arg O) → Option O
 made_in [] = None
-made_in (a ∷ more) = or_else (new_in a) (made_in more)
+made_in (a ∷ more) = or_else (new_object_in a) (made_in more)
 
 -- the token of an argument
 abbrev pub token_in : {O : Type 0} → Arg O → List ℕ
@@ -111,8 +108,8 @@ tokens (a ∷ more) = token_in a ++ tokens more
 
 -- ---- the message on the wire
 
-abbrev pub id_of : Known → ℕ
-id_of x = x.id
+abbrev pub known_id : Known → ℕ
+known_id x = x.id
 
 abbrev pub id_or_null : Option Known → ℕ
 id_or_null None = 0
@@ -120,21 +117,22 @@ id_or_null (Some x) = x.id
 
 -- an argument on the wire: objects by their ids
 abbrev pub wire : Arg Known → Argument
-wire a = reshaped id_or_null id_of (λ _. tt) a
+wire a = reshaped id_or_null known_id (λ _. tt) a
 
 -- the bytes in the canonical spelling, and the tokens
-abbrev pub spelled : Message Known → boxes.Message
-spelled m = boxes.message (message_bytes m.target.id m.opcode (map wire m.args)) (tokens m.args)
+abbrev pub spelled_meant : Message Known → boxes.QueuedMessage
+spelled_meant m = boxes.queued (message_bytes m.target.id m.opcode (map wire m.args))
+    (tokens m.args)
 
 -- a delete is wl_display.delete_id
-abbrev pub spelled_coming : Coming Known → boxes.Message
-spelled_coming (Event m) = spelled m
-spelled_coming (Delete x) = boxes.message (message_bytes 1 1 (Uint x.id ∷ [])) []
+abbrev pub spelled_coming : Coming Known → boxes.QueuedMessage
+spelled_coming (Event m) = spelled_meant m
+spelled_coming (Delete x) = boxes.queued (message_bytes 1 1 (Uint x.id ∷ [])) []
 
 -- ---- the row of an object
 
 abbrev pub live_entry : Born → Entry
 live_entry x = record { birth = x.birth; iface = x.iface; version = x.version; state = states.Live }
 
-abbrev pub plain : Entry → Born
-plain e = record { birth = e.birth; iface = e.iface; version = e.version }
+abbrev pub born_of_entry : Entry → Born
+born_of_entry e = record { birth = e.birth; iface = e.iface; version = e.version }

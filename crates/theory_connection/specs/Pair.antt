@@ -7,8 +7,7 @@ use Rattle.std.specs.declared.result.Result.TheVariants.{Ok, Err}
 use Rattle.wl_wire.specs.declared.kind.Iface.{Iface}
 use Rattle.wl_sigs.specs.declared.signature.Side.TheVariants.{Request, Event}
 use Rattle.wl_sigs.specs.Tables.{Interface}
-use Rattle.wl_message.specs.declared.amounts.Fed.{Fed}
-use Rattle.wl_message.specs.declared.amounts.Taken.{Taken}
+use Rattle.wl_message.specs.declared.amounts.Amounts.{Amounts}
 use Rattle.wl_message.specs.declared.amounts.Sizes.{Sizes}
 use Rattle.wl_message.specs.Outgoing.{goes, waiting_bytes, waiting_tokens}
 use Rattle.wl_object_map.specs.declared.object.Object.{Object}
@@ -26,13 +25,14 @@ use Rattle.wl_client.specs.Calls.{bind_answer, after_bind}
 use Rattle.wl_server.specs.declared.globals.GlobalError.{GlobalError}
 use Rattle.wl_server.specs.declared.globals.GlobalError.TheVariants as global_errors
 use Rattle.wl_server.specs.State as server
-use Rattle.wl_server.specs.State.{max_globals, global_of}
+use Rattle.wl_server.specs.State.{global_of}
 use Rattle.wl_server.specs.Requests as requests
 use Rattle.wl_server.specs.Calls.{drop_refusal, after_drop, error_refusal, after_error, add_refusal}
 use Rattle.wl_server.specs.Calls.{withdraw_refusal, with_global, next_name, after_withdraw}
 use Rattle.wl_server.specs.Announcing.{Fitting, after_announce}
 use Rattle.wl_recording.specs.declared.piece.Direction.TheVariants.{ToServer, ToClient}
 use Rattle.wl_recording.specs.Piece.{Piece, passed}
+use Rattle.wl_connection.specs.Core.{max_globals}
 
 pub record PairState : Type 0 where
   pub client : client.State
@@ -67,9 +67,9 @@ pub data Move : Type 0 where
   ServerNext : Move
 
 -- the reply to a carry: how much it moved, or that there is no memory to record it
-pub data Carried : Type 0 where
-  Moved : Fed → Carried
-  Memory : Carried
+pub data CarryOutcome : Type 0 where
+  Moved : Amounts → CarryOutcome
+  Memory : CarryOutcome
 
 -- the reply to a move
 pub data Reply : Type 0 where
@@ -81,8 +81,8 @@ pub data Reply : Type 0 where
   AddGlobal : Result ℕ GlobalError → Reply
   Withdraw : Result (Unit {0}) GlobalError → Reply
   Announce : Result ℕ SendError → Reply
-  CarryToServer : Carried → Reply
-  CarryToClient : Carried → Reply
+  CarryToServer : CarryOutcome → Reply
+  CarryToClient : CarryOutcome → Reply
   ClientNext : Result (Option events.Report) NextError → Reply
   ServerNext : Result (Option requests.Report) NextError → Reply
 
@@ -104,20 +104,17 @@ with_server_core p c = with_server p (server.with_core p.server c)
 
 -- What goes from one end to the other: at most this number of bytes, and at most what the other's
 -- inbox has room for.
-abbrev pub carries : Core → Core → ℕ → Taken
+abbrev pub carries : Core → Core → ℕ → Amounts
 carries from to most = goes from.outbox (min most (in_room to).bytes) (in_room to).tokens
 
-abbrev pub carried_bytes : Core → Taken → List ℕ
+abbrev pub carried_bytes : Core → Amounts → List ℕ
 carried_bytes from taken = take taken.bytes (waiting_bytes from.outbox)
 
-abbrev pub carried_tokens : Core → Taken → List ℕ
+abbrev pub carried_tokens : Core → Amounts → List ℕ
 carried_tokens from taken = take taken.tokens (waiting_tokens from.outbox)
 
-abbrev pub all_of : Taken → Fed
-all_of taken = record { bytes = taken.bytes; tokens = taken.tokens }
-
 -- What a carry leaves: just that is recorded.
-abbrev pub after_carry_to_server : PairState → Taken → PairState
+abbrev pub after_carry_to_server : PairState → Amounts → PairState
 after_carry_to_server p taken = record p {
   client = client.with_core p.client (with_gone p.client.core taken.bytes);
   server = server.with_core p.server
@@ -126,7 +123,7 @@ after_carry_to_server p taken = record p {
   recording = p.recording ++ passed ToServer (carried_bytes p.client.core taken) taken.tokens;
 }
 
-abbrev pub after_carry_to_client : PairState → Taken → PairState
+abbrev pub after_carry_to_client : PairState → Amounts → PairState
 after_carry_to_client p taken = record p {
   client = client.with_core p.client
       (with_arrived p.client.core (carried_bytes p.server.core taken)
@@ -138,14 +135,14 @@ after_carry_to_client p taken = record p {
 -- ---- an error
 
 -- the first error sets the mark, and no later one changes it
-abbrev pub marked : Option ℕ → ℕ → Option ℕ
-marked None count = Some count
-marked (Some first) count = Some first
+abbrev pub ended_mark : Option ℕ → ℕ → Option ℕ
+ended_mark None count = Some count
+ended_mark (Some first) count = Some first
 
 abbrev pub after_post : PairState → Object → ℕ → List ℕ → PairState
 after_post p object code text =
     record (with_server_core p (after_error p.server.core object code text)) {
-      ended_at = marked p.ended_at (length p.recording);
+      ended_at = ended_mark p.ended_at (length p.recording);
     }
 
 -- ---- what a call returns and leaves
@@ -192,8 +189,9 @@ pub data Nexts {R : Type 0} (needs : R → Bool) (answer : Result (Option R) Nex
 
 -- A carry moves so much; or, only where something would move, there is no memory to record it, and
 -- nothing changes.
-pub data Carries (taken : Taken) (before after : PairState) : Carried → PairState → Type 0 where
-  moved : Carries taken before after (Moved (all_of taken)) after
+pub data Carries (taken : Amounts) (before after : PairState) : CarryOutcome → PairState
+    → Type 0 where
+  moved : Carries taken before after (Moved taken) after
   no_memory : 0 < taken.bytes → Carries taken before after Memory before
 
 -- What both ends return and leave at a move.

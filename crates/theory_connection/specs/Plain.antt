@@ -1,18 +1,18 @@
 -- Words for what is in flight.
 use Rattle.std.specs.Prelude.{◌≡◌, ◌≢◌, ◌⊎◌, ◌↔◌, ℕ, ◌<◌, ◌≤◌, false, List, [], ◌∷◌, ◌++◌}
 use Rattle.std.specs.Prelude.{map, Option, Some, None}
-use Rattle.theory_connection.specs.Meant.{Born, Known, Message, Coming, Event, Delete as delete_of, id_of}
-use Rattle.theory_connection.specs.Meant.{birth_of, objects, made_in}
+use Rattle.theory_connection.specs.Meant.{Born, Known, Message, Coming, Event, Delete as delete_of}
+use Rattle.theory_connection.specs.Meant.{known_id, number_of_birth, objects, made_in}
 use Rattle.theory_connection.specs.World.{World, IsOpen, IsEnding, IsThere, Each, marks_birth}
-use Rattle.theory_connection.specs.Flight.{Ask, Use, Make, Destroy, Tell, Name, End, Delete, all_asks}
-use Rattle.theory_connection.specs.Flight.{all_tells}
+use Rattle.theory_connection.specs.Flight.{Ask, Use, Make, Destroy, Tell, Name, Destroyed, Delete}
+use Rattle.theory_connection.specs.Flight.{all_asks, all_tells}
 use Rattle.theory_connection.specs.Pair.{PairState}
 use Rattle.theory_connection.specs.Stands.{Stands, StandsBy}
 
 -- the id that an action is about
 abbrev pub tell_id : Tell → ℕ
 tell_id (Name x) = x.id
-tell_id (End x) = x.id
+tell_id (Destroyed x) = x.id
 tell_id (Delete x) = x.id
 
 abbrev pub ask_id : Ask → ℕ
@@ -28,8 +28,8 @@ In x (y ∷ ys) = (x ≡ y) ⊎ In x ys
 -- ---- in a world
 
 -- the client holds it, open or ending
-abbrev pub IsHeld : World → Born → Type 0
-IsHeld w x = IsOpen w.client x ⊎ IsEnding w.client x
+abbrev pub IsHeldAtClient : World → Born → Type 0
+IsHeldAtClient w x = IsOpen w.client x ⊎ IsEnding w.client x
 
 -- its delete is on the way to the client
 abbrev pub DeleteComes : World → Born → Type 0
@@ -52,19 +52,19 @@ abbrev pub IsSomewhere : World → Born → Type 0
 IsSomewhere w x = DeleteComes w x ⊎ IsThere w.server x ⊎ MakeComes w x
 
 -- what comes to the client names it
-abbrev pub Names : Born → Coming Born → Type 0
-Names x (Event m) = (m.target ≡ x) ⊎ In x (objects m.args)
-Names x (delete_of y) = y ≡ x
+abbrev pub NamesBirth : Born → Coming Born → Type 0
+NamesBirth x (Event m) = (m.target ≡ x) ⊎ In x (objects m.args)
+NamesBirth x (delete_of y) = y ≡ x
 
 -- nothing that comes behind its delete names it
 abbrev pub IsLast : World → Born → Type 0
 IsLast w x =
     (before after : List (Coming Born)) (coming : Coming Born)
-    → w.events ≡ before ++ delete_of x ∷ after → In coming after → Names x coming → ⊥
+    → w.events ≡ before ++ delete_of x ∷ after → In coming after → NamesBirth x coming → ⊥
 
 -- a registry that is told of globals
-abbrev pub IsTold : World → Born → Type 0
-IsTold w x = In x.birth (map marks_birth w.registries)
+abbrev pub IsToldOfGlobals : World → Born → Type 0
+IsToldOfGlobals w x = In x.birth (map marks_birth w.registries)
 
 -- ---- of a pair that stands
 
@@ -76,13 +76,13 @@ pub record StandsIn (pair : PairState) (world : World) : Type 0 where
 -- ---- what is made on the way
 
 -- the object that each of these makes, of those that make one
-abbrev pub listed : {X : Type 0} → Option X → List X
-listed None = []
-listed (Some x) = x ∷ []
+abbrev pub option_list : {X : Type 0} → Option X → List X
+option_list None = []
+option_list (Some x) = x ∷ []
 
 abbrev pub news : {O : Type 0} → List (Message O) → List O
 news [] = []
-news (m ∷ ms) = listed (made_in m.args) ++ news ms
+news (m ∷ ms) = option_list (made_in m.args) ++ news ms
 
 -- Of each pair that stands in a world, and each object.
 abbrev pub OfEach : (PairState → World → Born → Type 0) → Type 0
@@ -109,7 +109,7 @@ abbrev pub IdsAreOf : PairState → List (Message Known) → Type 0
 IdsAreOf p asked =
     (id : ℕ) → 0 < id
     → (id ≤ p.client.core.view.used)
-    ↔ ((id ≤ p.server.core.view.used) ⊎ In id (map id_of (news asked)))
+    ↔ ((id ≤ p.server.core.view.used) ⊎ In id (map known_id (news asked)))
 
 -- The births counted at the client are those counted at the server and those of the objects that
 -- requests on the way make.
@@ -117,4 +117,4 @@ abbrev pub BirthsAreOf : PairState → World → Type 0
 BirthsAreOf p w =
     (birth : ℕ)
     → (birth < p.client.core.view.births)
-    ↔ ((birth < p.server.core.view.births) ⊎ In birth (map birth_of (news w.requests)))
+    ↔ ((birth < p.server.core.view.births) ⊎ In birth (map number_of_birth (news w.requests)))

@@ -7,7 +7,8 @@ use Rattle.wl_object_map.specs.declared.object.State.TheVariants as states
 use Rattle.wl_object_map.specs.View.{View, look}
 use Rattle.wl_objects.specs.Writing.{Given}
 use Rattle.theory_connection.specs.World.{World, Each}
-use Rattle.theory_connection.specs.Pair.{PairState, Move, Reply, ClientSend, ServerSend, AddGlobal, Does}
+use Rattle.theory_connection.specs.Pair.{PairState, Move, Reply, ClientSend, ServerSend, AddGlobal}
+use Rattle.theory_connection.specs.Pair.{Does}
 use Rattle.theory_connection.specs.Answers.{Answers}
 use Rattle.theory_connection.specs.Stands.{Stands}
 
@@ -29,17 +30,17 @@ DoesAll pair (move ∷ moves) (reply ∷ replies) last =
 DoesAll pair _ _ last = ⊥
 
 -- numbers are those of 32 bits
-abbrev pub IsGiven : Given → Type 0
-IsGiven (Int z) = FitsSigned w32 z
-IsGiven (Uint n) = n < 2 ^ 32
-IsGiven (Fixed z) = FitsSigned w32 z
-IsGiven (NewNamed iface version x) = version < 2 ^ 32
-IsGiven _ = Unit {0}
+abbrev pub FitsWords : Given → Type 0
+FitsWords (Int z) = FitsSigned w32 z
+FitsWords (Uint n) = n < 2 ^ 32
+FitsWords (Fixed z) = FitsSigned w32 z
+FitsWords (NewNamed iface version x) = version < 2 ^ 32
+FitsWords _ = Unit {0}
 
 -- a move whose numbers are in their ranges, as those of any program are
 abbrev pub IsMove : Move → Type 0
-IsMove (ClientSend target opcode given) = Each IsGiven given
-IsMove (ServerSend target opcode given) = Each IsGiven given
+IsMove (ClientSend target opcode given) = Each FitsWords given
+IsMove (ServerSend target opcode given) = Each FitsWords given
 IsMove (AddGlobal iface version) = version < 2 ^ 32
 IsMove _ = Unit {0}
 

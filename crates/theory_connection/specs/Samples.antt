@@ -7,104 +7,110 @@ use Rattle.wl_sigs.specs.Fixed.{callback, registry, fixes}
 use Rattle.wl_objects.specs.declared.argument.Named.TheVariants as named_as
 use Rattle.wl_client.specs.Reports as events
 use Rattle.theory_connection.specs.Meant.{Born, Message, Event, Delete}
-use Rattle.theory_connection.specs.World.{World, Open, Ending, opening, display_born, request_written}
-use Rattle.theory_connection.specs.World.{request_read, event_written, event_read, delete_read, Steps}
-use Rattle.theory_connection.specs.World.{WriteRequest, ReadRequest, WriteEvent, ReadEvent, put, nothing}
-use Rattle.theory_connection.specs.World.{untold}
+use Rattle.theory_connection.specs.World.{World, Open, Ending, opening_world, display_born}
+use Rattle.theory_connection.specs.World.{request_written, request_read, event_written, event_read}
+use Rattle.theory_connection.specs.World.{delete_read, Steps, WriteRequest, ReadRequest, WriteEvent}
+use Rattle.theory_connection.specs.World.{ReadEvent, put, nothing, nothing_told}
 use Rattle.theory_connection.specs.Answers.{ReportsComing}
 
 -- the client asks wl_display for a callback, birth 1, and the server is done with it
-abbrev pub called : Born
-called = record { birth = 1; iface = callback; version = 1 }
+abbrev pub sample_callback : Born
+sample_callback = record { birth = 1; iface = callback; version = 1 }
 
 abbrev pub sync : Message Born
-sync = record { target = display_born; opcode = 0; args = New called ∷ []; ends = None }
+sync = record { target = display_born; opcode = 0; args = New sample_callback ∷ []; ends = None }
 
 abbrev pub done : Message Born
-done = record { target = called; opcode = 0; args = Uint 7 ∷ []; ends = Some called }
+done = record {
+  target = sample_callback;
+  opcode = 0;
+  args = Uint 7 ∷ [];
+  ends = Some sample_callback;
+}
 
-abbrev pub asked : World
-asked = request_written opening sync
+abbrev pub sync_written : World
+sync_written = request_written opening_world sync
 
 abbrev pub heard : World
-heard = request_read asked sync []
+heard = request_read sync_written sync []
 
 abbrev pub answered : World
 answered = event_written heard done
 
 abbrev pub seen_done : List Interface → World
-seen_done tables = event_read tables answered done (Delete called ∷ [])
+seen_done tables = event_read tables answered done (Delete sample_callback ∷ [])
 
-abbrev pub forgotten : List Interface → World
-forgotten tables = delete_read (seen_done tables) called []
+abbrev pub delete_read_back : List Interface → World
+delete_read_back tables = delete_read (seen_done tables) sample_callback []
 
 -- each is a step; in the end the callback is nowhere, nothing is in flight, and the next object is
 -- birth 2
 pub record CallbackLives (tables : List Interface) : Type 0 where
-  pub asks : Steps tables opening (WriteRequest sync) asked
-  pub reads : Steps tables asked (ReadRequest sync) heard
+  pub asks : Steps tables opening_world (WriteRequest sync) sync_written
+  pub reads : Steps tables sync_written (ReadRequest sync) heard
   pub tells : Steps tables heard (WriteEvent done) answered
   pub sees : Steps tables answered (ReadEvent (Event done)) (seen_done tables)
-  pub forgets : Steps tables (seen_done tables) (ReadEvent (Delete called)) (forgotten tables)
-  pub ends_here : (seen_done tables).client 1 ≡ Some (Ending called)
-  pub not_at_client : (forgotten tables).client 1 ≡ None
-  pub not_at_server : (forgotten tables).server 1 ≡ None
-  pub no_requests : (forgotten tables).requests ≡ []
-  pub no_events : (forgotten tables).events ≡ []
-  pub next : (forgotten tables).births ≡ 2
+  pub forgets : Steps tables (seen_done tables) (ReadEvent (Delete sample_callback))
+      (delete_read_back tables)
+  pub ends_here : (seen_done tables).client 1 ≡ Some (Ending sample_callback)
+  pub not_at_client : (delete_read_back tables).client 1 ≡ None
+  pub not_at_server : (delete_read_back tables).server 1 ≡ None
+  pub no_requests : (delete_read_back tables).requests ≡ []
+  pub no_events : (delete_read_back tables).events ≡ []
+  pub next : (delete_read_back tables).births ≡ 2
 
 -- A pointer, birth 5, and a surface, birth 3, are open at both ends; the numbers of their
 -- interfaces do not matter here.
-abbrev pub surface : Born
-surface = record { birth = 3; iface = record { 0 = 7 }; version = 6 }
+abbrev pub sample_surface : Born
+sample_surface = record { birth = 3; iface = record { 0 = 7 }; version = 6 }
 
-abbrev pub pointer : Born
-pointer = record { birth = 5; iface = record { 0 = 10 }; version = 9 }
+abbrev pub sample_pointer : Born
+sample_pointer = record { birth = 5; iface = record { 0 = 10 }; version = 9 }
 
 abbrev pub both_open : World
-both_open = record opening {
+both_open = record opening_world {
   births = 8;
-  client = put (put nothing 3 (Some (Open surface))) 5 (Some (Open pointer));
-  server = put (put nothing 3 (Some surface)) 5 (Some pointer);
+  client = put (put nothing 3 (Some (Open sample_surface))) 5 (Some (Open sample_pointer));
+  server = put (put nothing 3 (Some sample_surface)) 5 (Some sample_pointer);
 }
 
 -- the server says that the pointer enters the surface
 abbrev pub enter : Message Born
 enter = record {
-  target = pointer;
+  target = sample_pointer;
   opcode = 0;
-  args = Uint 1 ∷ Obj (Some surface) ∷ Fixed (pos 0) ∷ Fixed (pos 0) ∷ [];
+  args = Uint 1 ∷ Obj (Some sample_surface) ∷ Fixed (pos 0) ∷ Fixed (pos 0) ∷ [];
   ends = None;
 }
 
 -- before the client reads that, it destroys the surface
 abbrev pub destroy : Message Born
-destroy = record { target = surface; opcode = 0; args = []; ends = Some surface }
+destroy = record { target = sample_surface; opcode = 0; args = []; ends = Some sample_surface }
 
 abbrev pub entered : World
 entered = event_written both_open enter
 
-abbrev pub destroyed : World
-destroyed = request_written entered destroy
+abbrev pub destroy_written : World
+destroy_written = request_written entered destroy
 
 abbrev pub crossed : List Interface → World
-crossed tables = event_read tables destroyed enter []
+crossed tables = event_read tables destroy_written enter []
 
 -- the client's report: the surface is dead
-abbrev pub report : events.Report
-report =
+abbrev pub sample_report : events.Report
+sample_report =
     events.Event (record { id = 6; birth = 5 }) 0
     (Uint 1 ∷ Obj (named_as.Dead (record { id = 4; birth = 3 })) ∷ Fixed (pos 0) ∷ Fixed (pos 0)
     ∷ [])
 
 pub record DeadArgument (tables : List Interface) : Type 0 where
   pub tells : Steps tables both_open (WriteEvent enter) entered
-  pub asks : Steps tables entered (WriteRequest destroy) destroyed
-  pub sees : Steps tables destroyed (ReadEvent (Event enter)) (crossed tables)
-  pub reports : ReportsComing destroyed (Event enter) report
+  pub asks : Steps tables entered (WriteRequest destroy) destroy_written
+  pub sees : Steps tables destroy_written (ReadEvent (Event enter)) (crossed tables)
+  pub reports : ReportsComing destroy_written (Event enter) sample_report
   pub reads : Steps tables (crossed tables) (ReadRequest destroy)
       (request_read (crossed tables) destroy [])
-  pub deletes : (request_read (crossed tables) destroy []).events ≡ Delete surface ∷ []
+  pub deletes : (request_read (crossed tables) destroy []).events ≡ Delete sample_surface ∷ []
 
 -- A wl_fixes, birth 8, and a registry, birth 9, are open at both ends.
 abbrev pub fixer : Born
@@ -114,11 +120,11 @@ abbrev pub registered : Born
 registered = record { birth = 9; iface = registry; version = 1 }
 
 abbrev pub both_registered : World
-both_registered = record opening {
+both_registered = record opening_world {
   births = 10;
   client = put (put nothing 8 (Some (Open fixer))) 9 (Some (Open registered));
   server = put (put nothing 8 (Some fixer)) 9 (Some registered);
-  registries = untold registered ∷ [];
+  registries = nothing_told registered ∷ [];
 }
 
 -- the server tells the registry of a global

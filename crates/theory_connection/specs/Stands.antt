@@ -25,25 +25,29 @@ use Rattle.wl_objects.specs.Messages.{made_by, is_error, is_delete_id, is_bind, 
 use Rattle.wl_connection.specs.Core.{Core}
 use Rattle.wl_client.specs.declared.globals.Global.{Global as Remembered}
 use Rattle.wl_server.specs.State as server
-use Rattle.wl_server.specs.State.{global_of, max_globals}
+use Rattle.wl_server.specs.State.{global_of}
 use Rattle.wl_server.specs.Registries.{HasRegistries}
-use Rattle.wl_server.specs.Requests.{can_bind}
+use Rattle.wl_server.specs.Requests.{was_advertised}
 use Rattle.wl_sigs.specs.Rules.{is_ended_by_event}
 use Rattle.wl_server.specs.Calls.{can_be_global}
 use Rattle.wl_server.specs.Announcing.{name_at}
 use Rattle.theory_connection.specs.Meant.{Born, Known, Message, Coming, Event, Delete, Arg, renamed}
-use Rattle.theory_connection.specs.Meant.{recoming, born_of, birth_of, made_in, new_in, ended_by, wire}
-use Rattle.theory_connection.specs.Meant.{spelled, spelled_coming, live_entry}
-use Rattle.theory_connection.specs.World.{World, display_born, Row, Marks, Open, Ending, Each, IfThere}
+use Rattle.theory_connection.specs.Meant.{recoming, born_of, number_of_birth, made_in}
+use Rattle.theory_connection.specs.Meant.{new_object_in, ended_by, wire, spelled_meant}
+use Rattle.theory_connection.specs.Meant.{spelled_coming, live_entry}
+use Rattle.theory_connection.specs.World.{World, display_born, Row, Marks, Open, Ending, Each}
+use Rattle.theory_connection.specs.World.{IfThere}
 use Rattle.theory_connection.specs.Pair.{PairState}
 use Rattle.theory_connection.specs.Answers.{NotEnded, marks_of}
-use Rattle.theory_connection.specs.Flight.{client_rows, server_rows, all_asks, all_tells, Meets}
+use Rattle.theory_connection.specs.Flight.{client_rows, server_rows, all_asks, all_tells}
+use Rattle.theory_connection.specs.Flight.{MeetInMiddle}
+use Rattle.wl_connection.specs.Core.{max_globals}
 
 -- ---- objects by id and by birth
 
 -- The rows of an end are this set of births: each under one id, each below the number of births
 -- counted.
-pub record Shows {X : Type 0} (birth : X → ℕ) (rows : ℕ → Option X) (births : ℕ)
+pub record ShowsBirths {X : Type 0} (birth : X → ℕ) (rows : ℕ → Option X) (births : ℕ)
     (sets : ℕ → Option X) : Type 0 where
   pub below : (id : ℕ) (x : X) → rows id ≡ Some x → birth x < births
   pub one : (i j : ℕ) (x y : X) → rows i ≡ Some x → rows j ≡ Some y → birth x ≡ birth y → i ≡ j
@@ -62,12 +66,13 @@ birth_in r = (bare r).birth
 -- These messages are in flight from an outbox to an inbox: those begun, whose tokens are all in the
 -- inbox and whose bytes are in the inbox but for what is left, and then those of the outbox that
 -- are not begun.
-pub record InFlight (from : Outgoing) (to : Arrived) (messages : List boxes.Message) : Type 0 where
-  pub begun : List boxes.Message
-  pub all : messages ≡ begun ++ from.messages
-  pub bytes : to.bytes ++ from.left ≡ all_bytes begun
-  pub tokens : to.tokens ≡ all_tokens begun
-  pub whole : Each (λ m. IsMessage to.limit.bytes m.bytes) messages
+pub record InFlight (from : Outgoing) (to : Arrived) (messages : List boxes.QueuedMessage) : Type 0
+  where
+    pub begun : List boxes.QueuedMessage
+    pub all : messages ≡ begun ++ from.messages
+    pub bytes : to.bytes ++ from.left ≡ all_bytes begun
+    pub tokens : to.tokens ≡ all_tokens begun
+    pub whole : Each (λ m. IsMessage to.limit.bytes m.bytes) messages
 
 -- An argument names its object as its kind asks: an object is of the interface of the kind, and a
 -- new object is as its maker, of this version, makes it.
@@ -84,27 +89,27 @@ NamesRightly tables version kind _ = Unit {0}
 
 -- the arguments are as the kinds ask, one for each: values of their kinds, that name their objects
 -- so
-abbrev pub AreOf : List Interface → ℕ → List Kind → List (Arg Known) → Type 0
-AreOf tables version [] [] = Unit {0}
-AreOf tables version (kind ∷ kinds) (a ∷ args) =
-    (Suits kind (wire a) × NamesRightly tables version kind a) × AreOf tables version kinds args
-AreOf tables version _ _ = ⊥
+abbrev pub SuitKinds : List Interface → ℕ → List Kind → List (Arg Known) → Type 0
+SuitKinds tables version [] [] = Unit {0}
+SuitKinds tables version (kind ∷ kinds) (a ∷ args) =
+    (Suits kind (wire a) × NamesRightly tables version kind a) × SuitKinds tables version kinds args
+SuitKinds tables version _ _ = ⊥
 
 -- A message in flight fits a signature of its target's interface and version, and is no
 -- wl_display.error. A header can tell its size; that this is within the limit is said of the boxes
 -- (InFlight).
-pub record Fits (tables : List Interface) (side : Side) (m : Message Known) : Type 0 where
-  pub signature : sigs.Message
+pub record FitsSignature (tables : List Interface) (side : Side) (m : Message Known) : Type 0 where
+  pub signature : sigs.MessageSignature
   pub there : signature_at tables m.target.born.iface.0 side m.opcode ≡ Some signature
   pub old_enough : signature.since ≤ m.target.born.version
-  pub args : AreOf tables m.target.born.version signature.kinds m.args
+  pub args : SuitKinds tables m.target.born.version signature.kinds m.args
   pub ends : m.ends ≡ ended_by signature.destroys m.target m.args
   pub len : message_len (map wire m.args) ≤ greatest_limit
   pub low : m.target.id ≤ max_ids
   pub opcode : m.opcode < 65536
   pub new_version : IfThere (λ x. 1 ≤ x.born.version) (made_in m.args)
   -- it makes at most one object
-  pub new_is : Each (λ a. IfThere (λ x. made_in m.args ≡ Some x) (new_in a)) m.args
+  pub new_is : Each (λ a. IfThere (λ x. made_in m.args ≡ Some x) (new_object_in a)) m.args
   pub no_error : is_error side m.target.born.iface m.opcode ≡ false
 
 -- these begin with the delete of an object
@@ -148,17 +153,17 @@ pub record BindsGiven (tables : List Interface) (given : List server.Global)
   pub version : ℕ
   pub new : Known
   pub args_are : args ≡ Uint name ∷ NewNamed iface version new ∷ []
-  pub was_given : can_bind tables iface version (global_of given name) ≡ true
+  pub was_given : was_advertised tables iface version (global_of given name) ≡ true
 
 pub record AsksFitly (tables : List Interface) (given : List server.Global) (m : Message Known)
     : Type 0 where
-  pub fits : Fits tables request_side m
+  pub fits : FitsSignature tables request_side m
   pub binds : is_bind request_side m.target.born.iface m.opcode ≡ true
       → BindsGiven tables given m.args
 
 pub record TellsFitly (tables : List Interface) (given : List server.Global) (m : Message Known)
     : Type 0 where
-  pub fits : Fits tables event_side m
+  pub fits : FitsSignature tables event_side m
   pub makes_none : made_in m.args ≡ None
   pub no_delete_id : is_delete_id event_side m.target.born.iface m.opcode ≡ false
   pub tells : same_iface m.target.born.iface registry ≡ true → m.opcode ≡ 0
@@ -205,7 +210,7 @@ pub record SameTerms (client server : Terms) : Type 0 where
 -- The rows at the client are the births open and ending there.
 pub record ClientStands (view : View) (failed : Bool) (counted : ℕ) (held : ℕ → Option Row)
     : Type 0 where
-  pub sets : Shows birth_in (client_rows view).rows view.births held
+  pub sets : ShowsBirths birth_in (client_rows view).rows view.births held
   pub births : counted ≡ view.births
   pub sound : Sound view
   pub display : look view 1 ≡ Some (live_entry display_born)
@@ -215,7 +220,7 @@ pub record ClientStands (view : View) (failed : Bool) (counted : ℕ) (held : �
 
 -- The rows at the server are the births open there.
 pub record ServerStands (view : View) (failed : Bool) (there : ℕ → Option Born) : Type 0 where
-  pub sets : Shows birth_of (server_rows view).rows view.births there
+  pub sets : ShowsBirths number_of_birth (server_rows view).rows view.births there
   pub sound : Sound view
   pub display : look view 1 ≡ Some (live_entry display_born)
   pub versions : (id : ℕ) (e : Entry) → look view id ≡ Some e → 1 ≤ e.version
@@ -224,7 +229,7 @@ pub record ServerStands (view : View) (failed : Bool) (there : ℕ → Option Bo
   pub lives : failed ≡ false
 
 -- These messages are in flight from an outbox to an inbox, each of them fit.
-pub record Travel {M W : Type 0} (as_born : M → W) (as_sent : M → boxes.Message)
+pub record Travel {M W : Type 0} (as_born : M → W) (as_sent : M → boxes.QueuedMessage)
     (Fitly : M → Type 0) (from : Outgoing) (to : Arrived) (births : List W) (messages : List M)
     : Type 0 where
   -- the world has them in flight by births, and the boxes in their canonical spellings, by ids
@@ -257,7 +262,8 @@ pub record StandsBy (p : PairState) (w : World) (asked : List (Message Known))
   pub client : ClientStands p.client.core.view p.client.core.failed w.births w.client
   pub server : ServerStands p.server.core.view p.server.core.failed w.server
   -- what is in flight each way
-  pub requests : Travel (renamed born_of) spelled (AsksFitly p.server.core.tables p.server.globals)
+  pub requests : Travel (renamed born_of) spelled_meant
+      (AsksFitly p.server.core.tables p.server.globals)
       p.client.core.outbox p.server.core.inbox w.requests asked
   pub events : Travel (recoming born_of) spelled_coming
       (ComesFitly p.server.core.tables p.server.globals)
@@ -265,7 +271,7 @@ pub record StandsBy (p : PairState) (w : World) (asked : List (Message Known))
   -- an event that destroys an object is directly followed by that object's delete
   pub deletes_follow : DeletesFollow told
   -- when its turn comes, each can be read, and when all is read both ends have the same objects
-  pub meet : Meets (by_event p.server.core.tables) (all_tells told) (all_asks asked)
+  pub meet : MeetInMiddle (by_event p.server.core.tables) (all_tells told) (all_asks asked)
       (client_rows p.client.core.view) (server_rows p.server.core.view)
   pub globals : GlobalsStand p.server.core.tables p.client.globals p.server.globals
       w.remembered w.given

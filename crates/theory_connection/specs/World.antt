@@ -7,10 +7,12 @@ use Rattle.wl_sigs.specs.Fixed.{display, registry}
 use Rattle.wl_objects.specs.Messages.{same_iface}
 use Rattle.wl_client.specs.declared.globals.Global.{Global as Remembered}
 use Rattle.wl_client.specs.Reports.{globals_told}
-use Rattle.wl_server.specs.State.{Global, max_globals}
+use Rattle.wl_server.specs.State.{Global}
 use Rattle.wl_server.specs.Registries.{with_registry, without_registry}
 use Rattle.wl_sigs.specs.Rules.{is_ended_by_event}
-use Rattle.theory_connection.specs.Meant.{Born, Message, Coming, Event, Delete, objects, made_in, Arg}
+use Rattle.theory_connection.specs.Meant.{Born, Message, Coming, Event, Delete, objects, made_in}
+use Rattle.theory_connection.specs.Meant.{Arg}
+use Rattle.wl_connection.specs.Core.{max_globals}
 
 -- an object at the client: open, or ending
 pub data Row : Type 0 where
@@ -89,9 +91,9 @@ abbrev pub delete : {O : Type 0} → Option O → List (Coming O)
 delete None = []
 delete (Some x) = Delete x ∷ []
 
-abbrev pub counted : {O : Type 0} → Option O → ℕ → ℕ
-counted None births = births
-counted (Some x) births = births + 1
+abbrev pub births_counted : {O : Type 0} → Option O → ℕ → ℕ
+births_counted None births = births
+births_counted (Some x) births = births + 1
 
 -- ---- registries
 
@@ -99,8 +101,8 @@ abbrev pub is_registry : Born → Bool
 is_registry x = same_iface x.iface registry
 
 -- a new registry was told nothing
-abbrev pub untold : Born → Marks
-untold x = record {
+abbrev pub nothing_told : Born → Marks
+nothing_told x = record {
   birth = x.birth;
   told = replicate max_globals false;
   removed = replicate max_globals false;
@@ -110,29 +112,29 @@ abbrev pub marks_birth : Marks → ℕ
 marks_birth r = r.birth
 
 -- the open registries after a request that makes this
-abbrev pub registries_after : Option Born → List Marks → List Marks
-registries_after None registries = registries
-registries_after (Some x) registries = with_registry x.iface (untold x) registries
+abbrev pub marks_after : Option Born → List Marks → List Marks
+marks_after None registries = registries
+marks_after (Some x) registries = with_registry x.iface (nothing_told x) registries
 
 -- a registry that is closed is owed nothing
-abbrev pub registries_without : Option Born → List Marks → List Marks
-registries_without None registries = registries
-registries_without (Some x) registries = without_registry marks_birth true x.birth registries
+abbrev pub without_marks : Option Born → List Marks → List Marks
+without_marks None registries = registries
+without_marks (Some x) registries = without_registry marks_birth true x.birth registries
 
 -- ---- what the client learns of globals
 
 abbrev pub nameless : Arg Born → Argument
 nameless a = reshaped (λ _. 0) (λ _. 0) (λ _. tt) a
 
-abbrev pub is_open : Option Row → Bool
-is_open (Some (Open x)) = true
-is_open _ = false
+abbrev pub is_open_row : Option Row → Bool
+is_open_row (Some (Open x)) = true
+is_open_row _ = false
 
 -- an event of a registry that is open teaches the client
 abbrev pub learned : List Interface → (ℕ → Option Row) → Message Born → List Remembered
     → List Remembered
 learned tables client m remembered =
-    if is_registry m.target && is_open (client m.target.birth)
+    if is_registry m.target && is_open_row (client m.target.birth)
     then globals_told tables remembered m.opcode (map nameless m.args)
     else remembered
 
@@ -148,7 +150,7 @@ pub data Action : Type 0 where
 
 abbrev pub request_written : World → Message Born → World
 request_written w m = record w {
-  births = counted (made_in m.args) w.births;
+  births = births_counted (made_in m.args) w.births;
   requests = w.requests ++ m ∷ [];
   client = ending m.ends (born_into Open (made_in m.args) w.client);
 }
@@ -158,7 +160,7 @@ request_read w m rest = record w {
   requests = rest;
   events = w.events ++ delete m.ends;
   server = gone m.ends (born_into same (made_in m.args) w.server);
-  registries = registries_without m.ends (registries_after (made_in m.args) w.registries);
+  registries = without_marks m.ends (marks_after (made_in m.args) w.registries);
 }
 
 abbrev pub event_written : World → Message Born → World
@@ -210,8 +212,8 @@ abbrev pub display_born : Born
 display_born = record { birth = 0; iface = display; version = 1 }
 
 -- the world as it begins: wl_display is open at both ends
-abbrev pub opening : World
-opening = record {
+abbrev pub opening_world : World
+opening_world = record {
   births = 1;
   requests = [];
   events = [];

@@ -11,22 +11,23 @@ ghost use Rattle.wl_client.specs.Reports as client_reads;
 ghost use Rattle.wl_server.specs.Requests as server_reads;
 ghost use Rattle.wl_connection.specs.Core.{Core, feeds};
 ghost use Rattle.theory_connection.specs.Meant.{Known, Coming, Delete};
-ghost use Rattle.theory_connection.specs.World.{World, opening, Each, IsOpen, IsEnding, IsThere};
+ghost use Rattle.theory_connection.specs.World.{World, opening_world, Each, IsOpen, IsEnding};
+ghost use Rattle.theory_connection.specs.World.{IsThere};
 ghost use Rattle.theory_connection.specs.Pair.{PairState, Move, Reply, Does, new_pair, drained};
-ghost use Rattle.theory_connection.specs.Pair.{carries, carried_bytes, carried_tokens, all_of};
+ghost use Rattle.theory_connection.specs.Pair.{carries, carried_bytes, carried_tokens};
 ghost use Rattle.theory_connection.specs.Stands.{Stands, by_event};
 ghost use Rattle.theory_connection.specs.Runs.{Runs, DoesAll, IsMove, Agree, Keeps};
 ghost use Rattle.theory_connection.specs.Samples.{CallbackLives, DeadArgument, DeadRegistry};
 ghost use Rattle.theory_connection.specs.Plain.{StandsIn, OfEach, OnTheWay, IsUnnamed, IsNowhere};
-ghost use Rattle.theory_connection.specs.Plain.{IsHeld, IsSomewhere, DeleteComes, MakeComes};
-ghost use Rattle.theory_connection.specs.Plain.{DestroyComes, IsLast, IsTold, IdsAreOf};
-ghost use Rattle.theory_connection.specs.Plain.{BirthsAreOf};
+ghost use Rattle.theory_connection.specs.Plain.{IsHeldAtClient, IsSomewhere, DeleteComes};
+ghost use Rattle.theory_connection.specs.Plain.{MakeComes, DestroyComes, IsLast, IsToldOfGlobals};
+ghost use Rattle.theory_connection.specs.Plain.{IdsAreOf, BirthsAreOf};
 
 /// A new pair with one limit stands for the opening world.
 pub fn new_stands()
     ensures { (tables : List Interface) (client server : Sizes)
         → client.limit.bytes ≡ server.limit.bytes → Valid tables
-        → Stands (new_pair tables client server) opening }
+        → Stands (new_pair tables client server) opening_world }
 {}
 
 /// An ended world stands with every pair.
@@ -91,13 +92,13 @@ pub fn free_nowhere()
 /// What the client holds has its delete on the way, is open at the server, or is made by a request
 /// on the way.
 pub fn held_where()
-    ensures { OfEach (λ pair world object. IsHeld world object → IsSomewhere world object) }
+    ensures { OfEach (λ pair world object. IsHeldAtClient world object → IsSomewhere world object) }
 {}
 
 /// And back: what has its delete on the way, is open at the server or is made on the way, the
 /// client holds.
 pub fn held_back()
-    ensures { OfEach (λ pair world object. IsSomewhere world object → IsHeld world object) }
+    ensures { OfEach (λ pair world object. IsSomewhere world object → IsHeldAtClient world object) }
 {}
 
 /// Only one of these holds of an object.
@@ -161,14 +162,14 @@ pub fn ids_are_of_births()
 /// Each registry that is open at the server is one of those that hear of globals.
 pub fn registries_are_told()
     ensures { OfEach (λ pair world object.
-        IsThere world.server object → object.iface ≡ registry → IsTold world object) }
+        IsThere world.server object → object.iface ≡ registry → IsToldOfGlobals world object) }
 {}
 
 /// What a carry takes out of one end fits into the other, which takes all of it in.
 pub fn carry_is_whole()
     ensures { (from to : Core) (most : ℕ)
         → feeds to (carried_bytes from (carries from to most))
-        (carried_tokens from (carries from to most)) ≡ all_of (carries from to most) }
+        (carried_tokens from (carries from to most)) ≡ carries from to most }
 {}
 
 /// A history that there is: a callback is made, done with, and forgotten.

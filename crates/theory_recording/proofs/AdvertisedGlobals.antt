@@ -17,15 +17,15 @@ use Rattle.wl_object_map.specs.declared.object.Entry.{Entry}
 use Rattle.wl_objects.specs.Messages.{NewObject, made, made_by, is_bind, same_iface}
 use Rattle.wl_client.specs.declared.globals.Global.{Global as Remembered}
 use Rattle.wl_server.specs.State.{Global, global_of}
-use Rattle.wl_server.specs.Requests.{can_bind as bind_fits, name_fits}
+use Rattle.wl_server.specs.Requests.{was_advertised as bind_fits, name_fits}
 use Rattle.wl_server.specs.Calls.{version_in}
 use Rattle.wl_recording.specs.declared.piece.Direction.TheVariants.{ToServer}
 use Rattle.wl_check.specs.Changes.{first_number}
-use Rattle.wl_check.specs.Places.{Known as Knows}
-use Rattle.wl_check.specs.Rules.{version_of, can_bind as may_bind, is_bad_bind}
+use Rattle.wl_check.specs.Places.{KnownAtPlace as Knows}
+use Rattle.wl_check.specs.Rules.{version_of, allows_bind as may_bind, is_bad_bind}
 use Rattle.theory_connection.specs.Meant.{Known, Message, Coming, Event, Delete, Arg, made_in, wire}
 use Rattle.theory_connection.specs.World.{Each, IfThere}
-use Rattle.theory_connection.specs.Stands.{AreOf, AsksFitly, IsGlobal}
+use Rattle.theory_connection.specs.Stands.{SuitKinds, AsksFitly, IsGlobal}
 use Rattle.theory_connection.proofs.Announces.{each_get}
 use Rattle.theory_connection.proofs.Places.{place_there, bytes_same}
 use Rattle.theory_connection.proofs.ReadAsMeant.{made_of, made_read}
@@ -99,7 +99,7 @@ named_as tables target (kinds.New (Some i)) iface version new h = absurd (cc h)
 named_as tables target kind iface version new h = absurd (cc h)
 
 named_in : (tables : List Interface) (target name : ℕ) (iface : List ℕ) (version : ℕ) (new : Known) (ks : List Kind)
-    → AreOf tables target ks (Uint name ∷ NewNamed iface version new ∷ [])
+    → SuitKinds tables target ks (Uint name ∷ NewNamed iface version new ∷ [])
     → IsNamed tables iface version new
 named_in tables target name iface version new [] h = absurd h
 named_in tables target name iface version new (a ∷ []) h = absurd h.1
@@ -168,7 +168,7 @@ bad_bind_at tables given k m entry fit true v c iface version told is =
     ap (λ (n : ℕ). made tables n f.signature.kinds (map wire m.args)) version
     ∙ made_read tables m.target.born.version f.signature.kinds m.args f.args ∙ ap (option_map made_of) new in
     let named = named_in tables m.target.born.version g.name g.iface g.version g.new f.signature.kinds
-    (subst (AreOf tables m.target.born.version f.signature.kinds) g.args_are f.args) in
+    (subst (SuitKinds tables m.target.born.version f.signature.kinds) g.args_are f.args) in
     let low : 1 ≤ g.new.born.version = subst (IfThere (λ (x : Known). 1 ≤ x.born.version)) new f.new_version in
     let high = bound_in tables given g.name g.iface g.version g.new
     (global_of given g.name) v c named refl g.was_given in

@@ -12,19 +12,19 @@ use Rattle.wl_object_map.specs.declared.object.State.TheVariants.{Live}
 use Rattle.wl_objects.specs.Messages.{NewObject, ended_id, is_error}
 use Rattle.wl_recording.specs.declared.piece.Direction.{Direction}
 use Rattle.wl_check.specs.Merged.{mark, framed, same_direction}
-use Rattle.wl_check.specs.Changes.{Call, changes, destroyed, side_of}
-use Rattle.wl_check.specs.Places.{is_id, is_made, frees, entry_of, new_of, used_by, unless_deleted}
+use Rattle.wl_check.specs.Changes.{Call, changes, destroyed_id, side_of}
+use Rattle.wl_check.specs.Places.{is_id, is_made, frees, made_entry, new_of, used_by, unless_deleted}
 use Rattle.wl_check.specs.Rules.{judged}
 use Rattle.wl_check.specs.Session.{Judged}
 use Rattle.wl_check.proofs.MergedPiece.{same_is}
 use Rattle.wl_check.proofs.LongerRecording.{behind_one, advertised_more}
 use Rattle.theory_connection.specs.Meant.{Known, Message, objects, tokens, wire}
 use Rattle.theory_connection.specs.World.{Row, Each, IfThere}
-use Rattle.theory_connection.specs.Flight.{Rows, Held, Fresh}
-use Rattle.theory_connection.specs.Stands.{Fits}
+use Rattle.theory_connection.specs.Flight.{Rows, IsHeldInRows, Fresh}
+use Rattle.theory_connection.specs.Stands.{FitsSignature}
 use Rattle.theory_connection.proofs.WholeInFlight.{client_makes, client_ends}
 use Rattle.theory_connection.proofs.ReadAsMeant.{made_of, tokens_taken}
-use Rattle.theory_recording.specs.Follows.{knowledge, places, maker, KnownAs, GoesOn, AllGoOn}
+use Rattle.theory_recording.specs.Follows.{knowledge, birth_places, maker, KnownAs, GoesOn, AllGoOn}
 use Rattle.theory_recording.proofs.AdvertisedGlobals.{Grows}
 use Rattle.theory_recording.proofs.JudgedAsMeant.{call_as}
 use Rattle.theory_recording.proofs.KnownBehindMessage.{ended_ids, known_behind, places_behind}
@@ -32,7 +32,8 @@ use Rattle.theory_connection.proofs.EndedObject.{ends_as, ends_have}
 
 -- The message that stands at a place of a direction's stream, where its direction brought t tokens,
 -- keeps all rules; and so it is behind it.
-pub record One (limit : ℕ) (tables : List Interface) (d : Direction) (stream : List ℕ) (t p : ℕ) (sent : boxes.Message)
+pub record One (limit : ℕ) (tables : List Interface) (d : Direction) (stream : List ℕ) (t p : ℕ)
+    (sent : boxes.QueuedMessage)
     (e : List Judged) (Next : List Judged → Type 0) : Type 0 where
   pub call : Call
   pub is : judged limit tables (knowledge tables e) stream (framed d t (mark p (length sent.bytes))) ≡ Ok call
@@ -50,7 +51,8 @@ go_on_more (x ∷ xs) j a g (suc k) one is = go_on_more xs j (λ i. a (suc i)) g
 
 -- the session goes on
 pub goes_on_as : (tables : List Interface) (d : Direction) (m : Message Known) (entry : Entry)
-    (f : Fits tables (side_of d) m) → entry.iface ≡ m.target.born.iface → GoesOn (Ok (call_as d m entry f.signature))
+    (f : FitsSignature tables (side_of d) m) → entry.iface ≡ m.target.born.iface
+    → GoesOn (Ok (call_as d m entry f.signature))
 goes_on_as tables d m entry f iface = record {
   call = call_as d m entry f.signature;
   is = refl;
@@ -61,7 +63,7 @@ goes_on_as tables d m entry f iface = record {
 
 -- a message adds its tokens to those taken in its direction
 pub own_taken : (tables : List Interface) (e : List Judged) (d : Direction) (m : Message Known) (entry : Entry)
-    (f : Fits tables (side_of d) m)
+    (f : FitsSignature tables (side_of d) m)
     → (knowledge tables (e ++ Ok (call_as d m entry f.signature) ∷ [])).taken d
     ≡ (knowledge tables e).taken d + length (tokens m.args)
 own_taken tables e d m entry f =
@@ -89,33 +91,35 @@ call_grows tables e call name iface =
 -- ---- the objects
 
 destroyed_as : (b : Bool) (id : ℕ) (o : Option Known) → b ≡ is_some o → IfThere (λ x. x.id ≡ id) o
-    → destroyed b id ≡ ended_ids o
-destroyed_as b id None f h = ap (λ (t : Bool). destroyed t id) f
-destroyed_as b id (Some x) f h = λ i. destroyed (f i) (sym h i)
+    → destroyed_id b id ≡ ended_ids o
+destroyed_as b id None f h = ap (λ (t : Bool). destroyed_id t id) f
+destroyed_as b id (Some x) f h = λ i. destroyed_id (f i) (sym h i)
 
 -- behind a message that fits, the checker knows the rows that it leaves
 pub known_call : (tables : List Interface) (e : List Judged) (here : Rows Row) (d : Direction) (m : Message Known)
-    (entry : Entry) (f : Fits tables (side_of d) m) (n : Option Known)
-    → Valid tables → KnownAs (knowledge tables e) (places tables e) here → IfThere (Fresh here) n → Held here m.target
-    → Each (Held here) (objects m.args)
+    (entry : Entry) (f : FitsSignature tables (side_of d) m) (n : Option Known)
+    → Valid tables → KnownAs (knowledge tables e) (birth_places tables e) here → IfThere (Fresh here) n
+    → IsHeldInRows here m.target
+    → Each (IsHeldInRows here) (objects m.args)
     → (changes tables (call_as d m entry f.signature)).made ≡ option_map made_of n
     → (changes tables (call_as d m entry f.signature)).deleted ≡ None
     → KnownAs (knowledge tables (e ++ Ok (call_as d m entry f.signature) ∷ []))
-    (places tables (e ++ Ok (call_as d m entry f.signature) ∷ [])) (client_ends m.ends (client_makes here n))
+    (birth_places tables (e ++ Ok (call_as d m entry f.signature) ∷ [])) (client_ends m.ends (client_makes here n))
 known_call tables e here d m entry f n valid a fresh target args made_is deleted_is =
     let call = call_as d m entry f.signature in
     let k = knowledge tables e in
     let k' = knowledge tables (e ++ Ok call ∷ []) in
     let p = suc (length e) in
     let b = behind_one tables e call in
-    let held : IfThere (Held here) m.ends = ends_have (Held here) tables (side_of d) m f target args in
+    let held : IfThere (IsHeldInRows here) m.ends = ends_have (IsHeldInRows here) tables (side_of d) m f target args in
     let ended = ends_as tables (side_of d) m f valid in
     let destroyed_is : (changes tables call).destroyed ≡ ended_ids m.ends =
     destroyed_as (destroys_one f.signature.destroys)
     (ended_id f.signature.destroys m.target.id (map wire m.args)) m.ends ended.flag ended.same in
-    let known = known_behind k k' (places tables e) p here n m.ends a fresh held
-    (λ id. b.objects id ∙ (λ i. cond (is_made (made_is i) id) (Some (entry_of p Live (new_of (made_is i))))
+    let known = known_behind k k' (birth_places tables e) p here n m.ends a fresh held
+    (λ id. b.objects id ∙ (λ i. cond (is_made (made_is i) id) (Some (made_entry p Live (new_of (made_is i))))
     (unless_deleted (frees (deleted_is i) id) (is_id (destroyed_is i) id) (k.object id))))
     (b.used_is ∙ ap (λ (o : Option NewObject). used_by o k.used) made_is) in
-    let there = places_behind tables e call ∙ ap (λ (o : Option NewObject). places tables e ++ maker o p) made_is in
+    let there = places_behind tables e call ∙ ap (λ (o : Option NewObject). birth_places tables e ++ maker o p) made_is
+    in
     subst (λ (ps : List ℕ). KnownAs k' ps (client_ends m.ends (client_makes here n))) (sym there) known

@@ -6,11 +6,11 @@ use Rattle.std.proofs.lemmas.Bool.Decides.{nat_tests}
 use Rattle.wl_objects.specs.declared.lookup.NewId.TheVariants.{Free}
 use Rattle.wl_objects.specs.Reading.{Reader}
 use Rattle.wl_recording.specs.declared.piece.Direction.TheVariants.{ToServer, ToClient}
-use Rattle.wl_check.specs.Places.{Known as Knows}
-use Rattle.wl_check.specs.Rules.{reader, if_open}
-use Rattle.theory_connection.specs.Meant.{Known, Arg, new_in, made_in}
+use Rattle.wl_check.specs.Places.{KnownAtPlace as Knows}
+use Rattle.wl_check.specs.Rules.{reader_by, if_open}
+use Rattle.theory_connection.specs.Meant.{Known, Arg, new_object_in, made_in}
 use Rattle.theory_connection.specs.World.{Row, Open, Ending, Each, IfThere}
-use Rattle.theory_connection.specs.Flight.{Rows, Held, Fresh}
+use Rattle.theory_connection.specs.Flight.{Rows, IsHeldInRows, Fresh}
 use Rattle.theory_connection.proofs.EndedObject.{if_by}
 use Rattle.theory_connection.proofs.WholeInFlight.{OpenRow, each_by}
 use Rattle.theory_connection.proofs.ReadAsMeant.{HasObject}
@@ -18,7 +18,7 @@ use Rattle.theory_recording.specs.Follows.{KnownAs, entry_at}
 
 -- what a request names
 pub open_known : (k : Knows) (places : List ℕ) (here : Rows Row) (x : Known) → KnownAs k places here → OpenRow here x
-    → HasObject (reader k ToServer) x
+    → HasObject (reader_by k ToServer) x
 open_known k places here x a h = record {
   entry = entry_at places (Open x.born);
   there = ap if_open (a.objects x.id ∙ ap (option_map (entry_at places)) h);
@@ -27,8 +27,9 @@ open_known k places here x a h = record {
 }
 
 -- what an event names
-pub held_known : (k : Knows) (places : List ℕ) (here : Rows Row) (x : Known) → KnownAs k places here → Held here x
-    → HasObject (reader k ToClient) x
+pub held_known : (k : Knows) (places : List ℕ) (here : Rows Row) (x : Known) → KnownAs k places here
+    → IsHeldInRows here x
+    → HasObject (reader_by k ToClient) x
 held_known k places here x a (inl h) = record {
   entry = entry_at places (Open x.born);
   there = a.objects x.id ∙ ap (option_map (entry_at places)) h;
@@ -44,7 +45,7 @@ held_known k places here x a (inr h) = record {
 
 -- a new object
 fresh_known : (k : Knows) (places : List ℕ) (here : Rows Row) (x : Known) → KnownAs k places here → Fresh here x
-    → (reader k ToServer).new_id x.id ≡ Free
+    → (reader_by k ToServer).new_id x.id ≡ Free
 fresh_known k places here x a f =
     let none : k.object x.id ≡ None = a.objects x.id ∙ ap (option_map (entry_at places)) f.free in
     let zero : nat_eq x.id 0 ≡ false = (let s = f.some in grind (arith, nat_tests)) in
@@ -54,20 +55,20 @@ fresh_known k places here x a f =
 
 -- an id is free for what the arguments make
 abbrev IsFree : Reader → Arg Known → Type 0
-IsFree r a = IfThere (λ x. r.new_id x.id ≡ Free) (new_in a)
+IsFree r a = IfThere (λ x. r.new_id x.id ≡ Free) (new_object_in a)
 
 -- the arguments make at most one object
 abbrev IsMade : List (Arg Known) → Arg Known → Type 0
-IsMade all a = IfThere (λ x. made_in all ≡ Some x) (new_in a)
+IsMade all a = IfThere (λ x. made_in all ≡ Some x) (new_object_in a)
 
 -- a new id that is fresh to the rows is free to the checker
 pub news_free : (k : Knows) (places : List ℕ) (here : Rows Row) (args all : List (Arg Known)) → KnownAs k places here
-    → IfThere (Fresh here) (made_in all) → Each (IsMade all) args → Each (IsFree (reader k ToServer)) args
+    → IfThere (Fresh here) (made_in all) → Each (IsMade all) args → Each (IsFree (reader_by k ToServer)) args
 news_free k places here args all a g h =
-    each_by (IsMade all) (IsFree (reader k ToServer))
-    (λ arg made. if_by {P = λ (x : Known). made_in all ≡ Some x} {Q = λ (x : Known). (reader k ToServer).new_id x.id
+    each_by (IsMade all) (IsFree (reader_by k ToServer))
+    (λ arg made. if_by {P = λ (x : Known). made_in all ≡ Some x} {Q = λ (x : Known). (reader_by k ToServer).new_id x.id
     ≡ Free}
-    (λ x e. fresh_known k places here x a (subst (IfThere (Fresh here)) e g)) (new_in arg) made) args h
+    (λ x e. fresh_known k places here x a (subst (IfThere (Fresh here)) e g)) (new_object_in arg) made) args h
 
 -- none is new
 pub news_none : (r : Reader) (args all : List (Arg Known)) → made_in all ≡ None → Each (IsMade all) args
@@ -75,4 +76,4 @@ pub news_none : (r : Reader) (args all : List (Arg Known)) → made_in all ≡ N
 news_none r args all g h =
     each_by (IsMade all) (IsFree r)
     (λ arg made. if_by {P = λ (x : Known). made_in all ≡ Some x} {Q = λ (x : Known). r.new_id x.id ≡ Free}
-    (λ x e. absurd (cc (g, e))) (new_in arg) made) args h
+    (λ x e. absurd (cc (g, e))) (new_object_in arg) made) args h

@@ -58,7 +58,7 @@ apart x left m more e h =
 
 -- ---- the messages from a place of a stream on
 
-module _ {M : Type 0} (sp : M → boxes.Message) (limit : ℕ) (tables : List Interface) (d : Direction)
+module _ {M : Type 0} (sp : M → boxes.QueuedMessage) (limit : ℕ) (tables : List Interface) (d : Direction)
     (streams : Direction → List ℕ) (t : ℕ) (F : List Judged → List M → List M → Type 0) where
   -- the message at a place keeps all rules
   abbrev pub KeepsOne : Type 0
@@ -147,7 +147,8 @@ module _ {M : Type 0} (sp : M → boxes.Message) (limit : ℕ) (tables : List In
 
   -- Begun are these messages, the first of those not yet recorded: of their bytes these stand in
   -- the stream and others are still to come.
-  pub walk : KeepsOne → (later : List M) (begun others : List boxes.Message) (e : List Judged) (seen : List M) (p : ℕ)
+  pub walk : KeepsOne → (later : List M) (begun others : List boxes.QueuedMessage) (e : List Judged) (seen : List M)
+      (p : ℕ)
       (x left : List ℕ) → F e seen later → drop p (streams d) ≡ x → p ≤ length (streams d)
       → map sp later ≡ begun ++ others → x ++ left ≡ all_bytes begun → Each (λ m. IsMessage limit m.bytes) begun
       → (knowledge tables e).taken d + length (all_tokens begun) ≤ t
@@ -159,10 +160,11 @@ module _ {M : Type 0} (sp : M → boxes.Message) (limit : ℕ) (tables : List In
       let first : sp m ≡ b = cc is in
       let rest : map sp later ≡ begun ++ others = cc is in
       let here : x ++ left ≡ (sp m).bytes ++ all_bytes begun =
-      bytes ∙ ap (λ (y : boxes.Message). y.bytes ++ all_bytes begun) (sym first) in
-      let good : IsMessage limit (sp m).bytes = subst (λ (y : boxes.Message). IsMessage limit y.bytes)
+      bytes ∙ ap (λ (y : boxes.QueuedMessage). y.bytes ++ all_bytes begun) (sym first) in
+      let good : IsMessage limit (sp m).bytes = subst (λ (y : boxes.QueuedMessage). IsMessage limit y.bytes)
       (sym first) whole.0 in
-      let count : length b.tokens ≡ length (sp m).tokens = ap (λ (y : boxes.Message). length y.tokens) (sym first) in
+      let count : length b.tokens ≡ length (sp m).tokens = ap (λ (y : boxes.QueuedMessage). length y.tokens)
+      (sym first) in
       let all = length-append b.tokens (all_tokens begun) in
       elim (cases_lt (length x) (length (sp m).bytes)) [
         | inl h ↦ stops e seen (m ∷ later) p x f at within

@@ -20,16 +20,16 @@ use Rattle.wl_objects.proofs.Wholes.{length-message, length-spelled}
 use Rattle.wl_recording.specs.declared.piece.Direction.{Direction}
 use Rattle.wl_check.specs.Merged.{mark, framed}
 use Rattle.wl_check.specs.Changes.{Call, side_of}
-use Rattle.wl_check.specs.Places.{Known as Knows}
-use Rattle.wl_check.specs.Rules.{reader, called, judged, judged_message, is_bad_bind}
-use Rattle.theory_connection.specs.Meant.{Known, Message, Arg, objects, new_in, wire, tokens, spelled}
+use Rattle.wl_check.specs.Places.{KnownAtPlace as Knows}
+use Rattle.wl_check.specs.Rules.{reader_by, called, judged, judged_message, is_bad_bind}
+use Rattle.theory_connection.specs.Meant.{Known, Message, Arg, objects, new_object_in, wire, tokens, spelled_meant}
 use Rattle.theory_connection.specs.World.{Each, IfThere}
-use Rattle.theory_connection.specs.Stands.{Fits}
+use Rattle.theory_connection.specs.Stands.{FitsSignature}
 use Rattle.theory_connection.proofs.ReadAsMeant.{HasObject, Finds, received_by_any, parted}
 
 -- the checker finds each argument whose object it has and whose new id is free
 pub all_found : (r : Reader) (args : List (Arg Known)) → Each (HasObject r) (objects args)
-    → Each (λ a. IfThere (λ x. r.new_id x.id ≡ Free) (new_in a)) args → Each (Finds r) args
+    → Each (λ a. IfThere (λ x. r.new_id x.id ≡ Free) (new_object_in a)) args → Each (Finds r) args
 all_found r [] o n = tt
 all_found r (Obj None ∷ args) o n = (tt, all_found r args o n.1)
 all_found r (Obj (Some x) ∷ args) o n = (o.0, all_found r args o.1 n.1)
@@ -38,7 +38,7 @@ all_found r (NewNamed name own x ∷ args) o n = (n.0, all_found r args o n.1)
 all_found r (a ∷ args) o n = (tt, all_found r args o n.1)
 
 -- the call as which a message is read, where its target has this row
-abbrev pub call_as : Direction → Message Known → Entry → sigs.Message → Call
+abbrev pub call_as : Direction → Message Known → Entry → sigs.MessageSignature → Call
 call_as d m entry signature = record {
   direction = d;
   opcode = m.opcode;
@@ -51,37 +51,39 @@ call_as d m entry signature = record {
 }
 
 -- the bytes behind the header
-body_is : (m : Message Known) (stream more : List ℕ) (p : ℕ) → drop p stream ≡ (spelled m).bytes ++ more
-    → take (length (spelled m).bytes - 8) (drop (p + 8) stream) ≡ spelled_values (map wire m.args)
+body_is : (m : Message Known) (stream more : List ℕ) (p : ℕ) → drop p stream ≡ (spelled_meant m).bytes ++ more
+    → take (length (spelled_meant m).bytes - 8) (drop (p + 8) stream) ≡ spelled_values (map wire m.args)
 body_is m stream more p e =
     let vs = map wire m.args in
     let s = length-spelled vs in
     let l = length-message m.target.id m.opcode vs in
     let header : Header = record { object = m.target.id; size = message_len vs; opcode = m.opcode } in
-    let n : length (spelled_values vs) ≡ length (spelled m).bytes - 8 = omega (arith, l, s) in
+    let n : length (spelled_values vs) ≡ length (spelled_meant m).bytes - 8 = omega (arith, l, s) in
     let front : drop p stream ≡ header_bytes header ++ (spelled_values vs ++ more) =
     e ∙ append_assoc (header_bytes header) (spelled_values vs) more in
     let behind : drop (p + 8) stream ≡ spelled_values vs ++ more = sym (drop-drop 8 p stream) ∙ ap (drop 8) front in
-    ap (take (length (spelled m).bytes - 8)) behind ∙ take_at (spelled_values vs) more (length (spelled m).bytes - 8) n
+    ap (take (length (spelled_meant m).bytes - 8)) behind
+    ∙ take_at (spelled_values vs) more (length (spelled_meant m).bytes - 8) n
 
 -- A message that fits stands in a stream. It keeps all rules where the checker has what it names,
 -- it is no bad bind, and the tokens brought
 -- so far are at least those taken before it and its own.
 pub frame_called : (limit : ℕ) (tables : List Interface) (k : Knows) (d : Direction) (m : Message Known)
-    (stream more : List ℕ) (p t : ℕ) (o : HasObject (reader k d) m.target) (f : Fits tables (side_of d) m)
-    → IsMessage limit (spelled m).bytes → drop p stream ≡ (spelled m).bytes ++ more → Each (Finds (reader k d)) m.args
+    (stream more : List ℕ) (p t : ℕ) (o : HasObject (reader_by k d) m.target) (f : FitsSignature tables (side_of d) m)
+    → IsMessage limit (spelled_meant m).bytes → drop p stream ≡ (spelled_meant m).bytes ++ more
+    → Each (Finds (reader_by k d)) m.args
     → k.taken d + length (tokens m.args) ≤ t
     → is_bad_bind tables k (side_of d) m.opcode (call_as d m o.entry f.signature).received ≡ false
-    → judged limit tables k stream (framed d t (mark p (length (spelled m).bytes)))
+    → judged limit tables k stream (framed d t (mark p (length (spelled_meant m).bytes)))
     ≡ Ok (call_as d m o.entry f.signature)
 frame_called limit tables k d m stream more p t o f whole e args w good =
     let vs = map wire m.args in
-    let n = length (spelled m).bytes in
+    let n = length (spelled_meant m).bytes in
     let size : is_size limit n ≡ true = is_size-true limit n whole.size in
     let header = header_at (drop p stream) in
     let q = parted (drop p stream) more m.target.id m.opcode vs e (omega (arith, f.low)) f.opcode f.len in
     let enough : length (tokens m.args) ≤ t - k.taken d = omega (arith, w) in
-    let read = received_by_any tables (side_of d) (reader k d) m header
+    let read = received_by_any tables (side_of d) (reader_by k d) m header
     (t - k.taken d) o f q.object q.opcode_is args enough in
     let whole_one = judged_message tables k (framed d t (mark p n)) header (take (n - 8) (drop (p + 8) stream)) in
     ap (λ (b : Bool). cond b whole_one (Err BadSize)) size

@@ -17,7 +17,7 @@ use Rattle.wl_objects.specs.Messages.{checked}
 use Rattle.wl_connection.specs.Core.{Core}
 use Rattle.wl_connection.specs.Receiving.{Found}
 use Rattle.wl_connection.specs.Sending.{after_checked, with_following}
-use Rattle.wl_message.specs.declared.amounts.Taken.{Taken}
+use Rattle.wl_message.specs.declared.amounts.Amounts.{Amounts}
 use Rattle.wl_server.specs.declared.globals.GlobalError.{GlobalError}
 use Rattle.wl_server.specs.State as server
 use Rattle.wl_server.specs.Announcing.{owed}
@@ -26,7 +26,7 @@ use Rattle.wl_recording.specs.Piece.{Piece}
 use Rattle.theory_connection.specs.Pair.{PairState, Move, Reply, ClientSend, ClientBind, ServerSend}
 use Rattle.theory_connection.specs.Pair.{ServerDrop, PostError, AddGlobal, Withdraw, Announce}
 use Rattle.theory_connection.specs.Pair.{CarryToServer, CarryToClient, ClientNext, ServerNext, Does}
-use Rattle.theory_connection.specs.Pair.{Carried, Writes, Calls, Adds, Announces, Nexts, Carries}
+use Rattle.theory_connection.specs.Pair.{CarryOutcome, Writes, Calls, Adds, Announces, Nexts, Carries}
 use Rattle.theory_connection.specs.Pair.{accepted, refused, no_memory, done, added, announced}
 use Rattle.theory_connection.specs.Pair.{answered, moved}
 use Rattle.theory_connection.specs.Answers.{KeepsRecord}
@@ -72,7 +72,7 @@ by_next : {R : Type 0} (needs : R → Bool) (answer : Result (Option R) NextErro
 by_next needs answer p q reply p' k answered = k
 by_next needs answer p q reply p' k (no_memory h o) = refl
 
-by_carry : (taken : Taken) (p q : PairState) (reply : Carried) (p' : PairState) → HasTables p q
+by_carry : (taken : Amounts) (p q : PairState) (reply : CarryOutcome) (p' : PairState) → HasTables p q
     → Carries taken p q reply p' → HasTables p p'
 by_carry taken p q reply p' k moved = k
 by_carry taken p q reply p' k (no_memory h) = refl
@@ -81,7 +81,8 @@ following_tables : (b : Bool) (id : ℕ) (c : Core) → fixed (with_following b 
 following_tables true id c = refl
 following_tables false id c = refl
 
-checked_tables : (core : Core) (target : Object) (opcode : ℕ) (given : List Given) (r : Result sigs.Message SendError)
+checked_tables : (core : Core) (target : Object) (opcode : ℕ) (given : List Given)
+    (r : Result sigs.MessageSignature SendError)
     → fixed (after_checked core event_side target opcode given r) ≡ fixed core
 checked_tables core target opcode given (Err why) = refl
 checked_tables core target opcode given (Ok signature) = following_tables _ _ _

@@ -5,8 +5,8 @@ use Rattle.std.specs.declared.option.Option.{Option}
 use Rattle.std.specs.declared.option.Option.TheVariants.{Some}
 use Rattle.theory_connection.specs.Meant.{Born, Known}
 use Rattle.theory_connection.specs.World.{Row, Open, Ending, Each}
-use Rattle.theory_connection.specs.Flight.{Rows, at, made, Ask, Use, Make, Destroy, Tell, Held}
-use Rattle.theory_connection.specs.Flight.{Fresh, Reads, done as all_read, name, end, delete}
+use Rattle.theory_connection.specs.Flight.{Rows, at, with_made, Ask, Use, Make, Destroy, Tell, IsHeldInRows}
+use Rattle.theory_connection.specs.Flight.{Fresh, ReadsInFlight, done as all_read, name, end, delete}
 use Rattle.theory_connection.specs.Plain.{ask_id}
 use Rattle.theory_connection.proofs.Flight.{put_tells, put_swap}
 use Rattle.theory_recording.specs.Leads.{Leads, done, use_, make, destroy}
@@ -14,8 +14,8 @@ use Rattle.theory_recording.specs.Leads.{Leads, done, use_, make, destroy}
 -- events in two parts
 pub record Parted (test : Born → Bool) (es fs : List Tell) (v w : Rows Row) : Type 0 where
   pub between : Rows Row
-  pub first : Reads test es v between
-  pub then : Reads test fs between w
+  pub first : ReadsInFlight test es v between
+  pub then : ReadsInFlight test fs between w
 
 module _ {test : Born → Bool} where
   leads_rows : {qs : List Ask} {w : Rows Row} {f g : ℕ → Option Row} {u b : ℕ} → f ≡ g
@@ -27,8 +27,9 @@ module _ {test : Born → Bool} where
   -- ---- an event is recorded
 
   -- what the client comes to hold is held at the recording point, where its making was recorded
-  pub held_here : {qs : List Ask} {v w : Rows Row} (x : Known) → Leads test qs v w → Held w x → x.born.birth < v.births
-      → Held v x
+  pub held_here : {qs : List Ask} {v w : Rows Row} (x : Known) → Leads test qs v w → IsHeldInRows w x
+      → x.born.birth < v.births
+      → IsHeldInRows v x
   held_here x done h l = h
   held_here x (use_ a b r) h l = held_here x r h l
   held_here x (make {v = v} {x = n} a r) h l =
@@ -79,7 +80,7 @@ module _ {test : Born → Bool} where
 
   -- requests lead to where one more makes an object
   pub make_last : {qs : List Ask} {v w : Rows Row} (n : Known) → Leads test qs v w → Fresh w n
-      → Leads test (qs ++ Make n ∷ []) v (made w n.id (Open n.born))
+      → Leads test (qs ++ Make n ∷ []) v (with_made w n.id (Open n.born))
   make_last n done g = make g done
   make_last n (use_ a b r) g = use_ a b (make_last n r g)
   make_last n (make a r) g = make a (make_last n r g)
@@ -97,7 +98,7 @@ module _ {test : Born → Bool} where
   -- ---- the events in flight in two parts
 
   -- events are read in two parts
-  pub reads_parted : (es : List Tell) {fs : List Tell} {v w : Rows Row} → Reads test (es ++ fs) v w
+  pub reads_parted : (es : List Tell) {fs : List Tell} {v w : Rows Row} → ReadsInFlight test (es ++ fs) v w
       → Parted test es fs v w
   reads_parted [] {fs} {v} {w} r = record { between = v; first = all_read; then = r }
   reads_parted (e ∷ es) (name a r) = let p = reads_parted es r
@@ -108,7 +109,8 @@ module _ {test : Born → Bool} where
       in record { between = p.between; first = delete z a b p.first; then = p.then }
 
   -- events lead from rows to just one set of rows
-  pub reads_one_way : {es : List Tell} {v a b : Rows Row} → Reads test es v a → Reads test es v b → a ≡ b
+  pub reads_one_way : {es : List Tell} {v a b : Rows Row} → ReadsInFlight test es v a → ReadsInFlight test es v b
+      → a ≡ b
   reads_one_way all_read all_read = refl
   reads_one_way (name p r) (name q s) = reads_one_way r s
   reads_one_way (end p q r) (end x y s) = reads_one_way r s

@@ -6,8 +6,8 @@ use Rattle.std.specs.declared.option.Option.{Option}
 use Rattle.std.specs.declared.option.Option.TheVariants.{None, Some}
 use Rattle.theory_connection.specs.Meant.{Born, Known}
 use Rattle.theory_connection.specs.World.{Row, Open, Ending, Each, IfThere}
-use Rattle.theory_connection.specs.Flight.{Rows, at, made, Ask, Use, Tell, Name, Delete, makes}
-use Rattle.theory_connection.specs.Flight.{destroys, ends, Held, Fresh, Reads, done as all_read}
+use Rattle.theory_connection.specs.Flight.{Rows, at, with_made, Ask, Use, Tell, Name, Delete, make_ask}
+use Rattle.theory_connection.specs.Flight.{destroy_ask, ends, IsHeldInRows, Fresh, ReadsInFlight, done as all_read}
 use Rattle.theory_connection.specs.Flight.{name, end, delete}
 use Rattle.theory_connection.specs.Plain.{ask_id}
 use Rattle.theory_connection.proofs.Flight.{free_after, live_after, counts_after, make_before}
@@ -30,10 +30,10 @@ pub record RecordsAsk (test : Born → Bool) (qs : List Ask) (here common : Rows
 -- what is known once an event is recorded
 pub record RecordsTell (test : Born → Bool) (qs : List Ask) (es fs : List Tell) (here client w : Rows Row) (x : Known)
     (xs : List Known) (after : Rows Row) : Type 0 where
-  pub target : Held here x
-  pub args : Each (Held here) xs
+  pub target : IsHeldInRows here x
+  pub args : Each (IsHeldInRows here) xs
   pub joins : Joins test qs es after client
-  pub rest : Reads test fs joins.common w
+  pub rest : ReadsInFlight test fs joins.common w
 
 at_same : (v : Rows Row) {i j : ℕ} {o : Option Row} → i ≡ j → v.rows i ≡ o → v.rows j ≡ o
 at_same v e h = sym (ap v.rows e) ∙ h
@@ -54,12 +54,12 @@ module _ {test : Born → Bool} where
       (append_assoc qs (Use x ∷ []) (map Use xs)) (leads_uses xs (use_last x r h.0 f.0) h.1 f.1)
 
   makes_last : {qs : List Ask} {es : List Tell} {here v : Rows Row} (n : Option Known) → Joins test qs es here v
-      → IfThere (Fresh v) n → Joins test (qs ++ makes n) es here (client_makes v n)
+      → IfThere (Fresh v) n → Joins test (qs ++ make_ask n) es here (client_makes v n)
   makes_last {qs} {es} {here} {v} None m c = subst (λ (l : List Ask). Joins test l es here v) (sym (append-nil qs)) m
   makes_last (Some n) m c =
       let k = counts_after m.reads in
       record {
-        common = made m.common n.id (Open n.born);
+        common = with_made m.common n.id (Open n.born);
         leads = make_last n m.leads (record {
           free = free_after n.id m.reads c.free;
           some = c.some;
@@ -73,7 +73,7 @@ module _ {test : Born → Bool} where
 
   ends_last : {qs : List Ask} {es : List Tell} {here v : Rows Row} (o : Option Known) → Joins test qs es here v
       → IfThere (OpenRow v) o → IfThere (λ x. test x.born ≡ false) o → IfThere Mortal o
-      → Joins test (qs ++ destroys o) es here (client_ends o v)
+      → Joins test (qs ++ destroy_ask o) es here (client_ends o v)
   ends_last {qs} {es} {here} {v} None m h f y = subst (λ (l : List Ask). Joins test l es here v) (sym (append-nil qs)) m
   ends_last (Some x) m h f y = record {
     common = at m.common x.id (Some (Ending x.born));
@@ -87,7 +87,8 @@ module _ {test : Born → Bool} where
       → Joins test qs es here v → OpenRow v x → test x.born ≡ false → Each (OpenRow v) xs
       → Each (λ o. test o.born ≡ false) xs → IfThere (Fresh v) n
       → IfThere (OpenRow v) o → IfThere (λ x. test x.born ≡ false) o → IfThere Mortal o
-      → Joins test (qs ++ (Use x ∷ (map Use xs ++ (makes n ++ destroys o)))) es here (client_ends o (client_makes v n))
+      → Joins test (qs ++ (Use x ∷ (map Use xs ++ (make_ask n ++ destroy_ask o)))) es here
+      (client_ends o (client_makes v n))
   asks_more {qs} {es} {here} {v} x xs n o m h f hs fs c oh of y =
       let a1 = use_last x m.leads (live_after _ _ m.reads h f) f in
       let b1 = leads_uses xs a1 (all_live_after xs m.reads hs fs) fs in
@@ -104,13 +105,13 @@ module _ {test : Born → Bool} where
   uses_off [] r = (tt, r)
   uses_off (x ∷ xs) (use_ a b r) = let k = uses_off xs r in ((a, k.0), k.1)
 
-  ends_off : {qs : List Ask} {v w : Rows Row} (o : Option Known) → Leads test (destroys o ++ qs) v w
+  ends_off : {qs : List Ask} {v w : Rows Row} (o : Option Known) → Leads test (destroy_ask o ++ qs) v w
       → Leads test qs (client_ends o v) w × IfThere Mortal o
   ends_off None r = (r, tt)
   ends_off (Some x) (destroy z a b r) = (r, z)
 
   new_off : {qs : List Ask} {v w : Rows Row} (x : Known) (xs : List Known) (n o : Option Known) → OpenRow v x
-      → Each (OpenRow v) xs → Leads test (makes n ++ (destroys o ++ qs)) v w
+      → Each (OpenRow v) xs → Leads test (make_ask n ++ (destroy_ask o ++ qs)) v w
       → RecordsAsk test qs v w x xs n o
   new_off x xs None o h k r = let p = ends_off o r
       in record { target = h; args = k; new = tt; mortal = p.1; rest = p.0 }
@@ -119,7 +120,7 @@ module _ {test : Born → Bool} where
 
   -- what the first of the requests that lead on names is open, and the others lead on behind it
   pub ask_recorded : {qs : List Ask} {v w : Rows Row} (x : Known) (xs : List Known) (n o : Option Known)
-      → Leads test ((Use x ∷ (map Use xs ++ (makes n ++ destroys o))) ++ qs) v w
+      → Leads test ((Use x ∷ (map Use xs ++ (make_ask n ++ destroy_ask o))) ++ qs) v w
       → RecordsAsk test qs v w x xs n o
   ask_recorded {qs} {v} {w} x xs n o (use_ h f r) =
       let u = uses_off xs (subst (λ (l : List Ask). Leads test l v w) (simp append_assoc) r) in
@@ -127,13 +128,13 @@ module _ {test : Born → Bool} where
 
   -- ---- an event is recorded
 
-  pub all_held_here : {qs : List Ask} {v w : Rows Row} (xs : List Known) → Leads test qs v w → Each (Held w) xs
-      → Each (λ x. x.born.birth < v.births) xs → Each (Held v) xs
+  pub all_held_here : {qs : List Ask} {v w : Rows Row} (xs : List Known) → Leads test qs v w → Each (IsHeldInRows w) xs
+      → Each (λ x. x.born.birth < v.births) xs → Each (IsHeldInRows v) xs
   all_held_here [] r h l = tt
   all_held_here (x ∷ xs) r h l = (held_here x r h.0 l.0, all_held_here xs r h.1 l.1)
 
   -- what has a destroying event is in no request that is not yet recorded
-  pub mortal_elsewhere : {qs : List Ask} {v w : Rows Row} (x : Known) → Leads test qs v w → Held v x
+  pub mortal_elsewhere : {qs : List Ask} {v w : Rows Row} (x : Known) → Leads test qs v w → IsHeldInRows v x
       → test x.born ≡ true → Each (λ a. ask_id a ≢ x.id) qs
   mortal_elsewhere x done h t = tt
   mortal_elsewhere x (use_ {v = v} {x = n} a b r) h t =
@@ -145,14 +146,16 @@ module _ {test : Born → Bool} where
       ((λ e. ne (sym e)), mortal_elsewhere x r (held_other v x n.id (Some (Ending n.born)) h ne) t)
 
   -- a name changes nothing
-  names_read : {v : Rows Row} (xs : List Known) → Each (Held v) xs → Reads test (map Name xs) v v
+  names_read : {v : Rows Row} (xs : List Known) → Each (IsHeldInRows v) xs → ReadsInFlight test (map Name xs) v v
   names_read [] h = all_read
   names_read (x ∷ xs) h = name h.0 (names_read xs h.1)
 
   ends_recorded : {qs : List Ask} {fs : List Tell} {here common w : Rows Row} (o : Option Known)
-      → Leads test qs here common → IfThere (λ x. x.born.birth < here.births) o → Reads test (ends o ++ fs) common w
-      → Reads test (ends o) common (client_ends o common) × Leads test qs (client_ends o here) (client_ends o common)
-      × Reads test fs (client_ends o common) w
+      → Leads test qs here common → IfThere (λ x. x.born.birth < here.births) o
+      → ReadsInFlight test (ends o ++ fs) common w
+      → ReadsInFlight test (ends o) common (client_ends o common)
+      × Leads test qs (client_ends o here) (client_ends o common)
+      × ReadsInFlight test fs (client_ends o common) w
   ends_recorded None l b r = (all_read, l, r)
   ends_recorded (Some x) l b (end t a r) = (
     end t a all_read,
@@ -164,11 +167,11 @@ module _ {test : Born → Bool} where
   -- an event is recorded: what it names is held there, and the meeting goes on behind it
   pub event_recorded : {qs : List Ask} {es fs : List Tell} {here client w : Rows Row} (x : Known) (xs : List Known)
       (o : Option Known) (m : Joins test qs es here client)
-      → Reads test ((Name x ∷ (map Name xs ++ ends o)) ++ fs) m.common w → x.born.birth < here.births
+      → ReadsInFlight test ((Name x ∷ (map Name xs ++ ends o)) ++ fs) m.common w → x.born.birth < here.births
       → Each (λ y. y.born.birth < here.births) xs → IfThere (λ y. y.born.birth < here.births) o
       → RecordsTell test qs (es ++ (Name x ∷ (map Name xs ++ ends o))) fs here client w x xs (client_ends o here)
   event_recorded {fs = fs} {w = w} x xs o m (name a r) l ls lo =
-      let n = reads_all xs (subst (λ (l : List Tell). Reads test l m.common w) (simp append_assoc) r) in
+      let n = reads_all xs (subst (λ (l : List Tell). ReadsInFlight test l m.common w) (simp append_assoc) r) in
       let h = held_here x m.leads a l in
       let e = ends_recorded o m.leads lo n.1 in
       record {
@@ -185,7 +188,7 @@ module _ {test : Born → Bool} where
   -- a delete is recorded: nothing asked and not yet recorded is about its id
   pub delete_recorded : {qs : List Ask} {es fs : List Tell} {here client w : Rows Row} (x : Known)
       (m : Joins test qs es here client)
-      → Reads test (Delete x ∷ fs) m.common w → x.born.birth < here.births → Each (λ a. ask_id a ≢ x.id) qs
+      → ReadsInFlight test (Delete x ∷ fs) m.common w → x.born.birth < here.births → Each (λ a. ask_id a ≢ x.id) qs
       → RecordsTell test qs (es ++ Delete x ∷ []) fs here client w x [] (at here x.id None)
   delete_recorded x m (delete z a b r) l e = record {
     target = held_here x m.leads a l;

@@ -15,19 +15,19 @@ use Rattle.wl_object_map.specs.Views.{look-opening}
 use Rattle.wl_recording.specs.declared.piece.Direction.{Direction}
 use Rattle.wl_recording.specs.declared.piece.Direction.TheVariants.{ToServer, ToClient}
 use Rattle.wl_check.specs.Merged.{merged_within, cutting}
-use Rattle.wl_check.specs.Places.{Known as Knows, known}
+use Rattle.wl_check.specs.Places.{KnownAtPlace as Knows, known}
 use Rattle.wl_check.specs.Session.{Judged, changes_at, judged_after, session_of}
 use Rattle.wl_check.proofs.Examined.{known_first}
-use Rattle.theory_connection.specs.World.{Row, Open, opening}
+use Rattle.theory_connection.specs.World.{Row, Open, opening_world}
 use Rattle.theory_connection.specs.Pair.{new_pair}
-use Rattle.theory_connection.specs.Flight.{client_rows, row, done as all_read}
+use Rattle.theory_connection.specs.Flight.{client_rows, row_of_entry, done as all_read}
 use Rattle.theory_connection.specs.Stands.{birth_in}
 use Rattle.theory_connection.specs.Meant.{live_entry}
 use Rattle.theory_connection.specs.World.{display_born}
 use Rattle.theory_connection.proofs.PairAtOpening.{new_stands_by}
 use Rattle.theory_recording.specs.Leads.{done}
 use Rattle.theory_recording.specs.Recorded.{Recorded}
-use Rattle.theory_recording.specs.Follows.{AllGoOn, KnownAs, Follows, knowledge, places, makers, entry_at}
+use Rattle.theory_recording.specs.Follows.{AllGoOn, KnownAs, Follows, knowledge, birth_places, makers, entry_at}
 use Rattle.theory_recording.specs.Linked.{Linked, linked, judgements}
 
 -- nothing was recorded
@@ -52,27 +52,28 @@ known_none limit tables =
     (record { objects = λ id. refl; used_is = refl; advertised_is = λ n i. refl; taken_is = λ d. refl })
     ∙ ap (λ (ms : List Judged). known (changes_at tables ms) 1) (none_judged limit tables)
 
-first_places : (tables : List Interface) → places tables [] ≡ 0 ∷ []
+first_places : (tables : List Interface) → birth_places tables [] ≡ 0 ∷ []
 unfolding makers
 first_places tables = refl
 
 first_row : (b : Bool) → first_entry b ≡ option_map (entry_at (0 ∷ []))
-    (option_map row (cond b (Some (live_entry display_born)) None))
+    (option_map row_of_entry (cond b (Some (live_entry display_born)) None))
 first_row true = refl
 first_row false = refl
 
-first_below : (b : Bool) (r : Row) → option_map row (cond b (Some (live_entry display_born)) None) ≡ Some r
+first_below : (b : Bool) (r : Row) → option_map row_of_entry (cond b (Some (live_entry display_born)) None) ≡ Some r
     → birth_in r < 1
 first_below true r e = let same : Open display_born ≡ r = cc e in let b = ap birth_in same in omega (arith, b)
 first_below false r e = absurd (cc e)
 
 known_opening : KnownAs first_known (0 ∷ []) (client_rows (opening_view display))
 known_opening = record {
-  objects = λ id. first_row (nat_eq id 1) ∙ ap (λ (o : Option Entry). option_map (entry_at (0 ∷ [])) (option_map row o))
+  objects = λ id. first_row (nat_eq id 1) ∙ ap (λ (o : Option Entry). option_map (entry_at (0 ∷ []))
+      (option_map row_of_entry o))
       (sym (look-opening display id));
   used = refl;
   births = refl;
-  below = λ id r e. first_below (nat_eq id 1) r (ap (option_map row) (sym (look-opening display id)) ∙ e);
+  below = λ id r e. first_below (nat_eq id 1) r (ap (option_map row_of_entry) (sym (look-opening display id)) ∙ e);
 }
 
 none_go_on : AllGoOn []
@@ -82,7 +83,7 @@ follows_none : (limit : ℕ) (tables : List Interface) → Follows tables [] [] 
 follows_none limit tables = record {
   passed = none_go_on;
   here = client_rows (opening_view display);
-  known_as = subst (λ (k : Knows). KnownAs k (places tables []) (client_rows (opening_view display)))
+  known_as = subst (λ (k : Knows). KnownAs k (birth_places tables []) (client_rows (opening_view display)))
       (known_none limit tables)
       (subst (λ (l : List ℕ). KnownAs first_known l (client_rows (opening_view display)))
       (sym (first_places tables)) known_opening);
@@ -113,7 +114,7 @@ none_recorded limit tables d sizes same = record {
 -- a new pair is linked with the opening world
 pub new_linked : (tables : List Interface) (client_sizes server_sizes : Sizes)
     → client_sizes.limit.bytes ≡ server_sizes.limit.bytes → Valid tables
-    → Linked (new_pair tables client_sizes server_sizes) opening
+    → Linked (new_pair tables client_sizes server_sizes) opening_world
 new_linked tables client_sizes server_sizes one v = linked [] [] (refl, refl) (record {
   stands = new_stands_by tables client_sizes server_sizes one v;
   requests = record {

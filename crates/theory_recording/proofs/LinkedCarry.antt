@@ -9,20 +9,20 @@ use Rattle.wl_client.specs.declared.globals.Global.{Global as Remembered}
 use Rattle.wl_server.specs.State.{Global}
 use Rattle.wl_recording.specs.declared.piece.Direction.{Direction}
 use Rattle.wl_recording.specs.declared.piece.Direction.TheVariants.{ToServer, ToClient}
-use Rattle.wl_check.specs.Merged.{stream_of, tokens_of}
+use Rattle.wl_check.specs.Merged.{stream_of, piece_tokens}
 use Rattle.wl_check.specs.Session.{Judged}
 use Rattle.wl_check.proofs.PiecesOfCarry.{carry_brings}
-use Rattle.theory_connection.specs.Meant.{Born, Known, Message, Coming, spelled, spelled_coming}
+use Rattle.theory_connection.specs.Meant.{Born, Known, Message, Coming, spelled_meant, spelled_coming}
 use Rattle.theory_connection.specs.World.{World, Row, Each}
 use Rattle.theory_connection.specs.Pair.{PairState, carries, carried_bytes, carried_tokens}
 use Rattle.theory_connection.specs.Pair.{after_carry_to_server, after_carry_to_client}
-use Rattle.theory_connection.specs.Flight.{Rows, client_rows, server_rows, all_tells, all_asks, asks, Ask, Meets}
+use Rattle.theory_connection.specs.Flight.{Rows, client_rows, server_rows, all_tells, all_asks, asks, Ask, MeetInMiddle}
 use Rattle.theory_connection.specs.Stands.{StandsBy, InFlight, AsksFitly, ComesFitly, IsGlobal, by_event}
 use Rattle.theory_connection.proofs.WholeInFlight.{all_asks_both, each_rest}
 use Rattle.theory_connection.proofs.Carries.{carry_fits}
 use Rattle.theory_connection.specs.Flight as flight
 use Rattle.theory_recording.specs.Follows.{Follows}
-use Rattle.theory_recording.specs.Linked.{LinkedBy, limit_of}
+use Rattle.theory_recording.specs.Linked.{LinkedBy, pair_limit}
 use Rattle.theory_recording.proofs.CalledAsMeant.{One}
 use Rattle.theory_recording.proofs.RecordedRequest.{ask_one}
 use Rattle.theory_recording.proofs.RecordedEvent.{Whereabouts, tell_one}
@@ -30,7 +30,8 @@ use Rattle.theory_recording.proofs.CompletedMessages.{KeepsOne}
 use Rattle.theory_recording.proofs.RecordedCarry.{recorded_other, carry_recorded}
 
 one_with : {limit : ℕ} {tables : List Interface} {d : Direction} {stream : List ℕ} {t
-    p : ℕ} {sent : boxes.Message} {e : List Judged} (P Q : List Judged → Type 0) → ((e' : List Judged) → P e' → Q e')
+    p : ℕ} {sent : boxes.QueuedMessage} {e : List Judged} (P Q : List Judged → Type 0)
+    → ((e' : List Judged) → P e' → Q e')
     → One limit tables d stream t p sent e P → One limit tables d stream t p sent e Q
 one_with {e = e} P Q f o = record { call = o.call; is = o.is; own = o.own; other = o.other; next = f _ o.next }
 
@@ -45,7 +46,7 @@ Asking tables given told_seen client remembered e seen later =
 asking_one : (limit : ℕ) (tables : List Interface) (given : List Global) (told_seen : List (Coming Known))
     (client : Rows Row) (remembered : List Remembered) (streams : Direction → List ℕ) (t : ℕ)
     → Valid tables → Each (IsGlobal tables) given
-    → KeepsOne spelled limit tables ToServer streams t (Asking tables given told_seen client remembered)
+    → KeepsOne spelled_meant limit tables ToServer streams t (Asking tables given told_seen client remembered)
 asking_one limit tables given told_seen client remembered streams t valid globals e seen later m p more f whole at
     enough =
     one_with (λ e'. Follows tables e' later told_seen client remembered)
@@ -60,7 +61,7 @@ pub carry_to_server_links : (p : PairState) (w : World) (asked : List (Message K
     → LinkedBy (after_carry_to_server p (carries p.client.core p.server.core most)) w asked told
 carry_to_server_links p w asked told most l s =
     let tables = p.server.core.tables in
-    let limit = limit_of p in
+    let limit = pair_limit p in
     let taken = carries p.client.core p.server.core most in
     let bytes = carried_bytes p.client.core taken in
     let next = after_carry_to_server p taken in
@@ -73,11 +74,11 @@ carry_to_server_links p w asked told most l s =
     (subst (Each (AsksFitly tables p.server.globals)) l.requests.is l.stands.requests.fit) in
     let there = (carry_fits p.client.core p.server.core most).tokens_there in
     let flight = subst (λ (ms : List (Message Known)). InFlight next.client.core.outbox next.server.core.inbox
-    (map spelled ms)) l.requests.is s.requests.in_boxes in
-    let c = carry_recorded spelled limit tables ToServer ps qs bytes taken.tokens F next.client.core.outbox
+    (map spelled_meant ms)) l.requests.is s.requests.in_boxes in
+    let c = carry_recorded spelled_meant limit tables ToServer ps qs bytes taken.tokens F next.client.core.outbox
     p.server.core.inbox next.server.core.inbox l.requests.seen l.requests.later brings
     (asking_one limit tables p.server.globals l.events.seen client p.client.globals (λ x. stream_of x qs)
-    (tokens_of ToServer ps + taken.tokens) l.stands.terms.valid l.stands.globals.globals)
+    (piece_tokens ToServer ps + taken.tokens) l.stands.terms.valid l.stands.globals.globals)
     l.requests.recorded (l.follows, fits) flight refl
     (omega (arith, there, length-append p.server.core.inbox.tokens (carried_tokens p.client.core taken))) refl in
     record {
@@ -128,10 +129,10 @@ whereabouts : (p : PairState) (w : World) (asked : List (Message Known)) (told :
 whereabouts p w asked told l =
     let parts = ap all_asks l.requests.is ∙ all_asks_both l.requests.seen l.requests.later in
     record {
-      meet = subst (λ (qs : List Ask). Meets (by_event p.server.core.tables) (all_tells told) qs
+      meet = subst (λ (qs : List Ask). MeetInMiddle (by_event p.server.core.tables) (all_tells told) qs
           (client_rows p.client.core.view) (server_rows p.server.core.view)) parts l.stands.meet;
       counted = l.counted;
-      display = ap (option_map flight.row) l.stands.client.display;
+      display = ap (option_map flight.row_of_entry) l.stands.client.display;
     }
 
 -- a carry to the client keeps a pair linked
@@ -141,7 +142,7 @@ pub carry_to_client_links : (p : PairState) (w : World) (asked : List (Message K
     → LinkedBy (after_carry_to_client p (carries p.server.core p.client.core most)) w asked told
 carry_to_client_links p w asked told most l s =
     let tables = p.server.core.tables in
-    let limit = limit_of p in
+    let limit = pair_limit p in
     let taken = carries p.server.core p.client.core most in
     let bytes = carried_bytes p.server.core taken in
     let next = after_carry_to_client p taken in
@@ -159,7 +160,7 @@ carry_to_client_links p w asked told most l s =
     p.client.core.inbox next.client.core.inbox l.events.seen l.events.later brings
     (telling_one limit tables p.server.globals l.requests.seen l.requests.later told client
     (server_rows p.server.core.view) p.client.globals (λ x. stream_of x qs)
-    (tokens_of ToClient ps + taken.tokens) l.stands.terms.valid
+    (piece_tokens ToClient ps + taken.tokens) l.stands.terms.valid
     (whereabouts p w asked told l))
     l.events.recorded (l.follows, l.events.is, fits) flight refl
     (omega (arith, there, length-append p.client.core.inbox.tokens (carried_tokens p.server.core taken))) refl in
@@ -170,7 +171,7 @@ carry_to_client_links p w asked told most l s =
         later = l.requests.later;
         is = l.requests.is;
         recorded = recorded_other limit tables ToClient ToServer ps qs bytes taken.tokens p.server.core.inbox
-            (map spelled l.requests.seen) brings refl (c.other ToServer refl) l.requests.recorded;
+            (map spelled_meant l.requests.seen) brings refl (c.other ToServer refl) l.requests.recorded;
       };
       events = record {
         seen = l.events.seen ++ c.fresh;

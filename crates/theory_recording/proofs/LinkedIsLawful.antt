@@ -6,13 +6,13 @@ use Rattle.wl_sigs.specs.Tables.{Interface}
 use Rattle.wl_objects.specs.declared.error.Fault.{Fault}
 use Rattle.wl_recording.specs.Piece.{Piece}
 use Rattle.wl_check.specs.declared.verdict.Verdict.{Verdict}
-use Rattle.wl_check.specs.Session.{Judged, IsLawful, SaysLawful, Answers, session_of, messages, examined, fault_of}
+use Rattle.wl_check.specs.Session.{Judged, IsLawful, SaysLawful, IsVerdictOf, session_of, messages, examined, fault_of}
 use Rattle.wl_check.proofs.Examined.{exact_from}
 use Rattle.theory_connection.specs.World.{World}
 use Rattle.theory_connection.specs.Pair.{PairState}
 use Rattle.theory_connection.specs.Stands.{Stands, stands, ended as stands_ended}
 use Rattle.theory_recording.specs.Follows.{AllGoOn}
-use Rattle.theory_recording.specs.Linked.{Linked, linked, ended, judgements, limit_of, up_to}
+use Rattle.theory_recording.specs.Linked.{Linked, linked, ended, judgements, pair_limit, up_to}
 
 no_fault : (ms : List Judged) → AllGoOn ms → (k : ℕ) (o : Option Judged) → slice_get ms k ≡ o → fault_of o ≡ None
 no_fault ms a k None e = refl
@@ -31,18 +31,19 @@ all_lawful limit tables pieces a k =
 
 -- what a linked pair recorded up to its mark is lawful
 pub linked_lawful : (p : PairState) (w : World) → Linked p w
-    → IsLawful p.server.core.tables (session_of (limit_of p) (up_to p.ended_at p.recording))
+    → IsLawful p.server.core.tables (session_of (pair_limit p) (up_to p.ended_at p.recording))
 linked_lawful p w (ended e l) = subst (λ (o : Option ℕ). IsLawful p.server.core.tables
-    (session_of (limit_of p) (up_to o p.recording))) (sym l.mark) l.lawful
+    (session_of (pair_limit p) (up_to o p.recording))) (sym l.mark) l.lawful
 linked_lawful p w (linked asked told z l) =
-    subst (λ (o : Option ℕ). IsLawful p.server.core.tables (session_of (limit_of p) (up_to o p.recording))) (sym z.1)
-    (all_lawful (limit_of p) p.server.core.tables p.recording l.follows.passed)
+    subst (λ (o : Option ℕ). IsLawful p.server.core.tables (session_of (pair_limit p) (up_to o p.recording))) (sym z.1)
+    (all_lawful (pair_limit p) p.server.core.tables p.recording l.follows.passed)
 
 -- whatever a checker answers of it, it says that the session is lawful
 pub check_says_lawful : (p : PairState) (w : World) → Linked p w → (verdict : Verdict)
-    → Answers p.server.core.tables (session_of (limit_of p) (up_to p.ended_at p.recording)) verdict → SaysLawful verdict
+    → IsVerdictOf p.server.core.tables (session_of (pair_limit p) (up_to p.ended_at p.recording)) verdict
+    → SaysLawful verdict
 check_says_lawful p w l verdict a = (exact_from p.server.core.tables
-    (session_of (limit_of p) (up_to p.ended_at p.recording)) verdict a).1 (linked_lawful p w l)
+    (session_of (pair_limit p) (up_to p.ended_at p.recording)) verdict a).1 (linked_lawful p w l)
 
 -- a linked pair stands for its world
 pub linked_stands : (p : PairState) (w : World) → Linked p w → Stands p w

@@ -17,7 +17,7 @@ use Rattle.theory_connection.proofs.Moves.{LeadsTo, stays, giving, asking, telli
 use Rattle.theory_connection.proofs.Moves.{reading_event, reading_delete, carrying_to_server}
 use Rattle.theory_connection.proofs.Moves.{carrying_to_client, Outcome, goes_on, ends_it, IsMarked}
 use Rattle.theory_connection.proofs.Steps.{does_moves}
-use Rattle.theory_recording.specs.Linked.{Linked, linked, ended, LinkedBy, EndedLawful, LinksOn, RunsLinked, limit_of}
+use Rattle.theory_recording.specs.Linked.{Linked, linked, ended, LinkedBy, EndedLawful, LinksOn, RunsLinked, pair_limit}
 use Rattle.theory_recording.proofs.LinkedIsLawful.{all_lawful}
 use Rattle.theory_recording.proofs.LinkedWithoutCarry.{again, given_links, asked_links, told_links}
 use Rattle.theory_recording.proofs.LinkedWithoutCarry.{request_links, event_links, delete_links}
@@ -54,7 +54,8 @@ all_up_to : (limit : ℕ) (tables : List Interface) (pieces : List Piece) → Is
 all_up_to limit tables pieces h = subst (λ (l : List Piece). IsLawful tables (session_of limit l))
     (sym (take_all (length pieces) pieces (omega arith))) h
 
-marked_lawful : (p p' : PairState) → IsMarked p p' → IsLawful p.server.core.tables (session_of (limit_of p) p.recording)
+marked_lawful : (p p' : PairState) → IsMarked p p' → IsLawful p.server.core.tables
+    (session_of (pair_limit p) p.recording)
     → EndedLawful p'
 marked_lawful p p' m h =
     let e = m.pieces in
@@ -62,7 +63,7 @@ marked_lawful p p' m h =
       count = length p.recording;
       mark = m.mark;
       there = omega (arith, ap (λ (l : List Piece). length l) e);
-      lawful = rw (m.tables, m.limit, e) (all_up_to (limit_of p) p.server.core.tables p.recording h);
+      lawful = rw (m.tables, m.limit, e) (all_up_to (pair_limit p) p.server.core.tables p.recording h);
     }
 
 by_outcome : (p : PairState) (w : World) (asked : List (Message Known)) (told : List (Coming Known))
@@ -70,7 +71,7 @@ by_outcome : (p : PairState) (w : World) (asked : List (Message Known)) (told : 
 by_outcome p w asked told l p' w' (goes_on asked' told' z s h) =
     linked asked' told' z (by_happening p w w' asked told l p' asked' told' h s)
 by_outcome p w asked told l p' w' (ends_it e m) =
-    ended e (marked_lawful p p' m (all_lawful (limit_of p) p.server.core.tables p.recording l.follows.passed))
+    ended e (marked_lawful p p' m (all_lawful (pair_limit p) p.server.core.tables p.recording l.follows.passed))
 
 -- ---- all moves
 

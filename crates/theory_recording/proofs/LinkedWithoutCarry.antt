@@ -21,14 +21,15 @@ use Rattle.wl_server.specs.State.{Global, Registry}
 use Rattle.wl_server.specs.Announcing.{name_at}
 use Rattle.wl_recording.specs.declared.piece.Direction.TheVariants.{ToServer, ToClient}
 use Rattle.wl_check.specs.Changes.{first_number}
-use Rattle.wl_check.specs.Places.{Known as Knows}
+use Rattle.wl_check.specs.Places.{KnownAtPlace as Knows}
 use Rattle.theory_connection.specs.Meant.{Born, Known, Message, Coming, Event, Delete, Arg, made_in}
-use Rattle.theory_connection.specs.Meant.{objects, wire, spelled, spelled_coming}
+use Rattle.theory_connection.specs.Meant.{objects, wire, spelled_meant, spelled_coming}
 use Rattle.theory_connection.specs.World.{World, Row, Each, IfThere, delete, is_registry}
 use Rattle.theory_connection.proofs.EndedObject.{ended_view, ends_have, if_by}
 use Rattle.theory_connection.specs.Pair.{PairState, with_client, with_server}
-use Rattle.theory_connection.specs.Flight.{IsBelow, Rows, Tell, tells, all_asks, all_tells, Reads, Held, client_rows}
-use Rattle.theory_connection.specs.Stands.{StandsBy, Fits, TellsGiven, by_event}
+use Rattle.theory_connection.specs.Flight.{IsBelow, Rows, Tell, tells, all_asks, all_tells, ReadsInFlight, IsHeldInRows}
+use Rattle.theory_connection.specs.Flight.{client_rows}
+use Rattle.theory_connection.specs.Stands.{StandsBy, FitsSignature, TellsGiven, by_event}
 use Rattle.theory_connection.proofs.WholeInFlight.{OpenRow, client_ends, tells_at, deletes_at}
 use Rattle.theory_connection.proofs.WholeInFlight.{all_asks_more, all_tells_more, each_more}
 use Rattle.theory_connection.proofs.WholeInFlight.{each_rest, each_by}
@@ -43,7 +44,7 @@ use Rattle.theory_connection.proofs.ClientBindMove.{find_at}
 use Rattle.theory_connection.proofs.Moves.{BindsRemembered, told_pair, delete_below}
 use Rattle.theory_recording.specs.Leads.{Joins}
 use Rattle.theory_recording.specs.Follows.{IsAdvertised, TellsAdvertised, BindsAdvertised}
-use Rattle.theory_recording.specs.Linked.{LinkedBy, knows, limit_of}
+use Rattle.theory_recording.specs.Linked.{LinkedBy, knows, pair_limit}
 use Rattle.theory_recording.proofs.LeadsByMessage.{asks_more}
 use Rattle.theory_recording.proofs.ReadIsRecorded.{rest_seen}
 
@@ -117,7 +118,7 @@ asked_joins p m c asked_later told_seen here j =
     record {
       common = more.common;
       leads = rw (all_asks_more asked_later m) more.leads;
-      reads = subst (λ (x : Rows Row). Reads test (all_tells told_seen) x more.common) (sym rows) more.reads;
+      reads = subst (λ (x : Rows Row). ReadsInFlight test (all_tells told_seen) x more.common) (sym rows) more.reads;
     }
 
 -- a pair stays linked when the client writes a request, which is not yet recorded
@@ -192,7 +193,7 @@ pub request_links : (p : PairState) (w w' : World) (m : Message Known) (ms : Lis
     → StandsBy (with_server p (left_state p.server m n)) w' ms (told ++ delete m.ends)
     → LinkedBy (with_server p (left_state p.server m n)) w' ms (told ++ delete m.ends)
 request_links p w w' m ms told n whole there l s =
-    let seen = rest_seen spelled (limit_of p) ToServer p.recording p.client.core.outbox p.server.core.inbox
+    let seen = rest_seen spelled_meant (pair_limit p) ToServer p.recording p.client.core.outbox p.server.core.inbox
     ((knows p).taken ToServer) n m ms l.stands.requests.in_boxes whole l.requests in
     let births = p.server.core.view.births in
     let now = (ended_view server_end (opens p.server.core.view (option_map made_of (made_in m.args))) m.ends).births in
@@ -227,20 +228,20 @@ told_advertised tables given k m a r e t = a (rw (r, eq-eqb m.opcode 0 e) refl) 
     (name_at tables t.iface) t.iface (ap (map wire) t.args_are) t.known
 
 event_joins : (test : Born → Bool) (m : Message Known) (asked_later : List (Message Known)) (rest : List (Coming Known))
-    (here : Rows Row) (v : View) (tables : List Interface) (f : Fits tables event_side m)
+    (here : Rows Row) (v : View) (tables : List Interface) (f : FitsSignature tables event_side m)
     → Joins test (all_asks asked_later) (all_tells (Event m ∷ rest)) here (client_rows v)
     → Joins test (all_asks asked_later) (all_tells rest) here (client_rows (ended_view client_end v m.ends))
 event_joins test m asked_later rest here v tables f j =
     let t = tells_at m.target (objects m.args) m.ends j.reads in
-    let held : IfThere (Held (client_rows v)) m.ends =
-    ends_have (Held (client_rows v)) tables event_side m f t.target t.args in
+    let held : IfThere (IsHeldInRows (client_rows v)) m.ends =
+    ends_have (IsHeldInRows (client_rows v)) tables event_side m f t.target t.args in
     let rows : client_rows (ended_view client_end v m.ends) ≡ client_ends m.ends (client_rows v) =
     client_after v None m.ends tt (if_by (held_row v) m.ends held) in
     record {
       common = j.common;
       leads = j.leads;
       reads = subst
-          (λ (x : Rows Row). Reads test (all_tells rest) x j.common) (sym rows) t.rest;
+          (λ (x : Rows Row). ReadsInFlight test (all_tells rest) x j.common) (sym rows) t.rest;
     }
 
 -- the client behind the first of what comes, with this view and these globals
@@ -270,7 +271,7 @@ coming_links : (p : PairState) (w w' : World) (asked : List (Message Known)) (c 
 coming_links p w w' asked c cs n view globals whole l joins learned s =
     let f = l.follows in
     let tables = p.server.core.tables in
-    let seen = rest_seen spelled_coming (limit_of p) ToClient p.recording p.server.core.outbox p.client.core.inbox
+    let seen = rest_seen spelled_coming (pair_limit p) ToClient p.recording p.server.core.outbox p.client.core.inbox
     ((knows p).taken ToClient) n c cs l.stands.events.in_boxes whole l.events in
     let told = subst (λ (x : List (Coming Known)). Each (TellsAdvertised tables (knows p)) x) seen.seen_is f.tells in
     record {
@@ -316,7 +317,7 @@ delete_joins test x asked_later rest here p n j =
       common = j.common;
       leads = j.leads;
       reads = subst
-          (λ (y : Rows Row). Reads test (all_tells rest) y j.common)
+          (λ (y : Rows Row). ReadsInFlight test (all_tells rest) y j.common)
           (sym (client_closed p.client.core.view x.id)) t.rest;
     }
 

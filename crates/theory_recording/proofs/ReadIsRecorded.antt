@@ -21,7 +21,8 @@ pub record SeenFirst {X : Type 0} (m : X) (ms seen later : List X) : Type 0 wher
   pub seen_is : seen ≡ m ∷ rest
   pub others : ms ≡ rest ++ later
 
-pub seen_first : {X : Type 0} (spell : X → boxes.Message) (l : ℕ) (d : Direction) (ps : List Piece) (inbox : Arrived)
+pub seen_first : {X : Type 0} (spell : X → boxes.QueuedMessage) (l : ℕ) (d : Direction) (ps : List Piece)
+    (inbox : Arrived)
     (taken n : ℕ) (m : X) (ms seen later : List X) → m ∷ ms ≡ seen ++ later
     → Recorded l d ps inbox taken (map spell seen) → in_front inbox ≡ Whole n → SeenFirst m ms seen later
 seen_first spell l d ps inbox taken n m ms [] later e r whole =
@@ -34,8 +35,8 @@ seen_first spell l d ps inbox taken n m ms (x ∷ rest) later e r whole =
     record { rest = rest; seen_is = ap (λ (y : _). y ∷ rest) first; others = others }
 
 -- the inbox without it
-pub read_on : (l : ℕ) (d : Direction) (ps : List Piece) (inbox : Arrived) (taken n t : ℕ) (first : boxes.Message)
-    (rest : List boxes.Message) → Recorded l d ps inbox taken (first ∷ rest)
+pub read_on : (l : ℕ) (d : Direction) (ps : List Piece) (inbox : Arrived) (taken n t : ℕ) (first : boxes.QueuedMessage)
+    (rest : List boxes.QueuedMessage) → Recorded l d ps inbox taken (first ∷ rest)
     → n ≡ length first.bytes → t ≡ length first.tokens → t ≤ length inbox.tokens
     → Recorded l d ps (without_first inbox n t) taken rest
 read_on l d ps inbox taken n t first rest r size own there = record {
@@ -57,14 +58,15 @@ read_on l d ps inbox taken n t first rest r size own there = record {
 }
 
 -- The first message in flight is read: it was recorded, and what was recorded behind it still is.
-pub record RestSeen {M : Type 0} (sp : M → boxes.Message) (l : ℕ) (d : Direction) (ps : List Piece) (inbox : Arrived)
+pub record RestSeen {M : Type 0} (sp : M → boxes.QueuedMessage) (l : ℕ) (d : Direction) (ps : List Piece)
+    (inbox : Arrived)
     (taken n : ℕ) (m : M) (ms seen later : List M) : Type 0 where
   pub rest : List M
   pub seen_is : seen ≡ m ∷ rest
   pub others : ms ≡ rest ++ later
   pub recorded : Recorded l d ps (without_first inbox n (length (sp m).tokens)) taken (map sp rest)
 
-pub rest_seen : {M : Type 0} (sp : M → boxes.Message) (l : ℕ) (d : Direction) (ps : List Piece) (from : Outgoing)
+pub rest_seen : {M : Type 0} (sp : M → boxes.QueuedMessage) (l : ℕ) (d : Direction) (ps : List Piece) (from : Outgoing)
     (inbox : Arrived) (taken n : ℕ) (m : M) (ms : List M) → InFlight from inbox (map sp (m ∷ ms))
     → in_front inbox ≡ Whole n
     → (r : RecordedOf sp l d ps inbox taken (m ∷ ms)) → RestSeen sp l d ps inbox taken n m ms r.seen r.later

@@ -10,7 +10,7 @@ use Rattle.wl_message.specs.Outgoing as boxes
 use Rattle.wl_message.specs.Outgoing.{Outgoing, all_bytes, all_tokens}
 use Rattle.wl_recording.specs.declared.piece.Direction.{Direction}
 use Rattle.wl_recording.specs.Piece.{Piece}
-use Rattle.wl_check.specs.Merged.{Cutting, cut, cutting, framed, same_direction, stream_of, tokens_of}
+use Rattle.wl_check.specs.Merged.{Cutting, cut, cutting, framed, same_direction, stream_of, piece_tokens}
 use Rattle.wl_check.specs.Session.{Judged, judged_after}
 use Rattle.wl_check.proofs.LastBytes.{why}
 use Rattle.wl_check.proofs.MessagesOfStream.{new_marks, fed_good, place_within}
@@ -25,7 +25,8 @@ use Rattle.theory_recording.specs.Linked.{judgements}
 use Rattle.theory_recording.proofs.CompletedMessages.{KeepsOne, walk}
 
 -- what stands behind the recorded messages is a part of one
-pub part_more : (limit : ℕ) (d : Direction) (ps : List Piece) (inbox : Arrived) (taken : ℕ) (seen : List boxes.Message)
+pub part_more : (limit : ℕ) (d : Direction) (ps : List Piece) (inbox : Arrived) (taken : ℕ)
+    (seen : List boxes.QueuedMessage)
     (r : Recorded limit d ps inbox taken seen) → front limit r.part ≡ More
 part_more limit d ps inbox taken seen r =
     let s = stream_of d ps in
@@ -37,15 +38,15 @@ same_rest : (xs ys zs : List ℕ) → xs ++ ys ≡ xs ++ zs → ys ≡ zs
 same_rest xs ys zs e = sym (drop_at xs ys (length xs) refl) ∙ ap (drop (length xs)) e ∙ drop_at xs zs (length xs) refl
 
 -- of the messages not yet recorded these are begun
-pub record Begun (limit : ℕ) (seen later others : List boxes.Message) (begun : List boxes.Message)
+pub record Begun (limit : ℕ) (seen later others : List boxes.QueuedMessage) (begun : List boxes.QueuedMessage)
     (x left : List ℕ) : Type 0 where
-  pub rest : List boxes.Message
+  pub rest : List boxes.QueuedMessage
   pub begun_is : begun ≡ seen ++ rest
   pub later_is : later ≡ rest ++ others
   pub bytes : x ++ left ≡ all_bytes rest
   pub whole : Each (λ m. IsMessage limit m.bytes) rest
 
-begun_behind : (limit : ℕ) (seen later begun others : List boxes.Message) (x left : List ℕ)
+begun_behind : (limit : ℕ) (seen later begun others : List boxes.QueuedMessage) (x left : List ℕ)
     → seen ++ later ≡ begun ++ others → (all_bytes seen ++ x) ++ left ≡ all_bytes begun
     → Each (λ m. IsMessage limit m.bytes) (seen ++ later) → Begun limit seen later others begun x left
 begun_behind limit [] later begun others x left e b w = record {
@@ -53,7 +54,7 @@ begun_behind limit [] later begun others x left e b w = record {
   begun_is = refl;
   later_is = e;
   bytes = b;
-  whole = each_front (λ (m : boxes.Message). IsMessage limit m.bytes) begun others
+  whole = each_front (λ (m : boxes.QueuedMessage). IsMessage limit m.bytes) begun others
       (subst (Each (λ m. IsMessage limit m.bytes)) e w);
 }
 begun_behind limit (s ∷ seen) later [] others x left e b w =
@@ -74,7 +75,7 @@ begun_behind limit (s ∷ seen) later (m ∷ begun) others x left e b w =
     let parted : s.bytes ++ ((all_bytes seen ++ x) ++ left) ≡ s.bytes ++ all_bytes begun =
     sym (ap (λ (l : List ℕ). l ++ left) (append_assoc s.bytes (all_bytes seen) x)
     ∙ append_assoc s.bytes (all_bytes seen ++ x) left) ∙ b
-    ∙ ap (λ (y : boxes.Message). y.bytes ++ all_bytes begun) first in
+    ∙ ap (λ (y : boxes.QueuedMessage). y.bytes ++ all_bytes begun) first in
     let r = begun_behind limit seen later begun others x left rest
     (same_rest s.bytes ((all_bytes seen ++ x) ++ left) (all_bytes begun) parted) w.1 in
     record {
@@ -89,7 +90,7 @@ begun_behind limit (s ∷ seen) later (m ∷ begun) others x left e b w =
 
 -- what a carry in one direction leaves of what was recorded in the other
 pub recorded_other : (limit : ℕ) (tables : List Interface) (d y : Direction) (ps qs : List Piece) (bytes : List ℕ)
-    (n : ℕ) (inbox : Arrived) (seen : List boxes.Message) → Brings limit tables d ps qs bytes n
+    (n : ℕ) (inbox : Arrived) (seen : List boxes.QueuedMessage) → Brings limit tables d ps qs bytes n
     → same_direction d y ≡ false → (knowledge tables (judgements limit tables qs)).taken y
     ≡ (knowledge tables (judgements limit tables ps)).taken y
     → Recorded limit y ps inbox ((knowledge tables (judgements limit tables ps)).taken y) seen
@@ -107,7 +108,7 @@ recorded_other limit tables d y ps qs bytes n inbox seen b apart taken r =
 
 -- ---- a carry
 
-module _ {M : Type 0} (sp : M → boxes.Message) (limit : ℕ) (tables : List Interface) (d : Direction)
+module _ {M : Type 0} (sp : M → boxes.QueuedMessage) (limit : ℕ) (tables : List Interface) (d : Direction)
     (ps qs : List Piece) (bytes : List ℕ) (n : ℕ) (F : List Judged → List M → List M → Type 0) where
   -- what it brings is recorded, and what it completes keeps all rules
   pub record CarryRecorded (inbox : Arrived) (seen later : List M) : Type 0 where
@@ -123,7 +124,7 @@ module _ {M : Type 0} (sp : M → boxes.Message) (limit : ℕ) (tables : List In
 
   -- What a carry brings is recorded, and each message that it completes keeps what one keeps.
   pub carry_recorded : (from : Outgoing) (inbox inbox' : Arrived) (seen later : List M)
-      → Brings limit tables d ps qs bytes n → KeepsOne sp limit tables d (λ x. stream_of x qs) (tokens_of d ps + n) F
+      → Brings limit tables d ps qs bytes n → KeepsOne sp limit tables d (λ x. stream_of x qs) (piece_tokens d ps + n) F
       → Recorded limit d ps inbox ((knowledge tables (judgements limit tables ps)).taken d) (map sp seen)
       → F (judgements limit tables ps) seen later → InFlight from inbox' (map sp (seen ++ later))
       → inbox'.bytes ≡ inbox.bytes ++ bytes → length inbox'.tokens ≡ length inbox.tokens + n
@@ -134,7 +135,7 @@ module _ {M : Type 0} (sp : M → boxes.Message) (limit : ℕ) (tables : List In
       subst (λ (l : ℕ). Each (λ m. IsMessage l m.bytes) (map sp (seen ++ later))) new_limit flight.whole in
       let s = stream_of d ps in
       let streams : Direction → List ℕ = λ x. stream_of x qs in
-      let t = tokens_of d ps + n in
+      let t = piece_tokens d ps + n in
       let place = (cut limit s).place in
       let e = judgements limit tables ps in
       let x = r.part ++ bytes in
@@ -190,7 +191,7 @@ module _ {M : Type 0} (sp : M → boxes.Message) (limit : ℕ) (tables : List In
               ap (λ (j : List Judged). (knowledge tables j).taken d) judged_is ∙ w.own in
               let b : length (all_tokens (map sp (seen ++ w.fresh)))
               ≡ length (all_tokens (map sp seen)) + length (all_tokens (map sp w.fresh)) =
-              (let y = ap (λ (l : List boxes.Message). length (all_tokens l)) (map-append sp seen w.fresh)
+              (let y = ap (λ (l : List boxes.QueuedMessage). length (all_tokens l)) (map-append sp seen w.fresh)
               in let z = ap length (all_tokens_more (map sp seen) (map sp w.fresh)) in
               omega (arith, y, z, length-append (all_tokens (map sp seen)) (all_tokens (map sp w.fresh)))) in
               let count = brings.own_count in

@@ -18,17 +18,17 @@ use Rattle.wl_objects.specs.Messages.{is_delete_id, ended_id}
 use Rattle.wl_client.specs.declared.globals.Global.{Global as Remembered}
 use Rattle.wl_server.specs.State.{Global}
 use Rattle.wl_recording.specs.declared.piece.Direction.TheVariants.{ToClient}
-use Rattle.wl_check.specs.Changes.{changes, destroyed, is_global, first_number}
+use Rattle.wl_check.specs.Changes.{changes, destroyed_id, is_global, first_number}
 use Rattle.wl_check.specs.Places.{is_id, unless_deleted, frees}
-use Rattle.wl_check.specs.Rules.{reader}
+use Rattle.wl_check.specs.Rules.{reader_by}
 use Rattle.wl_check.specs.Session.{Judged}
 use Rattle.wl_check.proofs.LongerRecording.{behind_one, advertised_own}
 use Rattle.theory_connection.specs.Meant.{Born, Known, Message, Coming, Event, Delete, objects}
-use Rattle.theory_connection.specs.Meant.{wire, tokens, spelled, spelled_coming}
+use Rattle.theory_connection.specs.Meant.{wire, tokens, spelled_meant, spelled_coming}
 use Rattle.theory_connection.specs.World.{Row, Open, Each, IfThere, display_born}
 use Rattle.theory_connection.proofs.EndedObject.{if_by}
 use Rattle.theory_connection.specs.Flight.{IsBelow, Rows, at, Tell, Name, ends, tells, all_tells}
-use Rattle.theory_connection.specs.Flight.{all_asks, Held, Reads, Meets}
+use Rattle.theory_connection.specs.Flight.{all_asks, IsHeldInRows, ReadsInFlight, MeetInMiddle}
 use Rattle.theory_connection.specs.Stands.{ComesFitly, TellsFitly, by_event}
 use Rattle.theory_connection.specs.Plain.{ask_id}
 use Rattle.theory_connection.proofs.Flight.{live_after, free_after, put_same}
@@ -37,7 +37,7 @@ use Rattle.theory_connection.proofs.WholeInFlight.{each_rest, all_tells_more, de
 use Rattle.theory_connection.proofs.Plain.{free_asks}
 use Rattle.theory_connection.proofs.EventRead.{deleting, delete_signature}
 use Rattle.theory_connection.proofs.ReadAsMeant.{HasObject}
-use Rattle.theory_recording.specs.Follows.{Follows, knowledge, places, TellsAdvertised, KnownAs}
+use Rattle.theory_recording.specs.Follows.{Follows, knowledge, birth_places, TellsAdvertised, KnownAs}
 use Rattle.theory_recording.proofs.LeadsByAction.{held_here, reads_parted, reads_one_way}
 use Rattle.theory_recording.proofs.LeadsByMessage.{event_recorded, delete_recorded}
 use Rattle.theory_recording.proofs.JudgedAsMeant.{all_found, call_as, frame_called}
@@ -53,7 +53,7 @@ use Rattle.theory_recording.proofs.CalledAsMeant.{other_taken, call_grows, known
 -- what is in flight, and what of it was recorded
 pub record Whereabouts (tables : List Interface) (asked_seen asked_later : List (Message Known))
     (told : List (Coming Known)) (client : Rows Row) (server : Rows Born) : Type 0 where
-  pub meet : Meets (by_event tables) (all_tells told) (all_asks asked_seen ++ all_asks asked_later) client server
+  pub meet : MeetInMiddle (by_event tables) (all_tells told) (all_asks asked_seen ++ all_asks asked_later) client server
   pub counted : Each (IsBelow server.births) (all_tells told)
   pub display : client.rows 1 ≡ Some (Open display_born)
 
@@ -73,24 +73,26 @@ below_more a b le xs h = each_by (λ (x : Known). x.born.birth < a) (λ (x : Kno
 -- what comes next, where the checker and the client meet
 pub record NextRead (tables : List Interface) (c : Coming Known) (later : List (Coming Known))
     (common middle : Rows Row) (births : ℕ) : Type 0 where
-  pub reads : Reads (by_event tables) (tells c ++ all_tells later) common middle
+  pub reads : ReadsInFlight (by_event tables) (tells c ++ all_tells later) common middle
   pub counted : Each (IsBelow births) (tells c)
 
 next_read : (tables : List Interface) (asked_seen asked_later : List (Message Known))
     (told seen later : List (Coming Known)) (c : Coming Known) (client common : Rows Row) (server : Rows Born)
     (w : Whereabouts tables asked_seen asked_later told client server) → told ≡ seen ++ c ∷ later
-    → Reads (by_event tables) (all_tells seen) client common
+    → ReadsInFlight (by_event tables) (all_tells seen) client common
     → NextRead tables c later common w.meet.middle server.births
 next_read tables asked_seen asked_later told seen later c client common server w is r =
     let parts : all_tells told ≡ all_tells seen ++ (tells c ++ all_tells later) =
     ap all_tells is ∙ all_tells_more seen (c ∷ later) in
-    let p = reads_parted (all_tells seen) (subst (λ (es : List Tell). Reads (by_event tables) es client w.meet.middle)
+    let p = reads_parted (all_tells seen) (subst (λ (es : List Tell). ReadsInFlight (by_event tables) es client
+    w.meet.middle)
     parts w.meet.reads) in
     let same : p.between ≡ common = reads_one_way p.first r in
     let n = each_rest (IsBelow server.births) (all_tells seen) (tells c ++ all_tells later)
     (subst (Each (IsBelow server.births)) parts w.counted) in
     record {
-      reads = subst (λ (v : Rows Row). Reads (by_event tables) (tells c ++ all_tells later) v w.meet.middle) same
+      reads = subst (λ (v : Rows Row). ReadsInFlight (by_event tables) (tells c ++ all_tells later) v w.meet.middle)
+          same
           p.then;
       counted = each_front (IsBelow server.births) (tells c) (all_tells later) n;
     }
@@ -101,7 +103,8 @@ seen_more seen c = all_tells_more seen (c ∷ []) ∙ ap (λ (es : List Tell). a
 -- ---- an event
 
 -- what it advertises
-own_global : (tables : List Interface) (e : List Judged) (m : Message Known) (entry : Entry) (signature : sigs.Message)
+own_global : (tables : List Interface) (e : List Judged) (m : Message Known) (entry : Entry)
+    (signature : sigs.MessageSignature)
     → entry.iface ≡ m.target.born.iface
     → TellsAdvertised tables (knowledge tables (e ++ Ok (call_as ToClient m entry signature) ∷ [])) (Event m)
 own_global tables e m entry signature same is name version text iface args place =
@@ -120,15 +123,15 @@ event_one : (limit : ℕ) (tables : List Interface) (given : List Global) (asked
     (stream more : List ℕ) (t p : ℕ) (e : List Judged) (seen later : List (Coming Known)) (m : Message Known)
     → Valid tables → Whereabouts tables asked_seen asked_later told client server → told ≡ seen ++ Event m ∷ later
     → Follows tables e asked_later seen client remembered → TellsFitly tables given m
-    → IsMessage limit (spelled m).bytes → drop p stream ≡ (spelled m).bytes ++ more
+    → IsMessage limit (spelled_meant m).bytes → drop p stream ≡ (spelled_meant m).bytes ++ more
     → (knowledge tables e).taken ToClient + length (tokens m.args) ≤ t
-    → One limit tables ToClient stream t p (spelled m) e
+    → One limit tables ToClient stream t p (spelled_meant m) e
     (λ e'. Follows tables e' asked_later (seen ++ Event m ∷ []) client remembered)
 event_one limit tables given asked_seen asked_later told client server remembered stream more t p e seen later m valid w
     is f fit whole bytes enough =
     let k = knowledge tables e in
     let a = f.known_as in
-    let ps = places tables e in
+    let ps = birth_places tables e in
     let next = next_read tables asked_seen asked_later told seen later
     (Event m) client f.joins.common server w is f.joins.reads in
     let first : server.births ≤ f.here.births = recorded_first (all_asks asked_seen)
@@ -142,10 +145,10 @@ event_one limit tables given asked_seen asked_later told client server remembere
     (let l = next.counted.0 in omega (arith, l, first)) below
     (if_by (λ x l. omega (arith, l, first)) m.ends ended) in
     let o = held_known k ps f.here m.target a r.target in
-    let names = each_by (Held f.here) (HasObject (reader k ToClient)) (λ x h. held_known k ps f.here x a h)
+    let names = each_by (IsHeldInRows f.here) (HasObject (reader_by k ToClient)) (λ x h. held_known k ps f.here x a h)
     (objects m.args) r.args in
-    let args = all_found (reader k ToClient) m.args names
-    (news_none (reader k ToClient) m.args m.args fit.makes_none fit.fits.new_is) in
+    let args = all_found (reader_by k ToClient) m.args names
+    (news_none (reader_by k ToClient) m.args m.args fit.makes_none fit.fits.new_is) in
     let call = call_as ToClient m o.entry fit.fits.signature in
     let e' = e ++ Ok call ∷ [] in
     let k' = knowledge tables e' in
@@ -166,7 +169,7 @@ event_one limit tables given asked_seen asked_later told client server remembere
         joins = record {
           common = r.joins.common;
           leads = r.joins.leads;
-          reads = subst (λ (es : List Tell). Reads (by_event tables) es client r.joins.common)
+          reads = subst (λ (es : List Tell). ReadsInFlight (by_event tables) es client r.joins.common)
               (sym (seen_more seen (Event m))) r.joins.reads;
         };
         remembers = remembers_on k k' grows remembered f.remembers;
@@ -182,7 +185,8 @@ event_one limit tables given asked_seen asked_later told client server remembere
 display_held : (tables : List Interface) (e : List Judged) (asked_later : List (Message Known))
     (seen : List (Coming Known)) (client : Rows Row) (remembered : List Remembered)
     (f : Follows tables e asked_later seen client remembered)
-    → Valid tables → client.rows 1 ≡ Some (Open display_born) → Held f.here (record { id = 1; born = display_born })
+    → Valid tables → client.rows 1 ≡ Some (Open display_born)
+    → IsHeldInRows f.here (record { id = 1; born = display_born })
 display_held tables e asked_later seen client remembered f valid there =
     let plain : by_event tables display_born ≡ false = rw valid.fixed_four.display refl in
     let there_still = live_after 1 display_born f.joins.reads there plain in
@@ -191,10 +195,10 @@ display_held tables e asked_later seen client remembered f valid there =
 
 -- what is known behind a delete
 known_delete : (tables : List Interface) (e : List Judged) (here : Rows Row) (x : Known) (entry : Entry)
-    (signature : sigs.Message) → KnownAs (knowledge tables e) (places tables e) here → x.id ≢ 1
+    (signature : sigs.MessageSignature) → KnownAs (knowledge tables e) (birth_places tables e) here → x.id ≢ 1
     → entry.iface ≡ display_born.iface → signature.destroys ≡ Nothing
     → KnownAs (knowledge tables (e ++ Ok (call_as ToClient (deleting x) entry signature) ∷ []))
-    (places tables (e ++ Ok (call_as ToClient (deleting x) entry signature) ∷ [])) (at here x.id None)
+    (birth_places tables (e ++ Ok (call_as ToClient (deleting x) entry signature) ∷ [])) (at here x.id None)
 known_delete tables e here x entry signature a mortal iface keeps =
     let call = call_as ToClient (deleting x) entry signature in
     let k = knowledge tables e in
@@ -204,12 +208,12 @@ known_delete tables e here x entry signature a mortal iface keeps =
     ap (λ (i : Iface). cond (is_delete_id event_side i 1) (first_number (map wire (deleting x).args)) None)
     iface in
     let destroyed_is : (changes tables call).destroyed ≡ None =
-    ap (λ (d : Destroys). destroyed (destroys_one d) (ended_id d 1 (map wire (deleting x).args))) keeps in
-    let known = known_deleted k k' (places tables e) here x a mortal
+    ap (λ (d : Destroys). destroyed_id (destroys_one d) (ended_id d 1 (map wire (deleting x).args))) keeps in
+    let known = known_deleted k k' (birth_places tables e) here x a mortal
     (λ id. b.objects id ∙ (λ i. unless_deleted (frees (deleted_is i) id) (is_id (destroyed_is i) id) (k.object id)))
     b.used_is in
     subst (λ (ps : List ℕ). KnownAs k' ps (at here x.id None))
-    (sym (places_behind tables e call ∙ append-nil (places tables e))) known
+    (sym (places_behind tables e call ∙ append-nil (birth_places tables e))) known
 
 delete_one : (limit : ℕ) (tables : List Interface) (asked_seen asked_later : List (Message Known))
     (told : List (Coming Known)) (client : Rows Row) (server : Rows Born) (remembered : List Remembered)
@@ -224,7 +228,7 @@ delete_one limit tables asked_seen asked_later told client server remembered str
     low whole bytes enough =
     let k = knowledge tables e in
     let a = f.known_as in
-    let ps = places tables e in
+    let ps = birth_places tables e in
     let next = next_read tables asked_seen asked_later told seen later
     (Delete x) client f.joins.common server w is f.joins.reads in
     let first : server.births ≤ f.here.births = recorded_first (all_asks asked_seen)
@@ -254,11 +258,11 @@ delete_one limit tables asked_seen asked_later told client server remembered str
         passed = go_on_more e (Ok call) f.passed (goes_on_as tables ToClient (deleting x) o.entry fits o.iface);
         here = at f.here x.id None;
         known_as = known_delete tables e f.here x o.entry fits.signature a now.mortal o.iface
-            (ap (λ (s : sigs.Message). s.destroys) same);
+            (ap (λ (s : sigs.MessageSignature). s.destroys) same);
         joins = record {
           common = r.joins.common;
           leads = r.joins.leads;
-          reads = subst (λ (es : List Tell). Reads (by_event tables) es client r.joins.common)
+          reads = subst (λ (es : List Tell). ReadsInFlight (by_event tables) es client r.joins.common)
               (sym (seen_more seen (Delete x))) r.joins.reads;
         };
         remembers = remembers_on k k' grows remembered f.remembers;

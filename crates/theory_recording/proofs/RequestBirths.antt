@@ -2,8 +2,8 @@
 use Rattle.std.proofs.Common.{◌≡◌, ℕ, suc, ◌+◌, ◌≤◌, Bool, List, [], ◌∷◌, ◌++◌, arith}
 use Rattle.theory_connection.specs.Meant.{Born}
 use Rattle.theory_connection.specs.World.{Row}
-use Rattle.theory_connection.specs.Flight.{Rows, Ask, Use, Make, Destroy, Tell, Reads, Tied}
-use Rattle.theory_connection.specs.Flight.{drained, use_, make, destroy, Meets}
+use Rattle.theory_connection.specs.Flight.{Rows, Ask, Use, Make, Destroy, Tell, ReadsInFlight, Tied}
+use Rattle.theory_connection.specs.Flight.{drained, use_, make, destroy, MeetInMiddle}
 use Rattle.theory_connection.proofs.Flight.{counts_after}
 use Rattle.theory_recording.specs.Leads as leads
 use Rattle.theory_recording.specs.Leads.{Leads}
@@ -35,7 +35,7 @@ module _ {test : Born → Bool} where
 
   -- the recording is ahead of the server, which reads only what was recorded
   pub recorded_first : {es fs : List Tell} (qs rs : List Ask) {here client common : Rows Row} {s : Rows Born}
-      → Leads test rs here common → Reads test es client common → Meets test fs (qs ++ rs) client s
+      → Leads test rs here common → ReadsInFlight test es client common → MeetInMiddle test fs (qs ++ rs) client s
       → s.births ≤ here.births
   recorded_first qs rs l r m =
       let a = leads_births l in

@@ -11,7 +11,7 @@ use Rattle.wl_object_map.specs.declared.object.State.TheVariants as states
 use Rattle.wl_objects.specs.Messages.{NewObject, is_bind}
 use Rattle.wl_client.specs.declared.globals.Global.{Global}
 use Rattle.wl_check.specs.Changes.{Call, first_number, is_global}
-use Rattle.wl_check.specs.Places.{Known as Knows, known}
+use Rattle.wl_check.specs.Places.{KnownAtPlace as Knows, known}
 use Rattle.wl_check.specs.Session.{Judged, changes_at, ends_session}
 use Rattle.theory_connection.specs.Meant.{Known, Message, Coming, Event, Delete, made_in, wire}
 use Rattle.theory_connection.specs.World.{Row, Open, Ending, Each}
@@ -42,29 +42,30 @@ unfoldable pub makers : (ℕ → Option NewObject) → ℕ → List ℕ
 makers made zero = []
 makers made (suc place) = makers made place ++ maker (made place) place
 
-abbrev pub places : List Interface → List Judged → List ℕ
-places tables judged = makers (λ place. (changes_at tables judged place).made) (suc (length judged))
+abbrev pub birth_places : List Interface → List Judged → List ℕ
+birth_places tables judged = makers (λ place. (changes_at tables judged place).made)
+    (suc (length judged))
 
 -- an object as the checker has it: its birth is told by its place
 abbrev pub entry_at : List ℕ → Row → Entry
-entry_at places (Open x) = record {
-  birth = get_or places x.birth 0;
+entry_at birth_places (Open x) = record {
+  birth = get_or birth_places x.birth 0;
   iface = x.iface;
   version = x.version;
   state = states.Live;
 }
-entry_at places (Ending x) = record {
-  birth = get_or places x.birth 0;
+entry_at birth_places (Ending x) = record {
+  birth = get_or birth_places x.birth 0;
   iface = x.iface;
   version = x.version;
   state = states.Zombie;
 }
 
 -- The checker knows just these rows.
-pub record KnownAs (k : Knows) (places : List ℕ) (here : Rows Row) : Type 0 where
-  pub objects : (id : ℕ) → k.object id ≡ option_map (entry_at places) (here.rows id)
+pub record KnownAs (k : Knows) (birth_places : List ℕ) (here : Rows Row) : Type 0 where
+  pub objects : (id : ℕ) → k.object id ≡ option_map (entry_at birth_places) (here.rows id)
   pub used : k.used ≡ here.used
-  pub births : length places ≡ here.births
+  pub births : length birth_places ≡ here.births
   pub below : (id : ℕ) (r : Row) → here.rows id ≡ Some r → birth_in r < here.births
 
 -- ---- globals
@@ -99,7 +100,7 @@ pub record Follows (tables : List Interface) (judged : List Judged)
     (remembered : List Global) : Type 0 where
   pub passed : AllGoOn judged
   pub here : Rows Row
-  pub known_as : KnownAs (knowledge tables judged) (places tables judged) here
+  pub known_as : KnownAs (knowledge tables judged) (birth_places tables judged) here
   pub joins : Joins (by_event tables) (all_asks asked_later) (all_tells told_seen) here client
   pub remembers : Each (λ g. IsAdvertised (knowledge tables judged) g.name g.iface.0 g.version)
       remembered

@@ -2,7 +2,8 @@
 use Rattle.std.specs.Prelude.{◌≡◌, ◌≢◌, Bool, false, List, [], ◌∷◌, Some}
 use Rattle.theory_connection.specs.Meant.{Born, Known}
 use Rattle.theory_connection.specs.World.{Row, Open, Ending}
-use Rattle.theory_connection.specs.Flight.{Rows, at, made, Ask, Use, Make, Destroy, Tell, Fresh, Reads}
+use Rattle.theory_connection.specs.Flight.{Rows, at, with_made, Ask, Use, Make, Destroy, Tell}
+use Rattle.theory_connection.specs.Flight.{Fresh, ReadsInFlight}
 
 -- All of these requests may be recorded one after another where v is known: each object that one
 -- uses is open when its turn comes, each new one has an id that is free or next, and is the next
@@ -13,7 +14,7 @@ pub data Leads (by_event : Born → Bool) : List Ask → Rows Row → Rows Row �
       → v.rows x.id ≡ Some (Open x.born) → by_event x.born ≡ false
       → Leads by_event qs v w → Leads by_event (Use x ∷ qs) v w
   make : {qs : List Ask} {v w : Rows Row} {x : Known} → Fresh v x
-      → Leads by_event qs (made v x.id (Open x.born)) w → Leads by_event (Make x ∷ qs) v w
+      → Leads by_event qs (with_made v x.id (Open x.born)) w → Leads by_event (Make x ∷ qs) v w
   destroy : {qs : List Ask} {v w : Rows Row} {x : Known}
       → x.id ≢ 1 → v.rows x.id ≡ Some (Open x.born) → by_event x.born ≡ false
       → Leads by_event qs (at v x.id (Some (Ending x.born))) w → Leads by_event (Destroy x ∷ qs) v w
@@ -24,4 +25,4 @@ pub record Joins (by_event : Born → Bool) (later : List Ask) (seen : List Tell
     (here client : Rows Row) : Type 0 where
   pub common : Rows Row
   pub leads : Leads by_event later here common
-  pub reads : Reads by_event seen client common
+  pub reads : ReadsInFlight by_event seen client common

@@ -7,9 +7,9 @@ use Rattle.wl_message.specs.Outgoing as boxes
 use Rattle.wl_recording.specs.declared.piece.Direction.{Direction}
 use Rattle.wl_recording.specs.declared.piece.Direction.TheVariants.{ToServer, ToClient}
 use Rattle.wl_recording.specs.Piece.{Piece}
-use Rattle.wl_check.specs.Places.{Known as Knows}
+use Rattle.wl_check.specs.Places.{KnownAtPlace as Knows}
 use Rattle.wl_check.specs.Session.{Judged, IsLawful, messages, session_of}
-use Rattle.theory_connection.specs.Meant.{Known, Message, Coming, spelled, spelled_coming}
+use Rattle.theory_connection.specs.Meant.{Known, Message, Coming, spelled_meant, spelled_coming}
 use Rattle.theory_connection.specs.World.{World, Each}
 use Rattle.theory_connection.specs.Pair.{PairState, Move, Reply}
 use Rattle.theory_connection.specs.Flight.{client_rows, all_tells, IsBelow}
@@ -23,19 +23,20 @@ abbrev pub judgements : ℕ → List Interface → List Piece → List Judged
 judgements limit tables pieces = messages tables (session_of limit pieces)
 
 -- the limit by which both ends go
-abbrev pub limit_of : PairState → ℕ
-limit_of p = p.server.core.inbox.limit.bytes
+abbrev pub pair_limit : PairState → ℕ
+pair_limit p = p.server.core.inbox.limit.bytes
 
 -- the messages of a pair's recording, and what the checker knows behind them
 abbrev pub judged_in : PairState → List Judged
-judged_in p = judgements (limit_of p) p.server.core.tables p.recording
+judged_in p = judgements (pair_limit p) p.server.core.tables p.recording
 
 abbrev pub knows : PairState → Knows
 knows p = knowledge p.server.core.tables (judged_in p)
 
 -- Of these messages, which are in flight in one direction, the first were recorded and the others
 -- not.
-pub record RecordedOf {M : Type 0} (as_sent : M → boxes.Message) (limit : ℕ) (direction : Direction)
+pub record RecordedOf {M : Type 0} (as_sent : M → boxes.QueuedMessage) (limit : ℕ)
+    (direction : Direction)
     (pieces : List Piece) (inbox : Arrived) (taken : ℕ) (messages : List M) : Type 0 where
   pub seen : List M
   pub later : List M
@@ -48,9 +49,9 @@ pub record RecordedOf {M : Type 0} (as_sent : M → boxes.Message) (limit : ℕ)
 pub record LinkedBy (p : PairState) (w : World) (asked : List (Message Known))
     (told : List (Coming Known)) : Type 0 where
   pub stands : StandsBy p w asked told
-  pub requests : RecordedOf spelled (limit_of p) ToServer p.recording p.server.core.inbox
+  pub requests : RecordedOf spelled_meant (pair_limit p) ToServer p.recording p.server.core.inbox
       ((knows p).taken ToServer) asked
-  pub events : RecordedOf spelled_coming (limit_of p) ToClient p.recording p.client.core.inbox
+  pub events : RecordedOf spelled_coming (pair_limit p) ToClient p.recording p.client.core.inbox
       ((knows p).taken ToClient) told
   -- what the checker knows, and how the ends differ from it
   pub follows : Follows p.server.core.tables (judged_in p) requests.later events.seen
@@ -68,7 +69,7 @@ pub record EndedLawful (p : PairState) : Type 0 where
   pub count : ℕ
   pub mark : p.ended_at ≡ Some count
   pub there : count ≤ length p.recording
-  pub lawful : IsLawful p.server.core.tables (session_of (limit_of p) (take count p.recording))
+  pub lawful : IsLawful p.server.core.tables (session_of (pair_limit p) (take count p.recording))
 
 -- The pair's recording is linked with its world. Once the world is ended this says only that what
 -- was recorded before the end is lawful.

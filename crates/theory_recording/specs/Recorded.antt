@@ -5,7 +5,7 @@ use Rattle.wl_message.specs.Outgoing.{all_bytes, all_tokens}
 use Rattle.wl_message.specs.Arrived.{Arrived}
 use Rattle.wl_recording.specs.declared.piece.Direction.{Direction}
 use Rattle.wl_recording.specs.Piece.{Piece}
-use Rattle.wl_check.specs.Merged.{cut, stream_of, tokens_of}
+use Rattle.wl_check.specs.Merged.{cut, stream_of, piece_tokens}
 
 -- These messages were recorded whole and wait in the inbox. Behind them both the inbox and the
 -- direction's stream end with the same part of the next message, which may be empty, and the stream
@@ -13,10 +13,11 @@ use Rattle.wl_check.specs.Merged.{cut, stream_of, tokens_of}
 -- took this many tokens, those of the messages that wait among them; so the tokens that the pieces
 -- brought beyond these are those that wait for later messages.
 pub record Recorded (limit : ℕ) (direction : Direction) (pieces : List Piece)
-    (inbox : Arrived) (taken : ℕ) (seen : List boxes.Message) : Type 0 where
+    (inbox : Arrived) (taken : ℕ) (seen : List boxes.QueuedMessage) : Type 0 where
   pub same_limit : inbox.limit.bytes ≡ limit
   pub part : List ℕ
   pub sound : (cut limit (stream_of direction pieces)).is_bad ≡ false
   pub rest : drop (cut limit (stream_of direction pieces)).place (stream_of direction pieces) ≡ part
   pub waits : inbox.bytes ≡ all_bytes seen ++ part
-  pub tokens : tokens_of direction pieces + length (all_tokens seen) ≡ taken + length inbox.tokens
+  pub tokens : piece_tokens direction pieces + length (all_tokens seen)
+      ≡ taken + length inbox.tokens

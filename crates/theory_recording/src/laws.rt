@@ -4,18 +4,18 @@ ghost use Rattle.wl_sigs.specs.Tables.{Interface};
 ghost use Rattle.wl_sigs.specs.Valid.{Valid};
 ghost use Rattle.wl_message.specs.declared.amounts.Sizes.{Sizes};
 ghost use Rattle.wl_check.specs.declared.verdict.Verdict.{Verdict};
-ghost use Rattle.wl_check.specs.Session.{Answers, IsLawful, SaysLawful, session_of};
-ghost use Rattle.theory_connection.specs.World.{World, opening, Each};
+ghost use Rattle.wl_check.specs.Session.{IsVerdictOf, IsLawful, SaysLawful, session_of};
+ghost use Rattle.theory_connection.specs.World.{World, opening_world, Each};
 ghost use Rattle.theory_connection.specs.Pair.{PairState, Move, Reply, Does, new_pair};
 ghost use Rattle.theory_connection.specs.Stands.{Stands};
 ghost use Rattle.theory_connection.specs.Runs.{DoesAll, IsMove};
-ghost use Rattle.theory_recording.specs.Linked.{Linked, LinksOn, RunsLinked, limit_of, up_to};
+ghost use Rattle.theory_recording.specs.Linked.{Linked, LinksOn, RunsLinked, pair_limit, up_to};
 
 /// A new pair with one limit is linked with the opening world.
 pub fn new_linked()
     ensures { (tables : List Interface) (client server : Sizes)
         → client.limit.bytes ≡ server.limit.bytes → Valid tables
-        → Linked (new_pair tables client server) opening }
+        → Linked (new_pair tables client server) opening_world }
 {}
 
 /// Whatever one move does with a linked pair, its reply is one that the world allows, and the pair
@@ -44,14 +44,14 @@ pub fn linked_stands()
 pub fn linked_lawful()
     ensures { (pair : PairState) (world : World) → Linked pair world
         → IsLawful pair.server.core.tables
-        (session_of (limit_of pair) (up_to pair.ended_at pair.recording)) }
+        (session_of (pair_limit pair) (up_to pair.ended_at pair.recording)) }
 {}
 
 /// Whatever a checker may answer of what a linked pair recorded, up to the first error that was
 /// posted, it says that the session is lawful.
 pub fn check_says_lawful()
     ensures { (pair : PairState) (world : World) (verdict : Verdict) → Linked pair world
-        → Answers pair.server.core.tables
-        (session_of (limit_of pair) (up_to pair.ended_at pair.recording)) verdict
+        → IsVerdictOf pair.server.core.tables
+        (session_of (pair_limit pair) (up_to pair.ended_at pair.recording)) verdict
         → SaysLawful verdict }
 {}

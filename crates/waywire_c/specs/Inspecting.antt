@@ -6,7 +6,7 @@ use Rattle.wl_recording.specs.declared.piece.Direction.{Direction}
 use Rattle.wl_recording.specs.declared.piece.Direction.TheVariants.{ToServer, ToClient}
 use Rattle.wl_check.specs.declared.verdict.Verdict.{Verdict}
 use Rattle.wl_check.specs.declared.verdict.Verdict.TheVariants.{Lawful, Broken}
-use Rattle.wl_check.specs.Session.{Session, Answers}
+use Rattle.wl_check.specs.Session.{Session, IsVerdictOf}
 use Rattle.wl_verdict.specs.Verdict.{verdict_line}
 
 -- Which way a sender's pieces go: those of the client, which is 0, to the server, and those of the
@@ -29,10 +29,10 @@ is_broken (Lawful requests events left_to_server left_to_client) = false
 is_broken (Broken direction index offset fault) = true
 
 -- The verdict on a session is told: by its line, the line's length, and whether a rule is broken.
-pub record Tells (tables : List Interface) (session : Session) (line : List ℕ) (len : ℕ)
+pub record TellsVerdict (tables : List Interface) (session : Session) (line : List ℕ) (len : ℕ)
     (broken : Bool) : Type 0 where
   pub verdict : Verdict
-  pub answers : Answers tables session verdict
+  pub answers : IsVerdictOf tables session verdict
   pub line_is : line ≡ verdict_line verdict
   pub length_is : len ≡ length line
   pub broken_is : broken ≡ is_broken verdict

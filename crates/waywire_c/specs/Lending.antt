@@ -19,17 +19,17 @@ with_tables h w = record { ptr = h.ptr; alloc = h.alloc; held = w }
 abbrev pub LendsTables : MutBor TablesHandle → MutBor held_tables.Denot → Fml
 LendsTables h r = Lends tables_handle held_tables h r (with_tables h.now)
 
-abbrev pub with_client : ClientHandle → held_client.Denot → ClientHandle
-with_client h w = record { ptr = h.ptr; alloc = h.alloc; held = w }
+abbrev pub holding_client : ClientHandle → held_client.Denot → ClientHandle
+holding_client h w = record { ptr = h.ptr; alloc = h.alloc; held = w }
 
 abbrev pub LendsClient : MutBor ClientHandle → MutBor held_client.Denot → Fml
-LendsClient h r = Lends client_handle held_client h r (with_client h.now)
+LendsClient h r = Lends client_handle held_client h r (holding_client h.now)
 
-abbrev pub with_server : ServerHandle → held_server.Denot → ServerHandle
-with_server h w = record { ptr = h.ptr; alloc = h.alloc; held = w }
+abbrev pub holding_server : ServerHandle → held_server.Denot → ServerHandle
+holding_server h w = record { ptr = h.ptr; alloc = h.alloc; held = w }
 
 abbrev pub LendsServer : MutBor ServerHandle → MutBor held_server.Denot → Fml
-LendsServer h r = Lends server_handle held_server h r (with_server h.now)
+LendsServer h r = Lends server_handle held_server h r (holding_server h.now)
 
 abbrev pub with_inspector : InspectorHandle → held_inspector.Denot → InspectorHandle
 with_inspector h w = record { ptr = h.ptr; alloc = h.alloc; held = w }

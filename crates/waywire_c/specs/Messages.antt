@@ -8,28 +8,29 @@ use Rattle.wl_sigs.specs.declared.signature.Side.{Side}
 use Rattle.wl_sigs.specs.declared.signature.Side.TheVariants.{Request, Event}
 use Rattle.wl_sigs.specs.declared.signature.Destroys.{Destroys}
 use Rattle.wl_sigs.specs.declared.signature.Destroys.TheVariants.{Nothing, Target, Arg}
-use Rattle.wl_sigs.specs.Tables.{Interface, Message, signature_at}
+use Rattle.wl_sigs.specs.Tables.{Interface, MessageSignature, signature_at}
 use Rattle.waywire_c.specs.declared.messages.CMessage.{CMessage}
 use Rattle.waywire_c.specs.declared.messages.CKind.{CKind}
 
 -- whose messages a number means: 0 the client's requests, 1 the server's events
-abbrev pub side_of : ℕ → Option Side
-side_of sender =
+abbrev pub side_of_sender : ℕ → Option Side
+side_of_sender sender =
     if nat_eq sender 0 then Some Request else (if nat_eq sender 1 then Some Event else None)
 
-abbrev pub message_on : List Interface → ℕ → ℕ → Option Side → Option Message
+abbrev pub message_on : List Interface → ℕ → ℕ → Option Side → Option MessageSignature
 message_on tables interface opcode None = None
 message_on tables interface opcode (Some side) = signature_at tables interface side opcode
 
 -- the message of an interface that a sender writes with this opcode
-abbrev pub message_at : List Interface → ℕ → ℕ → ℕ → Option Message
-message_at tables interface sender opcode = message_on tables interface opcode (side_of sender)
+abbrev pub message_at : List Interface → ℕ → ℕ → ℕ → Option MessageSignature
+message_at tables interface sender opcode = message_on tables interface opcode
+    (side_of_sender sender)
 
-abbrev pub kind_in : ℕ → Message → Option Kind
+abbrev pub kind_in : ℕ → MessageSignature → Option Kind
 kind_in place message = slice_get message.kinds place
 
-abbrev pub kind_at : List Interface → ℕ → ℕ → ℕ → ℕ → Option Kind
-kind_at tables interface sender opcode place =
+abbrev pub kind_of_argument : List Interface → ℕ → ℕ → ℕ → ℕ → Option Kind
+kind_of_argument tables interface sender opcode place =
     option_and_then (kind_in place) (message_at tables interface sender opcode)
 
 -- what a message destroys: 0 nothing, 1 its target, 2 what the argument at a place names
@@ -43,7 +44,7 @@ destroyed_place (Arg place) = place
 destroyed_place _ = 0
 
 -- A message is told.
-pub record TellsMessage (message : Message) (told : CMessage) (len : ℕ) : Type 0 where
+pub record TellsMessage (message : MessageSignature) (told : CMessage) (len : ℕ) : Type 0 where
   pub name : len ≡ length message.name
   pub since : told.since ≡ message.since
   pub destroys : told.destroys ≡ destroys_number message.destroys

@@ -1,9 +1,10 @@
 -- What C is told by a report, without where it lies in memory.
-use Rattle.std.specs.Prelude.{◌≡◌, ℕ, ℤ, pos, min, List, [], length, map, take, drop, Option, Some}
-use Rattle.std.specs.Prelude.{None}
+use Rattle.std.specs.Prelude.{◌≡◌, ℕ, ℤ, pos, min, Bool, false, ◌&&◌, not, nat_eq, if◌then◌else◌}
+use Rattle.std.specs.Prelude.{List, [], ◌∷◌, length, map, take, drop, Option, Some, None, is_some}
 use Rattle.std.specs.declared.result.Result.{Result}
 use Rattle.std.specs.declared.result.Result.TheVariants.{Ok, Err}
 use Rattle.wl_wire.specs.Argument.{Int, Uint, Fixed, Str, Obj, New, NewNamed, Array, Fd}
+use Rattle.wl_sigs.specs.Fixed.{registry}
 use Rattle.wl_object_map.specs.declared.object.Object.{Object}
 use Rattle.wl_object_map.specs.declared.object.Entry.{Entry}
 use Rattle.wl_object_map.specs.View.{View, look}
@@ -12,12 +13,14 @@ use Rattle.wl_objects.specs.declared.argument.Named.TheVariants as named_as
 use Rattle.wl_objects.specs.declared.error.NextError.{NextError}
 use Rattle.wl_objects.specs.declared.error.NextError.TheVariants as errors
 use Rattle.wl_objects.specs.Reading.{Reported}
+use Rattle.wl_objects.specs.Messages.{same_iface}
+use Rattle.wl_client.specs.State.{State, global_of}
 use Rattle.wl_client.specs.Reports as client
 use Rattle.wl_server.specs.Requests as server
 use Rattle.waywire_c.specs.declared.values.ReportArg.{ReportArg}
 use Rattle.waywire_c.specs.declared.reports.Report.{Report}
 use Rattle.waywire_c.specs.Statuses.{fault_place, fault_spelling}
-use Rattle.waywire_c.specs.Values.{made_object, object_of}
+use Rattle.waywire_c.specs.Values.{made_object, object_from_c}
 
 abbrev pub no_object : Object
 no_object = made_object None
@@ -37,7 +40,7 @@ arg_told_by arg = record {
   kind = arg.kind;
   int = arg.int;
   uint = arg.uint;
-  object = object_of arg.object;
+  object = object_from_c arg.object;
   length = arg.length;
 }
 
@@ -76,7 +79,7 @@ pub record TellsArgs (args : List Reported) (before after : List ReportArg) : Ty
 -- ---- reports
 
 -- What a report tells, but for its arguments.
-pub record Told : Type 0 where
+pub record ReportFields : Type 0 where
   pub kind : ℕ
   pub opcode : ℕ
   pub target : Object
@@ -89,12 +92,13 @@ pub record Told : Type 0 where
   pub text_length : ℕ
   pub place : ℕ
   pub offset : ℕ
+  pub forgotten : Bool
 
-abbrev pub told_by : Report → Told
+abbrev pub told_by : Report → ReportFields
 told_by report = record {
   kind = report.kind;
   opcode = report.opcode;
-  target = object_of report.target;
+  target = object_from_c report.target;
   arg_count = report.arg_count;
   token_count = report.token_count;
   id = report.id;
@@ -104,9 +108,10 @@ told_by report = record {
   text_length = report.text_length;
   place = report.place;
   offset = report.offset;
+  forgotten = report.forgotten;
 }
 
-abbrev pub of_kind : ℕ → Told
+abbrev pub of_kind : ℕ → ReportFields
 of_kind kind = record {
   kind = kind;
   opcode = 0;
@@ -120,10 +125,11 @@ of_kind kind = record {
   text_length = 0;
   place = 0;
   offset = 0;
+  forgotten = false;
 }
 
 -- of why no message was read
-abbrev pub told_unread : NextError → Told
+abbrev pub told_unread : NextError → ReportFields
 told_unread (errors.Fault fault offset) = record (of_kind 6) {
   spelling = fault_spelling fault;
   place = fault_place fault;
@@ -132,7 +138,7 @@ told_unread (errors.Fault fault offset) = record (of_kind 6) {
 told_unread _ = of_kind 0
 
 -- of a message for a live object, where there is room for so many arguments
-abbrev pub told_message : ℕ → Object → ℕ → List Reported → Told
+abbrev pub told_message : ℕ → Object → ℕ → List Reported → ReportFields
 told_message room target opcode args = record (of_kind 1) {
   opcode = opcode;
   target = target;
@@ -140,7 +146,7 @@ told_message room target opcode args = record (of_kind 1) {
 }
 
 -- What is told of what a client read.
-abbrev pub told_incoming : ℕ → client.Report → Told
+abbrev pub told_incoming : ℕ → client.Report → ReportFields
 told_incoming room (client.Event target opcode args) = told_message room target opcode args
 told_incoming room (client.Discarded target opcode tokens) = record (of_kind 2) {
   opcode = opcode;
@@ -157,14 +163,9 @@ told_incoming room (client.Error id named code text) = record (of_kind 5) {
   text_length = length text;
 }
 
-abbrev pub told_event : ℕ → Result (Option client.Report) NextError → Told
-told_event room (Err why) = told_unread why
-told_event room (Ok None) = of_kind 0
-told_event room (Ok (Some report)) = told_incoming room report
-
-abbrev pub args_of : client.Report → List Reported
-args_of (client.Event target opcode args) = args
-args_of _ = []
+abbrev pub args_of_event : client.Report → List Reported
+args_of_event (client.Event target opcode args) = args
+args_of_event _ = []
 
 -- The interface, by its place, and the version that a report tells of the object that it is about.
 pub record ToldEntry : Type 0 where
@@ -184,12 +185,49 @@ abbrev pub event_entry : View → Result (Option client.Report) NextError → Op
 event_entry view (Ok (Some report)) = client.entry_of view report
 event_entry view _ = None
 
+-- ---- a global that a client is told of
+
+abbrev pub is_registry_entry : Option Entry → Bool
+is_registry_entry None = false
+is_registry_entry (Some entry) = same_iface entry.iface registry
+
+abbrev pub name_told : List Reported → Option ℕ
+name_told (Uint name ∷ args) = Some name
+name_told _ = None
+
+-- the name that wl_registry.global tells, where what the report is about has this entry
+abbrev pub told_global_name : Option Entry → client.Report → Option ℕ
+told_global_name entry (client.Event target opcode args) =
+    if is_registry_entry entry && nat_eq opcode 0 then name_told args else None
+told_global_name entry _ = None
+
+-- whether a client in this state is told of a global under this name, and does not remember it
+abbrev pub is_forgotten : State → Option ℕ → Bool
+is_forgotten state None = false
+is_forgotten state (Some name) = not (is_some (global_of state.globals name))
+
+-- What is told of a report of a client in this state, which is left in that one: also whether it
+-- tells of a global that the client then does not remember.
+abbrev pub told_event_by : ℕ → State → State → Result (Option client.Report) NextError
+    → ReportFields
+told_event_by room before after (Err why) = told_unread why
+told_event_by room before after (Ok None) = of_kind 0
+told_event_by room before after (Ok (Some report)) = record (told_incoming room report) {
+  forgotten = is_forgotten after (told_global_name (client.entry_of before.core.view report)
+      report);
+}
+
+-- What is told of what a client in this state reads.
+abbrev pub told_event : ℕ → State → ReportFields
+told_event room state =
+    told_event_by room state (client.after_next state) (client.next_answer state)
+
 abbrev pub event_args : Result (Option client.Report) NextError → List Reported
-event_args (Ok (Some report)) = args_of report
+event_args (Ok (Some report)) = args_of_event report
 event_args _ = []
 
 -- What is told of what a server read.
-abbrev pub told_request : ℕ → Result (Option server.Report) NextError → Told
+abbrev pub told_request : ℕ → Result (Option server.Report) NextError → ReportFields
 told_request room (Err why) = told_unread why
 told_request room (Ok None) = of_kind 0
 told_request room (Ok (Some report)) =

@@ -5,23 +5,23 @@ use Rattle.wl_message.specs.Cut.{usual_limit, IsLimit}
 use Rattle.waywire_c.specs.declared.values.CSizes.{CSizes}
 
 -- the limit that a number stands for: 0 is the usual one
-abbrev pub limit_of : CSizes → ℕ
-limit_of sizes = if nat_eq sizes.limit 0 then usual_limit else sizes.limit
+abbrev pub limit_in_c : CSizes → ℕ
+limit_in_c sizes = if nat_eq sizes.limit 0 then usual_limit else sizes.limit
 
 -- An end can have these sizes.
 pub record AreAllowed (sizes : CSizes) : Type 0 where
-  pub limit : IsLimit (limit_of sizes)
+  pub limit : IsLimit (limit_in_c sizes)
   pub out_bytes : sizes.out_bytes ≤ 16777216
   pub out_tokens : sizes.out_tokens ≤ 65536
-  pub in_bytes_low : limit_of sizes ≤ sizes.in_bytes
+  pub in_bytes_low : limit_in_c sizes ≤ sizes.in_bytes
   pub in_bytes : sizes.in_bytes ≤ 16777216
   pub in_tokens_low : 20 ≤ sizes.in_tokens
   pub in_tokens : sizes.in_tokens ≤ 65536
 
 -- These are the sizes that an end has by those of C.
-pub record AreOf (of : CSizes) (sizes : Sizes) : Type 0 where
+pub record AreSizesOf (of : CSizes) (sizes : Sizes) : Type 0 where
   pub out_bytes : sizes.out_bytes ≡ of.out_bytes
   pub out_tokens : sizes.out_tokens ≡ of.out_tokens
   pub in_bytes : sizes.in_bytes ≡ of.in_bytes
   pub in_tokens : sizes.in_tokens ≡ of.in_tokens
-  pub limit : sizes.limit.bytes ≡ limit_of of
+  pub limit : sizes.limit.bytes ≡ limit_in_c of

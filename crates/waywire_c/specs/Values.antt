@@ -3,26 +3,22 @@ use Rattle.std.specs.Prelude.{ℕ, nat_eq, if◌then◌else◌, List, [], ◌∷
 use Rattle.std.specs.Prelude.{Option, Some, None}
 use Rattle.wl_wire.specs.declared.kind.Iface.{Iface}
 use Rattle.wl_wire.specs.Argument.{Int, Uint, Fixed, Str, Obj, New, Array, Fd}
-use Rattle.wl_message.specs.declared.amounts.Fed.{Fed}
-use Rattle.wl_message.specs.declared.amounts.Taken.{Taken}
+use Rattle.wl_message.specs.declared.amounts.Amounts.{Amounts}
 use Rattle.wl_object_map.specs.declared.object.Object.{Object}
 use Rattle.wl_objects.specs.Writing.{Given}
 use Rattle.waywire_c.specs.declared.values.CObject.{CObject}
 use Rattle.waywire_c.specs.declared.values.CAmounts.{CAmounts}
 use Rattle.waywire_c.specs.declared.values.CallArg.{CallArg}
 
-abbrev pub object_of : CObject → Object
-object_of c = record { id = c.id; birth = c.birth }
+abbrev pub object_from_c : CObject → Object
+object_from_c c = record { id = c.id; birth = c.birth }
 
 abbrev pub iface_at : ℕ → Iface
 iface_at place = record { 0 = place }
 
--- how much was taken in, and how much goes or went out
-abbrev pub fed_of : CAmounts → Fed
-fed_of c = record { bytes = c.bytes; tokens = c.tokens }
-
-abbrev pub taken_of : CAmounts → Taken
-taken_of c = record { bytes = c.bytes; tokens = c.tokens }
+-- how much was taken in, or goes or went out
+abbrev pub amounts_of : CAmounts → Amounts
+amounts_of c = record { bytes = c.bytes; tokens = c.tokens }
 
 -- the object that stands where none is made
 abbrev pub made_object : Option Object → Object
@@ -39,7 +35,7 @@ given_by arg =
     else if nat_eq arg.kind 3 then Some (Fixed arg.int)
     else if nat_eq arg.kind 4 then Some (Str (Some arg.bytes.now))
     else if nat_eq arg.kind 5 then Some (Str None)
-    else if nat_eq arg.kind 6 then Some (Obj (Some (object_of arg.object)))
+    else if nat_eq arg.kind 6 then Some (Obj (Some (object_from_c arg.object)))
     else if nat_eq arg.kind 7 then Some (Obj None)
     else if nat_eq arg.kind 8 then Some (New tt)
     else if nat_eq arg.kind 9 then Some (Array arg.bytes.now)

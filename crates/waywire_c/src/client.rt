@@ -1,18 +1,20 @@
 //! What C calls of a client.
-ghost use Rattle.std.specs.Prelude.{◌≡◌, ◌≢◌, ◌↔◌, ◌++◌, length, take, drop, true, Some, Ok};
-ghost use Rattle.std.specs.Prelude.{IfSome, MatchOption};
+ghost use Rattle.std.specs.Prelude.{◌≡◌, ◌≢◌, ◌↔◌, ◌+◌, ◌++◌, length, take, drop, true, Some, Ok};
+ghost use Rattle.std.specs.Prelude.{min, slice_get, IfSome, MatchOption};
+ghost use Rattle.std.specs.FinMap.{len as row_count};
 ghost use Rattle.wl_sigs.specs.declared.signature.Side.TheVariants.{Request as request_side};
-ghost use Rattle.wl_message.specs.Outgoing.{goes, waiting_bytes, waiting_tokens};
+ghost use Rattle.wl_message.specs.Outgoing.{goes, Peeks, waiting_bytes, waiting_tokens};
 ghost use Rattle.wl_connection.specs.Core.{in_room, is_drained, live, display_object, feeds};
-ghost use Rattle.wl_connection.specs.Core.{with_arrived};
+ghost use Rattle.wl_connection.specs.Core.{feeds_len, with_arrived};
 ghost use Rattle.wl_connection.specs.Core.{with_gone};
 ghost use Rattle.wl_connection.specs.Sending.{after_send};
+ghost use Rattle.wl_connection.specs.Transport.{EndReceives};
 ghost use Rattle.wl_connection.specs.Waiting.{given_up, waiting, waiting_count};
 ghost use Rattle.wl_client.specs.State.{with_core};
 ghost use Rattle.wl_client.specs.Calls.{after_bind, bind_answer};
 ghost use Rattle.wl_client.specs.Reports.{after_next, next_answer};
 ghost use Rattle.waywire_c.specs.Statuses.{find_outcome, made_outcome, read_outcome, OrMemory};
-ghost use Rattle.waywire_c.specs.Values.{fed_of, given_in, iface_at, object_of, taken_of};
+ghost use Rattle.waywire_c.specs.Values.{amounts_of, given_in, iface_at, object_from_c};
 ghost use Rattle.waywire_c.specs.Calls.{SendTells};
 ghost use Rattle.waywire_c.specs.Inspecting.{IsTried};
 ghost use Rattle.waywire_c.specs.Sizes.{AreAllowed};
@@ -27,10 +29,10 @@ use crate::reports::Report;
 use crate::sending::tell_made;
 use crate::statuses::{BAD_SIZES, BAD_VALUE, NO_MEMORY, NOT_FOUND, OK, send_status};
 use crate::tables_handle::TablesHandle;
-use crate::values::{CAmounts, CObject, CSizes, CallArg, MAX_GIVEN, ReportArg, put_args};
+use crate::values::{CAmounts, CObject, CParts, CSizes, CallArg, MAX_GIVEN, ReportArg, put_args};
 use std::alloc::Global;
 use wl_connection::End;
-use wl_objects::Arg;
+use wl_objects::{Arg, Table};
 
 /// Makes a client with wl_display alone and empty boxes, and writes where it is to `client`.
 #[unsafe(no_mangle)]
@@ -65,7 +67,7 @@ pub extern "C" fn waywire_c_client_free(client: ClientHandle) {
 /// Writes wl_display, the first object, to `display`.
 #[unsafe(no_mangle)]
 pub extern "C" fn waywire_c_client_display(client: &mut ClientHandle, display: &mut CObject)
-    ensures display { object_of display.new ≡ display_object }
+    ensures display { object_from_c display.new ≡ display_object }
     ensures unchanged { client.new.held ≡ client.old.held }
 {
     *display = CObject::of(client.get_mut().client.display());
@@ -79,8 +81,9 @@ pub extern "C" fn waywire_c_client_live(
     interface: &mut u16,
     version: &mut u32,
 ) -> u32
-    ensures answer { result ≡ find_outcome (live client.old.held.client.core (object_of object)) }
-    ensures found { MatchOption (live client.old.held.client.core (object_of object))
+    ensures answer { result ≡ find_outcome (live client.old.held.client.core
+        (object_from_c object)) }
+    ensures found { MatchOption (live client.old.held.client.core (object_from_c object))
         ((interface.new ≡ interface.old) × (version.new ≡ version.old))
         (λ found. (found.0 ≡ iface_at interface.new) × (found.1 ≡ version.new)) }
     ensures unchanged { client.new.held ≡ client.old.held }
@@ -95,13 +98,22 @@ pub extern "C" fn waywire_c_client_live(
     }
 }
 
+/// How many objects the client has, wl_display and those that it destroyed counted.
+#[unsafe(no_mangle)]
+pub extern "C" fn waywire_c_client_object_count(client: &mut ClientHandle) -> u32
+    ensures answer { result ≡ row_count client.old.held.client.core.view.rows }
+    ensures unchanged { client.new.held ≡ client.old.held }
+{
+    client.get_mut().client.table().len()
+}
+
 /// Writes the free bytes and tokens of the inbox to `room`; zeros at a failed client.
 #[unsafe(no_mangle)]
 pub extern "C" fn waywire_c_client_in_room(client: &mut ClientHandle, room: &mut CAmounts)
-    ensures room { fed_of room.new ≡ in_room client.old.held.client.core }
+    ensures room { amounts_of room.new ≡ in_room client.old.held.client.core }
     ensures unchanged { client.new.held ≡ client.old.held }
 {
-    *room = CAmounts::fed(client.get_mut().client.in_room());
+    *room = CAmounts::of(client.get_mut().client.in_room());
 }
 
 /// Whether nothing waits in either box.
@@ -121,13 +133,13 @@ pub extern "C" fn waywire_c_client_feed(
     tokens: &[u32],
     fed: &mut CAmounts,
 )
-    ensures count { fed_of fed.new ≡ feeds client.old.held.client.core bytes.now tokens.now }
+    ensures count { amounts_of fed.new ≡ feeds client.old.held.client.core bytes.now tokens.now }
     ensures state { client.new.held.client
         ≡ with_core client.old.held.client
         (with_arrived client.old.held.client.core (take fed.new.bytes bytes.now)
         (take fed.new.tokens tokens.now)) }
 {
-    *fed = CAmounts::fed(client.get_mut().client.feed(bytes, tokens));
+    *fed = CAmounts::of(client.get_mut().client.feed(bytes, tokens));
 }
 
 /// Writes how much `take` into memory of these lengths would take to `amounts`.
@@ -138,10 +150,10 @@ pub extern "C" fn waywire_c_client_goes(
     tokens: usize,
     amounts: &mut CAmounts,
 )
-    ensures count { taken_of amounts.new ≡ goes client.old.held.client.core.outbox bytes tokens }
+    ensures count { amounts_of amounts.new ≡ goes client.old.held.client.core.outbox bytes tokens }
     ensures unchanged { client.new.held ≡ client.old.held }
 {
-    *amounts = CAmounts::taken(client.get_mut().client.goes(bytes, tokens));
+    *amounts = CAmounts::of(client.get_mut().client.goes(bytes, tokens));
 }
 
 /// Moves what waits to go into the caller's memory, and writes how much that was to `taken`.
@@ -152,7 +164,7 @@ pub extern "C" fn waywire_c_client_take(
     tokens: &mut [u32],
     taken: &mut CAmounts,
 )
-    ensures count { taken_of taken.new
+    ensures count { amounts_of taken.new
         ≡ goes client.old.held.client.core.outbox (length bytes.old) (length tokens.old) }
     ensures bytes { bytes.new
         ≡ take taken.new.bytes (waiting_bytes client.old.held.client.core.outbox)
@@ -163,7 +175,94 @@ pub extern "C" fn waywire_c_client_take(
     ensures state { client.new.held.client
         ≡ with_core client.old.held.client (with_gone client.old.held.client.core taken.new.bytes) }
 {
-    *taken = CAmounts::taken(client.get_mut().client.take(bytes, tokens));
+    *taken = CAmounts::of(client.get_mut().client.take(bytes, tokens));
+}
+
+/// Writes where the bytes lie that can go at one time to `parts`, and how many tokens go with the
+/// first of them to `tokens`.
+#[unsafe(no_mangle)]
+pub extern "C" fn waywire_c_client_peek(
+    client: &mut ClientHandle,
+    parts: &mut CParts,
+    tokens: &mut usize,
+)
+    ensures peeked { Peeks client.old.held.client.core.outbox
+        (take (parts.new.front_length + parts.new.back_length)
+        (waiting_bytes client.old.held.client.core.outbox)) tokens.new }
+    ensures unchanged { client.new.held ≡ client.old.held }
+{
+    let peek = client.get_mut().client.peek();
+    *parts = CParts::of(peek.front, peek.back);
+    *tokens = peek.tokens;
+}
+
+/// Writes the token at a place of those that wait to go to `token`.
+#[unsafe(no_mangle)]
+pub extern "C" fn waywire_c_client_token_to_go(
+    client: &mut ClientHandle,
+    place: usize,
+    token: &mut u32,
+) -> u32
+    ensures answer { result ≡ find_outcome
+        (slice_get (waiting_tokens client.old.held.client.core.outbox) place) }
+    ensures found { MatchOption (slice_get (waiting_tokens client.old.held.client.core.outbox)
+        place)
+        (token.new ≡ token.old) (λ found. token.new ≡ found) }
+    ensures unchanged { client.new.held ≡ client.old.held }
+{
+    match client.get_mut().client.token_to_go(place) {
+        Some(found) => {
+            *token = found;
+            OK
+        }
+        None => NOT_FOUND,
+    }
+}
+
+/// Takes out what went, and writes how much that was to `taken`.
+#[unsafe(no_mangle)]
+pub extern "C" fn waywire_c_client_sent(
+    client: &mut ClientHandle,
+    bytes: usize,
+    taken: &mut CAmounts,
+)
+    ensures count { amounts_of taken.new
+        ≡ goes client.old.held.client.core.outbox bytes
+        (length (waiting_tokens client.old.held.client.core.outbox)) }
+    ensures bytes { taken.new.bytes
+        ≡ min bytes (length (waiting_bytes client.old.held.client.core.outbox)) }
+    ensures state { client.new.held.client
+        ≡ with_core client.old.held.client (with_gone client.old.held.client.core taken.new.bytes) }
+{
+    *taken = CAmounts::of(client.get_mut().client.sent(bytes));
+}
+
+/// Writes where the free bytes of the inbox lie to `parts`.
+#[unsafe(no_mangle)]
+pub extern "C" fn waywire_c_client_space(client: &mut ClientHandle, parts: &mut CParts)
+    ensures room { parts.new.front_length + parts.new.back_length
+        ≡ (in_room client.old.held.client.core).bytes }
+    ensures unchanged { client.new.held ≡ client.old.held }
+{
+    let (front, back) = client.get_mut().client.space();
+    *parts = CParts::of(front, back);
+}
+
+/// Takes in what was written there, and writes how much of it to `fed`.
+#[unsafe(no_mangle)]
+pub extern "C" fn waywire_c_client_received(
+    client: &mut ClientHandle,
+    bytes: usize,
+    tokens: &[u32],
+    fed: &mut CAmounts,
+)
+    ensures count { amounts_of fed.new ≡ feeds_len client.old.held.client.core bytes tokens.now }
+    ensures state { EndReceives client.old.held.client.core fed.new.bytes
+        (take fed.new.tokens tokens.now) client.new.held.client.core }
+    ensures others { client.new.held.client
+        ≡ with_core client.old.held.client client.new.held.client.core }
+{
+    *fed = CAmounts::of(client.get_mut().client.received(bytes, tokens));
 }
 
 /// Gives a client up: moves the tokens that wait in its boxes into the caller's memory, and writes how
@@ -195,12 +294,14 @@ pub extern "C" fn waywire_c_client_send(
     made: &mut CObject,
     place: &mut usize,
 ) -> u32
-    ensures answer { SendTells client.old.held.client.core request_side (object_of target) opcode
-        (given_in args.now) result (object_of made.old) (object_of made.new) place.old place.new }
+    ensures answer { SendTells client.old.held.client.core request_side (object_from_c target)
+        opcode
+        (given_in args.now) result (object_from_c made.old) (object_from_c made.new) place.old
+        place.new }
     ensures state { result ≡ 0
         → IfSome (given_in args.now) (λ given. client.new.held.client
         ≡ with_core client.old.held.client
-        (after_send client.old.held.client.core request_side (object_of target) opcode given)) }
+        (after_send client.old.held.client.core request_side (object_from_c target) opcode given)) }
     ensures unchanged { result ≢ 0 → client.new.held ≡ client.old.held }
 {
     let mut slots = [Arg::New; MAX_GIVEN];
@@ -222,8 +323,7 @@ pub extern "C" fn waywire_c_client_next(
     args: &mut [ReportArg],
 ) -> u32
     ensures answer { result ≡ read_outcome (next_answer client.old.held.client) }
-    ensures report { told_by report.new
-        ≡ told_event (length args.old) (next_answer client.old.held.client) }
+    ensures report { told_by report.new ≡ told_event (length args.old) client.old.held.client }
     ensures entry { entry_told_by report.new ≡ entry_told
         (event_entry client.old.held.client.core.view (next_answer client.old.held.client)) }
     ensures args { TellsArgs (event_args (next_answer client.old.held.client)) args.old args.new }
@@ -244,15 +344,15 @@ pub extern "C" fn waywire_c_client_bind(
 ) -> u32
     ensures answer { OrMemory true
         (made_outcome
-        (bind_answer client.old.held.client (object_of registry) name interface.now version))
+        (bind_answer client.old.held.client (object_from_c registry) name interface.now version))
         result }
     ensures bound { result ≡ 0
-        → bind_answer client.old.held.client (object_of registry) name interface.now version
-        ≡ Ok (Some (object_of bound.new)) }
+        → bind_answer client.old.held.client (object_from_c registry) name interface.now version
+        ≡ Ok (Some (object_from_c bound.new)) }
     ensures unbound { result ≢ 0 → bound.new ≡ bound.old }
     ensures state { result ≡ 0
         → client.new.held.client
-        ≡ after_bind client.old.held.client (object_of registry) name interface.now version }
+        ≡ after_bind client.old.held.client (object_from_c registry) name interface.now version }
     ensures unchanged { result ≢ 0 → client.new.held ≡ client.old.held }
 {
     let registry = registry.object();

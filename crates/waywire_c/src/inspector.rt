@@ -3,10 +3,11 @@ ghost use Rattle.std.specs.Prelude.{◌≡◌, ◌≢◌, ◌↔◌, ℕ, List, 
 ghost use Rattle.wl_message.specs.Cut.{IsLimit};
 ghost use Rattle.wl_recording.specs.Piece.{Piece};
 ghost use Rattle.wl_sigs.specs.Tables.{Interface};
-ghost use Rattle.wl_check.specs.Inspected.{printed, HasPassed, Passes};
+ghost use Rattle.wl_check.specs.Inspected.{printed, HasPassed, PassesPiece};
 ghost use Rattle.wl_check.specs.Printed.{piece_of};
 ghost use Rattle.wl_check.specs.Session.{session_of};
-ghost use Rattle.waywire_c.specs.Inspecting.{direction_of, is_broken, IsTried, PassEnds, Tells};
+ghost use Rattle.waywire_c.specs.Inspecting.{direction_of, is_broken, IsTried, PassEnds};
+ghost use Rattle.waywire_c.specs.Inspecting.{TellsVerdict};
 
 use crate::inspector_handle::InspectorHandle;
 use crate::making;
@@ -70,7 +71,7 @@ pub extern "C" fn waywire_c_inspector_pass(
     ensures answer { PassEnds (direction_of sender) result }
     ensures passed { result ≡ 0 → IfSome (direction_of sender) (λ direction.
         (limit : ℕ) (tables : List Interface)
-        → Passes limit tables (piece_of direction bytes.now tokens)
+        → PassesPiece limit tables (piece_of direction bytes.now tokens)
         inspector.old.held.inspector inspector.new.held.inspector) }
     ensures unchanged { result ≢ 0 → inspector.new.held ≡ inspector.old.held }
 {
@@ -110,7 +111,7 @@ pub extern "C" fn waywire_c_inspector_verdict(
     ensures answer { IsTried result }
     ensures told { result ≡ 0 → (limit : ℕ) (tables : List Interface) (ps : List Piece)
         → HasPassed limit tables ps inspector.old.held.inspector
-        → Tells tables (session_of limit ps) inspector.new.held.line.items length.new
+        → TellsVerdict tables (session_of limit ps) inspector.new.held.line.items length.new
         broken.new }
     ensures unchanged { inspector.new.held.inspector ≡ inspector.old.held.inspector }
 {

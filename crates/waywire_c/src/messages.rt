@@ -1,7 +1,8 @@
 //! What C asks of the messages of the tables.
 ghost use Rattle.std.specs.Prelude.{◌≡◌, MatchOption};
-ghost use Rattle.waywire_c.specs.Messages.{destroyed_place, destroys_number, kind_at, message_at};
-ghost use Rattle.waywire_c.specs.Messages.{place_or_any, side_of, TellsKind, TellsMessage};
+ghost use Rattle.waywire_c.specs.Messages.{destroyed_place, destroys_number, kind_of_argument};
+ghost use Rattle.waywire_c.specs.Messages.{message_at, place_or_any, side_of_sender, TellsKind};
+ghost use Rattle.waywire_c.specs.Messages.{TellsMessage};
 ghost use Rattle.waywire_c.specs.Statuses.{find_outcome};
 
 use crate::statuses::{NOT_FOUND, OK};
@@ -37,7 +38,7 @@ pub struct CKind {
 }
 
 fn side_of(sender: u32) -> Option<Side>
-    ensures { result ≡ side_of sender }
+    ensures { result ≡ side_of_sender sender }
 {
     match sender {
         0 => Some(Side::Request),
@@ -148,8 +149,9 @@ pub extern "C" fn waywire_c_tables_kind(
     kind: &mut CKind,
 ) -> u32
     ensures answer { result
-        ≡ find_outcome (kind_at tables.old.held.tables.now interface sender opcode place) }
-    ensures told { MatchOption (kind_at tables.old.held.tables.now interface sender opcode place)
+        ≡ find_outcome (kind_of_argument tables.old.held.tables.now interface sender opcode place) }
+    ensures told { MatchOption (kind_of_argument tables.old.held.tables.now interface sender opcode
+        place)
         (kind.new ≡ kind.old) (λ found. TellsKind found kind.new) }
     ensures unchanged { tables.new.held ≡ tables.old.held }
 {

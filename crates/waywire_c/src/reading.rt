@@ -3,13 +3,13 @@ ghost use Rattle.std.specs.Prelude.{◌≡◌, ◌≢◌, length, None};
 ghost use Rattle.wl_client.specs.Reports.{after_next as after_event, next_answer};
 ghost use Rattle.wl_server.specs.Requests.{after_next as after_request};
 ghost use Rattle.wl_server.specs.Requests.{next_answer as request_answer};
-ghost use Rattle.wl_server.specs.Requests.{opens_object, request as found_request};
+ghost use Rattle.wl_server.specs.Requests.{request_opens, request as found_request};
 ghost use Rattle.waywire_c.specs.Statuses.{read_outcome, OrMemory};
 ghost use Rattle.waywire_c.specs.Reports.{event_args, of_kind, request_args, TellsArgs, told_by};
 ghost use Rattle.waywire_c.specs.Reports.{entry_told, entry_told_by, event_entry, request_entry};
 ghost use Rattle.waywire_c.specs.Reports.{told_event, told_request};
 
-use crate::reports::{Report, incoming, nothing, request, unread};
+use crate::reports::{Report, global_told, incoming, nothing, request, unread};
 use crate::statuses::{OK, next_status};
 use crate::values::ReportArg;
 use wl_client::Client;
@@ -23,8 +23,7 @@ pub fn read_event<'t>(
     args: &mut [ReportArg],
 ) -> u32
     ensures answer { result ≡ read_outcome (next_answer client.old) }
-    ensures report { told_by report.new
-        ≡ told_event (length args.old) (next_answer client.old) }
+    ensures report { told_by report.new ≡ told_event (length args.old) client.old }
     ensures entry { entry_told_by report.new
         ≡ entry_told (event_entry client.old.core.view (next_answer client.old)) }
     ensures args { TellsArgs (event_args (next_answer client.old)) args.old args.new }
@@ -32,7 +31,11 @@ pub fn read_event<'t>(
 {
     match client.next_with_entry() {
         Ok(Some(read)) => {
+            let global = global_told(read);
             *report = incoming(read, args);
+            if let Some(name) = global {
+                report.forgotten = !client.remembers(name);
+            }
             OK
         }
         Ok(None) => {
@@ -52,7 +55,7 @@ pub fn read_request<'t>(
     report: &mut Report,
     args: &mut [ReportArg],
 ) -> u32
-    ensures answer { OrMemory (opens_object server.old.core (found_request server.old))
+    ensures answer { OrMemory (request_opens server.old.core (found_request server.old))
         (read_outcome (request_answer server.old)) result }
     ensures report { result ≢ 11 → told_by report.new
         ≡ told_request (length args.old) (request_answer server.old) }

@@ -3,14 +3,16 @@ ghost use Rattle.std.specs.Prelude.{◌≡◌, min, length, None, Some};
 ghost use Rattle.wl_objects.specs.Parsed.{seen_args};
 ghost use Rattle.wl_client.specs.Outlines.{lent_report as lent_event};
 ghost use Rattle.wl_server.specs.Seen.{lent_report as lent_request};
-ghost use Rattle.waywire_c.specs.Reports.{args_of, of_kind, TellsArgs, told_by, told_incoming};
-ghost use Rattle.waywire_c.specs.Reports.{entry_told, entry_told_by, told_message, told_unread};
+ghost use Rattle.waywire_c.specs.Reports.{args_of_event, told_global_name, of_kind, TellsArgs};
+ghost use Rattle.waywire_c.specs.Reports.{told_by, entry_told, entry_told_by, told_incoming};
+ghost use Rattle.waywire_c.specs.Reports.{told_message, told_unread};
 
 use crate::statuses::{fault_place, fault_spelling};
 use crate::values::{CObject, ReportArg, named, shown, start_of, start_of_tokens};
 use wl_client::{Incoming, IncomingWithEntry};
-use wl_objects::{Args, Entry, NextError};
+use wl_objects::{Args, Entry, GotRef, NextError, REGISTRY};
 use wl_server::RequestWithEntry;
+use wl_sigs::event::wl_registry::GLOBAL;
 
 /// What a report tells.
 const NOTHING: u32 = 0;
@@ -53,6 +55,8 @@ pub struct Report {
     pub offset: u64,
     /// What the object that the report is about had before the message; zeros where there is none.
     pub interface: u16,
+    /// Whether it is wl_registry.global, and the client does not remember the global.
+    pub forgotten: bool,
     pub version: u32,
 }
 
@@ -78,6 +82,7 @@ fn plain(kind: u32) -> Report
         place: 0,
         offset: 0,
         interface: 0,
+        forgotten: false,
         version: 0,
     }
 }
@@ -142,13 +147,35 @@ pub fn request(read: &mut RequestWithEntry<'_>, slots: &mut [ReportArg]) -> Repo
     with_entry(report, Some(*entry))
 }
 
+/// The name of the global that a client is told of, where it reads wl_registry.global.
+#[inline(always)]
+pub fn global_told(read: IncomingWithEntry<'_>) -> Option<u32>
+    ensures { result ≡ told_global_name read.entry.entry (lent_event read.entry.incoming) }
+{
+    let Incoming::Event {
+        opcode,
+        mut args,
+        ..
+    } = read.incoming
+    else {
+        return None;
+    };
+    match read.entry {
+        Some(entry) if entry.iface == REGISTRY && opcode == GLOBAL => match args.next() {
+            Some(GotRef::Uint(name)) => Some(name),
+            _ => None,
+        },
+        _ => None,
+    }
+}
+
 /// The report of what a client read, with the entry of what it is about.
 #[inline(always)]
 pub fn incoming(read: IncomingWithEntry<'_>, slots: &mut [ReportArg]) -> Report
     ensures report { told_by result
         ≡ told_incoming (length slots.old) (lent_event read.entry.incoming) }
     ensures entry { entry_told_by result ≡ entry_told read.entry.entry }
-    ensures args { TellsArgs (args_of (lent_event read.entry.incoming)) slots.old slots.new }
+    ensures args { TellsArgs (args_of_event (lent_event read.entry.incoming)) slots.old slots.new }
 {
     with_entry(event(read.incoming, slots), read.entry)
 }
@@ -158,7 +185,7 @@ pub fn incoming(read: IncomingWithEntry<'_>, slots: &mut [ReportArg]) -> Report
 fn event(read: Incoming<'_>, slots: &mut [ReportArg]) -> Report
     ensures report { told_by result
         ≡ told_incoming (length slots.old) (lent_event read.entry) }
-    ensures args { TellsArgs (args_of (lent_event read.entry)) slots.old slots.new }
+    ensures args { TellsArgs (args_of_event (lent_event read.entry)) slots.old slots.new }
 {
     match read {
         Incoming::Event {

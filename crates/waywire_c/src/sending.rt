@@ -2,7 +2,7 @@
 ghost use Rattle.std.specs.Prelude.{◌≡◌};
 ghost use Rattle.waywire_c.specs.Calls.{made_left, place_left};
 ghost use Rattle.waywire_c.specs.Statuses.{made_outcome};
-ghost use Rattle.waywire_c.specs.Values.{object_of};
+ghost use Rattle.waywire_c.specs.Values.{object_from_c};
 
 use crate::statuses::{OK, send_place, send_status};
 use crate::values::CObject;
@@ -16,7 +16,7 @@ pub fn tell_made(
     place: &mut usize,
 ) -> u32
     ensures status { result ≡ made_outcome answer }
-    ensures made { object_of made.new ≡ made_left (object_of made.old) answer }
+    ensures made { object_from_c made.new ≡ made_left (object_from_c made.old) answer }
     ensures place { place.new ≡ place_left place.old answer }
 {
     match answer {

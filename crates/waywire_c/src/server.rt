@@ -1,21 +1,23 @@
 //! What C calls of a server.
-ghost use Rattle.std.specs.Prelude.{◌≡◌, ◌≢◌, ◌↔◌, ◌++◌, length, take, drop, true, Ok, IfSome};
-ghost use Rattle.std.specs.Prelude.{MatchOption, None};
+ghost use Rattle.std.specs.Prelude.{◌≡◌, ◌≢◌, ◌↔◌, ◌+◌, ◌++◌, length, take, drop, true, Ok, IfSome};
+ghost use Rattle.std.specs.Prelude.{min, slice_get, MatchOption, None};
+ghost use Rattle.std.specs.FinMap.{len as row_count};
 ghost use Rattle.wl_sigs.specs.declared.signature.Side.TheVariants.{Event as event_side};
-ghost use Rattle.wl_message.specs.Outgoing.{goes, waiting_bytes, waiting_tokens};
+ghost use Rattle.wl_message.specs.Outgoing.{goes, Peeks, waiting_bytes, waiting_tokens};
 ghost use Rattle.wl_connection.specs.Core.{in_room, is_drained, live, display_object, feeds};
-ghost use Rattle.wl_connection.specs.Core.{with_arrived};
+ghost use Rattle.wl_connection.specs.Core.{feeds_len, with_arrived};
 ghost use Rattle.wl_connection.specs.Core.{with_gone};
 ghost use Rattle.wl_connection.specs.Sending.{after_send};
+ghost use Rattle.wl_connection.specs.Transport.{EndReceives};
 ghost use Rattle.wl_connection.specs.Waiting.{given_up, waiting, waiting_count};
 ghost use Rattle.wl_server.specs.State.{with_core};
 ghost use Rattle.wl_server.specs.Announcing.{after_announce, Fitting};
 ghost use Rattle.wl_server.specs.Calls.{add_answer, after_drop, after_error, after_withdraw};
 ghost use Rattle.wl_server.specs.Calls.{drop_refusal, error_refusal, with_global, withdraw_refusal};
-ghost use Rattle.wl_server.specs.Requests.{after_next, next_answer, opens_object, request};
+ghost use Rattle.wl_server.specs.Requests.{after_next, next_answer, request_opens, request};
 ghost use Rattle.waywire_c.specs.Statuses.{failed_outcome, find_outcome, global_outcome};
 ghost use Rattle.waywire_c.specs.Statuses.{name_outcome, read_outcome, send_outcome, OrMemory};
-ghost use Rattle.waywire_c.specs.Values.{fed_of, given_in, iface_at, object_of, taken_of};
+ghost use Rattle.waywire_c.specs.Values.{amounts_of, given_in, iface_at, object_from_c};
 ghost use Rattle.waywire_c.specs.Calls.{SendTells};
 ghost use Rattle.waywire_c.specs.Inspecting.{IsTried};
 ghost use Rattle.waywire_c.specs.Sizes.{AreAllowed};
@@ -30,10 +32,10 @@ use crate::sending::tell_made;
 use crate::server_handle::ServerHandle;
 use crate::statuses::{BAD_SIZES, BAD_VALUE, NO_MEMORY, NOT_FOUND, OK, global_status, send_status};
 use crate::tables_handle::TablesHandle;
-use crate::values::{CAmounts, CObject, CSizes, CallArg, MAX_GIVEN, ReportArg, put_args};
+use crate::values::{CAmounts, CObject, CParts, CSizes, CallArg, MAX_GIVEN, ReportArg, put_args};
 use std::alloc::Global;
 use wl_connection::End;
-use wl_objects::Arg;
+use wl_objects::{Arg, Table};
 use wl_wire::Iface;
 
 /// Makes a server with wl_display alone and empty boxes, and writes where it is to `server`.
@@ -69,7 +71,7 @@ pub extern "C" fn waywire_c_server_free(server: ServerHandle) {
 /// Writes wl_display, the first object, to `display`.
 #[unsafe(no_mangle)]
 pub extern "C" fn waywire_c_server_display(server: &mut ServerHandle, display: &mut CObject)
-    ensures display { object_of display.new ≡ display_object }
+    ensures display { object_from_c display.new ≡ display_object }
     ensures unchanged { server.new.held ≡ server.old.held }
 {
     *display = CObject::of(server.get_mut().server.display());
@@ -83,8 +85,9 @@ pub extern "C" fn waywire_c_server_live(
     interface: &mut u16,
     version: &mut u32,
 ) -> u32
-    ensures answer { result ≡ find_outcome (live server.old.held.server.core (object_of object)) }
-    ensures found { MatchOption (live server.old.held.server.core (object_of object))
+    ensures answer { result ≡ find_outcome (live server.old.held.server.core
+        (object_from_c object)) }
+    ensures found { MatchOption (live server.old.held.server.core (object_from_c object))
         ((interface.new ≡ interface.old) × (version.new ≡ version.old))
         (λ found. (found.0 ≡ iface_at interface.new) × (found.1 ≡ version.new)) }
     ensures unchanged { server.new.held ≡ server.old.held }
@@ -99,13 +102,22 @@ pub extern "C" fn waywire_c_server_live(
     }
 }
 
+/// How many objects the server has, wl_display counted.
+#[unsafe(no_mangle)]
+pub extern "C" fn waywire_c_server_object_count(server: &mut ServerHandle) -> u32
+    ensures answer { result ≡ row_count server.old.held.server.core.view.rows }
+    ensures unchanged { server.new.held ≡ server.old.held }
+{
+    server.get_mut().server.table().len()
+}
+
 /// Writes the free bytes and tokens of the inbox to `room`; zeros at a failed server.
 #[unsafe(no_mangle)]
 pub extern "C" fn waywire_c_server_in_room(server: &mut ServerHandle, room: &mut CAmounts)
-    ensures room { fed_of room.new ≡ in_room server.old.held.server.core }
+    ensures room { amounts_of room.new ≡ in_room server.old.held.server.core }
     ensures unchanged { server.new.held ≡ server.old.held }
 {
-    *room = CAmounts::fed(server.get_mut().server.in_room());
+    *room = CAmounts::of(server.get_mut().server.in_room());
 }
 
 /// Whether nothing waits in either box.
@@ -125,13 +137,13 @@ pub extern "C" fn waywire_c_server_feed(
     tokens: &[u32],
     fed: &mut CAmounts,
 )
-    ensures count { fed_of fed.new ≡ feeds server.old.held.server.core bytes.now tokens.now }
+    ensures count { amounts_of fed.new ≡ feeds server.old.held.server.core bytes.now tokens.now }
     ensures state { server.new.held.server
         ≡ with_core server.old.held.server
         (with_arrived server.old.held.server.core (take fed.new.bytes bytes.now)
         (take fed.new.tokens tokens.now)) }
 {
-    *fed = CAmounts::fed(server.get_mut().server.feed(bytes, tokens));
+    *fed = CAmounts::of(server.get_mut().server.feed(bytes, tokens));
 }
 
 /// Writes how much `take` into memory of these lengths would take to `amounts`.
@@ -142,10 +154,10 @@ pub extern "C" fn waywire_c_server_goes(
     tokens: usize,
     amounts: &mut CAmounts,
 )
-    ensures count { taken_of amounts.new ≡ goes server.old.held.server.core.outbox bytes tokens }
+    ensures count { amounts_of amounts.new ≡ goes server.old.held.server.core.outbox bytes tokens }
     ensures unchanged { server.new.held ≡ server.old.held }
 {
-    *amounts = CAmounts::taken(server.get_mut().server.goes(bytes, tokens));
+    *amounts = CAmounts::of(server.get_mut().server.goes(bytes, tokens));
 }
 
 /// Moves what waits to go into the caller's memory, and writes how much that was to `taken`.
@@ -156,7 +168,7 @@ pub extern "C" fn waywire_c_server_take(
     tokens: &mut [u32],
     taken: &mut CAmounts,
 )
-    ensures count { taken_of taken.new
+    ensures count { amounts_of taken.new
         ≡ goes server.old.held.server.core.outbox (length bytes.old) (length tokens.old) }
     ensures bytes { bytes.new
         ≡ take taken.new.bytes (waiting_bytes server.old.held.server.core.outbox)
@@ -167,7 +179,94 @@ pub extern "C" fn waywire_c_server_take(
     ensures state { server.new.held.server
         ≡ with_core server.old.held.server (with_gone server.old.held.server.core taken.new.bytes) }
 {
-    *taken = CAmounts::taken(server.get_mut().server.take(bytes, tokens));
+    *taken = CAmounts::of(server.get_mut().server.take(bytes, tokens));
+}
+
+/// Writes where the bytes lie that can go at one time to `parts`, and how many tokens go with the
+/// first of them to `tokens`.
+#[unsafe(no_mangle)]
+pub extern "C" fn waywire_c_server_peek(
+    server: &mut ServerHandle,
+    parts: &mut CParts,
+    tokens: &mut usize,
+)
+    ensures peeked { Peeks server.old.held.server.core.outbox
+        (take (parts.new.front_length + parts.new.back_length)
+        (waiting_bytes server.old.held.server.core.outbox)) tokens.new }
+    ensures unchanged { server.new.held ≡ server.old.held }
+{
+    let peek = server.get_mut().server.peek();
+    *parts = CParts::of(peek.front, peek.back);
+    *tokens = peek.tokens;
+}
+
+/// Writes the token at a place of those that wait to go to `token`.
+#[unsafe(no_mangle)]
+pub extern "C" fn waywire_c_server_token_to_go(
+    server: &mut ServerHandle,
+    place: usize,
+    token: &mut u32,
+) -> u32
+    ensures answer { result ≡ find_outcome
+        (slice_get (waiting_tokens server.old.held.server.core.outbox) place) }
+    ensures found { MatchOption (slice_get (waiting_tokens server.old.held.server.core.outbox)
+        place)
+        (token.new ≡ token.old) (λ found. token.new ≡ found) }
+    ensures unchanged { server.new.held ≡ server.old.held }
+{
+    match server.get_mut().server.token_to_go(place) {
+        Some(found) => {
+            *token = found;
+            OK
+        }
+        None => NOT_FOUND,
+    }
+}
+
+/// Takes out what went, and writes how much that was to `taken`.
+#[unsafe(no_mangle)]
+pub extern "C" fn waywire_c_server_sent(
+    server: &mut ServerHandle,
+    bytes: usize,
+    taken: &mut CAmounts,
+)
+    ensures count { amounts_of taken.new
+        ≡ goes server.old.held.server.core.outbox bytes
+        (length (waiting_tokens server.old.held.server.core.outbox)) }
+    ensures bytes { taken.new.bytes
+        ≡ min bytes (length (waiting_bytes server.old.held.server.core.outbox)) }
+    ensures state { server.new.held.server
+        ≡ with_core server.old.held.server (with_gone server.old.held.server.core taken.new.bytes) }
+{
+    *taken = CAmounts::of(server.get_mut().server.sent(bytes));
+}
+
+/// Writes where the free bytes of the inbox lie to `parts`.
+#[unsafe(no_mangle)]
+pub extern "C" fn waywire_c_server_space(server: &mut ServerHandle, parts: &mut CParts)
+    ensures room { parts.new.front_length + parts.new.back_length
+        ≡ (in_room server.old.held.server.core).bytes }
+    ensures unchanged { server.new.held ≡ server.old.held }
+{
+    let (front, back) = server.get_mut().server.space();
+    *parts = CParts::of(front, back);
+}
+
+/// Takes in what was written there, and writes how much of it to `fed`.
+#[unsafe(no_mangle)]
+pub extern "C" fn waywire_c_server_received(
+    server: &mut ServerHandle,
+    bytes: usize,
+    tokens: &[u32],
+    fed: &mut CAmounts,
+)
+    ensures count { amounts_of fed.new ≡ feeds_len server.old.held.server.core bytes tokens.now }
+    ensures state { EndReceives server.old.held.server.core fed.new.bytes
+        (take fed.new.tokens tokens.now) server.new.held.server.core }
+    ensures others { server.new.held.server
+        ≡ with_core server.old.held.server server.new.held.server.core }
+{
+    *fed = CAmounts::of(server.get_mut().server.received(bytes, tokens));
 }
 
 /// Gives a server up: moves the tokens that wait in its boxes into the caller's memory, and writes how
@@ -199,12 +298,13 @@ pub extern "C" fn waywire_c_server_send(
     made: &mut CObject,
     place: &mut usize,
 ) -> u32
-    ensures answer { SendTells server.old.held.server.core event_side (object_of target) opcode
-        (given_in args.now) result (object_of made.old) (object_of made.new) place.old place.new }
+    ensures answer { SendTells server.old.held.server.core event_side (object_from_c target) opcode
+        (given_in args.now) result (object_from_c made.old) (object_from_c made.new) place.old
+        place.new }
     ensures state { result ≡ 0
         → IfSome (given_in args.now) (λ given. server.new.held.server
         ≡ with_core server.old.held.server
-        (after_send server.old.held.server.core event_side (object_of target) opcode given)) }
+        (after_send server.old.held.server.core event_side (object_from_c target) opcode given)) }
     ensures unchanged { result ≢ 0 → server.new.held ≡ server.old.held }
 {
     let mut slots = [Arg::New; MAX_GIVEN];
@@ -226,7 +326,7 @@ pub extern "C" fn waywire_c_server_next(
     args: &mut [ReportArg],
 ) -> u32
     ensures answer { OrMemory
-        (opens_object server.old.held.server.core (request server.old.held.server))
+        (request_opens server.old.held.server.core (request server.old.held.server))
         (read_outcome (next_answer server.old.held.server)) result }
     ensures report { result ≢ 11 → told_by report.new
         ≡ told_request (length args.old) (next_answer server.old.held.server) }
@@ -248,10 +348,10 @@ pub extern "C" fn waywire_c_server_next(
 #[unsafe(no_mangle)]
 pub extern "C" fn waywire_c_server_drop_object(server: &mut ServerHandle, object: CObject) -> u32
     ensures answer { result
-        ≡ send_outcome (drop_refusal server.old.held.server.core (object_of object)) }
+        ≡ send_outcome (drop_refusal server.old.held.server.core (object_from_c object)) }
     ensures state { result ≡ 0
         → server.new.held.server ≡ with_core server.old.held.server
-        (after_drop server.old.held.server.core (object_of object)) }
+        (after_drop server.old.held.server.core (object_from_c object)) }
     ensures unchanged { result ≢ 0 → server.new.held ≡ server.old.held }
 {
     match server.get_mut().server.drop_object(object.object()) {
@@ -269,10 +369,10 @@ pub extern "C" fn waywire_c_server_post_error(
     text: &[u8],
 ) -> u32
     ensures answer { result
-        ≡ send_outcome (error_refusal server.old.held.server.core (object_of object) text.now) }
+        ≡ send_outcome (error_refusal server.old.held.server.core (object_from_c object) text.now) }
     ensures state { result ≡ 0
         → server.new.held.server ≡ with_core server.old.held.server
-        (after_error server.old.held.server.core (object_of object) code text.now) }
+        (after_error server.old.held.server.core (object_from_c object) code text.now) }
     ensures unchanged { result ≢ 0 → server.new.held ≡ server.old.held }
 {
     match server

@@ -4,11 +4,11 @@ ghost use Rattle.std.specs.Prelude.{MatchOption};
 ghost use Rattle.wl_message.specs.Arrived.{AreSizes};
 ghost use Rattle.wl_objects.specs.Writing.{given, given_of};
 ghost use Rattle.wl_objects.specs.Parsed.{lent_got};
-ghost use Rattle.waywire_c.specs.Values.{all_given, given_by, object_of};
+ghost use Rattle.waywire_c.specs.Values.{all_given, given_by, object_from_c};
 ghost use Rattle.waywire_c.specs.Reports.{arg_named, arg_of_kind, arg_told, arg_told_by};
 
 use std::ptr;
-use wl_message::{Fed, Limit, Sizes, Taken};
+use wl_message::{Amounts, Limit, Sizes};
 use wl_objects::{Arg, GotRef, Named, Object};
 use wl_wire::Fixed;
 
@@ -97,18 +97,42 @@ pub struct CAmounts {
     pub tokens: usize,
 }
 
+/// Bytes that lie in two parts, one after the other.
+#[repr(C)]
+#[derive(Clone, Copy)]
+pub struct CParts {
+    pub front: *const u8,
+    pub front_length: usize,
+    pub back: *const u8,
+    pub back_length: usize,
+}
+
+impl CParts {
+    pub fn of(front: &[u8], back: &[u8]) -> CParts
+        ensures front { result.front_length ≡ length front.now }
+        ensures back { result.back_length ≡ length back.now }
+    {
+        CParts {
+            front: start_of(front),
+            front_length: front.len(),
+            back: start_of(back),
+            back_length: back.len(),
+        }
+    }
+}
+
 impl CObject {
-    ghost use Rattle.waywire_c.specs.Values.{made_object, object_of};
+    ghost use Rattle.waywire_c.specs.Values.{made_object, object_from_c};
 
     /// What stands where there is no object.
     pub const fn none() -> CObject
-        ensures { object_of result ≡ made_object None }
+        ensures { object_from_c result ≡ made_object None }
     {
         CObject { birth: 0, id: 0 }
     }
 
     pub fn of(object: Object) -> CObject
-        ensures { object_of result ≡ object }
+        ensures { object_from_c result ≡ object }
     {
         CObject {
             birth: object.birth,
@@ -117,7 +141,7 @@ impl CObject {
     }
 
     pub fn object(self) -> Object
-        ensures { result ≡ object_of self }
+        ensures { result ≡ object_from_c self }
     {
         Object {
             id: self.id,
@@ -129,12 +153,12 @@ impl CObject {
 impl CSizes {
     ghost use Rattle.std.specs.Prelude.{◌↔◌, IsSome};
     ghost use Rattle.wl_message.specs.Cut.{IsLimit};
-    ghost use Rattle.waywire_c.specs.Sizes.{limit_of, AreAllowed, AreOf};
+    ghost use Rattle.waywire_c.specs.Sizes.{limit_in_c, AreAllowed, AreSizesOf};
 
     /// The limit, where messages can have it.
     fn limit(&self) -> Option<Limit>
-        ensures some { IsSome result ↔ IsLimit (limit_of self.now) }
-        ensures same { IfSome result (λ limit. limit.bytes ≡ limit_of self.now) }
+        ensures some { IsSome result ↔ IsLimit (limit_in_c self.now) }
+        ensures same { IfSome result (λ limit. limit.bytes ≡ limit_in_c self.now) }
     {
         if self.limit == 0 {
             return Some(Limit::USUAL);
@@ -145,7 +169,7 @@ impl CSizes {
     /// The sizes, where an end can have them.
     pub fn sizes(&self) -> Option<Sizes>
         ensures some { IsSome result ↔ AreAllowed self.now }
-        ensures same { IfSome result (λ sizes. AreOf self.now sizes) }
+        ensures same { IfSome result (λ sizes. AreSizesOf self.now sizes) }
         ensures allowed { IfSome result (λ sizes. AreSizes sizes) }
     {
         let sizes = Sizes {
@@ -164,23 +188,14 @@ impl CSizes {
 }
 
 impl CAmounts {
-    ghost use Rattle.waywire_c.specs.Values.{fed_of, taken_of};
+    ghost use Rattle.waywire_c.specs.Values.{amounts_of};
 
-    pub fn fed(fed: Fed) -> CAmounts
-        ensures { fed_of result ≡ fed }
+    pub fn of(amounts: Amounts) -> CAmounts
+        ensures { amounts_of result ≡ amounts }
     {
         CAmounts {
-            bytes: fed.bytes,
-            tokens: fed.tokens,
-        }
-    }
-
-    pub fn taken(taken: Taken) -> CAmounts
-        ensures { taken_of result ≡ taken }
-    {
-        CAmounts {
-            bytes: taken.bytes,
-            tokens: taken.tokens,
+            bytes: amounts.bytes,
+            tokens: amounts.tokens,
         }
     }
 }

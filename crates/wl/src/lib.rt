@@ -24,8 +24,8 @@
 //! 4. **Feed.** `feed` moves what was read into the end's inbox, as much as it has room for, and
 //!    returns how much that was. Bytes may come in any cut, down to single ones.
 //! 5. **Next.** `next` reads one message and lends its report, or returns `None` as long as none is
-//!    whole. The caller goes on until `None`, and sends its replies on the way. `next_owned` returns
-//!    a report of its own, for a caller that keeps it.
+//!    whole. The caller goes on until `None`, and sends its replies on the way. `next_owned`
+//!    returns a report of its own, for a caller that keeps it.
 //!
 //! [`Client::read_all`] and [`Server::read_all`] are steps 4 and 5 for a list of pieces. Where no
 //! descriptors pass, `flush` writes what waits to a stream (steps 2 and 3), and `fill` reads from
@@ -274,7 +274,7 @@ pub use wl_client::{
     Tokens,
 };
 pub use wl_connection::{End, ReadAll};
-pub use wl_message::{Fed, FillError, FlushError, Limit, Piece, Sizes, Taken};
+pub use wl_message::{Amounts, Fed, FillError, FlushError, Limit, Peek, Piece, Sizes, Taken};
 pub use wl_objects::{
     Arg, Args, Entry, Fault, Got, GotRef, MapTable, Named, NextError, Object, OwnedArgs, SendError,
     SlotTable, State, Table, TableError,

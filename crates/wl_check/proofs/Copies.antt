@@ -15,13 +15,14 @@ use Rattle.wl_check.specs.declared.progress.Progress.{Progress}
 use Rattle.wl_check.specs.declared.progress.Tally.{Tally}
 use Rattle.wl_check.specs.declared.scanning.Scanner.{Scanner}
 use Rattle.wl_check.specs.Copied.{AreSameBytes, IsSameKnownState}
-use Rattle.wl_check.specs.SessionState.{is_open, end_in, IsAfter, IsAt, IsJudged, IsStream, IsTallied, StatusIs}
+use Rattle.wl_check.specs.SessionState.{is_going, end_in, IsAfter, IsAt, IsJudged, IsStream, IsTallied, StatusIs}
 use Rattle.wl_check.specs.Merged.{stream_of}
-use Rattle.wl_check.specs.Seen.{known_in, taken_in, pair_cmp}
+use Rattle.wl_check.specs.Seen.{known_in, taken_of_direction, pair_cmp}
 use Rattle.wl_check.specs.Session.{Session, session_of}
 use Rattle.wl_check.specs.Trace.{lines_within, wanted}
 
-taken_same : {A : Type 0} (k c : KnownState A) → IsSameKnownState k c → (d : Direction) → taken_in c d ≡ taken_in k d
+taken_same : {A : Type 0} (k c : KnownState A) → IsSameKnownState k c → (d : Direction)
+    → taken_of_direction c d ≡ taken_of_direction k d
 taken_same k c h ToServer = h.taken_to_server
 taken_same k c h ToClient = h.taken_to_client
 
@@ -53,7 +54,7 @@ pub record IsCopy {A : Type 0} (s c : Scanner A) : Type 0 where
   pub to_client : AreSameBytes s.to_client c.to_client
 
 stream_copied : {A : Type 0} (limit : ℕ) (d : Direction) (ps : List Piece) (c n : SessionState A) (s t : Stream A)
-    → is_open n.status ≡ is_open c.status → end_in n d ≡ end_in c d → AreSameBytes s t → IsStream limit d ps c s
+    → is_going n.status ≡ is_going c.status → end_in n d ≡ end_in c d → AreSameBytes s t → IsStream limit d ps c s
     → IsStream limit d ps n t
 stream_copied limit d ps c n s t open_is end same h = record {
   len = same.len ∙ h.len;
@@ -108,7 +109,7 @@ judged_copied tables z o c n known server client count text status h =
 pub after_copied : {A : Type 0} (limit : ℕ) (tables : List Interface) (o : Output) (ps : List Piece) (s c : Scanner A)
     → IsCopy s c → IsAfter limit tables o ps s → IsAfter limit tables o ps c
 after_copied limit tables o ps s c h a =
-    let open_is : is_open c.state.status ≡ is_open s.state.status = ap is_open h.status in
+    let open_is : is_going c.state.status ≡ is_going s.state.status = ap is_going h.status in
     record {
       judged = judged_copied tables (session_of limit ps) o s.state c.state h.known h.counted_to_server
           h.counted_to_client h.count h.text h.status a.judged;

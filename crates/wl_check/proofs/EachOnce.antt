@@ -8,7 +8,7 @@ use Rattle.wl_recording.specs.declared.piece.Direction.{Direction}
 use Rattle.wl_recording.specs.Piece.{Piece}
 use Rattle.wl_check.specs.declared.frames.FramedMessage.{FramedMessage}
 use Rattle.wl_check.specs.Merged.{Mark, mark, Cutting, cutting, cut, same_direction, stream_of}
-use Rattle.wl_check.specs.Merged.{tokens_of, framed, completed_at, merged_within, merged}
+use Rattle.wl_check.specs.Merged.{piece_tokens, framed, completed_at, merged_within, merged}
 use Rattle.wl_check.specs.Text.{marks_in}
 use Rattle.wl_check.proofs.MessagesOfStream.{more, goes_on, drop_whole, drop_front}
 use Rattle.wl_check.proofs.MergedPiece.{stream_more}
@@ -65,7 +65,7 @@ next_step : (limit : ℕ) (d : Direction) (ps : List Piece) (k : ℕ) (o : Optio
 next_step limit d ps k None e h = absurd (let s = some_at ps k h in let is = s.1 in cc)
 next_step limit d ps k (Some p) e h =
     piece_step limit d p.direction (same_direction p.direction d) (stream_of d (take k ps)) p.bytes
-    (tokens_of p.direction (take k ps) + p.tokens) (stream_of p.direction (take k ps)) refl
+    (piece_tokens p.direction (take k ps) + p.tokens) (stream_of p.direction (take k ps)) refl
     (same_stream d p.direction (take k ps))
     ∙ ap (λ (x : List ℕ). (cut limit x).marks) (sym (stream_more d ps k p e))
 

@@ -28,14 +28,14 @@ use Rattle.wl_check.specs.declared.verdict.Verdict.TheVariants.{Lawful, Broken}
 use Rattle.wl_check.specs.Merged.{same_direction}
 use Rattle.wl_check.specs.Changes.{Call, changes, beginning}
 use Rattle.wl_check.specs.Places.{holder, is_ending, used, advertised_version, taken, taken_after}
-use Rattle.wl_check.specs.Places.{deletes, unless_deleted, object_after, Known, known, IsNext}
+use Rattle.wl_check.specs.Places.{deletes_id, unless_deleted, object_after, KnownAtPlace, known, IsKnownBehind}
 use Rattle.wl_check.specs.Places.{IsFirst}
 use Rattle.wl_check.specs.Rules.{judged, judged_message, judged_front}
 use Rattle.wl_message.specs.Cut.{is_size}
 use Rattle.wl_wire.specs.Word.{header_at}
 use Rattle.wl_objects.specs.declared.error.Fault.TheVariants.{BadSize}
 use Rattle.wl_check.specs.Session.{Session, Judged, changes_at, messages, ends_session, examined}
-use Rattle.wl_check.specs.Session.{fault_of, breaks, IsLawful, count_in, end_after, Answers}
+use Rattle.wl_check.specs.Session.{fault_of, breaks, IsLawful, count_in, end_after, IsVerdictOf}
 use Rattle.wl_check.specs.Session.{SaysLawful}
 use Rattle.wl_check.specs.Seen.{known_in, tally_after, tally_in, no_tally}
 use Rattle.wl_check.specs.SessionState.{IsTallied, IsAt}
@@ -171,7 +171,7 @@ pub message_is : {A : Type 0} (tables : List Interface) (s : Session) (k : ℕ) 
     → slice_get s.frames k ≡ Some f → IsAt tables s k p
     → slice_get (messages tables s) k ≡ Some (judged s.limit tables (known_in p.known) (s.streams f.direction) f)
 message_is tables s k f p e at = reading tables s k f e
-    ∙ ap (λ (x : Known). Some (judged s.limit tables x (s.streams f.direction) f)) (sym at.known_is)
+    ∙ ap (λ (x : KnownAtPlace). Some (judged s.limit tables x (s.streams f.direction) f)) (sym at.known_is)
 
 abbrev first_entry : Bool → Option Entry
 first_entry b = cond b (Some (record { birth = 0; iface = display; version = 1; state = Live })) None
@@ -185,13 +185,13 @@ first_step false true = refl
 first_step false false = refl
 
 first_object : (id : ℕ) → object_after 0 beginning id None ≡ first_entry (nat_eq id 1)
-first_object id = first_step (nat_eq 1 id) (deletes beginning id) ∙ ap first_entry (first_test id)
+first_object id = first_step (nat_eq 1 id) (deletes_id beginning id) ∙ ap first_entry (first_test id)
 
 first_taken : (d : Direction) → taken_after beginning d 0 ≡ 0
 first_taken ToServer = refl
 first_taken ToClient = refl
 
-pub known_first : (tables : List Interface) (s : Session) (k : Known) → IsFirst k
+pub known_first : (tables : List Interface) (s : Session) (k : KnownAtPlace) → IsFirst k
     → k ≡ known (changes_at tables (messages tables s)) 1
 unfolding holder is_ending used advertised_version taken
 known_first tables s k h =
@@ -217,13 +217,14 @@ at_first tables s p k a b c d = record {
 pub at_next : {A : Type 0} (tables : List Interface) (s : Session) (k : ℕ) (f : FramedMessage) (call : Call)
     (d : MessageChanges) (p q : Progress A) → d ≡ changes tables call → slice_get s.frames k ≡ Some f
     → slice_get (messages tables s) k ≡ Some (Ok call)
-    → f.start + f.size ≤ length (s.streams f.direction) → IsNext (k + 1) d (known_in p.known) (known_in q.known)
+    → f.start + f.size ≤ length (s.streams f.direction) → IsKnownBehind (k + 1) d (known_in p.known) (known_in q.known)
     → q.to_server ≡ tally_after ToServer f p.to_server → q.to_client ≡ tally_after ToClient f p.to_client
     → q.known.taken_to_server < p.known.taken_to_server + 2 ^ 64
     → q.known.taken_to_client < p.known.taken_to_client + 2 ^ 64 → IsAt tables s k p → IsAt tables s (k + 1) q
 at_next tables s k f call what p q what_is e m h n a b c d at =
     let is : changes_at tables (messages tables s) (suc k) ≡ what = rw (m, what_is) refl in
-    let next : IsNext (suc k) (changes_at tables (messages tables s) (suc k)) (known_in p.known) (known_in q.known) =
+    let next : IsKnownBehind (suc k) (changes_at tables (messages tables s) (suc k)) (known_in p.known)
+    (known_in q.known) =
     rw (is, ← add-one) n in
     record {
       known_is = rw add-one (known_next (changes_at tables (messages tables s)) (suc k) (known_in p.known)
@@ -242,7 +243,7 @@ passed_next ms k call a e on j h = elim (cases_order j k) [
 ]
 
 -- the bytes from a message on are enough
-from_front : (limit : ℕ) (tables : List Interface) (k : Known) (stream rest : List ℕ) (f : FramedMessage)
+from_front : (limit : ℕ) (tables : List Interface) (k : KnownAtPlace) (stream rest : List ℕ) (f : FramedMessage)
     → drop f.start stream ≡ rest → judged_front limit tables k rest f ≡ judged limit tables k stream f
 from_front limit tables k stream rest f e =
     ap (λ (b : List ℕ). judged_front limit tables k b f) (sym e)
@@ -274,7 +275,7 @@ lawful_in s p = Lawful p.to_server.count p.to_client.count (length (s.streams To
     (length (s.streams ToClient) - p.to_client.end)
 
 counts_at : {A : Type 0} (tables : List Interface) (s : Session) (k : ℕ) (p : Progress A)
-    → examined (messages tables s) ≡ k → IsAt tables s k p → IsLawful tables s → Answers tables s (lawful_in s p)
+    → examined (messages tables s) ≡ k → IsAt tables s k p → IsLawful tables s → IsVerdictOf tables s (lawful_in s p)
 counts_at tables s k p e at lawful = (
   lawful,
   record {
@@ -286,7 +287,7 @@ counts_at tables s k p e at lawful = (
 )
 
 pub answers_all : {A : Type 0} (tables : List Interface) (s : Session) (k : ℕ) (p : Progress A) → length s.frames ≡ k
-    → ArePassed (messages tables s) k → IsAt tables s k p → Answers tables s (lawful_in s p)
+    → ArePassed (messages tables s) k → IsAt tables s k p → IsVerdictOf tables s (lawful_in s p)
 answers_all tables s k p e a at =
     let l : length (messages tables s) ≡ k = length_messages tables s ∙ e in
     let all : ArePassed (messages tables s) (length (messages tables s)) =
@@ -295,7 +296,7 @@ answers_all tables s k p e a at =
 
 pub answers_end : {A : Type 0} (tables : List Interface) (s : Session) (k : ℕ) (call : Call) (p : Progress A)
     → slice_get (messages tables s) k ≡ Some (Ok call) → ends_session (Ok call) ≡ true → ArePassed (messages tables s) k
-    → IsAt tables s (k + 1) p → Answers tables s (lawful_in s p)
+    → IsAt tables s (k + 1) p → IsVerdictOf tables s (lawful_in s p)
 answers_end tables s k call p e ends a at = let one : k + 1 ≡ suc k = add-one k
     in counts_at tables s (k + 1) p (end_examined (messages tables s) k (Ok call) e ends a ∙ sym one) at
     (lawful_end tables s k call e ends a)
@@ -308,7 +309,7 @@ tally_of s k p ToClient a b = b.count_is
 pub answers_broken : {A : Type 0} (tables : List Interface) (s : Session) (k : ℕ) (f : FramedMessage) (fault : Fault)
     (p : Progress A) → slice_get s.frames k ≡ Some f → slice_get (messages tables s) k ≡ Some (Err fault)
     → ArePassed (messages tables s) k
-    → IsAt tables s k p → Answers tables s (Broken f.direction ((tally_in p f.direction).count + 1) f.start fault)
+    → IsAt tables s k p → IsVerdictOf tables s (Broken f.direction ((tally_in p f.direction).count + 1) f.start fault)
 answers_broken tables s k f fault p e m a at = record {
   place = k;
   frame = f;
@@ -320,7 +321,7 @@ answers_broken tables s k f fault p e m a at = record {
   offset_is = refl;
 }
 
-pub exact_from : (tables : List Interface) (s : Session) (v : Verdict) → Answers tables s v
+pub exact_from : (tables : List Interface) (s : Session) (v : Verdict) → IsVerdictOf tables s v
     → SaysLawful v ↔ IsLawful tables s
 exact_from tables s (Lawful r e a b) h = (λ _. h.0, λ _. tt)
 exact_from tables s (Broken d i o f) h = (

@@ -17,17 +17,17 @@ use Rattle.wl_wire.specs.Word.{header_at}
 use Rattle.wl_message.specs.Cut.{is_size}
 use Rattle.wl_wire.specs.Reading.{reading as value_at}
 use Rattle.wl_sigs.specs.declared.signature.Side.{Side}
-use Rattle.wl_sigs.specs.Tables.{Message, Interface, signature_at, place_of}
+use Rattle.wl_sigs.specs.Tables.{MessageSignature, Interface, signature_at, place_of}
 use Rattle.wl_object_map.specs.declared.object.Entry.{Entry}
 use Rattle.wl_objects.specs.declared.lookup.NewId.{NewId}
 use Rattle.wl_objects.specs.declared.lookup.NewId.TheVariants.{Free, Wrong, TooMany}
 use Rattle.wl_objects.specs.declared.error.Fault.{Fault}
 use Rattle.wl_objects.specs.declared.error.Fault.TheVariants.{BadSize, TrailingBytes, MissingDescriptor, UnknownMessage}
 use Rattle.wl_object_map.specs.View.{max_ids}
-use Rattle.wl_objects.specs.Reading.{Reader, kind_at, forgiving, new_fault, value_fault, unless}
-use Rattle.wl_objects.specs.Reading.{judged as judged_value, before, and_those, arguments_at}
+use Rattle.wl_objects.specs.Reading.{Reader, forgiving_kind, forgiving, new_fault, value_fault, unless}
+use Rattle.wl_objects.specs.Reading.{value_or_fault as judged_value, before, and_those, arguments_at}
 use Rattle.wl_objects.specs.Reading.{descriptors}
-use Rattle.wl_objects.specs.Messages.{Received, NewObject, made, made_by, or_else, is_empty}
+use Rattle.wl_objects.specs.Messages.{Received, NewObject, made, made_by, or_else}
 use Rattle.wl_objects.specs.Messages.{is_error, received_whole, received_as, received_by, received}
 use Rattle.wl_objects.specs.Messages.{new_id_of}
 use Rattle.wl_recording.specs.declared.piece.Direction.{Direction}
@@ -35,12 +35,14 @@ use Rattle.wl_recording.specs.declared.piece.Direction.TheVariants.{ToServer, To
 use Rattle.wl_check.specs.declared.changes.MessageChanges.{MessageChanges}
 use Rattle.wl_check.specs.declared.frames.FramedMessage.{FramedMessage}
 use Rattle.wl_check.specs.Changes.{Call, changes, beginning, if_request, side_of}
-use Rattle.wl_check.specs.Places.{Known, known, holder, is_ending, state_of, object_of, named, used}
+use Rattle.wl_check.specs.Places.{KnownAtPlace, known, holder, is_ending, live_or_zombie, entry_made_at, object_named}
+use Rattle.wl_check.specs.Places.{used}
 use Rattle.wl_check.specs.Session.{Session, Judged, changes_of, changes_at, messages}
 use Rattle.wl_check.proofs.KnownAtPlace.{IsFresh}
 use Rattle.wl_check.proofs.JudgedByPlaces.{reading, length_messages}
 use Rattle.std.proofs.lemmas.Option.{slice_get_within}
-use Rattle.wl_check.specs.Rules.{reader, is_free, is_bad_bind, called, judged_message, judged}
+use Rattle.wl_check.specs.Rules.{reader_by, is_free_id, is_bad_bind, called, judged_message, judged}
+use Rattle.wl_sigs.specs.Rules.{is_empty}
 
 new_free : (place : ℕ) (n : NewId) → new_fault place n ≡ None → n ≡ Free
 new_free place Free e = refl
@@ -103,7 +105,7 @@ free_at : (tables : List Interface) (version : ℕ) (r : Reader) (place : ℕ) (
     → Free_in tables version r ks (arguments_at r place ks bytes)
 free_at tables version r place [] bytes = λ m e. absurd (cc)
 free_at tables version r place (kind ∷ ks) bytes =
-    free_judged tables version r place kind ks bytes (value_at (kind_at r.forgives kind) bytes)
+    free_judged tables version r place kind ks bytes (value_at (forgiving_kind r.forgives kind) bytes)
     (λ b. free_at tables version r (suc place) ks b)
 
 -- ---- a whole message
@@ -119,7 +121,7 @@ whole_tests tables r true b e f x h = tt
 whole_tests tables r false true e f x h = tt
 whole_tests tables r false false e f x h = h
 
-free_whole : (tables : List Interface) (r : Reader) (header : Header) (entry : Entry) (signature : Message)
+free_whole : (tables : List Interface) (r : Reader) (header : Header) (entry : Entry) (signature : MessageSignature)
     (waiting : ℕ) (x : Result (List Argument × List ℕ) Fault) → Free_in tables entry.version r signature.kinds x
     → Free_made tables r (received_whole header entry signature waiting x)
 free_whole tables r header entry signature waiting (Err fault) h = tt
@@ -145,7 +147,7 @@ free_same tables version q r ks (Err fault) e h = tt
 free_same tables version q r ks (Ok found) e h = λ m is. sym (e m.id) ∙ h m is
 
 free_as : (tables : List Interface) (side : Side) (r : Reader) (header : Header) (body : List ℕ) (waiting : ℕ)
-    (entry : Entry) (o : Option Message) → Free_made tables r (received_as side r header body waiting entry o)
+    (entry : Entry) (o : Option MessageSignature) → Free_made tables r (received_as side r header body waiting entry o)
 free_as tables side r header body waiting entry None = tt
 free_as tables side r header body waiting entry (Some signature) =
     let q : Reader = forgiving (is_error side entry.iface header.opcode) r in
@@ -163,9 +165,9 @@ free_by tables side r header body waiting (Some entry) =
 
 -- ---- judged
 
-abbrev pub Free_changes : List Interface → Known → Result Call Fault → Type 0
+abbrev pub Free_changes : List Interface → KnownAtPlace → Result Call Fault → Type 0
 Free_changes tables k (Err fault) = Unit {0}
-Free_changes tables k (Ok call) = (m : NewObject) → (changes tables call).made ≡ Some m → is_free k m.id ≡ true
+Free_changes tables k (Ok call) = (m : NewObject) → (changes tables call).made ≡ Some m → is_free_id k m.id ≡ true
 
 free_id : (a b : Bool) → new_id_of a b ≡ Free → a ≡ true
 free_id true b e = refl
@@ -175,27 +177,27 @@ request_made : (d : Direction) (o : Option NewObject) (m : NewObject) → if_req
 request_made ToServer o m e = e
 request_made ToClient o m e = absurd (cc)
 
-free_called : (tables : List Interface) (k : Known) (d : Direction) (opcode : ℕ) (x : Result Received Fault)
-    → Free_made tables (reader k d) x → Free_changes tables k (called tables k d opcode x)
+free_called : (tables : List Interface) (k : KnownAtPlace) (d : Direction) (opcode : ℕ) (x : Result Received Fault)
+    → Free_made tables (reader_by k d) x → Free_changes tables k (called tables k d opcode x)
 free_called tables k d opcode (Err fault) h = tt
 free_called tables k d opcode (Ok r) h = elim (cases_Bool (is_bad_bind tables k (side_of d) opcode r)) [
   | inl bad ↦ rw bad tt
-  | inr fine ↦ rw fine (λ m e. free_id (is_free k m.id) (nat_le m.id max_ids)
+  | inr fine ↦ rw fine (λ m e. free_id (is_free_id k m.id) (nat_le m.id max_ids)
       (h m (request_made d (made tables r.entry.version r.signature.kinds r.values) m e)))
 ]
 
-free_size : (tables : List Interface) (k : Known) (b : Bool) (x : Result Call Fault) → Free_changes tables k x
+free_size : (tables : List Interface) (k : KnownAtPlace) (b : Bool) (x : Result Call Fault) → Free_changes tables k x
     → Free_changes tables k (cond b x (Err BadSize))
 free_size tables k true x h = h
 free_size tables k false x h = tt
 
-pub judged_free : (limit : ℕ) (tables : List Interface) (k : Known) (stream : List ℕ) (frame : FramedMessage)
+pub judged_free : (limit : ℕ) (tables : List Interface) (k : KnownAtPlace) (stream : List ℕ) (frame : FramedMessage)
     → Free_changes tables k (judged limit tables k stream frame)
 judged_free limit tables k stream frame =
     let header = header_at (drop frame.start stream) in
     let body = take (frame.size - 8) (drop (frame.start + 8) stream) in
     let waiting = frame.tokens - k.taken frame.direction in
-    let r = reader k frame.direction in
+    let r = reader_by k frame.direction in
     free_size tables k (is_size limit frame.size) (judged_message tables k frame header body)
     (free_called tables k frame.direction header.opcode
     (received tables (side_of frame.direction) r header body waiting)
@@ -209,7 +211,7 @@ some_at (x ∷ xs) zero h = (x, refl)
 some_at (x ∷ xs) (suc k) h = some_at xs k (omega arith)
 
 named_none : (s : ℕ → MessageChanges) (p i : ℕ) (o : Option ℕ)
-    → is_none (option_map (λ m. object_of s m (state_of (is_ending s m p i))) o) ≡ true → o ≡ None
+    → is_none (option_map (λ m. entry_made_at s m (live_or_zombie (is_ending s m p i))) o) ≡ true → o ≡ None
 named_none s p i None h = refl
 named_none s p i (Some m) h = absurd (cc)
 
@@ -220,15 +222,15 @@ first_id : (new : NewObject) → beginning.made ≡ Some new → new.id ≡ 1
 first_id new e = cc
 
 fresh_made : (s : ℕ → MessageChanges) (p : ℕ) (o : Option NewObject) → (s p).made ≡ o
-    → ((new : NewObject) → o ≡ Some new → is_free (known s p) new.id ≡ true) → IsFresh s p
+    → ((new : NewObject) → o ≡ Some new → is_free_id (known s p) new.id ≡ true) → IsFresh s p
 fresh_made s p None e free = record {
   no_holder = λ i m. absurd (let no : false ≡ true = rw e at m in cc);
   next = λ new is. absurd (cc);
 }
 fresh_made s p (Some new) e free =
     let f = free new refl in
-    let a = and_parts (not (nat_eq new.id 0) && is_none (named s p new.id)) (nat_le new.id (used s p + 1)) f in
-    let b = and_parts (not (nat_eq new.id 0)) (is_none (named s p new.id)) a.0 in
+    let a = and_parts (not (nat_eq new.id 0) && is_none (object_named s p new.id)) (nat_le new.id (used s p + 1)) f in
+    let b = and_parts (not (nat_eq new.id 0)) (is_none (object_named s p new.id)) a.0 in
     let none : holder s p new.id ≡ None = named_none s p new.id (holder s p new.id) b.1 in
     record {
       no_holder = λ i m. (let is : nat_eq new.id i ≡ true = rw e at m
@@ -238,12 +240,13 @@ fresh_made s p (Some new) e free =
           (positive new.id b.0, leb-true new.id (used s p + 1) a.1));
     }
 
-fresh_judged : (tables : List Interface) (k : Known) (p : ℕ) (s : ℕ → MessageChanges) (x : Judged) → known s p ≡ k
+fresh_judged : (tables : List Interface) (k : KnownAtPlace) (p : ℕ) (s : ℕ → MessageChanges) (x : Judged)
+    → known s p ≡ k
     → s p ≡ changes_of tables (Some x) → Free_changes tables k x → IsFresh s p
 fresh_judged tables k p s (Err fault) known_is e h =
     fresh_made s p (s p).made refl (λ new is. absurd (let no : None ≡ Some new = rw e at is in cc))
 fresh_judged tables k p s (Ok call) known_is e h =
-    fresh_made s p (s p).made refl (λ new is. subst (λ (x : Known). is_free x new.id ≡ true) (sym known_is)
+    fresh_made s p (s p).made refl (λ new is. subst (λ (x : KnownAtPlace). is_free_id x new.id ≡ true) (sym known_is)
     (h new (sym (ap (λ (d : MessageChanges). d.made) e) ∙ is)))
 
 fresh_place : (tables : List Interface) (session : Session) (k : ℕ) (o : Option Judged)

@@ -8,8 +8,8 @@ use Rattle.wl_sigs.specs.Tables.{Interface}
 use Rattle.wl_recording.specs.declared.piece.Direction.{Direction}
 use Rattle.wl_check.specs.declared.changes.MessageChanges.{MessageChanges}
 use Rattle.wl_check.specs.declared.frames.FramedMessage.{FramedMessage}
-use Rattle.wl_check.specs.Places.{holder, is_ending, state_of, object_of, named, used}
-use Rattle.wl_check.specs.Places.{advertised_version, taken, Known, known}
+use Rattle.wl_check.specs.Places.{holder, is_ending, live_or_zombie, entry_made_at, object_named, used}
+use Rattle.wl_check.specs.Places.{advertised_version, taken, KnownAtPlace, known}
 use Rattle.wl_check.specs.Rules.{judged}
 use Rattle.wl_check.specs.Session.{Judged, changes_of, changes_at, judged_after, messages, Session}
 use Rattle.wl_check.proofs.KnownBehindMessage.{holder_before}
@@ -33,12 +33,12 @@ is_ending_same s t m zero i a = refl
 is_ending_same s t m (suc p) i a = rw (a p (omega arith), is_ending_same s t m p i (less s t p a)) refl
 
 object_same : (s t : ℕ → MessageChanges) (p i : ℕ) (o : Option ℕ) → Agree s t p → IfSome o (λ m. m < p)
-    → option_map (λ m. object_of s m (state_of (is_ending s m p i))) o
-    ≡ option_map (λ m. object_of t m (state_of (is_ending t m p i))) o
+    → option_map (λ m. entry_made_at s m (live_or_zombie (is_ending s m p i))) o
+    ≡ option_map (λ m. entry_made_at t m (live_or_zombie (is_ending t m p i))) o
 object_same s t p i None a h = refl
 object_same s t p i (Some m) a h = rw (a m h, is_ending_same s t m p i a) refl
 
-named_same : (s t : ℕ → MessageChanges) (p i : ℕ) → Agree s t p → named s p i ≡ named t p i
+named_same : (s t : ℕ → MessageChanges) (p i : ℕ) → Agree s t p → object_named s p i ≡ object_named t p i
 named_same s t p i a = rw (holder_same s t p i a) (object_same s t p i (holder t p i) a (holder_before t p i))
 
 used_same : (s t : ℕ → MessageChanges) (p : ℕ) → Agree s t p → used s p ≡ used t p
@@ -123,7 +123,7 @@ reading_after limit tables streams e (x ∷ fs) zero n f is at =
     rest.1 ∙ append_assoc e (m ∷ []) rest.0 in
     let here : n ≡ length e = omega arith in
     rw (whole, here, ← same) (get_end e rest.0 m ∙ ap
-    (λ (k : Known). Some (judged limit tables k (streams x.direction) x)) (front_known tables e (m ∷ rest.0)))
+    (λ (k : KnownAtPlace). Some (judged limit tables k (streams x.direction) x)) (front_known tables e (m ∷ rest.0)))
 reading_after limit tables streams e (x ∷ fs) (suc k) n f is at =
     let m = next_of limit tables streams e x in
     reading_after limit tables streams (e ++ m ∷ []) fs k n f is (omega (arith, length-append e (m ∷ [])))

@@ -10,7 +10,7 @@ use Rattle.wl_wire.specs.declared.header.Header.{Header}
 use Rattle.wl_wire.specs.declared.kind.Kind.{Kind}
 use Rattle.wl_wire.specs.Argument.{Argument}
 use Rattle.wl_sigs.specs.declared.signature.Side.{Side}
-use Rattle.wl_sigs.specs.Tables.{Message, Interface, signature_at}
+use Rattle.wl_sigs.specs.Tables.{MessageSignature, Interface, signature_at}
 use Rattle.wl_sigs.specs.Valid.{Valid}
 use Rattle.wl_object_map.specs.declared.object.Entry.{Entry}
 use Rattle.wl_objects.specs.declared.error.Fault.{Fault}
@@ -20,10 +20,10 @@ use Rattle.wl_objects.specs.Messages.{Received, is_error, received_whole, receiv
 use Rattle.wl_recording.specs.declared.piece.Direction.{Direction}
 use Rattle.wl_check.specs.declared.frames.FramedMessage.{FramedMessage}
 use Rattle.wl_check.specs.Changes.{Call, side_of}
-use Rattle.wl_check.specs.Places.{Known}
+use Rattle.wl_check.specs.Places.{KnownAtPlace}
 use Rattle.wl_message.specs.Cut.{is_size}
 use Rattle.wl_wire.specs.Word.{header_at}
-use Rattle.wl_check.specs.Rules.{reader, is_bad_bind, called, judged_message, judged_front}
+use Rattle.wl_check.specs.Rules.{reader_by, is_bad_bind, called, judged_message, judged_front}
 
 few_step : (b : Bool) (n m : ℕ) → n ≤ m → cond b 1 0 + n ≤ m + 1
 few_step true n m h = omega arith
@@ -37,14 +37,16 @@ few (k ∷ ks) = let s = sum_by-cons (λ (x : Kind). cond (is_descriptor_kind x)
 same_test : (w d : ℕ) → d ≤ 20 → nat_lt (min w 18446744073709551615) d ≡ nat_lt w d
 same_test w d h = grind (arith, nat_tests)
 
-whole_same : (header : Header) (entry : Entry) (signature : Message) (w : ℕ) (x : Result (List Argument × List ℕ) Fault)
+whole_same : (header : Header) (entry : Entry) (signature : MessageSignature) (w : ℕ)
+    (x : Result (List Argument × List ℕ) Fault)
     → descriptors signature.kinds ≤ 20
     → received_whole header entry signature (min w 18446744073709551615) x ≡ received_whole header entry signature w x
 whole_same header entry signature w (Err fault) h = refl
 whole_same header entry signature w (Ok found) h = rw (same_test w (descriptors signature.kinds) h) refl
 
-as_same : (side : Side) (r : Reader) (header : Header) (body : List ℕ) (w : ℕ) (entry : Entry) (o : Option Message)
-    → ((m : Message) → o ≡ Some m → length m.kinds ≤ 20)
+as_same : (side : Side) (r : Reader) (header : Header) (body : List ℕ) (w : ℕ) (entry : Entry)
+    (o : Option MessageSignature)
+    → ((m : MessageSignature) → o ≡ Some m → length m.kinds ≤ 20)
     → received_as side r header body (min w 18446744073709551615) entry o ≡ received_as side r header body w entry o
 as_same side r header body w entry None h = refl
 as_same side r header body w entry (Some m) h =
@@ -67,43 +69,46 @@ received_same tables side r header body w n valid is =
     rw is (by_same tables side r header body w (r.object header.object) valid)
 
 -- what the code found, with what the rules say
-pub judged_is : (tables : List Interface) (k : Known) (frame : FramedMessage) (header : Header) (body : List ℕ)
+pub judged_is : (tables : List Interface) (k : KnownAtPlace) (frame : FramedMessage) (header : Header) (body : List ℕ)
     (n w : ℕ) (x : Result Received Fault) → Valid tables
     → n ≡ min w 18446744073709551615 → w ≡ frame.tokens - k.taken frame.direction
-    → x ≡ received tables (side_of frame.direction) (reader k frame.direction) header body n
+    → x ≡ received tables (side_of frame.direction) (reader_by k frame.direction) header body n
     → judged_message tables k frame header body ≡ called tables k frame.direction header.opcode x
 judged_is tables k frame header body n w x valid n_is w_is x_is =
     ap (λ (y : Result Received Fault). called tables k frame.direction header.opcode y)
-    (sym (x_is ∙ received_same tables (side_of frame.direction) (reader k frame.direction) header body w n valid n_is
-    ∙ ap (received tables (side_of frame.direction) (reader k frame.direction) header body) w_is))
+    (sym (x_is ∙ received_same tables (side_of frame.direction) (reader_by k frame.direction) header body w n valid n_is
+    ∙ ap (received tables (side_of frame.direction) (reader_by k frame.direction) header body) w_is))
 
-pub called_bad : (tables : List Interface) (k : Known) (d : Direction) (opcode : ℕ) (r : Received)
+pub called_bad : (tables : List Interface) (k : KnownAtPlace) (d : Direction) (opcode : ℕ) (r : Received)
     → is_bad_bind tables k (side_of d) opcode r ≡ true → called tables k d opcode (Ok r) ≡ Err BadBind
 called_bad tables k d opcode r h = rw h refl
 
-pub called_good : (tables : List Interface) (k : Known) (d : Direction) (opcode : ℕ) (r : Received)
+pub called_good : (tables : List Interface) (k : KnownAtPlace) (d : Direction) (opcode : ℕ) (r : Received)
     → is_bad_bind tables k (side_of d) opcode r ≡ false
     → called tables k d opcode (Ok r) ≡ Ok (record { direction = d; opcode = opcode; received = r })
 called_good tables k d opcode r h = rw h refl
 
-pub from_side : (tables : List Interface) (k : Known) (d : Direction) (header : Header) (body : List ℕ) (n : ℕ)
+pub from_side : (tables : List Interface) (k : KnownAtPlace) (d : Direction) (header : Header) (body : List ℕ) (n : ℕ)
     (side : Side) (x : Result Received Fault) → side ≡ side_of d
-    → x ≡ received tables side (reader k d) header body n → x ≡ received tables (side_of d) (reader k d) header body n
-from_side tables k d header body n side x is h = h ∙ ap (λ (s : Side). received tables s (reader k d) header body n) is
+    → x ≡ received tables side (reader_by k d) header body n
+    → x ≡ received tables (side_of d) (reader_by k d) header body n
+from_side tables k d header body n side x is h = h ∙ ap (λ (s : Side). received tables s (reader_by k d) header body n)
+    is
 
 -- the parts of a message, as the code lends them
-pub parts_are : (limit : ℕ) (tables : List Interface) (k : Known) (bytes : List ℕ) (frame : FramedMessage)
+pub parts_are : (limit : ℕ) (tables : List Interface) (k : KnownAtPlace) (bytes : List ℕ) (frame : FramedMessage)
     (header : Header) (body : List ℕ) (x : Result Call Fault) → is_size limit frame.size ≡ true
     → header ≡ header_at bytes → body ≡ take (frame.size - 8) (drop 8 bytes)
     → x ≡ judged_message tables k frame header body → x ≡ judged_front limit tables k bytes frame
 parts_are limit tables k bytes frame header body x good h b x_is =
     x_is ∙ (λ i. judged_message tables k frame (h i) (b i)) ∙ rw good refl
 
-pub size_bad : (limit : ℕ) (tables : List Interface) (k : Known) (bytes : List ℕ) (frame : FramedMessage)
+pub size_bad : (limit : ℕ) (tables : List Interface) (k : KnownAtPlace) (bytes : List ℕ) (frame : FramedMessage)
     → is_size limit frame.size ≡ false → Err BadSize ≡ judged_front limit tables k bytes frame
 size_bad limit tables k bytes frame bad = rw bad refl
 
-pub size_good : (limit : ℕ) (tables : List Interface) (k : Known) (bytes : List ℕ) (frame : FramedMessage) (call : Call)
+pub size_good : (limit : ℕ) (tables : List Interface) (k : KnownAtPlace) (bytes : List ℕ) (frame : FramedMessage)
+    (call : Call)
     (b : Bool) → is_size limit frame.size ≡ b → Ok call ≡ judged_front limit tables k bytes frame
     → is_size limit frame.size ≡ true
 size_good limit tables k bytes frame call true e h = e

@@ -7,14 +7,14 @@ use Rattle.std.proofs.lemmas.Bool.{cases_Bool, cases_order, cases_lt, lt-ltb, lt
 use Rattle.wl_objects.specs.Messages.{NewObject}
 use Rattle.wl_check.specs.declared.changes.AdvertisedGlobal.{AdvertisedGlobal}
 use Rattle.wl_check.specs.declared.changes.MessageChanges.{MessageChanges}
-use Rattle.wl_check.specs.Places.{makes, is_made, deletes, destroys, holder, is_ending, used}
+use Rattle.wl_check.specs.Places.{makes_id, is_made, deletes_id, destroys_id, holder, is_ending, used}
 use Rattle.wl_check.specs.Places.{used_by, advertised_version, advertises, advertised_once}
 use Rattle.wl_check.specs.Places.{advertised_by}
-use Rattle.wl_check.specs.Text.{Held, IsOpen, WasUsed, WasAdvertised}
+use Rattle.wl_check.specs.Text.{StaysHeld, StaysOpen, WasUsed, WasAdvertised}
 
 -- no object is made with an id that is held, and each new id was used before or is the next
 pub record IsFresh (s : ℕ → MessageChanges) (p : ℕ) : Type 0 where
-  pub no_holder : (i : ℕ) → makes (s p) i ≡ true → holder s p i ≡ None
+  pub no_holder : (i : ℕ) → makes_id (s p) i ≡ true → holder s p i ≡ None
   pub next : (new : NewObject) → (s p).made ≡ Some new → (0 < new.id) × (new.id ≤ used s p + 1)
 
 abbrev pub AreFresh : (ℕ → MessageChanges) → ℕ → Type 0
@@ -22,14 +22,14 @@ AreFresh s p = (q : ℕ) → q < p → IsFresh s q
 
 -- ---- held
 
-held_before : (s : ℕ → MessageChanges) (p m i : ℕ) → m < p → Held s (suc p) m i → Held s p m i
+held_before : (s : ℕ → MessageChanges) (p m i : ℕ) → m < p → StaysHeld s (suc p) m i → StaysHeld s p m i
 held_before s p m i below h = record { before = below; made = h.made; kept = λ q a b. h.kept q a (omega arith) }
 
-to_step : (s : ℕ → MessageChanges) (p m i : ℕ) (made del : Bool) (o : Option ℕ) → makes (s p) i ≡ made
-    → deletes (s p) i ≡ del → (made ≡ true → o ≡ None) → (Held s p m i → o ≡ Some m) → Held s (suc p) m i
+to_step : (s : ℕ → MessageChanges) (p m i : ℕ) (made del : Bool) (o : Option ℕ) → makes_id (s p) i ≡ made
+    → deletes_id (s p) i ≡ del → (made ≡ true → o ≡ None) → (StaysHeld s p m i → o ≡ Some m) → StaysHeld s (suc p) m i
     → cond made (Some p) (cond del None o) ≡ Some m
 to_step s p m i made del o is_made is_del fresh ih h = elim (cases_order m p) [
-  | inl e ↦ (let now : made ≡ true = sym is_made ∙ subst (λ (x : ℕ). makes (s x) i ≡ true) e h.made
+  | inl e ↦ (let now : made ≡ true = sym is_made ∙ subst (λ (x : ℕ). makes_id (s x) i ≡ true) e h.made
       in rw now (ap (λ x. Some x) (sym e)))
   | inr w ↦ elim w [
     | inl below ↦ (let was : o ≡ Some m = ih (held_before s p m i below h) in elim (cases_Bool made) [
@@ -40,23 +40,23 @@ to_step s p m i made del o is_made is_del fresh ih h = elim (cases_order m p) [
   ]
 ]
 
-held_to : (s : ℕ → MessageChanges) (p m i : ℕ) → AreFresh s p → Held s p m i → holder s p i ≡ Some m
+held_to : (s : ℕ → MessageChanges) (p m i : ℕ) → AreFresh s p → StaysHeld s p m i → holder s p i ≡ Some m
 unfolding holder
 held_to s zero m i fresh h = absurd (omega (arith, h.before))
-held_to s (suc p) m i fresh h = to_step s p m i (makes (s p) i) (deletes (s p) i) (holder s p i) refl refl
+held_to s (suc p) m i fresh h = to_step s p m i (makes_id (s p) i) (deletes_id (s p) i) (holder s p i) refl refl
     ((fresh p (omega arith)).no_holder i) (held_to s p m i (λ q b. fresh q (omega arith))) h
 
-from_step : (s : ℕ → MessageChanges) (p m i : ℕ) (made del : Bool) (o : Option ℕ) → makes (s p) i ≡ made
-    → deletes (s p) i ≡ del → (o ≡ Some m → Held s p m i) → cond made (Some p) (cond del None o) ≡ Some m
-    → Held s (suc p) m i
+from_step : (s : ℕ → MessageChanges) (p m i : ℕ) (made del : Bool) (o : Option ℕ) → makes_id (s p) i ≡ made
+    → deletes_id (s p) i ≡ del → (o ≡ Some m → StaysHeld s p m i) → cond made (Some p) (cond del None o) ≡ Some m
+    → StaysHeld s (suc p) m i
 from_step s p m i true del o is_made is_del ih e = let same : p ≡ m = cc
     in record {
       before = omega arith;
-      made = subst (λ (x : ℕ). makes (s x) i ≡ true) same is_made;
+      made = subst (λ (x : ℕ). makes_id (s x) i ≡ true) same is_made;
       kept = λ q a b. absurd (omega arith);
     }
 from_step s p m i false true o is_made is_del ih e = absurd (cc)
-from_step s p m i false false o is_made is_del ih e = let h : Held s p m i = ih e in record {
+from_step s p m i false false o is_made is_del ih e = let h : StaysHeld s p m i = ih e in record {
   before = omega (arith, h.before);
   made = h.made;
   kept = λ q a b. elim (cases_order q p) [
@@ -66,20 +66,20 @@ from_step s p m i false false o is_made is_del ih e = let h : Held s p m i = ih 
   ];
 }
 
-held_from : (s : ℕ → MessageChanges) (p m i : ℕ) → holder s p i ≡ Some m → Held s p m i
+held_from : (s : ℕ → MessageChanges) (p m i : ℕ) → holder s p i ≡ Some m → StaysHeld s p m i
 unfolding holder
 held_from s zero m i e = absurd (cc)
-held_from s (suc p) m i e = from_step s p m i (makes (s p) i) (deletes (s p) i) (holder s p i) refl refl
+held_from s (suc p) m i e = from_step s p m i (makes_id (s p) i) (deletes_id (s p) i) (holder s p i) refl refl
     (held_from s p m i) e
 
-pub held_is : (s : ℕ → MessageChanges) (p m i : ℕ) → AreFresh s p → (holder s p i ≡ Some m) ↔ Held s p m i
+pub held_is : (s : ℕ → MessageChanges) (p m i : ℕ) → AreFresh s p → (holder s p i ≡ Some m) ↔ StaysHeld s p m i
 held_is s p m i fresh = (held_from s p m i, held_to s p m i fresh)
 
 -- ---- open
 
-whole_step : (s : ℕ → MessageChanges) (m p i : ℕ) (b : Bool) → destroys (s p) i ≡ b
-    → ((nat_lt m p && b) || is_ending s m p i) ≡ false → (is_ending s m p i ≡ false → IsOpen s p m i)
-    → IsOpen s (suc p) m i
+whole_step : (s : ℕ → MessageChanges) (m p i : ℕ) (b : Bool) → destroys_id (s p) i ≡ b
+    → ((nat_lt m p && b) || is_ending s m p i) ≡ false → (is_ending s m p i ≡ false → StaysOpen s p m i)
+    → StaysOpen s (suc p) m i
 whole_step s m p i b is h ih q a c = elim (cases_order q p) [
   | inl e ↦ rw e (elim (cases_Bool b) [
     | inl so ↦ absurd (let lt : nat_lt m p ≡ true = lt-ltb m p (omega arith)
@@ -95,12 +95,12 @@ whole_step s m p i b is h ih q a c = elim (cases_order q p) [
   ]
 ]
 
-whole_from : (s : ℕ → MessageChanges) (m p i : ℕ) → is_ending s m p i ≡ false → IsOpen s p m i
+whole_from : (s : ℕ → MessageChanges) (m p i : ℕ) → is_ending s m p i ≡ false → StaysOpen s p m i
 unfolding is_ending
 whole_from s m zero i h = λ q a b. absurd (omega arith)
-whole_from s m (suc p) i h = whole_step s m p i (destroys (s p) i) refl h (whole_from s m p i)
+whole_from s m (suc p) i h = whole_step s m p i (destroys_id (s p) i) refl h (whole_from s m p i)
 
-whole_to : (s : ℕ → MessageChanges) (m p i : ℕ) → IsOpen s p m i → is_ending s m p i ≡ false
+whole_to : (s : ℕ → MessageChanges) (m p i : ℕ) → StaysOpen s p m i → is_ending s m p i ≡ false
 unfolding is_ending
 whole_to s m zero i h = refl
 whole_to s m (suc p) i h = elim (cases_Bool (nat_lt m p)) [
@@ -108,7 +108,7 @@ whole_to s m (suc p) i h = elim (cases_Bool (nat_lt m p)) [
   | inr not_so ↦ rw (not_so, whole_to s m p i (λ q a b. h q a (omega arith))) refl
 ]
 
-pub open_is : (s : ℕ → MessageChanges) (p m i : ℕ) → (is_ending s m p i ≡ false) ↔ IsOpen s p m i
+pub open_is : (s : ℕ → MessageChanges) (p m i : ℕ) → (is_ending s m p i ≡ false) ↔ StaysOpen s p m i
 open_is s p m i = (whole_from s m p i, whole_to s m p i)
 
 -- ---- used
@@ -128,7 +128,7 @@ used_step s p i (Some new) e next ih h = elim (cases_lt (used s p) i) [
       record {
         birth = p;
         before = omega arith;
-        made = subst (λ (x : ℕ). makes (s p) x ≡ true) same
+        made = subst (λ (x : ℕ). makes_id (s p) x ≡ true) same
             (made_id (s p).made new e);
       })
   | inr fine ↦ later_used s p i (ih fine)
@@ -148,11 +148,11 @@ made_used : (o : Option NewObject) (n i : ℕ) → is_made o i ≡ true → i �
 made_used None n i h = absurd (cc)
 made_used (Some new) n i h = let e = eqb-true new.id i h in omega (arith, e)
 
-used_at : (s : ℕ → MessageChanges) (p q i : ℕ) → q < p → makes (s q) i ≡ true → i ≤ used s p
+used_at : (s : ℕ → MessageChanges) (p q i : ℕ) → q < p → makes_id (s q) i ≡ true → i ≤ used s p
 unfolding used
 used_at s zero q i b m = absurd (omega arith)
 used_at s (suc p) q i b m = elim (cases_order q p) [
-  | inl same ↦ made_used (s p).made (used s p) i (subst (λ (x : ℕ). makes (s x) i ≡ true) same m)
+  | inl same ↦ made_used (s p).made (used s p) i (subst (λ (x : ℕ). makes_id (s x) i ≡ true) same m)
   | inr o ↦ elim o [
     | inl less ↦ (let u = used_at s p q i less m in let k = used_keeps (s p).made (used s p) in omega (arith, u, k))
     | inr more ↦ absurd (omega arith)

@@ -4,7 +4,7 @@ use Rattle.std.proofs.Common.{◌≡◌, ℕ, zero, suc, ◌+◌, ◌*◌, ◌<�
 use Rattle.std.proofs.Common.{[], ◌∷◌, ◌++◌, length, drop, take, map, refl, sym, ap, ◌∙◌, arith}
 use Rattle.std.proofs.Common.{subst, length-append}
 use Rattle.std.proofs.lemmas.List.{length-drop, get_or_append_left, drop-append-le, drop-drop}
-use Rattle.wl_message.specs.Cut.{is_size, told_size, front, Front, More, Bad, Whole, cut_within, messages_of}
+use Rattle.wl_message.specs.Cut.{is_size, told_size, front, Front, More, Bad, Whole, cut_within, messages_in_stream}
 use Rattle.wl_message.proofs.Fronts.{Seen, short, long, whole, bad, seen, front_stands, is_size-true}
 use Rattle.wl_message.proofs.Cuts.{front_spoiled}
 use Rattle.wl_check.specs.Merged.{Mark, mark, cutting, cut_at, cut, finish}
@@ -182,5 +182,5 @@ unfolding cutting cut_within
 parts_are limit zero s p = refl
 parts_are limit (suc n) s p = parts_step limit n s p (front limit (drop p s)) refl (λ z. parts_are limit n s (p + z))
 
-pub cut_messages : (limit : ℕ) (s : List ℕ) → parts limit s (cut limit s).marks ≡ messages_of limit s
+pub cut_messages : (limit : ℕ) (s : List ℕ) → parts limit s (cut limit s).marks ≡ messages_in_stream limit s
 cut_messages limit s = parts_are limit (length s) s 0

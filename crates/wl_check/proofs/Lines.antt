@@ -10,7 +10,7 @@ use Rattle.wl_check.specs.declared.progress.Progress.{Progress}
 use Rattle.wl_check.specs.declared.session_state.Output.{Output}
 use Rattle.wl_check.specs.declared.session_state.Output.TheVariants.{Nothing, Lines}
 use Rattle.wl_check.specs.Changes.{Call}
-use Rattle.wl_check.specs.Places.{Known, known}
+use Rattle.wl_check.specs.Places.{KnownAtPlace, known}
 use Rattle.wl_check.specs.Session.{Session, Judged, messages, changes_at, ends_session}
 use Rattle.wl_check.specs.Trace.{call_line, judged_line, lines_within, lasting, trace_of, wanted}
 use Rattle.wl_check.specs.Seen.{known_in}
@@ -102,7 +102,7 @@ line_more tables s k call p m at =
     let l : judged_line tables (known (changes_at tables (messages tables s)) (suc k)) (slice_get (messages tables s) k)
     ≡ call_line tables (known_in p.known) call =
     ap (λ (o : Option Judged). judged_line tables (known (changes_at tables (messages tables s)) (suc k)) o) m
-    ∙ ap (λ (x : Known). call_line tables x call) w in
+    ∙ ap (λ (x : KnownAtPlace). call_line tables x call) w in
     ap (λ (x : List ℕ). lines_within tables s k ++ x) (sym l)
     ∙ ap (λ (n : ℕ). lines_within tables s n) (sym (add-one k))
 

@@ -17,11 +17,11 @@ use Rattle.wl_recording.specs.Piece.{Piece}
 use Rattle.wl_check.specs.declared.changes.AdvertisedGlobal.{AdvertisedGlobal}
 use Rattle.wl_check.specs.declared.changes.MessageChanges.{MessageChanges}
 use Rattle.wl_check.specs.declared.frames.FramedMessage.{FramedMessage}
-use Rattle.wl_check.specs.Merged.{stream_of, tokens_of, completed, completed_at, merged, merged_within}
+use Rattle.wl_check.specs.Merged.{stream_of, piece_tokens, completed, completed_at, merged, merged_within}
 use Rattle.wl_check.specs.Changes.{Call, changes}
-use Rattle.wl_check.specs.Places.{Known, known, named, object_after, used, used_after}
+use Rattle.wl_check.specs.Places.{KnownAtPlace, known, object_named, object_after, used, used_after}
 use Rattle.wl_check.specs.Places.{advertised_version, advertised_after, advertised_by, advertises}
-use Rattle.wl_check.specs.Places.{taken, taken_after, IsNext}
+use Rattle.wl_check.specs.Places.{taken, taken_after, IsKnownBehind}
 use Rattle.wl_check.specs.Rules.{judged, judged_message}
 use Rattle.wl_check.specs.Session.{Judged, changes_of, changes_at, judged_after, messages, session_of, IsWithin}
 use Rattle.wl_check.proofs.KnownBehindMessage.{named_next}
@@ -55,7 +55,7 @@ body_more p n xs ys h =
 pub size_least : (limit n : ℕ) → is_size limit n ≡ true → 8 ≤ n
 size_least limit n e = grind (arith, nat_tests)
 
-judged_if : (limit : ℕ) (tables : List Interface) (k : Known) (xs ys : List ℕ) (f : FramedMessage) (b : Bool)
+judged_if : (limit : ℕ) (tables : List Interface) (k : KnownAtPlace) (xs ys : List ℕ) (f : FramedMessage) (b : Bool)
     → is_size limit f.size ≡ b → IsWithin limit (length xs) f
     → judged limit tables k (xs ++ ys) f ≡ judged limit tables k xs f
 judged_if limit tables k xs ys f false e w = rw e refl
@@ -75,7 +75,7 @@ judged_if limit tables k xs ys f true e w =
 abbrev judged_along : (limit : ℕ) → List Interface → (Direction → List ℕ) → (Direction → List ℕ) → List FramedMessage
     → Type 0
 judged_along limit tables old new fs = AllByRecursion
-    (λ (f : FramedMessage). (k : Known) → judged limit tables k (new f.direction) f
+    (λ (f : FramedMessage). (k : KnownAtPlace) → judged limit tables k (new f.direction) f
     ≡ judged limit tables k (old f.direction) f) fs
 
 pub after_more : (limit : ℕ) (tables : List Interface) (old new : Direction → List ℕ) (e : List Judged)
@@ -130,11 +130,11 @@ stream_last d (x ∷ xs) p = ap (λ (l : List ℕ). own d x ++ l) (stream_last d
     ∙ sym (append_assoc (own d x) (stream_of d xs) (own d p))
 
 pub tokens_last : (d : Direction) (ps : List Piece) (p : Piece)
-    → tokens_of d (ps ++ p ∷ []) ≡ tokens_of d ps + own_tokens d p
+    → piece_tokens d (ps ++ p ∷ []) ≡ piece_tokens d ps + own_tokens d p
 tokens_last d [] p = omega arith
 tokens_last d (x ∷ xs) p = omega (arith, tokens_last d xs p)
 
-frame_more : (limit : ℕ) (tables : List Interface) (ps : List Piece) (p : Piece) (f : FramedMessage) (k : Known)
+frame_more : (limit : ℕ) (tables : List Interface) (ps : List Piece) (p : Piece) (f : FramedMessage) (k : KnownAtPlace)
     → LiesIn limit ps f
     → judged limit tables k (stream_of f.direction (ps ++ p ∷ [])) f
     ≡ judged limit tables k (stream_of f.direction ps) f
@@ -173,7 +173,7 @@ pub changes_last : (tables : List Interface) (e : List Judged) (call : Call)
 changes_last tables e call = ap (changes_of tables) (get_seam e (Ok call))
 
 pub behind_one : (tables : List Interface) (e : List Judged) (call : Call)
-    → IsNext (suc (length e)) (changes tables call) (known (changes_at tables e) (suc (length e)))
+    → IsKnownBehind (suc (length e)) (changes tables call) (known (changes_at tables e) (suc (length e)))
     (known (changes_at tables (e ++ Ok call ∷ [])) (suc (length (e ++ Ok call ∷ []))))
 unfolding used advertised_version taken
 behind_one tables e call =
@@ -184,7 +184,7 @@ behind_one tables e call =
     let here : s p ≡ changes tables call = changes_last tables e call in
     let front : known s p ≡ known (changes_at tables e) p = sym (front_known tables e (Ok call ∷ [])) in
     record {
-      objects = λ id. ap (λ m. named s m id) n ∙ named_next s p id
+      objects = λ id. ap (λ m. object_named s m id) n ∙ named_next s p id
           ∙ (λ i. object_after p (here i) id ((front i).object id));
       used_is = ap (used s) n ∙ (λ i. used_after (here i) ((front i).used));
       advertised_is = λ name iface. ap (λ m. advertised_version s m name iface) n

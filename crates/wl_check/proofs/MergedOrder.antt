@@ -9,7 +9,7 @@ use Rattle.wl_message.specs.Cut.{is_size, front, Front, More, Bad, Whole, cut_wi
 use Rattle.wl_message.proofs.Cuts.{front_none}
 use Rattle.wl_recording.specs.Piece.{Piece}
 use Rattle.wl_check.specs.declared.frames.FramedMessage.{FramedMessage}
-use Rattle.wl_check.specs.Merged.{Mark, mark, cutting, cut_at, cut, finish, stream_of, tokens_of}
+use Rattle.wl_check.specs.Merged.{Mark, mark, cutting, cut_at, cut, finish, stream_of, piece_tokens}
 use Rattle.wl_check.specs.Merged.{framed, completed, merged_within, merged}
 use Rattle.wl_check.specs.Text.{EndsWith, messages, bad_size, Brings, ComesWith, ComeInOrder}
 use Rattle.wl_check.proofs.MessagesOfStream.{next_within}
@@ -36,14 +36,15 @@ order_more limit ps k from (f ∷ fs) gs l h g =
 come_with : (limit : ℕ) (ps : List Piece) (k : ℕ) (p : Piece) → slice_get ps k ≡ Some p → (ms : List Mark)
     → Brings limit (length (stream_of p.direction (take k ps)))
     (length (stream_of p.direction (take k ps) ++ p.bytes)) ms
-    → AllByRecursion (ComesWith limit ps k) (map (framed p.direction (tokens_of p.direction (take k ps) + p.tokens)) ms)
+    → AllByRecursion (ComesWith limit ps k) (map (framed p.direction (piece_tokens p.direction (take k ps) + p.tokens))
+    ms)
 come_with limit ps k p e [] b = tt
 come_with limit ps k p e (m ∷ ms) b =
     let d = p.direction in
     let bytes : stream_of d (take (suc k) ps) ≡ stream_of d (take k ps) ++ p.bytes =
     stream_more d ps k p e ∙ ap (λ t. stream_of d (take k ps) ++ cond t p.bytes []) (same_is d) in
-    let tokens : tokens_of d (take (suc k) ps) ≡ tokens_of d (take k ps) + p.tokens =
-    tokens_more d ps k p e ∙ ap (λ t. tokens_of d (take k ps) + cond t p.tokens 0) (same_is d) in (
+    let tokens : piece_tokens d (take (suc k) ps) ≡ piece_tokens d (take k ps) + p.tokens =
+    tokens_more d ps k p e ∙ ap (λ t. piece_tokens d (take k ps) + cond t p.tokens 0) (same_is d) in (
       record {
         piece = p;
         there = e;

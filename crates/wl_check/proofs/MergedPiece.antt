@@ -5,7 +5,7 @@ use Rattle.std.proofs.Common.{append_assoc, slice_get}
 use Rattle.wl_recording.specs.declared.piece.Direction.{Direction}
 use Rattle.wl_recording.specs.declared.piece.Direction.TheVariants.{ToServer, ToClient}
 use Rattle.wl_recording.specs.Piece.{Piece}
-use Rattle.wl_check.specs.Merged.{same_direction, stream_of, tokens_of, completed, merged_within}
+use Rattle.wl_check.specs.Merged.{same_direction, stream_of, piece_tokens, completed, merged_within}
 
 -- an item of a mapped list
 pub read_mapped : {A B : Type 0} (f : A → B) (xs : List A) (k : ℕ) (d x : A) → k < length xs → x ≡ get_or xs k d
@@ -28,7 +28,7 @@ stream_more d (x ∷ xs) (suc k) p e = ap (λ (l : List ℕ). own d x ++ l) (str
     ∙ sym (append_assoc (own d x) (stream_of d (take k xs)) (own d p))
 
 pub tokens_more : (d : Direction) (ps : List Piece) (k : ℕ) (p : Piece) → slice_get ps k ≡ Some p
-    → tokens_of d (take (suc k) ps) ≡ tokens_of d (take k ps) + own_tokens d p
+    → piece_tokens d (take (suc k) ps) ≡ piece_tokens d (take k ps) + own_tokens d p
 tokens_more d [] k p e = absurd (cc)
 tokens_more d (x ∷ xs) zero p e = let is : x ≡ p = cc in let same : own_tokens d x ≡ own_tokens d p =
     ap (own_tokens d) is in omega (arith, same)

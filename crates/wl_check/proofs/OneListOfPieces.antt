@@ -4,15 +4,15 @@ use Rattle.std.specs.Prelude.{Result, Ok, Err, IfOk, IfErr, MatchResult}
 use Rattle.wl_recording.specs.declared.recording.RecordingError.{RecordingError}
 use Rattle.wl_recording.specs.declared.recording.RecordingError.TheVariants.{BadLine, Memory}
 use Rattle.wl_recording.specs.Piece.{Piece}
-use Rattle.wl_recording.specs.Text.{Recorded, IsFirstBad}
+use Rattle.wl_recording.specs.Text.{TextRecords, IsFirstBad}
 use Rattle.wl_recording.proofs.TextLemmas.{IsRefused, told_not_bad, tell_once, one_first_bad}
 
 abbrev pub TellsSo : {X : Type 0} → List ℕ → (List Piece → X → Type 0) → X → Type 0
-TellsSo text P x = (pieces : List Piece) × Recorded text pieces × P pieces x
+TellsSo text P x = (pieces : List Piece) × TextRecords text pieces × P pieces x
 
 pub only_so : {X : Type 0} (text : List ℕ) (r : Result X RecordingError) (P : List Piece → X → Type 0)
     → IfOk r (TellsSo text P) → IfErr r (IsRefused text)
-    → (pieces : List Piece) → Recorded text pieces → MatchResult r (P pieces) (λ e. e ≡ Memory)
+    → (pieces : List Piece) → TextRecords text pieces → MatchResult r (P pieces) (λ e. e ≡ Memory)
 only_so text (Ok x) P ok err pieces told = subst (λ (ps : List Piece). P ps x) (tell_once ok.1 told) ok.2
 only_so text (Err e) P ok err pieces told = elim err [
   | inl memory ↦ memory

@@ -9,7 +9,7 @@ use Rattle.wl_check.specs.declared.session_state.Output.{Output}
 use Rattle.wl_check.specs.declared.session_state.Output.TheVariants.{Nothing, Lines}
 use Rattle.wl_check.specs.declared.changes.MessageChanges.{MessageChanges}
 use Rattle.wl_check.specs.Changes.{Call, changes}
-use Rattle.wl_check.specs.Places.{Known}
+use Rattle.wl_check.specs.Places.{KnownAtPlace}
 use Rattle.wl_check.specs.Seen.{changes_in}
 use Rattle.wl_check.specs.Trace.{call_line, judged_line, wanted}
 
@@ -17,7 +17,8 @@ pub no_changes : (tables : List Interface) (x : Result Call Fault) (fault : Faul
     → Err fault ≡ changes_in tables x
 no_changes tables x fault is = ap (changes_in tables) is
 
-pub no_line : (tables : List Interface) (k : Known) (o : Output) (text : List ℕ) (x : Result Call Fault) (fault : Fault)
+pub no_line : (tables : List Interface) (k : KnownAtPlace) (o : Output) (text : List ℕ) (x : Result Call Fault)
+    (fault : Fault)
     → Err fault ≡ x → text ≡ text ++ wanted o (judged_line tables k (Some x))
 no_line tables k Nothing text x fault is = sym (append-nil text)
 no_line tables k Lines text x fault is = sym (append-nil text)
@@ -27,7 +28,7 @@ pub own_changes : (tables : List Interface) (x : Result Call Fault) (call : Call
     → e ≡ changes tables call → Ok call ≡ x → Ok e ≡ changes_in tables x
 own_changes tables x call e e_is is = ap Ok e_is ∙ ap (changes_in tables) is
 
-pub own_line : (tables : List Interface) (k : Known) (o : Output) (old new : List ℕ) (x : Result Call Fault)
+pub own_line : (tables : List Interface) (k : KnownAtPlace) (o : Output) (old new : List ℕ) (x : Result Call Fault)
     (call : Call) → new ≡ old ++ wanted o (call_line tables k call) → Ok call ≡ x
     → new ≡ old ++ wanted o (judged_line tables k (Some x))
 own_line tables k o old new x call new_is is = new_is
@@ -38,18 +39,18 @@ pub found_fault : (tables : List Interface) (x : Result Call Fault) (fault : Fau
 found_fault tables (Err other) fault h = let same : fault ≡ other = cc h in ap Err same
 found_fault tables (Ok call) fault h = absurd (cc h)
 
-pub no_more : (tables : List Interface) (k : Known) (o : Output) (old new : List ℕ) (x : Result Call Fault)
+pub no_more : (tables : List Interface) (k : KnownAtPlace) (o : Output) (old new : List ℕ) (x : Result Call Fault)
     (fault : Fault) → Err fault ≡ x → new ≡ old ++ wanted o (judged_line tables k (Some x)) → new ≡ old
 no_more tables k o old new x fault is new_is = new_is ∙ sym (no_line tables k o old x fault is)
 
-pub record Found (tables : List Interface) (k : Known) (o : Output) (x : Result Call Fault) (e : MessageChanges)
+pub record Found (tables : List Interface) (k : KnownAtPlace) (o : Output) (x : Result Call Fault) (e : MessageChanges)
     (old new : List ℕ) : Type 0 where
   pub call : Call
   pub is : Ok call ≡ x
   pub changes_are : e ≡ changes tables call
   pub text : new ≡ old ++ wanted o (call_line tables k call)
 
-pub found_call : (tables : List Interface) (k : Known) (o : Output) (x : Result Call Fault) (e : MessageChanges)
+pub found_call : (tables : List Interface) (k : KnownAtPlace) (o : Output) (x : Result Call Fault) (e : MessageChanges)
     (old new : List ℕ) → Ok e ≡ changes_in tables x → new ≡ old ++ wanted o (judged_line tables k (Some x))
     → Found tables k o x e old new
 found_call tables k o (Ok call) e old new h text = record { call = call; is = refl; changes_are = cc h; text = text }
@@ -61,7 +62,7 @@ pub changes_so : {E : Type 0} (tables : List Interface) (r : Result (Result Mess
 changes_so tables (Ok o) x y e h = h ∙ ap (changes_in tables) e
 changes_so tables (Err failure) x y e h = h
 
-pub text_so : {E : Type 0} (tables : List Interface) (k : Known) (o : Output) (old new : List ℕ)
+pub text_so : {E : Type 0} (tables : List Interface) (k : KnownAtPlace) (o : Output) (old new : List ℕ)
     (r : Result (Result MessageChanges Fault) E) (x y : Result Call Fault) → x ≡ y
     → OnOk r (new ≡ old ++ wanted o (judged_line tables k (Some x)))
     → OnOk r (new ≡ old ++ wanted o (judged_line tables k (Some y)))

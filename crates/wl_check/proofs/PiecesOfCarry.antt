@@ -7,7 +7,7 @@ use Rattle.wl_sigs.specs.Tables.{Interface}
 use Rattle.wl_recording.specs.declared.piece.Direction.{Direction}
 use Rattle.wl_recording.specs.Piece.{Piece, passed}
 use Rattle.wl_check.specs.declared.frames.FramedMessage.{FramedMessage}
-use Rattle.wl_check.specs.Merged.{cut, same_direction, stream_of, tokens_of, framed}
+use Rattle.wl_check.specs.Merged.{cut, same_direction, stream_of, piece_tokens, framed}
 use Rattle.wl_check.specs.Session.{Judged, judged_after, messages, session_of}
 use Rattle.wl_check.proofs.MessagesOfStream.{drop_whole}
 use Rattle.wl_check.proofs.MergedPiece.{same_is}
@@ -27,11 +27,11 @@ pub record Brings (limit : ℕ) (tables : List Interface) (d : Direction) (befor
     (tokens : ℕ) : Type 0 where
   pub own : stream_of d after ≡ stream_of d before ++ bytes
   pub other : (x : Direction) → same_direction d x ≡ false → stream_of x after ≡ stream_of x before
-  pub own_count : tokens_of d after ≡ tokens_of d before + tokens
-  pub other_count : (x : Direction) → same_direction d x ≡ false → tokens_of x after ≡ tokens_of x before
+  pub own_count : piece_tokens d after ≡ piece_tokens d before + tokens
+  pub other_count : (x : Direction) → same_direction d x ≡ false → piece_tokens x after ≡ piece_tokens x before
   pub judged : messages tables (session_of limit after)
       ≡ judged_after limit tables (λ x. stream_of x after) (messages tables (session_of limit before))
-      (new_frames limit d (stream_of d before) bytes (tokens_of d before + tokens))
+      (new_frames limit d (stream_of d before) bytes (piece_tokens d before + tokens))
 
 -- no bytes complete nothing
 quiet : (limit : ℕ) (d : Direction) (stream : List ℕ) (tokens : ℕ) → new_frames limit d stream [] tokens ≡ []
@@ -53,7 +53,7 @@ brings_none limit tables d ps = record {
   own_count = omega arith;
   other_count = λ x no. refl;
   judged = sym (after_quiet limit tables (λ x. stream_of x ps) (messages tables (session_of limit ps)) d
-      (stream_of d ps) (tokens_of d ps + 0));
+      (stream_of d ps) (piece_tokens d ps + 0));
 }
 
 brings_one : (limit : ℕ) (tables : List Interface) (d : Direction) (ps : List Piece) (bytes : List ℕ) (tokens : ℕ)
@@ -65,8 +65,9 @@ brings_one limit tables d ps bytes tokens =
       own = stream_last d ps p ∙ ap (λ (b : Bool). stream_of d ps ++ cond b bytes []) same;
       other = λ x no. stream_last x ps p ∙ ap (λ (b : Bool). stream_of x ps ++ cond b bytes []) no
           ∙ append-nil (stream_of x ps);
-      own_count = tokens_last d ps p ∙ ap (λ (b : Bool). tokens_of d ps + cond b tokens 0) same;
-      other_count = λ x no. tokens_last x ps p ∙ ap (λ (b : Bool). tokens_of x ps + cond b tokens 0) no ∙ omega arith;
+      own_count = tokens_last d ps p ∙ ap (λ (b : Bool). piece_tokens d ps + cond b tokens 0) same;
+      other_count = λ x no. tokens_last x ps p ∙ ap (λ (b : Bool). piece_tokens x ps + cond b tokens 0) no
+          ∙ omega arith;
       judged = messages_more limit tables ps p;
     }
 
@@ -76,10 +77,10 @@ brings_then : (limit : ℕ) (tables : List Interface) (d : Direction) (ps qs rs 
     → Brings limit tables d ps rs bytes n
 brings_then limit tables d ps qs rs bytes a b n sum f g =
     let stream : stream_of d qs ≡ stream_of d ps = f.own ∙ append-nil (stream_of d ps) in
-    let count : tokens_of d qs + b ≡ tokens_of d ps + n = (let c = f.own_count in omega (arith, c, sum)) in
+    let count : piece_tokens d qs + b ≡ piece_tokens d ps + n = (let c = f.own_count in omega (arith, c, sum)) in
     let first : messages tables (session_of limit qs) ≡ messages tables (session_of limit ps) =
     f.judged ∙ after_quiet limit tables (λ x. stream_of x qs) (messages tables (session_of limit ps)) d (stream_of d ps)
-    (tokens_of d ps + a) in
+    (piece_tokens d ps + a) in
     record {
       own = g.own ∙ ap (λ (s : List ℕ). s ++ bytes) stream;
       other = λ x no. g.other x no ∙ f.other x no;

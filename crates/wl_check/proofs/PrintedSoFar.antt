@@ -13,7 +13,7 @@ use Rattle.wl_check.specs.declared.session_state.SessionStatus.TheVariants.{Open
 use Rattle.wl_check.specs.declared.progress.Progress.{Progress}
 use Rattle.wl_check.specs.declared.inspector.Inspector.{Inspector}
 use Rattle.wl_check.specs.declared.scanning.Scanner.{Scanner}
-use Rattle.wl_check.specs.SessionState.{is_open, IsAt, IsAfter, IsEnd, IsFault, StatusIs}
+use Rattle.wl_check.specs.SessionState.{is_going, IsAt, IsAfter, IsEnd, IsFault, StatusIs}
 use Rattle.wl_check.specs.Changes.{Call}
 use Rattle.wl_check.specs.Inspected.{printed, HasPassed, Inspected, begun, passed}
 use Rattle.wl_check.specs.Merged.{merged_within}
@@ -47,7 +47,7 @@ lines_reach_as : {A : Type 0} (limit : ℕ) (tables : List Interface) (o : Outpu
     → lines_within tables (session_of limit ps) s.state.count ≡ trace_of tables (session_of limit ps)
 lines_reach_as limit tables o ps s Open e h =
     let t = session_of limit ps in
-    let going : is_open s.state.status ≡ true = ap is_open e in
+    let going : is_going s.state.status ≡ true = ap is_going e in
     trace_all tables t s.state.count Lines (lines_within tables t s.state.count) (h.all going)
     (open_passed tables t s.state.count s.state.status going h.judged.status) refl
 lines_reach_as limit tables o ps s Ended e h =

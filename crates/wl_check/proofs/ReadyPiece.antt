@@ -13,7 +13,7 @@ use Rattle.wl_check.specs.declared.session_state.Output.{Output}
 use Rattle.wl_check.specs.declared.frames.Stream.{Stream}
 use Rattle.wl_check.specs.declared.scanning.Scanner.{Scanner}
 use Rattle.wl_check.specs.Copied.{AreSameBytes}
-use Rattle.wl_check.specs.SessionState.{is_open, end_in, Along, HasCome, IsAfter, IsReady}
+use Rattle.wl_check.specs.SessionState.{is_going, end_in, Along, HasCome, IsAfter, IsReady}
 use Rattle.wl_check.specs.Merged.{same_direction}
 use Rattle.wl_check.proofs.Copies.{IsCopy, after_copied}
 use Rattle.wl_check.proofs.SessionByPiece.{after_client, after_server, along_client, along_server}
@@ -89,7 +89,7 @@ pub judged_server : {A E : Type 0} (limit : ℕ) (tables : List Interface) (o : 
     (n : SessionState A) (after : Stream A) (r : Result (Unit {0}) E) → a.direction ≡ ToServer
     → OnOk r ((ps : List Piece) (p : Piece) → HasCome limit tables o ps p a s.state s.to_server
     → Along limit tables o p.direction (ps ++ p ∷ []) n after)
-    → OnOk r (is_open n.status ≡ true → is_open s.state.status ≡ true)
+    → OnOk r (is_going n.status ≡ true → is_going s.state.status ≡ true)
     → OnOk r ((d : Direction) → same_direction a.direction d ≡ false → end_in n d ≡ end_in s.state d)
     → OnOk r ((ps : List Piece) (p : Piece) → IsReady limit tables o ps p a s
     → IsAfter limit tables o (ps ++ p ∷ []) (record { state = n; to_server = after; to_client = s.to_client }))
@@ -98,7 +98,7 @@ judged_server {A = A} limit tables o a s n after (Ok x) is along going other = �
     let b = r.before in
     let done = after_server limit tables o ps p b n after pd r.after
     (λ h. along ps p (come_server limit tables o ps p a s pd r))
-    (λ on. subst (λ (c : SessionState A). is_open c.status ≡ true) r.state (going on))
+    (λ on. subst (λ (c : SessionState A). is_going c.status ≡ true) r.state (going on))
     (λ d away. other d (subst (λ (e : Direction). same_direction e d ≡ false) (sym r.appended_is.direction) away)
     ∙ ap (λ (c : SessionState A). end_in c d) r.state) in
     let client : AreSameBytes b.to_client s.to_client = record {
@@ -115,7 +115,7 @@ pub judged_client : {A E : Type 0} (limit : ℕ) (tables : List Interface) (o : 
     (n : SessionState A) (after : Stream A) (r : Result (Unit {0}) E) → a.direction ≡ ToClient
     → OnOk r ((ps : List Piece) (p : Piece) → HasCome limit tables o ps p a s.state s.to_client
     → Along limit tables o p.direction (ps ++ p ∷ []) n after)
-    → OnOk r (is_open n.status ≡ true → is_open s.state.status ≡ true)
+    → OnOk r (is_going n.status ≡ true → is_going s.state.status ≡ true)
     → OnOk r ((d : Direction) → same_direction a.direction d ≡ false → end_in n d ≡ end_in s.state d)
     → OnOk r ((ps : List Piece) (p : Piece) → IsReady limit tables o ps p a s
     → IsAfter limit tables o (ps ++ p ∷ []) (record { state = n; to_server = s.to_server; to_client = after }))
@@ -124,7 +124,7 @@ judged_client {A = A} limit tables o a s n after (Ok x) is along going other = �
     let b = r.before in
     let done = after_client limit tables o ps p b n after pd r.after
     (λ h. along ps p (come_client limit tables o ps p a s pd r))
-    (λ on. subst (λ (c : SessionState A). is_open c.status ≡ true) r.state (going on))
+    (λ on. subst (λ (c : SessionState A). is_going c.status ≡ true) r.state (going on))
     (λ d away. other d (subst (λ (e : Direction). same_direction e d ≡ false) (sym r.appended_is.direction) away)
     ∙ ap (λ (c : SessionState A). end_in c d) r.state) in
     let server : AreSameBytes b.to_server s.to_server = record {

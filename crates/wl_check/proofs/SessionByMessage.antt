@@ -20,13 +20,13 @@ use Rattle.wl_check.specs.declared.changes.MessageChanges.{MessageChanges}
 use Rattle.wl_check.specs.declared.frames.FramedMessage.{FramedMessage}
 use Rattle.wl_check.specs.declared.progress.Progress.{Progress}
 use Rattle.wl_check.specs.declared.progress.Tally.{Tally}
-use Rattle.wl_check.specs.SessionState.{IsAt, is_open, IsEnd, IsTallied, StatusIs, end_in, IsJudged}
-use Rattle.wl_check.specs.SessionState.{Comes, WentOn, Follows, AllJudged}
+use Rattle.wl_check.specs.SessionState.{IsAt, is_going, IsEnd, IsTallied, StatusIs, end_in, IsJudged}
+use Rattle.wl_check.specs.SessionState.{Comes, WentOn, CutFollows, AllJudged}
 use Rattle.wl_check.specs.Session.{ArePassed}
 use Rattle.wl_check.specs.Changes.{Call, changes}
 use Rattle.wl_check.specs.Merged.{Mark, mark, Cutting, cutting, cut_at, bad_at, stopped, then_cut}
 use Rattle.wl_check.specs.Merged.{framed, same_direction}
-use Rattle.wl_check.specs.Places.{IsNext}
+use Rattle.wl_check.specs.Places.{IsKnownBehind}
 use Rattle.wl_check.specs.Rules.{judged_front}
 use Rattle.wl_check.specs.Seen.{known_in, size_of, tally_after, tally_in}
 use Rattle.wl_check.specs.Session.{Session, Judged, messages}
@@ -36,7 +36,7 @@ use Rattle.wl_check.proofs.Examined.{at_next, ends_is, found_is, passed_next}
 use Rattle.wl_check.proofs.LongerRecording.{size_least}
 use Rattle.wl_check.proofs.Lines.{lines_more}
 
-pub open_passed : (tables : List Interface) (s : Session) (k : ℕ) (status : SessionStatus) → is_open status ≡ true
+pub open_passed : (tables : List Interface) (s : Session) (k : ℕ) (status : SessionStatus) → is_going status ≡ true
     → StatusIs tables s k status → ArePassed (messages tables s) k
 open_passed tables s k Open e h = h
 open_passed tables s k Ended e h = absurd (cc e)
@@ -110,7 +110,7 @@ judged_broken {A} limit tables s o c n f rest fault h is text_is n_is =
 pub record Goes {A : Type 0} (tables : List Interface) (o : Output) (c n : SessionState A) (f : FramedMessage)
     (call : Call) (e : MessageChanges) : Type 0 where
   pub changes_are : e ≡ changes tables call
-  pub known : IsNext (c.count + 1) e (known_in c.progress.known) (known_in n.progress.known)
+  pub known : IsKnownBehind (c.count + 1) e (known_in c.progress.known) (known_in n.progress.known)
   pub to_server : n.progress.to_server ≡ tally_after ToServer f c.progress.to_server
   pub to_client : n.progress.to_client ≡ tally_after ToClient f c.progress.to_client
   pub few_to_server : n.progress.known.taken_to_server < c.progress.known.taken_to_server + 2 ^ 64
@@ -189,7 +189,7 @@ judged_so limit tables s o c n f rest call e h is good g status =
       small_to_client = small.1;
     }
 
-status_open : (status : SessionStatus) → is_open status ≡ true → (tables : List Interface) (s : Session) (k : ℕ)
+status_open : (status : SessionStatus) → is_going status ≡ true → (tables : List Interface) (s : Session) (k : ℕ)
     → ArePassed (messages tables s) k → StatusIs tables s k status
 status_open Open e tables s k h = h
 status_open Ended e tables s k h = absurd (cc e)
@@ -284,7 +284,7 @@ in_front_as limit w rest p z (Whole y) e within is some =
     }
 
 pub in_front : {A : Type 0} (limit : ℕ) (tables : List Interface) (s : Session) (o : Output) (c : SessionState A)
-    (d : Direction) (tokens z : ℕ) (rest : List ℕ) → Follows limit tables s o c d tokens rest
+    (d : Direction) (tokens z : ℕ) (rest : List ℕ) → CutFollows limit tables s o c d tokens rest
     → Some z ≡ size_of (front limit rest) → InFront limit (s.streams d) rest (end_in c d) z
 in_front limit tables s o c d tokens z rest h some =
     in_front_as limit (s.streams d) rest (end_in c d) z (front limit (drop (end_in c d) (s.streams d))) refl
@@ -295,7 +295,7 @@ abbrev pub frame_of : Direction → ℕ → ℕ → ℕ → FramedMessage
 frame_of d start z tokens = record { direction = d; start = start; size = z; tokens = tokens }
 
 pub comes_next : {A : Type 0} (limit : ℕ) (tables : List Interface) (s : Session) (o : Output) (c : SessionState A)
-    (d : Direction) (tokens z start : ℕ) (rest : List ℕ) → Follows limit tables s o c d tokens rest
+    (d : Direction) (tokens z start : ℕ) (rest : List ℕ) → CutFollows limit tables s o c d tokens rest
     → Some z ≡ size_of (front limit rest) → start ≡ end_in c d
     → Comes limit tables s o c (frame_of d start z tokens) rest
 comes_next limit tables s o c d tokens z start rest h some here =
@@ -316,9 +316,9 @@ comes_next limit tables s o c d tokens z start rest h some here =
     }
 
 pub follows_next : {A : Type 0} (limit : ℕ) (tables : List Interface) (s : Session) (o : Output) (c n : SessionState A)
-    (d : Direction) (tokens z start : ℕ) (rest : List ℕ) → Follows limit tables s o c d tokens rest
+    (d : Direction) (tokens z start : ℕ) (rest : List ℕ) → CutFollows limit tables s o c d tokens rest
     → Some z ≡ size_of (front limit rest) → start ≡ end_in c d → WentOn limit (frame_of d start z tokens) c n
-    → IsJudged tables s o n → is_open n.status ≡ true → Follows limit tables s o n d tokens (drop z rest)
+    → IsJudged tables s o n → is_going n.status ≡ true → CutFollows limit tables s o n d tokens (drop z rest)
 follows_next limit tables s o c n d tokens z start rest h some here went judged going =
     let i = in_front limit tables s o c d tokens z rest h some in
     let w = s.streams d in
@@ -354,7 +354,7 @@ stops_as limit w p (Bad y) e within none = absurd (cc none)
 stops_as limit w p (Whole y) e within none = absurd (cc none)
 
 pub all_judged : {A : Type 0} (limit : ℕ) (tables : List Interface) (s : Session) (o : Output) (c : SessionState A)
-    (d : Direction) (tokens : ℕ) (rest : List ℕ) → Follows limit tables s o c d tokens rest
+    (d : Direction) (tokens : ℕ) (rest : List ℕ) → CutFollows limit tables s o c d tokens rest
     → None ≡ size_of (front limit rest) → AllJudged limit tables s o c d rest
 all_judged limit tables s o c d tokens rest h none =
     let w = s.streams d in
@@ -377,7 +377,7 @@ all_judged limit tables s o c d tokens rest h none =
 
 -- a message ended the session, or broke a rule
 pub closed : {A : Type 0} (limit : ℕ) (tables : List Interface) (s : Session) (o : Output) (c : SessionState A)
-    (d : Direction) (rest : List ℕ) → IsJudged tables s o c → is_open c.status ≡ false
+    (d : Direction) (rest : List ℕ) → IsJudged tables s o c → is_going c.status ≡ false
     → AllJudged limit tables s o c d rest
 closed limit tables s o c d rest judged stopped_is =
     record {

@@ -22,15 +22,15 @@ use Rattle.wl_check.specs.declared.progress.Tally.{Tally}
 use Rattle.wl_check.specs.declared.scanning.Scanner.{Scanner}
 use Rattle.wl_check.specs.declared.verdict.Verdict.{Verdict}
 use Rattle.wl_check.specs.declared.verdict.Verdict.TheVariants.{Lawful, Broken as BrokenAt}
-use Rattle.wl_check.specs.SessionState.{IsTallied, IsAt, is_open, IsEnd, IsFault, StatusIs, end_in}
-use Rattle.wl_check.specs.SessionState.{IsJudged, IsFresh, Follows, IsLeft, AllJudged, IsStream}
+use Rattle.wl_check.specs.SessionState.{IsTallied, IsAt, is_going, IsEnd, IsFault, StatusIs, end_in}
+use Rattle.wl_check.specs.SessionState.{IsJudged, IsUnread, CutFollows, IsLeft, AllJudged, IsStream}
 use Rattle.wl_check.specs.SessionState.{Along, IsAfter}
 use Rattle.wl_check.specs.Session.{ArePassed}
 use Rattle.wl_check.specs.Merged.{Cutting, cut, cutting, framed, same_direction, stream_of}
-use Rattle.wl_check.specs.Merged.{tokens_of, completed, merged, merged_within}
+use Rattle.wl_check.specs.Merged.{piece_tokens, completed, merged, merged_within}
 use Rattle.wl_check.specs.Places.{known}
 use Rattle.wl_check.specs.Seen.{tally_in}
-use Rattle.wl_check.specs.Session.{Session, Judged, count_in, changes_at, end_after, messages, session_of, Answers}
+use Rattle.wl_check.specs.Session.{Session, Judged, count_in, changes_at, end_after, messages, session_of, IsVerdictOf}
 use Rattle.wl_check.specs.Trace.{judged_line, lines_within, trace_of, wanted}
 use Rattle.wl_check.proofs.SessionByMessage.{end_within, open_passed}
 use Rattle.wl_check.proofs.MessagesOfStream.{fed_good, new_marks}
@@ -168,17 +168,17 @@ own_stream : (ps : List Piece) (p : Piece) → stream_of p.direction (ps ++ p �
 own_stream ps p = stream_last p.direction ps p ∙ ap (λ (b : Bool). stream_of p.direction ps ++ cond b p.bytes [])
     (same_is p.direction)
 
-own_tokens_of : (ps : List Piece) (p : Piece) → tokens_of p.direction (ps ++ p ∷ [])
-    ≡ tokens_of p.direction ps + p.tokens
+own_tokens_of : (ps : List Piece) (p : Piece) → piece_tokens p.direction (ps ++ p ∷ [])
+    ≡ piece_tokens p.direction ps + p.tokens
 own_tokens_of ps p = tokens_last p.direction ps p
-    ∙ ap (λ (b : Bool). tokens_of p.direction ps + cond b p.tokens 0) (same_is p.direction)
+    ∙ ap (λ (b : Bool). piece_tokens p.direction ps + cond b p.tokens 0) (same_is p.direction)
 
 -- what the piece brings is there to be judged
 pub follows_piece : {A : Type 0} (limit : ℕ) (tables : List Interface) (o : Output) (ps : List Piece) (p : Piece)
     (c : SessionState A) (stream : Stream A) (len tokens : ℕ) (bytes : List ℕ)
-    → Along limit tables o p.direction ps c stream → is_open c.status ≡ true → len ≡ stream.len + length p.bytes
+    → Along limit tables o p.direction ps c stream → is_going c.status ≡ true → len ≡ stream.len + length p.bytes
     → len < 2 ^ 64 → tokens ≡ stream.tokens + p.tokens → bytes ≡ stream.bytes.items ++ p.bytes
-    → Follows limit tables (session_of limit (ps ++ p ∷ [])) o c p.direction tokens bytes
+    → CutFollows limit tables (session_of limit (ps ++ p ∷ [])) o c p.direction tokens bytes
 follows_piece limit tables o ps p c stream len tokens bytes h going len_is small tokens_is bytes_is =
     let d = p.direction in
     let s = stream_of d ps in
@@ -200,7 +200,7 @@ follows_piece limit tables o ps p c stream len tokens bytes h going len_is small
     new_marks limit s p.bytes ∙ ap (λ (b : Bool). cond b []
     (cutting limit (length (s ++ p.bytes)) (s ++ p.bytes) (cut limit s).place).marks) left.is_bad
     ∙ sym (ap (λ (x : Cutting). x.marks) place_is) in
-    let count : tokens_of d ps + p.tokens ≡ tokens =
+    let count : piece_tokens d ps + p.tokens ≡ tokens =
     ap (λ (n : ℕ). n + p.tokens) (sym h.stream.tokens) ∙ sym tokens_is in
     record {
       limit_is = refl;
@@ -245,7 +245,7 @@ along_piece limit tables o ps p c n stream after rest h j len tokens bytes =
 -- there was nothing to judge any more
 pub along_closed : {A : Type 0} (limit : ℕ) (tables : List Interface) (o : Output) (ps : List Piece) (p : Piece)
     (c : SessionState A) (stream after : Stream A)
-    → Along limit tables o p.direction ps c stream → is_open c.status ≡ false → after.len ≡ stream.len + length p.bytes
+    → Along limit tables o p.direction ps c stream → is_going c.status ≡ false → after.len ≡ stream.len + length p.bytes
     → after.tokens ≡ stream.tokens + p.tokens
     → Along limit tables o p.direction (ps ++ p ∷ []) c after
 along_closed limit tables o ps p c stream after h away len tokens =
@@ -266,14 +266,14 @@ along_closed limit tables o ps p c stream after h away len tokens =
 -- the other direction
 other_stream : {A : Type 0} (limit : ℕ) (d : Direction) (ps : List Piece) (p : Piece) (c n : SessionState A)
     (stream : Stream A) → same_direction p.direction d ≡ false → IsStream limit d ps c stream
-    → (is_open n.status ≡ true → is_open c.status ≡ true) → end_in n d ≡ end_in c d
+    → (is_going n.status ≡ true → is_going c.status ≡ true) → end_in n d ≡ end_in c d
     → IsStream limit d (ps ++ p ∷ []) n stream
 other_stream limit d ps p c n stream away h going end =
     let same : stream_of d (ps ++ p ∷ []) ≡ stream_of d ps =
     stream_last d ps p ∙ ap (λ (b : Bool). stream_of d ps ++ cond b p.bytes []) away
     ∙ append-nil (stream_of d ps) in
-    let count : tokens_of d (ps ++ p ∷ []) ≡ tokens_of d ps =
-    tokens_last d ps p ∙ ap (λ (b : Bool). tokens_of d ps + cond b p.tokens 0) away ∙ omega arith in
+    let count : piece_tokens d (ps ++ p ∷ []) ≡ piece_tokens d ps =
+    tokens_last d ps p ∙ ap (λ (b : Bool). piece_tokens d ps + cond b p.tokens 0) away ∙ omega arith in
     record {
       len = h.len ∙ sym (ap (λ (b : List ℕ). length b) same);
       tokens = h.tokens ∙ sym count;
@@ -288,7 +288,7 @@ pub after_server : {A : Type 0} (limit : ℕ) (tables : List Interface) (o : Out
     (s : Scanner A) (n : SessionState A) (after : Stream A) → p.direction ≡ ToServer → IsAfter limit tables o ps s
     → (Along limit tables o p.direction ps s.state s.to_server
     → Along limit tables o p.direction (ps ++ p ∷ []) n after)
-    → (is_open n.status ≡ true → is_open s.state.status ≡ true)
+    → (is_going n.status ≡ true → is_going s.state.status ≡ true)
     → ((d : Direction) → same_direction p.direction d ≡ false → end_in n d ≡ end_in s.state d)
     → IsAfter limit tables o (ps ++ p ∷ []) (record { state = n; to_server = after; to_client = s.to_client })
 after_server limit tables o ps p s n after is h step going other =
@@ -311,7 +311,7 @@ pub after_client : {A : Type 0} (limit : ℕ) (tables : List Interface) (o : Out
     (s : Scanner A) (n : SessionState A) (after : Stream A) → p.direction ≡ ToClient → IsAfter limit tables o ps s
     → (Along limit tables o p.direction ps s.state s.to_client
     → Along limit tables o p.direction (ps ++ p ∷ []) n after)
-    → (is_open n.status ≡ true → is_open s.state.status ≡ true)
+    → (is_going n.status ≡ true → is_going s.state.status ≡ true)
     → ((d : Direction) → same_direction p.direction d ≡ false → end_in n d ≡ end_in s.state d)
     → IsAfter limit tables o (ps ++ p ∷ []) (record { state = n; to_server = s.to_server; to_client = after })
 after_client limit tables o ps p s n after is h step going other =
@@ -352,7 +352,7 @@ left_none : (limit : ℕ) (d : Direction) → IsLeft limit [] 0 []
 unfolding cutting
 left_none limit d = record { rest_is = refl; place = refl; is_bad = refl }
 
-pub none_judged : {A : Type 0} (limit : ℕ) (tables : List Interface) (o : Output) (s : Scanner A) → IsFresh s.state
+pub none_judged : {A : Type 0} (limit : ℕ) (tables : List Interface) (o : Output) (s : Scanner A) → IsUnread s.state
     → s.to_server.bytes.items ≡ [] → s.to_server.len ≡ 0 → s.to_server.tokens ≡ 0
     → s.to_client.bytes.items ≡ [] → s.to_client.len ≡ 0 → s.to_client.tokens ≡ 0 → IsAfter limit tables o [] s
 unfolding merged_within
@@ -418,18 +418,18 @@ lens_are limit tables o ps s h =
 
 answers_as : {A : Type 0} (limit : ℕ) (tables : List Interface) (o : Output) (ps : List Piece) (s : Scanner A)
     (status : SessionStatus) → s.state.status ≡ status → IsAfter limit tables o ps s
-    → Answers tables (session_of limit ps) (verdict_of status s)
+    → IsVerdictOf tables (session_of limit ps) (verdict_of status s)
 answers_as limit tables o ps s Open e h =
     let t = session_of limit ps in
-    let going : is_open s.state.status ≡ true = ap is_open e in
-    subst (Answers tables t) (sym (lens_are limit tables o ps s h))
+    let going : is_going s.state.status ≡ true = ap is_going e in
+    subst (IsVerdictOf tables t) (sym (lens_are limit tables o ps s h))
     (answers_all tables t s.state.count s.state.progress (h.all going)
     (open_passed tables t s.state.count s.state.status going h.judged.status) h.judged.at)
 answers_as limit tables o ps s Ended e h =
     let t = session_of limit ps in
     let i : IsEnd (messages tables t) s.state.count =
     subst (λ (x : SessionStatus). StatusIs tables t s.state.count x) e h.judged.status in
-    subst (Answers tables t) (sym (lens_are limit tables o ps s h))
+    subst (IsVerdictOf tables t) (sym (lens_are limit tables o ps s h))
     (answers_end tables t i.before i.call s.state.progress i.is i.ends i.passed
     (subst (λ (k : ℕ). IsAt tables t k s.state.progress) i.last h.judged.at))
 answers_as limit tables o ps s (Broken f fault) e h =
@@ -439,7 +439,7 @@ answers_as limit tables o ps s (Broken f fault) e h =
     answers_broken tables t s.state.count f fault s.state.progress i.stands i.is i.passed h.judged.at
 
 pub answers_so : {A : Type 0} (limit : ℕ) (tables : List Interface) (o : Output) (ps : List Piece) (s : Scanner A)
-    → IsAfter limit tables o ps s → Answers tables (session_of limit ps) (verdict_of s.state.status s)
+    → IsAfter limit tables o ps s → IsVerdictOf tables (session_of limit ps) (verdict_of s.state.status s)
 answers_so limit tables o ps s h = answers_as limit tables o ps s s.state.status refl h
 
 lines_as : {A : Type 0} (limit : ℕ) (tables : List Interface) (o : Output) (ps : List Piece) (s : Scanner A)
@@ -447,7 +447,7 @@ lines_as : {A : Type 0} (limit : ℕ) (tables : List Interface) (o : Output) (ps
     → s.state.text.items ≡ wanted o (trace_of tables (session_of limit ps))
 lines_as limit tables o ps s Open e h =
     let t = session_of limit ps in
-    let going : is_open s.state.status ≡ true = ap is_open e in
+    let going : is_going s.state.status ≡ true = ap is_going e in
     trace_all tables t s.state.count o s.state.text.items (h.all going)
     (open_passed tables t s.state.count s.state.status going h.judged.status) h.judged.text_is
 lines_as limit tables o ps s Ended e h =
@@ -482,7 +482,7 @@ pub takes_server : {A E : Type 0} (limit : ℕ) (tables : List Interface) (o : O
     (n : SessionState A) (after : Stream A) (r : Result (Unit {0}) E) → p.direction ≡ ToServer
     → OnOk r ((ps : List Piece) → Along limit tables o p.direction ps s.state s.to_server
     → Along limit tables o p.direction (ps ++ p ∷ []) n after)
-    → OnOk r (is_open n.status ≡ true → is_open s.state.status ≡ true)
+    → OnOk r (is_going n.status ≡ true → is_going s.state.status ≡ true)
     → OnOk r ((d : Direction) → same_direction p.direction d ≡ false → end_in n d ≡ end_in s.state d)
     → OnOk r ((ps : List Piece) → IsAfter limit tables o ps s
     → IsAfter limit tables o (ps ++ p ∷ []) (record { state = n; to_server = after; to_client = s.to_client }))
@@ -494,7 +494,7 @@ pub takes_client : {A E : Type 0} (limit : ℕ) (tables : List Interface) (o : O
     (n : SessionState A) (after : Stream A) (r : Result (Unit {0}) E) → p.direction ≡ ToClient
     → OnOk r ((ps : List Piece) → Along limit tables o p.direction ps s.state s.to_client
     → Along limit tables o p.direction (ps ++ p ∷ []) n after)
-    → OnOk r (is_open n.status ≡ true → is_open s.state.status ≡ true)
+    → OnOk r (is_going n.status ≡ true → is_going s.state.status ≡ true)
     → OnOk r ((d : Direction) → same_direction p.direction d ≡ false → end_in n d ≡ end_in s.state d)
     → OnOk r ((ps : List Piece) → IsAfter limit tables o ps s
     → IsAfter limit tables o (ps ++ p ∷ []) (record { state = n; to_server = s.to_server; to_client = after }))

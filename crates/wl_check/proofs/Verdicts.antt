@@ -7,7 +7,7 @@ use Rattle.wl_objects.specs.declared.error.Fault.{Fault}
 use Rattle.wl_check.specs.declared.frames.FramedMessage.{FramedMessage}
 use Rattle.wl_check.specs.declared.verdict.Verdict.{Verdict}
 use Rattle.wl_check.specs.declared.verdict.Verdict.TheVariants.{Lawful, Broken}
-use Rattle.wl_check.specs.Session.{Session, Answers, Breaks, breaks, count_in}
+use Rattle.wl_check.specs.Session.{Session, IsVerdictOf, Breaks, breaks, count_in}
 
 -- two least places that break a rule are one
 place_once : (tables : List Interface) (s : Session) (p q : ℕ) (f g : Fault) → Breaks tables s p f → Breaks tables s q g
@@ -19,7 +19,8 @@ place_once tables s p q f g x y l m false true d e = let none : breaks tables s 
     l q (grind (arith, nat_tests)) in absurd (cc (none, y))
 place_once tables s p q f g x y l m false false d e = grind (arith, nat_tests)
 
-pub verdict_once : (tables : List Interface) (s : Session) (v w : Verdict) → Answers tables s v → Answers tables s w
+pub verdict_once : (tables : List Interface) (s : Session) (v w : Verdict) → IsVerdictOf tables s v
+    → IsVerdictOf tables s w
     → v ≡ w
 verdict_once tables s (Lawful a b c d) (Lawful e f g h) x y =
     let one : a ≡ e = x.1.requests_are ∙ sym y.1.requests_are in

@@ -11,7 +11,7 @@ use Rattle.wl_recording.specs.Piece.{Piece}
 use Rattle.wl_message.specs.Cut.{is_size, front, Front, More, Bad, Whole}
 use Rattle.wl_message.proofs.Cuts.{front_spoiled}
 use Rattle.wl_check.specs.declared.frames.FramedMessage.{FramedMessage}
-use Rattle.wl_check.specs.Merged.{Mark, cutting, cut_at, cut, same_direction, stream_of, tokens_of}
+use Rattle.wl_check.specs.Merged.{Mark, cutting, cut_at, cut, same_direction, stream_of, piece_tokens}
 use Rattle.wl_check.specs.Merged.{framed, completed_at, merged_within, merged}
 use Rattle.wl_check.specs.Session.{session_of, IsWithin, AreWithin}
 use Rattle.wl_check.proofs.MessagesOfStream.{next_within}
@@ -98,7 +98,7 @@ completed_within : (limit : ℕ) (ps : List Piece) (k : ℕ) (o : Option Piece) 
 completed_within limit ps k None e = tt
 completed_within limit ps k (Some p) e =
     let s = stream_of p.direction (take k ps) in
-    frames_step limit ps p.direction (tokens_of p.direction (take k ps) + p.tokens) (length (s ++ p.bytes))
+    frames_step limit ps p.direction (piece_tokens p.direction (take k ps) + p.tokens) (length (s ++ p.bytes))
     (drop (length (cut limit s).marks) (cut limit (s ++ p.bytes)).marks)
     (stream_le p.direction ps k p e (same_itself p.direction))
     (all_drop (FitsIn limit (length (s ++ p.bytes))) (length (cut limit s).marks) (cut limit (s ++ p.bytes)).marks

@@ -48,9 +48,9 @@ abbrev pub if_request : Direction → Option NewObject → Option NewObject
 if_request ToServer new = new
 if_request ToClient new = None
 
-abbrev pub destroyed : Bool → ℕ → Option ℕ
-destroyed false id = None
-destroyed true id = Some id
+abbrev pub destroyed_id : Bool → ℕ → Option ℕ
+destroyed_id false id = None
+destroyed_id true id = Some id
 
 -- What a message does: the object that it makes, the id of which it is the delete_id, the object
 -- that it destroys, the global that it advertises, how many tokens it takes, and whether it is
@@ -61,7 +61,7 @@ changes tables call = let r = call.received in record {
   made = if_request call.direction (made tables r.entry.version r.signature.kinds r.values);
   deleted = if is_delete_id (side_of call.direction) r.entry.iface call.opcode
       then first_number r.values else None;
-  destroyed = destroyed (destroys_one r.signature.destroys)
+  destroyed = destroyed_id (destroys_one r.signature.destroys)
       (ended_id r.signature.destroys r.target.id r.values);
   advertised = if is_global (side_of call.direction) r.entry.iface call.opcode
       then advertised tables r.values else None;
@@ -70,8 +70,8 @@ changes tables call = let r = call.received in record {
 }
 
 -- what does nothing
-abbrev pub nothing : MessageChanges
-nothing = record {
+abbrev pub changes_nothing : MessageChanges
+changes_nothing = record {
   direction = ToServer;
   made = None;
   deleted = None;
@@ -83,4 +83,4 @@ nothing = record {
 
 -- the beginning: wl_display is there, with id 1 and version 1
 abbrev pub beginning : MessageChanges
-beginning = record nothing { made = Some (record { id = 1; iface = display; version = 1 }) }
+beginning = record changes_nothing { made = Some (record { id = 1; iface = display; version = 1 }) }

@@ -20,8 +20,9 @@ pub record HasPassed {A : Type 0} (limit : ℕ) (tables : List Interface) (ps : 
 
 -- What a call does: the piece passed behind the others, and what it printed is what the trace of
 -- their recording has more with it.
-abbrev pub Passes : {A : Type 0} → ℕ → List Interface → Piece → Inspector A → Inspector A → Type 0
-Passes limit tables piece before after =
+abbrev pub PassesPiece : {A : Type 0} → ℕ → List Interface → Piece → Inspector A → Inspector A
+    → Type 0
+PassesPiece limit tables piece before after =
     (ps : List Piece) → HasPassed limit tables ps before
     → HasPassed limit tables (ps ++ piece ∷ []) after
     × AreOwnLines limit tables ps piece (printed after)
@@ -32,5 +33,5 @@ pub data Inspected {A : Type 0} (limit : ℕ) (tables : List Interface) : List P
     → Inspector A → Type 0 where
   begun : {i : Inspector A} → HasPassed limit tables [] i → Inspected limit tables [] [] i
   passed : {ps : List Piece} {text : List ℕ} {before after : Inspector A} {piece : Piece}
-      → Inspected limit tables ps text before → Passes limit tables piece before after
+      → Inspected limit tables ps text before → PassesPiece limit tables piece before after
       → Inspected limit tables (ps ++ piece ∷ []) (text ++ printed after) after

@@ -62,11 +62,11 @@ stream_of direction (piece ∷ pieces) =
     ++ stream_of direction pieces
 
 -- how many tokens they bring in that direction
-abbrev pub tokens_of : Direction → List Piece → ℕ
-tokens_of direction [] = 0
-tokens_of direction (piece ∷ pieces) =
+abbrev pub piece_tokens : Direction → List Piece → ℕ
+piece_tokens direction [] = 0
+piece_tokens direction (piece ∷ pieces) =
     (if same_direction piece.direction direction then piece.tokens else 0)
-    + tokens_of direction pieces
+    + piece_tokens direction pieces
 
 -- a message in the merged list: the tokens are those that its direction brought with the pieces up
 -- to its own
@@ -78,7 +78,7 @@ framed direction tokens m =
 -- bytes with it that were not there without it.
 abbrev pub completed : ℕ → List Piece → Piece → List FramedMessage
 completed limit before piece =
-    map (framed piece.direction (tokens_of piece.direction before + piece.tokens))
+    map (framed piece.direction (piece_tokens piece.direction before + piece.tokens))
     (drop (length (cut limit (stream_of piece.direction before)).marks)
     (cut limit (stream_of piece.direction before ++ piece.bytes)).marks)
 

@@ -26,38 +26,38 @@ is_made None id = false
 is_made (Some new) id = nat_eq new.id id
 
 -- it makes an object with this id
-abbrev pub makes : MessageChanges → ℕ → Bool
-makes changes id = is_made changes.made id
+abbrev pub makes_id : MessageChanges → ℕ → Bool
+makes_id changes id = is_made changes.made id
 
 -- it is the delete_id of this id, and that of 1 changes nothing
-abbrev pub deletes : MessageChanges → ℕ → Bool
-deletes changes id = frees changes.deleted id
+abbrev pub deletes_id : MessageChanges → ℕ → Bool
+deletes_id changes id = frees changes.deleted id
 
 -- it destroys the object with this id
-abbrev pub destroys : MessageChanges → ℕ → Bool
-destroys changes id = is_id changes.destroyed id
+abbrev pub destroys_id : MessageChanges → ℕ → Bool
+destroys_id changes id = is_id changes.destroyed id
 
 -- The object that is held at a place with this id: the last that was made, unless a delete_id
 -- stands between.
 unfoldable pub holder : (ℕ → MessageChanges) → ℕ → ℕ → Option ℕ
 holder session zero id = None
 holder session (suc place) id =
-    if makes (session place) id then Some place
-    else (if deletes (session place) id then None else holder session place id)
+    if makes_id (session place) id then Some place
+    else (if deletes_id (session place) id then None else holder session place id)
 
 -- whether a message that destroys the object with this id stands between the place of its making
 -- and another
 unfoldable pub is_ending : (ℕ → MessageChanges) → ℕ → ℕ → ℕ → Bool
 is_ending session birth zero id = false
 is_ending session birth (suc place) id =
-    (nat_lt birth place && destroys (session place) id) || is_ending session birth place id
+    (nat_lt birth place && destroys_id (session place) id) || is_ending session birth place id
 
-abbrev pub state_of : Bool → State
-state_of true = Zombie
-state_of false = Live
+abbrev pub live_or_zombie : Bool → State
+live_or_zombie true = Zombie
+live_or_zombie false = Live
 
-abbrev pub entry_of : ℕ → State → NewObject → Entry
-entry_of birth state new =
+abbrev pub made_entry : ℕ → State → NewObject → Entry
+made_entry birth state new =
     record { birth = birth; iface = new.iface; version = new.version; state = state }
 
 abbrev pub new_of : Option NewObject → NewObject
@@ -65,13 +65,14 @@ new_of None = record { id = 0; iface = display; version = 0 }
 new_of (Some new) = new
 
 -- the object made at a place
-abbrev pub object_of : (ℕ → MessageChanges) → ℕ → State → Entry
-object_of session birth state = entry_of birth state (new_of (session birth).made)
+abbrev pub entry_made_at : (ℕ → MessageChanges) → ℕ → State → Entry
+entry_made_at session birth state = made_entry birth state (new_of (session birth).made)
 
 -- the object that an id names at a place: one that is held, open or ending
-abbrev pub named : (ℕ → MessageChanges) → ℕ → ℕ → Option Entry
-named session place id =
-    option_map (λ birth. object_of session birth (state_of (is_ending session birth place id)))
+abbrev pub object_named : (ℕ → MessageChanges) → ℕ → ℕ → Option Entry
+object_named session place id =
+    option_map (λ birth. entry_made_at session birth
+    (live_or_zombie (is_ending session birth place id)))
     (holder session place id)
 
 -- the counts behind a message
@@ -119,15 +120,15 @@ taken session (suc place) direction =
     taken_after (session place) direction (taken session place direction)
 
 -- what is known at a place
-pub record Known : Type 0 where
+pub record KnownAtPlace : Type 0 where
   pub object : ℕ → Option Entry
   pub used : ℕ
   pub advertised_version : ℕ → ℕ → ℕ
   pub taken : Direction → ℕ
 
-abbrev pub known : (ℕ → MessageChanges) → ℕ → Known
+abbrev pub known : (ℕ → MessageChanges) → ℕ → KnownAtPlace
 known session place = record {
-  object = named session place;
+  object = object_named session place;
   used = used session place;
   advertised_version = advertised_version session place;
   taken = taken session place;
@@ -135,30 +136,31 @@ known session place = record {
 
 -- ---- one message more
 
-abbrev pub ending : Entry → Entry
-ending entry = record entry { state = Zombie }
+abbrev pub as_zombie : Entry → Entry
+as_zombie entry = record entry { state = Zombie }
 
 abbrev pub unless_deleted : Bool → Bool → Option Entry → Option Entry
 unless_deleted deleted destroyed entry =
-    if deleted then None else (if destroyed then option_map ending entry else entry)
+    if deleted then None else (if destroyed then option_map as_zombie entry else entry)
 
 -- what an id names behind a message that stands at a place
 abbrev pub object_after : ℕ → MessageChanges → ℕ → Option Entry → Option Entry
 object_after place changes id entry =
-    if makes changes id then Some (entry_of place Live (new_of changes.made))
-    else unless_deleted (deletes changes id) (destroys changes id) entry
+    if makes_id changes id then Some (made_entry place Live (new_of changes.made))
+    else unless_deleted (deletes_id changes id) (destroys_id changes id) entry
 
 -- all that is known behind a message that stands at a place
-pub record IsNext (p : ℕ) (changes : MessageChanges) (before after : Known) : Type 0 where
-  pub objects : (id : ℕ) → after.object id ≡ object_after p changes id (before.object id)
-  pub used_is : after.used ≡ used_after changes before.used
-  pub advertised_is : (name iface : ℕ) → after.advertised_version name iface
-      ≡ advertised_after changes name iface (before.advertised_version name iface)
-  pub taken_is : (direction : Direction) → after.taken direction
-      ≡ taken_after changes direction (before.taken direction)
+pub record IsKnownBehind (p : ℕ) (changes : MessageChanges) (before after : KnownAtPlace) : Type 0
+  where
+    pub objects : (id : ℕ) → after.object id ≡ object_after p changes id (before.object id)
+    pub used_is : after.used ≡ used_after changes before.used
+    pub advertised_is : (name iface : ℕ) → after.advertised_version name iface
+        ≡ advertised_after changes name iface (before.advertised_version name iface)
+    pub taken_is : (direction : Direction) → after.taken direction
+        ≡ taken_after changes direction (before.taken direction)
 
 -- all that is known before the first message
-pub record IsFirst (k : Known) : Type 0 where
+pub record IsFirst (k : KnownAtPlace) : Type 0 where
   pub objects : (id : ℕ) → k.object id ≡ (if nat_eq id 1
       then Some (record { birth = 0; iface = display; version = 1; state = Live }) else None)
   pub used_is : k.used ≡ 1

@@ -20,7 +20,7 @@ use Rattle.wl_recording.specs.declared.piece.Direction.{Direction}
 use Rattle.wl_recording.specs.declared.piece.Direction.TheVariants.{ToServer, ToClient}
 use Rattle.wl_check.specs.declared.frames.FramedMessage.{FramedMessage}
 use Rattle.wl_check.specs.Changes.{Call, side_of, first_number}
-use Rattle.wl_check.specs.Places.{Known}
+use Rattle.wl_check.specs.Places.{KnownAtPlace}
 
 -- an object that is open
 abbrev pub if_open : Option Entry → Option Entry
@@ -33,14 +33,14 @@ nameable ToServer entry = if_open entry
 nameable ToClient entry = entry
 
 -- An id for a new object: not 0, of no held object, and used before or the next one.
-abbrev pub is_free : Known → ℕ → Bool
-is_free k id = not (nat_eq id 0) && is_none (k.object id) && nat_le id (k.used + 1)
+abbrev pub is_free_id : KnownAtPlace → ℕ → Bool
+is_free_id k id = not (nat_eq id 0) && is_none (k.object id) && nat_le id (k.used + 1)
 
 -- what the reader of a message knows; births play no part
-abbrev pub reader : Known → Direction → Reader
-reader k direction = record {
+abbrev pub reader_by : KnownAtPlace → Direction → Reader
+reader_by k direction = record {
   object = λ id. nameable direction (k.object id);
-  new_id = λ id. new_id_of (is_free k id) (nat_le id max_ids);
+  new_id = λ id. new_id_of (is_free_id k id) (nat_le id max_ids);
   birth = 0;
   forgives = false;
 }
@@ -53,20 +53,20 @@ version_of tables iface =
 -- A bind of this name may make this object: its interface is in the tables, its version is at least
 -- 1, at most that of the tables, and at most one that an event advertised for this name and
 -- interface.
-abbrev pub can_bind : List Interface → Known → Option ℕ → Option NewObject → Bool
-can_bind tables k (Some name) (Some new) =
+abbrev pub allows_bind : List Interface → KnownAtPlace → Option ℕ → Option NewObject → Bool
+allows_bind tables k (Some name) (Some new) =
     nat_le 1 new.version && nat_le new.version (version_of tables new.iface)
     && nat_le new.version (k.advertised_version name new.iface.0)
-can_bind tables k _ _ = false
+allows_bind tables k _ _ = false
 
-abbrev pub is_bad_bind : List Interface → Known → Side → ℕ → Received → Bool
+abbrev pub is_bad_bind : List Interface → KnownAtPlace → Side → ℕ → Received → Bool
 is_bad_bind tables k side opcode r =
     is_bind side r.entry.iface opcode
-    && not (can_bind tables k (first_number r.values)
+    && not (allows_bind tables k (first_number r.values)
     (made tables r.entry.version r.signature.kinds r.values))
 
 -- F9 comes last
-abbrev pub called : List Interface → Known → Direction → ℕ → Result Received Fault
+abbrev pub called : List Interface → KnownAtPlace → Direction → ℕ → Result Received Fault
     → Result Call Fault
 called tables k direction opcode (Err fault) = Err fault
 called tables k direction opcode (Ok r) =
@@ -74,15 +74,16 @@ called tables k direction opcode (Ok r) =
     else Ok (record { direction = direction; opcode = opcode; received = r })
 
 -- the message with this header, and what stands behind it
-abbrev pub judged_message : List Interface → Known → FramedMessage → Header → List ℕ → Result Call Fault
+abbrev pub judged_message : List Interface → KnownAtPlace → FramedMessage → Header → List ℕ
+    → Result Call Fault
 judged_message tables k frame header body =
     called tables k frame.direction header.opcode
-    (received tables (side_of frame.direction) (reader k frame.direction) header body
+    (received tables (side_of frame.direction) (reader_by k frame.direction) header body
     (frame.tokens - k.taken frame.direction))
 
 -- A message of a direction's stream, judged by what is known at its place: what it is, or the first
 -- rule that it breaks.
-abbrev pub judged : ℕ → List Interface → Known → List ℕ → FramedMessage → Result Call Fault
+abbrev pub judged : ℕ → List Interface → KnownAtPlace → List ℕ → FramedMessage → Result Call Fault
 judged limit tables k stream frame =
     if is_size limit frame.size
     then judged_message tables k frame (header_at (drop frame.start stream))
@@ -90,7 +91,8 @@ judged limit tables k stream frame =
     else Err BadSize
 
 -- the same, where these are the bytes of the stream from the message on
-abbrev pub judged_front : ℕ → List Interface → Known → List ℕ → FramedMessage → Result Call Fault
+abbrev pub judged_front : ℕ → List Interface → KnownAtPlace → List ℕ → FramedMessage
+    → Result Call Fault
 judged_front limit tables k bytes frame =
     if is_size limit frame.size
     then judged_message tables k frame (header_at bytes) (take (frame.size - 8) (drop 8 bytes))

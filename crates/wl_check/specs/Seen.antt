@@ -13,10 +13,10 @@ use Rattle.wl_recording.specs.declared.piece.Direction.TheVariants.{ToServer, To
 use Rattle.wl_check.specs.declared.known.KnownState.{KnownState}
 use Rattle.wl_check.specs.declared.changes.MessageChanges.{MessageChanges}
 use Rattle.wl_objects.specs.declared.reading.Received.{Received}
-use Rattle.wl_objects.specs.Seen.{message_of}
+use Rattle.wl_objects.specs.Seen.{received_of}
 use Rattle.wl_sigs.specs.Tables.{Interface}
 use Rattle.wl_check.specs.Changes.{Call, changes}
-use Rattle.wl_check.specs.Places.{Known}
+use Rattle.wl_check.specs.Places.{KnownAtPlace}
 use Rattle.wl_check.specs.declared.frames.FramedMessage.{FramedMessage}
 use Rattle.wl_check.specs.declared.progress.Progress.{Progress}
 use Rattle.wl_check.specs.declared.progress.Tally.{Tally}
@@ -32,22 +32,22 @@ size_of (Whole size) = Some size
 abbrev pub pair_cmp : ℕ × ℕ → ℕ × ℕ → Ordering
 pair_cmp a b = ordering_then (nat_cmp a.0 b.0) (nat_cmp a.1 b.1)
 
-abbrev pub taken_in : {A : Type 0} → KnownState A → Direction → ℕ
-taken_in k ToServer = k.taken_to_server
-taken_in k ToClient = k.taken_to_client
+abbrev pub taken_of_direction : {A : Type 0} → KnownState A → Direction → ℕ
+taken_of_direction k ToServer = k.taken_to_server
+taken_of_direction k ToClient = k.taken_to_client
 
-abbrev pub known_in : {A : Type 0} → KnownState A → Known
+abbrev pub known_in : {A : Type 0} → KnownState A → KnownAtPlace
 known_in k = record {
   object = λ id. get_or k.objects.items id None;
   used = k.used;
   advertised_version = λ name iface. unwrap_or (get pair_cmp k.globals (name, iface)) 0;
-  taken = taken_in k;
+  taken = taken_of_direction k;
 }
 
 -- a message that was read
 abbrev pub call_of : Direction → ℕ → Received → Call
 call_of direction opcode received =
-    record { direction = direction; opcode = opcode; received = message_of received }
+    record { direction = direction; opcode = opcode; received = received_of received }
 
 -- what a judged message does, or the first rule that it breaks
 abbrev pub changes_in : List Interface → Result Call Fault → Result MessageChanges Fault

@@ -16,7 +16,7 @@ use Rattle.wl_check.specs.declared.frames.FramedMessage.{FramedMessage}
 use Rattle.wl_check.specs.declared.verdict.Verdict.{Verdict}
 use Rattle.wl_check.specs.declared.verdict.Verdict.TheVariants.{Lawful, Broken}
 use Rattle.wl_check.specs.Merged.{merged, stream_of, same_direction}
-use Rattle.wl_check.specs.Changes.{Call, changes, nothing, beginning, side_of}
+use Rattle.wl_check.specs.Changes.{Call, changes, changes_nothing, beginning, side_of}
 use Rattle.wl_check.specs.Places.{known}
 use Rattle.wl_check.specs.Rules.{judged}
 
@@ -40,7 +40,7 @@ Judged = Result Call Fault
 
 abbrev pub changes_of : List Interface → Option Judged → MessageChanges
 changes_of tables (Some (Ok call)) = changes tables call
-changes_of tables _ = nothing
+changes_of tables _ = changes_nothing
 
 -- What stands at each place. A message that breaks a rule does nothing.
 abbrev pub changes_at : List Interface → List Judged → ℕ → MessageChanges
@@ -49,7 +49,8 @@ changes_at tables messages (suc k) = changes_of tables (slice_get messages k)
 
 -- these messages, and behind them those of the frames, each judged by what stands at the places
 -- before it
-unfoldable pub judged_after : ℕ → List Interface → (Direction → List ℕ) → List Judged → List FramedMessage
+unfoldable pub judged_after : ℕ → List Interface → (Direction → List ℕ) → List Judged
+    → List FramedMessage
     → List Judged
 judged_after limit tables streams earlier [] = earlier
 judged_after limit tables streams earlier (frame ∷ frames) =
@@ -101,8 +102,8 @@ abbrev pub IsLawful : List Interface → Session → Type 0
 IsLawful tables session = (k : ℕ) → breaks tables session k ≡ None
 
 -- the messages that are counted
-abbrev pub counted : List Interface → Session → List FramedMessage
-counted tables session = take (examined (messages tables session)) session.frames
+abbrev pub counted_frames : List Interface → Session → List FramedMessage
+counted_frames tables session = take (examined (messages tables session)) session.frames
 
 -- how many messages go in one direction
 abbrev pub count_in : Direction → List FramedMessage → ℕ
@@ -119,19 +120,20 @@ end_after direction place (frame ∷ frames) =
 -- how many bytes of a direction belong to no counted message
 abbrev pub left_in : List Interface → Session → Direction → ℕ
 left_in tables session direction =
-    length (session.streams direction) - end_after direction 0 (counted tables session)
+    length (session.streams direction) - end_after direction 0 (counted_frames tables session)
 
 -- The numbers of a lawful session.
 pub record IsCounted (tables : List Interface) (session : Session)
     (requests events left_to_server left_to_client : ℕ) : Type 0 where
-  pub requests_are : requests ≡ count_in ToServer (counted tables session)
-  pub events_are : events ≡ count_in ToClient (counted tables session)
+  pub requests_are : requests ≡ count_in ToServer (counted_frames tables session)
+  pub events_are : events ≡ count_in ToClient (counted_frames tables session)
   pub to_server : left_to_server ≡ left_in tables session ToServer
   pub to_client : left_to_client ≡ left_in tables session ToClient
 
 -- This is the least message that breaks a rule: its direction, its number and its place within the
 -- direction, and the first rule that it breaks.
-pub record IsFirstBroken (tables : List Interface) (session : Session) (direction : Direction)
+pub record IsFirstBrokenMessage (tables : List Interface) (session : Session)
+    (direction : Direction)
     (index offset : ℕ) (fault : Fault) : Type 0 where
   pub place : ℕ
   pub frame : FramedMessage
@@ -145,11 +147,11 @@ pub record IsFirstBroken (tables : List Interface) (session : Session) (directio
   pub offset_is : offset ≡ frame.start
 
 -- What a checker answers: the numbers of a lawful session, or the least message that breaks a rule.
-abbrev pub Answers : List Interface → Session → Verdict → Type 0
-Answers tables session (Lawful requests events left_to_server left_to_client) =
+abbrev pub IsVerdictOf : List Interface → Session → Verdict → Type 0
+IsVerdictOf tables session (Lawful requests events left_to_server left_to_client) =
     IsLawful tables session × IsCounted tables session requests events left_to_server left_to_client
-Answers tables session (Broken direction index offset fault) =
-    IsFirstBroken tables session direction index offset fault
+IsVerdictOf tables session (Broken direction index offset fault) =
+    IsFirstBrokenMessage tables session direction index offset fault
 
 abbrev pub SaysLawful : Verdict → Type 0
 SaysLawful (Lawful requests events left_to_server left_to_client) = Unit {0}

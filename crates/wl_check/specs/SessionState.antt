@@ -1,6 +1,6 @@
 -- How far a session was judged, message by message and piece by piece.
-use Rattle.std.specs.Prelude.{◌≡◌, ℕ, ◌+◌, ◌*◌, ◌^◌, ◌<◌, ◌≤◌, Bool, true, false, suc, List, [], ◌++◌}
-use Rattle.std.specs.Prelude.{map, length, drop, take, slice_get, Some}
+use Rattle.std.specs.Prelude.{◌≡◌, ℕ, ◌+◌, ◌*◌, ◌^◌, ◌<◌, ◌≤◌, Bool, true, false, suc, List, []}
+use Rattle.std.specs.Prelude.{◌++◌, map, length, drop, take, slice_get, Some}
 use Rattle.std.specs.declared.result.Result.TheVariants.{Ok, Err}
 use Rattle.wl_sigs.specs.Tables.{Interface}
 use Rattle.wl_message.specs.Cut.{is_size}
@@ -20,7 +20,7 @@ use Rattle.wl_check.specs.declared.progress.Tally.{Tally}
 use Rattle.wl_check.specs.declared.scanning.Scanner.{Scanner}
 use Rattle.wl_check.specs.Changes.{Call}
 use Rattle.wl_check.specs.Merged.{Cutting, cutting, cut, framed, merged, same_direction}
-use Rattle.wl_check.specs.Merged.{stream_of, tokens_of}
+use Rattle.wl_check.specs.Merged.{stream_of, piece_tokens}
 use Rattle.wl_check.specs.Places.{known, IsFirst}
 use Rattle.wl_check.specs.Seen.{known_in, no_tally, tally_in}
 use Rattle.wl_check.specs.Session.{Session, ArePassed, Judged, count_in, changes_at, end_after}
@@ -46,10 +46,10 @@ pub record IsAt {A : Type 0} (tables : List Interface) (s : Session) (k : ℕ) (
 
 -- ---- messages that were judged
 
-abbrev pub is_open : SessionStatus → Bool
-is_open Open = true
-is_open Ended = false
-is_open (Broken frame fault) = false
+abbrev pub is_going : SessionStatus → Bool
+is_going Open = true
+is_going Ended = false
+is_going (Broken frame fault) = false
 
 -- the last of so many messages is the first wl_display.error, and none breaks a rule
 pub record IsEnd (ms : List Judged) (k : ℕ) : Type 0 where
@@ -61,7 +61,8 @@ pub record IsEnd (ms : List Judged) (k : ℕ) : Type 0 where
   pub passed : ArePassed ms before
 
 -- the message behind so many is this one, and the first that breaks a rule
-pub record IsFault (tables : List Interface) (s : Session) (k : ℕ) (frame : FramedMessage) (fault : Fault)
+pub record IsFault (tables : List Interface) (s : Session) (k : ℕ) (frame : FramedMessage)
+    (fault : Fault)
     : Type 0 where
   pub stands : slice_get s.frames k ≡ Some frame
   pub is : slice_get (messages tables s) k ≡ Some (Err fault)
@@ -82,7 +83,8 @@ OthersStay d before after =
     (other : Direction) → same_direction d other ≡ false → end_in after other ≡ end_in before other
 
 -- The first messages of the session were judged, and this is what they come to.
-pub record IsJudged {A : Type 0} (tables : List Interface) (s : Session) (o : Output) (c : SessionState A)
+pub record IsJudged {A : Type 0} (tables : List Interface) (s : Session) (o : Output)
+    (c : SessionState A)
     : Type 0 where
   pub at : IsAt tables s c.count c.progress
   pub status : StatusIs tables s c.count c.status
@@ -93,7 +95,7 @@ pub record IsJudged {A : Type 0} (tables : List Interface) (s : Session) (o : Ou
   pub small_to_client : c.progress.to_client.end < 2 ^ 64
 
 -- before the first message
-pub record IsFresh {A : Type 0} (c : SessionState A) : Type 0 where
+pub record IsUnread {A : Type 0} (c : SessionState A) : Type 0 where
   pub known : IsFirst (known_in c.progress.known)
   pub to_server : c.progress.to_server ≡ no_tally
   pub to_client : c.progress.to_client ≡ no_tally
@@ -107,7 +109,7 @@ pub record IsFresh {A : Type 0} (c : SessionState A) : Type 0 where
 pub record Comes {A : Type 0} (limit : ℕ) (tables : List Interface) (s : Session) (o : Output)
     (c : SessionState A) (frame : FramedMessage) (rest : List ℕ) : Type 0 where
   pub limit_is : s.limit ≡ limit
-  pub going : is_open c.status ≡ true
+  pub going : is_going c.status ≡ true
   pub judged : IsJudged tables s o c
   pub stands : slice_get s.frames c.count ≡ Some frame
   pub here : frame.start ≡ end_in c frame.direction
@@ -117,7 +119,8 @@ pub record Comes {A : Type 0} (limit : ℕ) (tables : List Interface) (s : Sessi
   pub whole : is_size limit frame.size ≡ true → frame.size ≤ length rest
 
 -- it kept the rules, and the session goes on
-pub record WentOn {A : Type 0} (limit : ℕ) (frame : FramedMessage) (before after : SessionState A) : Type 0 where
+pub record WentOn {A : Type 0} (limit : ℕ) (frame : FramedMessage) (before after : SessionState A)
+    : Type 0 where
   pub size : is_size limit frame.size ≡ true
   pub count : after.count ≡ before.count + 1
   pub end : end_in after frame.direction ≡ frame.start + frame.size
@@ -127,10 +130,10 @@ abbrev pub cut_from : {A : Type 0} → (limit : ℕ) → Session → SessionStat
 cut_from limit s c d = cutting limit (length (s.streams d)) (s.streams d) (end_in c d)
 
 -- Behind the judged messages the session has just those that are cut off these bytes.
-pub record Follows {A : Type 0} (limit : ℕ) (tables : List Interface) (s : Session) (o : Output)
+pub record CutFollows {A : Type 0} (limit : ℕ) (tables : List Interface) (s : Session) (o : Output)
     (c : SessionState A) (d : Direction) (tokens : ℕ) (rest : List ℕ) : Type 0 where
   pub limit_is : s.limit ≡ limit
-  pub going : is_open c.status ≡ true
+  pub going : is_going c.status ≡ true
   pub judged : IsJudged tables s o c
   pub rest_is : drop (end_in c d) (s.streams d) ≡ rest
   pub small : length (s.streams d) < 2 ^ 64
@@ -148,8 +151,8 @@ pub record IsLeft (limit : ℕ) (stream : List ℕ) (end : ℕ) (rest : List ℕ
 pub record AllJudged {A : Type 0} (limit : ℕ) (tables : List Interface) (s : Session) (o : Output)
     (c : SessionState A) (d : Direction) (rest : List ℕ) : Type 0 where
   pub judged : IsJudged tables s o c
-  pub all : is_open c.status ≡ true → length s.frames ≡ c.count
-  pub left : is_open c.status ≡ true → IsLeft limit (s.streams d) (end_in c d) rest
+  pub all : is_going c.status ≡ true → length s.frames ≡ c.count
+  pub left : is_going c.status ≡ true → IsLeft limit (s.streams d) (end_in c d) rest
 
 -- ---- pieces
 
@@ -157,21 +160,22 @@ pub record AllJudged {A : Type 0} (limit : ℕ) (tables : List Interface) (s : S
 pub record IsStream {A : Type 0} (limit : ℕ) (d : Direction) (ps : List Piece) (c : SessionState A)
     (stream : Stream A) : Type 0 where
   pub len : stream.len ≡ length (stream_of d ps)
-  pub tokens : stream.tokens ≡ tokens_of d ps
-  pub left : is_open c.status ≡ true → IsLeft limit (stream_of d ps) (end_in c d) stream.bytes.items
+  pub tokens : stream.tokens ≡ piece_tokens d ps
+  pub left : is_going c.status ≡ true → IsLeft limit (stream_of d ps) (end_in c d)
+      stream.bytes.items
 
 -- The messages of these pieces were judged, and this is what they brought in one direction.
 pub record Along {A : Type 0} (limit : ℕ) (tables : List Interface) (o : Output) (d : Direction)
     (ps : List Piece) (c : SessionState A) (brought : Stream A) : Type 0 where
   pub judged : IsJudged tables (session_of limit ps) o c
-  pub all : is_open c.status ≡ true → length (merged limit ps) ≡ c.count
+  pub all : is_going c.status ≡ true → length (merged limit ps) ≡ c.count
   pub stream : IsStream limit d ps c brought
 
 -- and this in both
 pub record IsAfter {A : Type 0} (limit : ℕ) (tables : List Interface) (o : Output) (ps : List Piece)
     (s : Scanner A) : Type 0 where
   pub judged : IsJudged tables (session_of limit ps) o s.state
-  pub all : is_open s.state.status ≡ true → length (merged limit ps) ≡ s.state.count
+  pub all : is_going s.state.status ≡ true → length (merged limit ps) ≡ s.state.count
   pub to_server : IsStream limit ToServer ps s.state s.to_server
   pub to_client : IsStream limit ToClient ps s.state s.to_client
 

@@ -10,39 +10,40 @@ use Rattle.wl_recording.specs.declared.piece.Direction.{Direction}
 use Rattle.wl_check.specs.declared.frames.FramedMessage.{FramedMessage}
 use Rattle.wl_check.specs.declared.changes.MessageChanges.{MessageChanges}
 use Rattle.wl_recording.specs.Piece.{Piece}
-use Rattle.wl_check.specs.Merged.{Mark, mark, finish, same_direction, stream_of, tokens_of}
-use Rattle.wl_check.specs.Places.{makes, deletes, destroys}
+use Rattle.wl_check.specs.Merged.{Mark, mark, finish, same_direction, stream_of, piece_tokens}
+use Rattle.wl_check.specs.Places.{makes_id, deletes_id, destroys_id}
 use Rattle.wl_check.specs.Changes.{Call}
 use Rattle.wl_check.specs.Session.{ArePassed, Judged, ends_session}
 
 -- The object that was made at a place, its birth, is held at a later one: no delete_id of its id
 -- stands between.
-pub record Held (session : ℕ → MessageChanges) (place birth id : ℕ) : Type 0 where
+pub record StaysHeld (session : ℕ → MessageChanges) (place birth id : ℕ) : Type 0 where
   pub before : birth < place
-  pub made : makes (session birth) id ≡ true
+  pub made : makes_id (session birth) id ≡ true
   pub kept : (between : ℕ) → birth < between → between < place
-      → deletes (session between) id ≡ false
+      → deletes_id (session between) id ≡ false
 
 -- It is open where no message that destroys it stands between.
-abbrev pub IsOpen : (ℕ → MessageChanges) → ℕ → ℕ → ℕ → Type 0
-IsOpen session place birth id =
-    (between : ℕ) → birth < between → between < place → destroys (session between) id ≡ false
+abbrev pub StaysOpen : (ℕ → MessageChanges) → ℕ → ℕ → ℕ → Type 0
+StaysOpen session place birth id =
+    (between : ℕ) → birth < between → between < place → destroys_id (session between) id ≡ false
 
 -- an id was used before a place
 pub record WasUsed (session : ℕ → MessageChanges) (place id : ℕ) : Type 0 where
   pub birth : ℕ
   pub before : birth < place
-  pub made : makes (session birth) id ≡ true
+  pub made : makes_id (session birth) id ≡ true
 
 -- one event before a place advertised this name, this interface and at least this version
-pub record WasAdvertised (session : ℕ → MessageChanges) (place name iface version : ℕ) : Type 0 where
-  pub event : ℕ
-  pub before : event < place
-  pub global : AdvertisedGlobal
-  pub is : (session event).advertised ≡ Some global
-  pub name_is : global.name ≡ name
-  pub iface_is : global.iface.0 ≡ iface
-  pub version_is : version ≤ global.version
+pub record WasAdvertised (session : ℕ → MessageChanges) (place name iface version : ℕ) : Type 0
+  where
+    pub event : ℕ
+    pub before : event < place
+    pub global : AdvertisedGlobal
+    pub is : (session event).advertised ≡ Some global
+    pub name_is : global.name ≡ name
+    pub iface_is : global.iface.0 ≡ iface
+    pub version_is : version ≤ global.version
 
 -- the bytes of a message
 abbrev pub part_of : List ℕ → Mark → List ℕ
@@ -92,15 +93,16 @@ marks_in direction (frame ∷ frames) =
 
 -- A message comes with the piece of its direction that brings its last byte, and counts the tokens
 -- that its direction brought with the pieces up to that one.
-pub record ComesWith (limit : ℕ) (pieces : List Piece) (k : ℕ) (frame : FramedMessage) : Type 0 where
-  pub piece : Piece
-  pub there : slice_get pieces k ≡ Some piece
-  pub direction : piece.direction ≡ frame.direction
-  pub behind : length (stream_of frame.direction (take k pieces))
-      < finish limit (mark frame.start frame.size)
-  pub within : finish limit (mark frame.start frame.size)
-      ≤ length (stream_of frame.direction (take (suc k) pieces))
-  pub tokens : frame.tokens ≡ tokens_of frame.direction (take (suc k) pieces)
+pub record ComesWith (limit : ℕ) (pieces : List Piece) (k : ℕ) (frame : FramedMessage) : Type 0
+  where
+    pub piece : Piece
+    pub there : slice_get pieces k ≡ Some piece
+    pub direction : piece.direction ≡ frame.direction
+    pub behind : length (stream_of frame.direction (take k pieces))
+        < finish limit (mark frame.start frame.size)
+    pub within : finish limit (mark frame.start frame.size)
+        ≤ length (stream_of frame.direction (take (suc k) pieces))
+    pub tokens : frame.tokens ≡ piece_tokens frame.direction (take (suc k) pieces)
 
 -- These messages come with the pieces in their order, from one piece on and before another.
 abbrev pub ComeInOrder : ℕ → List Piece → ℕ → ℕ → List FramedMessage → Type 0

@@ -7,17 +7,17 @@ use Rattle.wl_trace_line.specs.Line.{line}
 use Rattle.wl_check.specs.declared.session_state.Output.{Output}
 use Rattle.wl_check.specs.declared.session_state.Output.TheVariants.{Nothing, Lines}
 use Rattle.wl_check.specs.Changes.{Call, side_of}
-use Rattle.wl_check.specs.Places.{Known, known}
-use Rattle.wl_check.specs.Rules.{reader}
+use Rattle.wl_check.specs.Places.{KnownAtPlace, known}
+use Rattle.wl_check.specs.Rules.{reader_by}
 use Rattle.wl_check.specs.Session.{Session, Judged, messages, changes_at, ends_session}
 
 -- the line of a message, by what is known at its place
-abbrev pub call_line : List Interface → Known → Call → List ℕ
+abbrev pub call_line : List Interface → KnownAtPlace → Call → List ℕ
 call_line tables k call =
-    line tables (side_of call.direction) (reader k call.direction).object call.received
+    line tables (side_of call.direction) (reader_by k call.direction).object call.received
     (k.taken call.direction)
 
-abbrev pub judged_line : List Interface → Known → Option Judged → List ℕ
+abbrev pub judged_line : List Interface → KnownAtPlace → Option Judged → List ℕ
 judged_line tables k (Some (Ok call)) = call_line tables k call
 judged_line tables k _ = []
 

@@ -2,8 +2,8 @@
 ghost use Rattle.std.specs.Prelude.{◌≡◌, ◌↔◌, ◌⊎◌, ℕ, List, Err, IfOk, IfErr, MatchResult};
 ghost use Rattle.wl_recording.specs.declared.recording.RecordingError.TheVariants.{BadLine, Memory};
 ghost use Rattle.wl_recording.specs.Piece.{Piece};
-ghost use Rattle.wl_recording.specs.Text.{IsFirstBad, Recorded};
-ghost use Rattle.wl_check.specs.Session.{session_of, Answers, IsLawful, SaysLawful};
+ghost use Rattle.wl_recording.specs.Text.{IsFirstBad, TextRecords};
+ghost use Rattle.wl_check.specs.Session.{session_of, IsVerdictOf, IsLawful, SaysLawful};
 
 use crate::scanning::{scan, scan_text};
 use crate::session_state::Output;
@@ -25,7 +25,7 @@ pub fn check<A: Allocator + Clone>(
     limit: Limit,
 ) -> Result<Verdict, AllocError>
     ensures answers { IfOk result
-        (λ verdict. Answers tables.now (session_of limit.bytes recording.now) verdict) }
+        (λ verdict. IsVerdictOf tables.now (session_of limit.bytes recording.now) verdict) }
     ensures exact { IfOk result
         (λ verdict. SaysLawful verdict
         ↔ IsLawful tables.now (session_of limit.bytes recording.now)) }
@@ -45,17 +45,17 @@ pub fn check_text<A: Allocator + Clone>(
     tables: &Tables,
     limit: Limit,
 ) -> Result<Verdict, RecordingError>
-    ensures told { IfOk result (λ verdict. (pieces : List Piece) × Recorded text.now pieces
-        × Answers tables.now (session_of limit.bytes pieces) verdict) }
+    ensures told { IfOk result (λ verdict. (pieces : List Piece) × TextRecords text.now pieces
+        × IsVerdictOf tables.now (session_of limit.bytes pieces) verdict) }
     ensures bad { IfErr result
         (λ e. (e ≡ Memory) ⊎ ((n : ℕ) × (e ≡ BadLine n) × IsFirstBad text.now n)) }
 
     // and where the text is a recording, the result is the verdict on it
-    ensures only { (pieces : List Piece) → Recorded text.now pieces
+    ensures only { (pieces : List Piece) → TextRecords text.now pieces
         → MatchResult result
-        (λ verdict. Answers tables.now (session_of limit.bytes pieces) verdict)
+        (λ verdict. IsVerdictOf tables.now (session_of limit.bytes pieces) verdict)
         (λ e. e ≡ Memory) }
-    ensures exact { (pieces : List Piece) → Recorded text.now pieces → IfOk result
+    ensures exact { (pieces : List Piece) → TextRecords text.now pieces → IfOk result
         (λ verdict. SaysLawful verdict
         ↔ IsLawful tables.now (session_of limit.bytes pieces)) }
     ensures first { (n : ℕ) → IsFirstBad text.now n → (result ≡ Err (BadLine n))
@@ -71,8 +71,8 @@ fn verdict_on<A: Allocator + Clone>(
     tables: &Tables,
     limit: Limit,
 ) -> Result<Verdict, RecordingError>
-    ensures told { IfOk result (λ verdict. (pieces : List Piece) × Recorded text.now pieces
-        × Answers tables.now (session_of limit.bytes pieces) verdict) }
+    ensures told { IfOk result (λ verdict. (pieces : List Piece) × TextRecords text.now pieces
+        × IsVerdictOf tables.now (session_of limit.bytes pieces) verdict) }
     ensures bad { IfErr result
         (λ e. (e ≡ Memory) ⊎ ((n : ℕ) × (e ≡ BadLine n) × IsFirstBad text.now n)) }
 {

@@ -5,10 +5,10 @@ ghost use Rattle.wl_recording.specs.Piece.{Piece};
 ghost use Rattle.wl_sigs.specs.Tables.{Interface};
 ghost use Rattle.wl_sigs.specs.Valid.{Valid};
 ghost use Rattle.wl_check.specs.declared.session_state.Output.TheVariants.{Nothing};
-ghost use Rattle.wl_check.specs.SessionState.{is_open, AllJudged, Along, Comes, Follows, IsAfter};
-ghost use Rattle.wl_check.specs.SessionState.{IsJudged, OthersStay, WentOn};
+ghost use Rattle.wl_check.specs.SessionState.{is_going, AllJudged, Along, Comes, CutFollows};
+ghost use Rattle.wl_check.specs.SessionState.{IsAfter, IsJudged, OthersStay, WentOn};
 ghost use Rattle.wl_check.specs.Printed.{piece_of, AreOwnLines, PrintsOn};
-ghost use Rattle.wl_check.specs.Session.{session_of, Answers, Session};
+ghost use Rattle.wl_check.specs.Session.{session_of, IsVerdictOf, Session};
 
 use crate::frames::{FramedMessage, Stream, remove_front, size_in_front};
 use crate::judging::judge;
@@ -39,7 +39,7 @@ fn print_next<A: Allocator + Clone>(
         → Comes limit.bytes tables.now s Nothing state.old frame.now bytes.now
         → PrintsOn tables.now s state.old.count state.new.count lines.old.items
         lines.new.items) }
-    ensures on { OnOk result (is_open state.new.status ≡ true
+    ensures on { OnOk result (is_going state.new.status ≡ true
         → WentOn limit.bytes frame.now state.old state.new) }
     ensures other { OnOk result (OthersStay frame.now.direction state.old state.new) }
 {
@@ -74,14 +74,14 @@ fn print_all<A: Allocator + Clone>(
 ) -> Result<usize, AllocError>
     requires valid { Valid tables.now }
     requires follows { ∥ ((s : Session)
-        × Follows limit.bytes tables.now s Nothing state.old direction tokens bytes.now) ∥₁ }
+        × CutFollows limit.bytes tables.now s Nothing state.old direction tokens bytes.now) ∥₁ }
     ensures place { IfOk result (λ place. place ≤ length bytes.now) }
     ensures judged { IfOk result (λ place. (s : Session)
-        → Follows limit.bytes tables.now s Nothing state.old direction tokens bytes.now
+        → CutFollows limit.bytes tables.now s Nothing state.old direction tokens bytes.now
         → AllJudged limit.bytes tables.now s Nothing state.new direction
         (drop place bytes.now)) }
     ensures lines { OnOk result ((s : Session)
-        → Follows limit.bytes tables.now s Nothing state.old direction tokens bytes.now
+        → CutFollows limit.bytes tables.now s Nothing state.old direction tokens bytes.now
         → PrintsOn tables.now s state.old.count state.new.count lines.old.items
         lines.new.items) }
     ensures other { OnOk result (OthersStay direction state.old state.new) }
@@ -130,8 +130,8 @@ fn print_stream<A: Allocator + Clone>(
         → PrintsOn tables.now
         (session_of limit.bytes (ps ++ piece_of direction bytes.now tokens ∷ []))
         state.old.count state.new.count lines.old.items lines.new.items) }
-    ensures going { OnOk result (is_open state.new.status ≡ true
-        → is_open state.old.status ≡ true) }
+    ensures going { OnOk result (is_going state.new.status ≡ true
+        → is_going state.old.status ≡ true) }
     ensures other { OnOk result (OthersStay direction state.old state.new) }
 {
     // More than these numbers count does not fit into any memory.
@@ -213,7 +213,7 @@ pub(crate) fn verdict_on<A: Allocator>(scanner: &Scanner<A>) -> Verdict
         × IsAfter limit tables Nothing ps scanner.now) ∥₁ }
     ensures { (limit : ℕ) (tables : List Interface) (ps : List Piece)
         → IsAfter limit tables Nothing ps scanner.now
-        → Answers tables (session_of limit ps) result }
+        → IsVerdictOf tables (session_of limit ps) result }
 {
     let progress = &scanner.state.progress;
     match &scanner.state.status {

@@ -35,7 +35,7 @@ pub struct Inspector<'t, A: Allocator = Global> {
 }
 
 impl<'t, A: Allocator + Clone> Inspector<'t, A> {
-    ghost use Rattle.wl_check.specs.Inspected.{printed, HasPassed, Passes};
+    ghost use Rattle.wl_check.specs.Inspected.{printed, HasPassed, PassesPiece};
     ghost use Rattle.wl_check.specs.Printed.{piece_of};
 
     /// Before the first piece. Messages may be as long as the limit says.
@@ -61,7 +61,7 @@ impl<'t, A: Allocator + Clone> Inspector<'t, A> {
         tokens: usize,
     ) -> Result<(), AllocError>
         ensures ok { OnOk result ((limit : ℕ) (tables : List Interface)
-            → Passes limit tables (piece_of direction bytes.now tokens) self.old self.new) }
+            → PassesPiece limit tables (piece_of direction bytes.now tokens) self.old self.new) }
         ensures err { OnErr result (self.new ≡ self.old) }
     {
         // That tables are valid is what each of their calls says.
@@ -85,7 +85,7 @@ impl<'t, A: Allocator + Clone> Inspector<'t, A> {
 
 impl<'t, A: Allocator> Inspector<'t, A> {
     ghost use Rattle.wl_check.specs.Inspected.{printed, HasPassed};
-    ghost use Rattle.wl_check.specs.Session.{session_of, Answers};
+    ghost use Rattle.wl_check.specs.Session.{session_of, IsVerdictOf};
 
     /// The lines that the last `pass` printed, each ended by a line feed.
     pub fn lines(&self) -> &[u8]
@@ -97,7 +97,7 @@ impl<'t, A: Allocator> Inspector<'t, A> {
     /// The verdict on the session of the pieces so far.
     pub fn verdict(&self) -> Verdict
         ensures { (limit : ℕ) (tables : List Interface) (ps : List Piece)
-            → HasPassed limit tables ps self.now → Answers tables (session_of limit ps) result }
+            → HasPassed limit tables ps self.now → IsVerdictOf tables (session_of limit ps) result }
     {
         verdict_on(&self.scanner)
     }

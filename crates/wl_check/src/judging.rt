@@ -4,11 +4,12 @@ ghost use Rattle.wl_sigs.specs.Valid.{Valid};
 ghost use Rattle.wl_message.specs.Cut.{is_size};
 ghost use Rattle.wl_objects.specs.Messages.{is_error};
 ghost use Rattle.wl_objects.specs.Reading.{descriptors};
-ghost use Rattle.wl_objects.specs.Seen.{message_of};
+ghost use Rattle.wl_objects.specs.Seen.{received_of};
 ghost use Rattle.wl_check.specs.Changes.{advertised, changes, first_number, is_global, side_of};
 ghost use Rattle.wl_trace_line.specs.Line.{line};
-ghost use Rattle.wl_check.specs.Rules.{can_bind, is_bad_bind, judged_message, judged_front, reader};
-ghost use Rattle.wl_check.specs.Seen.{call_of, changes_in, known_in, taken_in};
+ghost use Rattle.wl_check.specs.Rules.{allows_bind, is_bad_bind, judged_message, judged_front};
+ghost use Rattle.wl_check.specs.Rules.{reader_by};
+ghost use Rattle.wl_check.specs.Seen.{call_of, changes_in, known_in, taken_of_direction};
 ghost use Rattle.wl_check.specs.Trace.{judged_line, wanted};
 
 use crate::changes::{AdvertisedGlobal, MessageChanges};
@@ -52,7 +53,7 @@ pub(crate) fn judge<A: Allocator>(
     requires header { 8 ≤ length bytes.now }
     requires whole { is_size limit.bytes frame.now.size ≡ true
         → frame.now.size ≤ length bytes.now }
-    requires taken { taken_in known.now frame.now.direction < 2 ^ 127 }
+    requires taken { taken_of_direction known.now frame.now.direction < 2 ^ 127 }
     ensures changes { IfOk result (λ r. r ≡ changes_in tables.now
         (judged_front limit.bytes tables.now (known_in known.now) bytes.now frame.now)) }
     ensures text { OnOk result (text.new.items ≡ text.old.items
@@ -85,7 +86,7 @@ fn judge_message<A: Allocator>(
     output: Output,
 ) -> Result<Result<MessageChanges, Fault>, AllocError>
     requires valid { Valid tables.now }
-    requires taken { taken_in known.now frame.now.direction < 2 ^ 127 }
+    requires taken { taken_of_direction known.now frame.now.direction < 2 ^ 127 }
     ensures changes { IfOk result (λ r. r ≡ changes_in tables.now
         (judged_message tables.now (known_in known.now) frame.now header body.now)) }
     ensures text { OnOk result (text.new.items ≡ text.old.items
@@ -126,11 +127,11 @@ fn write<A: Allocator>(
     message: &Received<'_, '_>,
     output: Output,
 ) -> Result<(), AllocError>
-    requires { taken_in known.now direction < 2 ^ 127 }
+    requires { taken_of_direction known.now direction < 2 ^ 127 }
     ensures { OnOk result (text.new.items ≡ text.old.items
         ++ wanted output (line tables.now (side_of direction)
-        (reader (known_in known.now) direction).object (message_of message.now)
-        (taken_in known.now direction))) }
+        (reader_by (known_in known.now) direction).object (received_of message.now)
+        (taken_of_direction known.now direction))) }
 {
     match output {
         Output::Nothing => Ok(()),
@@ -158,7 +159,7 @@ fn is_bad_bind<A: Allocator>(
     received: &Received<'_, '_>,
 ) -> bool
     ensures { result ≡ is_bad_bind tables.now (known_in known.now) side opcode
-        (message_of received.now) }
+        (received_of received.now) }
 {
     if !is_bind(side, received.entry.iface, opcode) {
         return false;
@@ -166,17 +167,17 @@ fn is_bad_bind<A: Allocator>(
     let kinds = received.signature.kinds();
     let values = received.values();
     let new = made_by_message(tables, received.entry.version, kinds, &values);
-    !can_bind(tables, known, first_number(&values), new)
+    !allows_bind(tables, known, first_number(&values), new)
 }
 
 /// Whether a bind of this name may make this object.
-fn can_bind<A: Allocator>(
+fn allows_bind<A: Allocator>(
     tables: &Tables,
     known: &KnownState<A>,
     name: Option<u32>,
     new: Option<NewObject>,
 ) -> bool
-    ensures { result ≡ can_bind tables.now (known_in known.now) name new }
+    ensures { result ≡ allows_bind tables.now (known_in known.now) name new }
 {
     match (name, new) {
         (Some(name), Some(new)) => {

@@ -6,10 +6,10 @@ ghost use Rattle.std.specs.Option.{unwrap_or};
 ghost use Rattle.wl_object_map.specs.declared.object.State.TheVariants.{Live};
 ghost use Rattle.wl_sigs.specs.Fixed.{display};
 ghost use Rattle.wl_sigs.specs.Valid.{Valid};
-ghost use Rattle.wl_check.specs.Places.{ending, entry_of, frees, is_id, is_made, new_of};
-ghost use Rattle.wl_check.specs.Places.{used_after, advertised_once, IsFirst, IsNext};
-ghost use Rattle.wl_check.specs.Rules.{is_free, reader};
-ghost use Rattle.wl_check.specs.Seen.{known_in, pair_cmp, taken_in};
+ghost use Rattle.wl_check.specs.Places.{as_zombie, made_entry, frees, is_id, is_made, new_of};
+ghost use Rattle.wl_check.specs.Places.{used_after, advertised_once, IsFirst, IsKnownBehind};
+ghost use Rattle.wl_check.specs.Rules.{is_free_id, reader_by};
+ghost use Rattle.wl_check.specs.Seen.{known_in, pair_cmp, taken_of_direction};
 
 use crate::changes::{AdvertisedGlobal, MessageChanges};
 use std::alloc::{AllocError, Allocator, Global};
@@ -68,7 +68,7 @@ fn free_id<A: Allocator>(objects: &mut Vec<Option<Entry>, A>, id: Option<u32>)
 /// Makes a zombie of an object.
 fn make_zombie<A: Allocator>(objects: &mut Vec<Option<Entry>, A>, id: Option<u32>)
     ensures { (other : ℕ) → get_or objects.new.items other None
-        ≡ cond (is_id id other) (option_map ending (get_or objects.old.items other None))
+        ≡ cond (is_id id other) (option_map as_zombie (get_or objects.old.items other None))
         (get_or objects.old.items other None) }
 {
     if let Some(id) = id {
@@ -103,7 +103,7 @@ fn open_object<A: Allocator>(
 ) -> Result<(), AllocError>
     ensures { OnOk result ((other : ℕ)
         → get_or objects.new.items other None
-        ≡ cond (is_made made other) (Some (entry_of place Live (new_of made)))
+        ≡ cond (is_made made other) (Some (made_entry place Live (new_of made)))
         (get_or objects.old.items other None)) }
 {
     if let Some(new) = made {
@@ -167,7 +167,7 @@ impl<A: Allocator + Clone> KnownState<A> {
         requires to_server { self.old.taken_to_server + 2 ^ 64 < 2 ^ 128 }
         requires to_client { self.old.taken_to_client + 2 ^ 64 < 2 ^ 128 }
         ensures known { OnOk result
-            (IsNext place changes.now (known_in self.old) (known_in self.new)) }
+            (IsKnownBehind place changes.now (known_in self.old) (known_in self.new)) }
         ensures few_to_server { OnOk result
             (self.new.taken_to_server < self.old.taken_to_server + 2 ^ 64) }
         ensures few_to_client { OnOk result
@@ -200,7 +200,7 @@ fn used_after(used: u32, changes: &MessageChanges) -> u32
 impl<A: Allocator> KnownState<A> {
     /// How many tokens the messages of a direction took.
     pub(crate) fn taken(&self, direction: Direction) -> u128
-        ensures { result ≡ taken_in self.now direction }
+        ensures { result ≡ taken_of_direction self.now direction }
     {
         match direction {
             Direction::ToServer => self.taken_to_server,
@@ -225,7 +225,7 @@ impl<A: Allocator> KnownState<A> {
     /// Whether an id can be that of a new object: it is not 0, no object holds it, and it was used
     /// before or is the next one.
     fn is_free(&self, id: u32) -> bool
-        ensures { result ≡ is_free (known_in self.now) id }
+        ensures { result ≡ is_free_id (known_in self.now) id }
     {
         id != 0 && self.object(id).is_none() && u64::from(id) <= u64::from(self.used) + 1
     }
@@ -239,7 +239,7 @@ pub(crate) struct ReaderLookup<'a, A: Allocator = Global> {
 }
 
 impl<'a, A: Allocator> Lookup for ReaderLookup<'a, A> {
-    ghost reader = { λ lookup. reader (known_in lookup.known.now) lookup.direction };
+    ghost reader = { λ lookup. reader_by (known_in lookup.known.now) lookup.direction };
 
     fn object(&self, id: u32) -> Option<Entry> {
         let entry = self.known.object(id)?;

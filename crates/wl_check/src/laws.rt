@@ -3,11 +3,11 @@
 ghost use Rattle.std.specs.Prelude.{◌≡◌, ◌↔◌, ◌<◌, ◌≤◌, ◌++◌, ℕ, List, Some, false, length, drop};
 ghost use Rattle.std.specs.Prelude.{map};
 ghost use Rattle.wl_sigs.specs.Tables.{Interface};
-ghost use Rattle.wl_message.specs.Cut.{messages_of, rest_of};
+ghost use Rattle.wl_message.specs.Cut.{messages_in_stream, rest_of};
 ghost use Rattle.wl_check.specs.Merged.{cut, stream_of};
 ghost use Rattle.wl_check.specs.Places.{holder, is_ending, used, advertised_version};
-ghost use Rattle.wl_check.specs.Session.{Answers, AreWithin, Session, changes_at, examined, messages};
-ghost use Rattle.wl_check.specs.Session.{session_of};
+ghost use Rattle.wl_check.specs.Session.{IsVerdictOf, AreWithin, Session, changes_at, examined};
+ghost use Rattle.wl_check.specs.Session.{messages, session_of};
 ghost use Rattle.wl_check.specs.Inspected.{HasPassed, Inspected};
 ghost use Rattle.wl_check.specs.declared.inspector.Inspector.{Inspector as Inspectors};
 ghost use Rattle.wl_check.specs.Trace.{lasting, trace_of};
@@ -15,7 +15,7 @@ ghost use Rattle.wl_check.specs.declared.verdict.Verdict.{Verdict as Verdicts};
 ghost use Rattle.wl_recording.specs.declared.piece.Direction.{Direction as Way};
 ghost use Rattle.wl_recording.specs.Piece.{Piece};
 ghost use Rattle.wl_check.specs.Text.{marks_in, part_of, sound, Brings, ComeInOrder, EndsWith};
-ghost use Rattle.wl_check.specs.Text.{Held, IsExamined, IsOpen, IsPrinted, WasAdvertised};
+ghost use Rattle.wl_check.specs.Text.{StaysHeld, IsExamined, StaysOpen, IsPrinted, WasAdvertised};
 ghost use Rattle.wl_check.specs.Text.{WasUsed};
 
 use std::alloc::Allocator;
@@ -25,7 +25,7 @@ use std::alloc::Allocator;
 pub fn a_stream_has_its_messages()
     ensures messages { (limit : ℕ) (stream : List ℕ)
         → map (part_of stream) (sound limit (cut limit stream).marks)
-        ≡ messages_of limit stream }
+        ≡ messages_in_stream limit stream }
     ensures bad_size { (limit : ℕ) (stream : List ℕ)
         → EndsWith limit stream (rest_of limit stream) (cut limit stream).marks }
 {}
@@ -56,14 +56,14 @@ pub fn a_piece_brings_last_bytes()
 pub fn an_id_names_what_is_held()
     ensures { (tables : List Interface) (session : Session) (place birth id : ℕ)
         → (holder (changes_at tables (messages tables session)) place id ≡ Some birth)
-        ↔ Held (changes_at tables (messages tables session)) place birth id }
+        ↔ StaysHeld (changes_at tables (messages tables session)) place birth id }
 {}
 
 /// An object is ending where a message destroyed it.
 pub fn an_object_is_open_until_destroyed()
     ensures { (tables : List Interface) (session : Session) (place birth id : ℕ)
         → (is_ending (changes_at tables (messages tables session)) birth place id ≡ false)
-        ↔ IsOpen (changes_at tables (messages tables session)) place birth id }
+        ↔ StaysOpen (changes_at tables (messages tables session)) place birth id }
 {}
 
 /// The ids used before a place are those from 1 to the greatest.
@@ -78,7 +78,8 @@ pub fn ids_are_used_in_order()
 pub fn one_event_advertises_a_version()
     ensures { (tables : List Interface) (session : Session) (place name iface version : ℕ)
         → 0 < version
-        → (version ≤ advertised_version (changes_at tables (messages tables session)) place name iface)
+        → (version ≤ advertised_version (changes_at tables (messages tables session)) place name
+        iface)
         ↔ WasAdvertised (changes_at tables (messages tables session)) place name iface version }
 {}
 
@@ -102,7 +103,7 @@ pub fn a_trace_ends_with_the_verdict()
 /// A session has one verdict, so `check` and `trace` return the same.
 pub fn a_session_has_one_verdict()
     ensures { (tables : List Interface) (session : Session) (one other : Verdicts)
-        → Answers tables session one → Answers tables session other → one ≡ other }
+        → IsVerdictOf tables session one → IsVerdictOf tables session other → one ≡ other }
 {}
 
 /// Where the pieces of a recording pass an inspector one by one, what it prints of them, put one
@@ -116,6 +117,6 @@ pub fn inspecting_is_checking<A: Allocator>()
         (inspector : Inspectors A) (inspected checked : Verdicts)
         → Inspected limit tables pieces text inspector
         → (HasPassed limit tables pieces inspector
-        → Answers tables (session_of limit pieces) inspected)
-        → Answers tables (session_of limit pieces) checked → inspected ≡ checked }
+        → IsVerdictOf tables (session_of limit pieces) inspected)
+        → IsVerdictOf tables (session_of limit pieces) checked → inspected ≡ checked }
 {}

@@ -2,7 +2,7 @@
 ghost use Rattle.std.specs.Prelude.{◌≡◌, ◌+◌, ◌-◌, ◌^◌, ◌<◌, ◌≤◌, OnOk, IfOk};
 ghost use Rattle.wl_recording.specs.declared.piece.Direction.TheVariants.{ToServer, ToClient};
 ghost use Rattle.wl_check.specs.declared.verdict.Verdict.TheVariants.{Broken, Lawful};
-ghost use Rattle.wl_check.specs.Places.{IsFirst, IsNext};
+ghost use Rattle.wl_check.specs.Places.{IsFirst, IsKnownBehind};
 ghost use Rattle.wl_sigs.specs.Valid.{Valid};
 ghost use Rattle.wl_check.specs.Seen.{known_in, no_tally, tally_after, tally_in};
 
@@ -77,7 +77,7 @@ impl<A: Allocator + Clone> Progress<A> {
         requires to_client { self.old.to_client.count + 1 < 2 ^ 64 }
         requires end { frame.now.start + frame.now.size < 2 ^ 64 }
         ensures known { OnOk result
-            (IsNext place changes.now (known_in self.old.known) (known_in self.new.known)) }
+            (IsKnownBehind place changes.now (known_in self.old.known) (known_in self.new.known)) }
         ensures to_server { OnOk result
             (self.new.to_server ≡ tally_after ToServer frame.now self.old.to_server) }
         ensures to_client { OnOk result

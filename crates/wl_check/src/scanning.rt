@@ -2,14 +2,14 @@
 ghost use Rattle.std.specs.Prelude.{◌≡◌, ◌⊎◌, ◌∷◌, ◌++◌, ℕ, List, [], map, true, false, OnOk, IfOk};
 ghost use Rattle.std.specs.Prelude.{IfErr};
 ghost use Rattle.wl_recording.specs.declared.recording.RecordingError.TheVariants.{BadLine, Memory};
-ghost use Rattle.wl_recording.specs.Piece.{Piece, plain};
-ghost use Rattle.wl_recording.specs.Text.{IsFirstBad, Recorded};
+ghost use Rattle.wl_recording.specs.Piece.{Piece, recorded_piece};
+ghost use Rattle.wl_recording.specs.Text.{IsFirstBad, TextRecords};
 ghost use Rattle.wl_sigs.specs.Tables.{Interface};
 ghost use Rattle.wl_sigs.specs.Valid.{Valid};
 ghost use Rattle.wl_check.specs.declared.session_state.Output.{Output as Wish};
-ghost use Rattle.wl_check.specs.SessionState.{is_open, Along, HasCome, IsAfter, IsFresh};
+ghost use Rattle.wl_check.specs.SessionState.{is_going, Along, HasCome, IsAfter, IsUnread};
 ghost use Rattle.wl_check.specs.SessionState.{IsReady, OthersStay};
-ghost use Rattle.wl_check.specs.Session.{session_of, Answers};
+ghost use Rattle.wl_check.specs.Session.{session_of, IsVerdictOf};
 ghost use Rattle.wl_check.specs.Trace.{trace_of, wanted};
 
 use crate::frames::{Stream, empty_stream, remove_front};
@@ -45,8 +45,8 @@ fn judge_piece<A: Allocator + Clone>(
     ensures along { OnOk result ((ps : List Piece) (p : Piece)
         → HasCome limit.bytes tables.now output ps p piece.now state.old stream.old
         → Along limit.bytes tables.now output p.direction (ps ++ p ∷ []) state.new stream.new) }
-    ensures going { OnOk result (is_open state.new.status ≡ true
-        → is_open state.old.status ≡ true) }
+    ensures going { OnOk result (is_going state.new.status ≡ true
+        → is_going state.old.status ≡ true) }
     ensures other { OnOk result (OthersStay piece.now.direction state.old state.new) }
 {
     // More than these numbers count does not fit into any memory.
@@ -135,7 +135,7 @@ impl<A: Allocator> Scanner<A> {
             → result.0.items ≡ wanted output (trace_of tables (session_of limit ps)) }
         ensures verdict { (limit : ℕ) (tables : List Interface) (output : Wish) (ps : List Piece)
             → IsAfter limit tables output ps self
-            → Answers tables (session_of limit ps) result.1 }
+            → IsVerdictOf tables (session_of limit ps) result.1 }
     {
         let progress = &self.state.progress;
         let verdict = match &self.state.status {
@@ -158,9 +158,10 @@ pub(crate) fn scan<A: Allocator + Clone>(
     output: Output,
 ) -> Result<(Vec<u8, A>, Verdict), AllocError>
     ensures lines { IfOk result (λ r. r.0.items
-        ≡ wanted output (trace_of tables.now (session_of limit.bytes (map plain pieces.now)))) }
+        ≡ wanted output (trace_of tables.now (session_of limit.bytes
+        (map recorded_piece pieces.now)))) }
     ensures verdict { IfOk result
-        (λ r. Answers tables.now (session_of limit.bytes (map plain pieces.now)) r.1) }
+        (λ r. IsVerdictOf tables.now (session_of limit.bytes (map recorded_piece pieces.now)) r.1) }
 {
     let mut scanner = Scanner::new(alloc, tables)?;
     'pieces: for piece in pieces {
@@ -178,9 +179,9 @@ pub(crate) fn scan_text<A: Allocator + Clone>(
     limit: Limit,
     output: Output,
 ) -> Result<(Vec<u8, A>, Verdict), RecordingError>
-    ensures told { IfOk result (λ r. (pieces : List Piece) × Recorded text.now pieces
+    ensures told { IfOk result (λ r. (pieces : List Piece) × TextRecords text.now pieces
         × ((r.0.items ≡ wanted output (trace_of tables.now (session_of limit.bytes pieces)))
-        × Answers tables.now (session_of limit.bytes pieces) r.1)) }
+        × IsVerdictOf tables.now (session_of limit.bytes pieces) r.1)) }
     ensures bad { IfErr result
         (λ e. (e ≡ Memory) ⊎ ((n : ℕ) × (e ≡ BadLine n) × IsFirstBad text.now n)) }
 {

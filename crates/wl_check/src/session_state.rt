@@ -2,8 +2,8 @@
 ghost use Rattle.std.specs.Prelude.{◌≡◌, ◌≤◌, ◌++◌, ◌^◌, ◌<◌, ℕ, true, false, drop, length, OnOk};
 ghost use Rattle.std.specs.Prelude.{IfOk};
 ghost use Rattle.wl_sigs.specs.Valid.{Valid};
-ghost use Rattle.wl_check.specs.SessionState.{is_open, AllJudged, Comes, Follows, IsFresh, IsJudged};
-ghost use Rattle.wl_check.specs.SessionState.{OthersStay, WentOn};
+ghost use Rattle.wl_check.specs.SessionState.{is_going, AllJudged, Comes, CutFollows, IsUnread};
+ghost use Rattle.wl_check.specs.SessionState.{IsJudged, OthersStay, WentOn};
 ghost use Rattle.wl_check.specs.Session.{Session};
 
 use crate::frames::{FramedMessage, size_in_front};
@@ -50,7 +50,7 @@ impl<A: Allocator + Clone> SessionState<A> {
     /// Before the first message.
     pub(crate) fn new(alloc: &A, tables: &Tables) -> Result<Self, AllocError>
         ensures valid { OnOk result (Valid tables.now) }
-        ensures fresh { IfOk result IsFresh }
+        ensures fresh { IfOk result IsUnread }
     {
         Ok(SessionState {
             progress: Progress::new(alloc, tables)?,
@@ -73,10 +73,10 @@ impl<A: Allocator + Clone> SessionState<A> {
     ) -> Result<usize, AllocError>
         requires valid { Valid tables.now }
         requires follows { (s : Session)
-            × Follows limit.bytes tables.now s output self.old direction tokens bytes.now }
+            × CutFollows limit.bytes tables.now s output self.old direction tokens bytes.now }
         ensures place { IfOk result (λ place. place ≤ length bytes.now) }
         ensures judged { IfOk result (λ place. (s : Session)
-            → Follows limit.bytes tables.now s output self.old direction tokens bytes.now
+            → CutFollows limit.bytes tables.now s output self.old direction tokens bytes.now
             → AllJudged limit.bytes tables.now s output self.new direction (drop place bytes.now)) }
         ensures other { OnOk result (OthersStay direction self.old self.new) }
     {
@@ -115,7 +115,7 @@ impl<A: Allocator + Clone> SessionState<A> {
         ensures judged { OnOk result ((s : Session)
             → Comes limit.bytes tables.now s output self.old frame.now bytes.now
             → IsJudged tables.now s output self.new) }
-        ensures on { OnOk result (is_open self.new.status ≡ true
+        ensures on { OnOk result (is_going self.new.status ≡ true
             → WentOn limit.bytes frame.now self.old self.new) }
         ensures other { OnOk result (OthersStay frame.now.direction self.old self.new) }
     {
@@ -140,7 +140,7 @@ impl<A: Allocator + Clone> SessionState<A> {
 impl<A: Allocator> SessionState<A> {
     /// Whether there are messages to judge.
     pub(crate) fn is_open(&self) -> bool
-        ensures { result ≡ is_open self.now.status }
+        ensures { result ≡ is_going self.now.status }
     {
         match self.status {
             SessionStatus::Open => true,

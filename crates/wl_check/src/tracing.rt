@@ -2,8 +2,8 @@
 ghost use Rattle.std.specs.Prelude.{◌≡◌, ◌⊎◌, ℕ, List, Err, IfOk, IfErr, MatchResult};
 ghost use Rattle.wl_recording.specs.declared.recording.RecordingError.TheVariants.{BadLine, Memory};
 ghost use Rattle.wl_recording.specs.Piece.{Piece};
-ghost use Rattle.wl_recording.specs.Text.{IsFirstBad, Recorded};
-ghost use Rattle.wl_check.specs.Session.{session_of, Answers};
+ghost use Rattle.wl_recording.specs.Text.{IsFirstBad, TextRecords};
+ghost use Rattle.wl_check.specs.Session.{session_of, IsVerdictOf};
 ghost use Rattle.wl_check.specs.Trace.{trace_of};
 
 use crate::scanning::{scan, scan_text};
@@ -26,7 +26,7 @@ pub fn trace<A: Allocator + Clone>(
     ensures lines { IfOk result
         (λ r. r.0.items ≡ trace_of tables.now (session_of limit.bytes recording.now)) }
     ensures verdict { IfOk result
-        (λ r. Answers tables.now (session_of limit.bytes recording.now) r.1) }
+        (λ r. IsVerdictOf tables.now (session_of limit.bytes recording.now) r.1) }
 {
     scan(&alloc, recording.pieces(), tables, limit, Output::Lines)
 }
@@ -42,17 +42,17 @@ pub fn trace_text<A: Allocator + Clone>(
     tables: &Tables,
     limit: Limit,
 ) -> Result<(Vec<u8, A>, Verdict), RecordingError>
-    ensures told { IfOk result (λ r. (pieces : List Piece) × Recorded text.now pieces
+    ensures told { IfOk result (λ r. (pieces : List Piece) × TextRecords text.now pieces
         × ((r.0.items ≡ trace_of tables.now (session_of limit.bytes pieces))
-        × Answers tables.now (session_of limit.bytes pieces) r.1)) }
+        × IsVerdictOf tables.now (session_of limit.bytes pieces) r.1)) }
     ensures bad { IfErr result
         (λ e. (e ≡ Memory) ⊎ ((n : ℕ) × (e ≡ BadLine n) × IsFirstBad text.now n)) }
 
     // and where the text is a recording, the result is its trace and the verdict on it
-    ensures only { (pieces : List Piece) → Recorded text.now pieces
+    ensures only { (pieces : List Piece) → TextRecords text.now pieces
         → MatchResult result
         (λ r. (r.0.items ≡ trace_of tables.now (session_of limit.bytes pieces))
-        × Answers tables.now (session_of limit.bytes pieces) r.1)
+        × IsVerdictOf tables.now (session_of limit.bytes pieces) r.1)
         (λ e. e ≡ Memory) }
     ensures first { (n : ℕ) → IsFirstBad text.now n → (result ≡ Err (BadLine n))
         ⊎ (result ≡ Err Memory) }

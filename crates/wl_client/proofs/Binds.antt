@@ -9,7 +9,7 @@ use Rattle.std.proofs.lemmas.Bool.{and_parts}
 use Rattle.std.proofs.lemmas.Slice.Eq.{bytes_eq-Decides}
 use Rattle.wl_wire.specs.declared.kind.Kind.{Kind}
 use Rattle.wl_sigs.specs.declared.signature.Side.TheVariants.{Request}
-use Rattle.wl_sigs.specs.Tables.{Interface, Message, interface_at, message_of}
+use Rattle.wl_sigs.specs.Tables.{Interface, MessageSignature, interface_at, message_of}
 use Rattle.wl_sigs.specs.Fixed.{uint, new, registry}
 use Rattle.wl_sigs.specs.Valid.{Valid}
 use Rattle.wl_object_map.specs.declared.object.Object.{Object}
@@ -78,9 +78,10 @@ fits_answer state target name version iface new v e = by_failed state.core.faile
 
 -- ---- its bytes
 
-kinds_in : (o : Option Message) (m signature : Message) → o ≡ Some m → o ≡ Some signature → m.kinds ≡ signature.kinds
+kinds_in : (o : Option MessageSignature) (m signature : MessageSignature) → o ≡ Some m → o ≡ Some signature
+    → m.kinds ≡ signature.kinds
 kinds_in o m signature e there = let same = sym e ∙ there in let is : m ≡ signature = cc same
-    in ap (λ (x : Message). x.kinds) is
+    in ap (λ (x : MessageSignature). x.kinds) is
 
 pub bind_spells : (state : State) (target : Object) (name version : ℕ) (iface : List ℕ)
     → BindSpells state target name iface version

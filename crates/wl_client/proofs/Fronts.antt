@@ -10,7 +10,7 @@ use Rattle.wl_wire.specs.Word.{IsHeader}
 use Rattle.wl_sigs.specs.declared.signature.Side.TheVariants.{Event as event_side}
 use Rattle.wl_sigs.specs.Valid.{Valid}
 use Rattle.wl_message.specs.declared.inbox.Frame.{Frame}
-use Rattle.wl_message.specs.Arrived.{Tells}
+use Rattle.wl_message.specs.Arrived.{TellsFront}
 use Rattle.wl_message.specs.Cut.{Whole}
 use Rattle.wl_object_map.specs.declared.object.State.{State as ObjectState}
 use Rattle.wl_object_map.specs.declared.object.State.TheVariants.{Live, Zombie}
@@ -117,7 +117,7 @@ fault_is core h body waiting fault f s = found_frame core event_side h body wait
 -- ---- as the code has it
 
 pub pending_told : (core before : Core) (args : List ParsedArg) (o : Option Frame) (f : Frame) (event : PendingEvent)
-    → core ≡ before → o ≡ Some f → Tells core.inbox (Ok o) → IsHeader f.header → Valid core.tables
+    → core ≡ before → o ≡ Some f → TellsFront core.inbox (Ok o) → IsHeader f.header → Valid core.tables
     → IsPendingOf core.tables core.view f.header f.body.now args
     (received core.tables event_side (reader_of core.view) f.header f.body.now f.tokens) (Ok event)
     → IsFront before args (found before event_side) (Ok (Some event))
@@ -126,7 +126,7 @@ pending_told core before args o f event same e t h v s =
     (pending_is core f.header f.body.now args f.tokens event v (framed core o f e t h) s)
 
 pub fault_told : (core before : Core) (o : Option Frame) (f : Frame) (fault : Fault) → core ≡ before → o ≡ Some f
-    → Tells core.inbox (Ok o) → IsHeader f.header
+    → TellsFront core.inbox (Ok o) → IsHeader f.header
     → received core.tables event_side (reader_of core.view) f.header f.body.now f.tokens ≡ Err fault
     → found before event_side ≡ Err fault
 fault_told core before o f fault same e t h s =
@@ -137,13 +137,13 @@ fault_told core before o f fault same e t h s =
 
 -- the body and the tokens of an event in front, as they were told
 pub front_told : (core inner : Core) (args held : List ParsedArg) (event : PendingEvent) (o : Option Frame) (f : Frame)
-    (tokens : List ℕ) → inner ≡ core → held ≡ args → CanTake core event → o ≡ Some f → Tells inner.inbox (Ok o)
+    (tokens : List ℕ) → inner ≡ core → held ≡ args → CanTake core event → o ≡ Some f → TellsFront inner.inbox (Ok o)
     → length tokens ≡ 20
     → ((place : ℕ) → place < event.tokens → place < 20 → get_or tokens place 0 ≡ get_or inner.inbox.tokens place 0)
     → outlined f.body.now held (take event.tokens tokens) event.outline ≡ front_report core args event
 front_told core inner args held event o f tokens same kept can e t all first =
-    let told = subst (λ (x : Option Frame). Tells core.inbox (Ok x)) e
-    (subst (λ (k : Core). Tells k.inbox (Ok o)) same t) in
+    let told = subst (λ (x : Option Frame). TellsFront core.inbox (Ok x)) e
+    (subst (λ (k : Core). TellsFront k.inbox (Ok o)) same t) in
     let body = body-front core.inbox.limit.bytes core.inbox.bytes f.body.now event.size f.header can.message told.0
     told.1 in
     let own = first-tokens event.tokens tokens core.inbox.tokens (omega (arith, can.few, all)) can.waiting

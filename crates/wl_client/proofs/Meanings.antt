@@ -10,14 +10,14 @@ use Rattle.wl_objects.specs.declared.argument.Named.{Named}
 use Rattle.wl_objects.specs.declared.argument.Named.TheVariants as named_as
 use Rattle.wl_objects.specs.declared.parsed.ParsedArg.{ParsedArg}
 use Rattle.wl_objects.specs.declared.parsed.ParsedArg.TheVariants as parsed_as
-use Rattle.wl_objects.specs.Parsed.{AreParsed, object_in, spelled_in}
+use Rattle.wl_objects.specs.Parsed.{AreParsed, parsed_object, spelled_in}
 use Rattle.wl_objects.specs.Reading.{Reader, Reported, named_at}
 use Rattle.wl_objects.specs.Messages.{same_iface}
-use Rattle.wl_objects.specs.Writing.{is_live}
 use Rattle.wl_connection.specs.Receiving.{Found}
 use Rattle.wl_client.specs.State.{Global}
 use Rattle.wl_client.specs.Reports.{argument, globals_told, id_in, is_delete_event, is_error_event}
 use Rattle.wl_client.specs.Steps.{globals_by}
+use Rattle.wl_object_map.specs.View.{lives}
 
 abbrev first_named : List Reported → Named
 first_named (Obj named ∷ list) = named
@@ -26,7 +26,7 @@ first_named _ = named_as.Null
 -- the object that was parsed first is the one of its id
 pub named_first : (r : Reader) (body : List ℕ) (parsed : List ParsedArg)
     → AreParsed r body parsed (spelled_in body parsed)
-    → object_in (slice_get parsed 0) ≡ named_at r (id_in (argument (spelled_in body parsed) 0))
+    → parsed_object (slice_get parsed 0) ≡ named_at r (id_in (argument (spelled_in body parsed) 0))
 named_first r body [] h = refl
 named_first r body (parsed_as.Null ∷ parsed) h = refl
 named_first r body (parsed_as.Int z ∷ parsed) h = refl
@@ -54,11 +54,11 @@ not_told iface b live told globals h = by_test (same_iface iface display) refl h
 pub error_not_told : (tables : List Interface) (globals : List Global) (f : Found) → is_error_event f ≡ true
     → globals_by tables globals f ≡ globals
 error_not_told tables globals f h =
-    not_told f.message.entry.iface (nat_eq f.opcode 0) (is_live f.message.entry.state)
+    not_told f.message.entry.iface (nat_eq f.opcode 0) (lives f.message.entry.state)
     (globals_told tables globals f.opcode f.message.values) globals h
 
 pub delete_not_told : (tables : List Interface) (globals : List Global) (f : Found) → is_delete_event f ≡ true
     → globals_by tables globals f ≡ globals
 delete_not_told tables globals f h =
-    not_told f.message.entry.iface (nat_eq f.opcode 1) (is_live f.message.entry.state)
+    not_told f.message.entry.iface (nat_eq f.opcode 1) (lives f.message.entry.state)
     (globals_told tables globals f.opcode f.message.values) globals h

@@ -9,7 +9,7 @@ use Rattle.wl_connection.specs.Receiving.{Found, found, is_none}
 use Rattle.wl_client.specs.State.{State}
 use Rattle.wl_client.specs.Reports.{report, answer_found}
 use Rattle.wl_connection.specs.Reads.{HasReport}
-use Rattle.wl_client.specs.Streams.{reading}
+use Rattle.wl_client.specs.Streams.{client_reading}
 use Rattle.wl_client.proofs.ReadingStays.{answers}
 
 -- a report of some arguments needs memory
@@ -19,5 +19,5 @@ some_arguments (x ∷ args) h = refl
 
 -- a message that is found is reported
 pub has_one : (state : State) (f : Found) → state.core.failed ≡ false → found state.core event_side ≡ Ok (Some f)
-    → HasReport reading state
+    → HasReport client_reading state
 has_one state f s e = (report state.core f, answers state s ∙ ap (answer_found state.core) e)

@@ -11,7 +11,7 @@ use Rattle.wl_objects.specs.declared.error.Fault.{Fault}
 use Rattle.wl_objects.specs.declared.error.NextError.TheVariants as errors
 use Rattle.wl_connection.specs.Core.{Core, with_arrived, with_view}
 use Rattle.wl_connection.specs.Receiving.{Found, found}
-use Rattle.wl_connection.specs.Streams.{waiting}
+use Rattle.wl_connection.specs.Streams.{waiting_part}
 use Rattle.wl_connection.proofs.AnyCut.{IsOfMessage, IsFaultAgain, IsFault, comes, IsReading}
 use Rattle.wl_connection.proofs.FoundStays.{IsFound, is_found, reported_stays, own_stay, past_stays}
 use Rattle.wl_client.specs.State.{State}
@@ -19,8 +19,8 @@ use Rattle.wl_client.specs.Reports.{Report, Event, Discarded, report, plain_repo
 use Rattle.wl_client.specs.Reports.{delete_report, deleted_id, is_error_event, is_delete_event}
 use Rattle.wl_client.specs.Reports.{view_after, globals_after, state_past, answer_found}
 use Rattle.wl_client.specs.Reports.{next_answer, state_found, after_next}
-use Rattle.wl_connection.specs.Reads.{arrived}
-use Rattle.wl_client.specs.Streams.{reading}
+use Rattle.wl_connection.specs.Reads.{with_arrivals}
+use Rattle.wl_client.specs.Streams.{client_reading}
 
 -- ---- one message
 
@@ -40,7 +40,8 @@ report_stays core f bytes tokens h =
     (plain_stays core f bytes tokens f.message.entry.state h)
 
 past_arrived : (state : State) (f : Found) (bytes tokens : List ℕ) → IsFound state.core event_side f
-    → state_past (arrived reading state bytes tokens) f ≡ arrived reading (state_past state f) bytes tokens
+    → state_past (with_arrivals client_reading state bytes tokens) f
+    ≡ with_arrivals client_reading (state_past state f) bytes tokens
 past_arrived state f bytes tokens h =
     ap (λ (c : Core). record {
       core = record (with_view c (view_after state.core f)) { failed = is_error_event f };
@@ -90,23 +91,24 @@ read state r e = read_at state r state.core.failed refl e
 
 -- the next message is read in the same way with more behind it, and leaves that behind
 pub answer_stays : (state : State) (r : Report) (bytes tokens : List ℕ) → next_answer state ≡ Ok (Some r)
-    → next_answer (arrived reading state bytes tokens) ≡ Ok (Some r)
+    → next_answer (with_arrivals client_reading state bytes tokens) ≡ Ok (Some r)
 answer_stays state r bytes tokens e =
     let m = read state r e in
     let h = is_found state.core event_side m.message m.there in
-    answers (arrived reading state bytes tokens) m.sound
+    answers (with_arrivals client_reading state bytes tokens) m.sound
     ∙ ap (answer_found (with_arrived state.core bytes tokens)) (h.stays bytes tokens)
     ∙ ap (λ (x : Report). Ok (Some x)) (report_stays state.core m.message bytes tokens h ∙ m.is)
 
 pub after_stays : (state : State) (r : Report) (bytes tokens : List ℕ) → next_answer state ≡ Ok (Some r)
-    → after_next (arrived reading state bytes tokens) ≡ arrived reading (after_next state) bytes tokens
+    → after_next (with_arrivals client_reading state bytes tokens)
+    ≡ with_arrivals client_reading (after_next state) bytes tokens
 after_stays state r bytes tokens e =
     let m = read state r e in
     let h = is_found state.core event_side m.message m.there in
-    leaves (arrived reading state bytes tokens) m.sound
-    ∙ ap (state_found (arrived reading state bytes tokens)) (h.stays bytes tokens)
+    leaves (with_arrivals client_reading state bytes tokens) m.sound
+    ∙ ap (state_found (with_arrivals client_reading state bytes tokens)) (h.stays bytes tokens)
     ∙ past_arrived state m.message bytes tokens h
-    ∙ ap (λ (s : State). arrived reading s bytes tokens) (sym m.leaves)
+    ∙ ap (λ (s : State). with_arrivals client_reading s bytes tokens) (sym m.leaves)
 
 -- ---- where all that is read is left
 
@@ -144,12 +146,14 @@ fails state what offset e =
 -- the same fault with more behind it
 fault_again : (state : State) (what : Fault) (offset : ℕ) (bytes tokens : List ℕ) → Fails state what offset
     → found (with_arrived state.core bytes tokens) event_side ≡ Err what
-    → IsFaultAgain reading state what offset bytes tokens
+    → IsFaultAgain client_reading state what offset bytes tokens
 fault_again state what offset bytes tokens f h = record {
-  is = answers (arrived reading state bytes tokens) f.sound ∙ ap (answer_found (with_arrived state.core bytes tokens)) h
+  is = answers (with_arrivals client_reading state bytes tokens) f.sound
+      ∙ ap (answer_found (with_arrived state.core bytes tokens)) h
       ∙ ap (λ (n : ℕ). Err (errors.Fault what n)) f.offset_is;
-  leaves = leaves (arrived reading state bytes tokens) f.sound ∙ ap (state_found (arrived reading state bytes tokens)) h
-      ∙ ap (λ (s : State). arrived reading s bytes tokens)
+  leaves = leaves (with_arrivals client_reading state bytes tokens) f.sound
+      ∙ ap (state_found (with_arrivals client_reading state bytes tokens)) h
+      ∙ ap (λ (s : State). with_arrivals client_reading s bytes tokens)
       (sym (leaves state f.sound ∙ ap (state_found state) f.there));
 }
 
@@ -160,19 +164,19 @@ fault_leaves state what offset f = ap (λ (s : State). s.core.inbox.bytes)
 
 -- ---- so a client reads as an end does
 
-message_of : (state : State) (r : Report) → Read state r → IsOfMessage reading event_side state
+message_of : (state : State) (r : Report) → Read state r → IsOfMessage client_reading event_side state
 message_of state r m = record {
   message = m.message;
   there = m.there;
-  left = ap (λ (s : State). waiting s.core) m.leaves;
+  left = ap (λ (s : State). waiting_part s.core) m.leaves;
   kept = ap (λ (s : State). s.core.inbox.limit) m.leaves;
 }
 
 fault_of : (state : State) (what : Fault) (offset : ℕ) → Fails state what offset
-    → IsFault reading event_side state what offset
+    → IsFault client_reading event_side state what offset
 fault_of state what offset f = comes f.there (λ bytes tokens h. fault_again state what offset bytes tokens f h)
 
-pub is_reading : IsReading reading event_side
+pub is_reading : IsReading client_reading event_side
 is_reading = record {
   laws = record { kept = λ state. refl; new = λ state c. refl; again = λ state c d. refl };
   failed = failed_answer;

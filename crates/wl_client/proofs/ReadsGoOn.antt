@@ -15,18 +15,19 @@ use Rattle.wl_objects.specs.declared.error.NextError.TheVariants as errors
 use Rattle.wl_object_map.specs.View.{look}
 use Rattle.wl_connection.specs.Core.{Core}
 use Rattle.wl_connection.specs.Receiving.{Found, found}
-use Rattle.wl_connection.specs.Outcomes.{AnswersOrMemory, left}
+use Rattle.wl_connection.specs.Outcomes.{AnswersOrMemory, unless_memory}
 use Rattle.wl_connection.proofs.FoundStays.{is_found, past_shorter, none_short}
 use Rattle.wl_connection.proofs.ReceivedMessage.{some_report}
 use Rattle.wl_client.specs.declared.report.OwnedIncoming.{OwnedIncoming}
 use Rattle.wl_client.specs.Seen.{report_of, report_in}
 use Rattle.wl_client.specs.State.{State}
-use Rattle.wl_client.specs.Reports.{Report, IsNext, needs_memory, Stray, plain_report, error_report}
+use Rattle.wl_client.specs.Reports.{Report, IsClientNext, needs_memory, Stray, plain_report, error_report}
 use Rattle.wl_client.specs.Reports.{delete_report, deleted, deleted_id, is_error_event}
 use Rattle.wl_client.specs.Reports.{is_delete_event, answer_found, next_answer, state_found}
 use Rattle.wl_client.specs.Reports.{after_next}
-use Rattle.wl_connection.specs.Reads.{arrived, Reads, fault, nothing, ReadsUntil, ReadsReport, ReadsNothing, ReadsNext}
-use Rattle.wl_client.specs.Streams.{is_last, reading}
+use Rattle.wl_connection.specs.Reads.{with_arrivals, Reads, fault, nothing, ReadsUntil, ReadsReport, ReadsNothing}
+use Rattle.wl_connection.specs.Reads.{ReadsNext}
+use Rattle.wl_client.specs.Streams.{is_last, client_reading}
 use Rattle.wl_client.proofs.ReadingStays.{read, answers, leaves, not_failed, answer_stays, after_stays}
 
 -- ---- which report is the last
@@ -126,40 +127,43 @@ never : (state : State) (why : NextError) → state.core.failed ≡ false
     → ((what : Fault) (offset : ℕ) → why ≢ errors.Fault what offset) → next_answer state ≢ Err why
 never state why s n e = never_by state why (found state.core event_side) n (sym (answers state s) ∙ e)
 
-pub told_error : (state new : State) (why : NextError) → state.core.failed ≡ false → IsNext state (Err why)
-    → new ≡ left {R = Option Report} state (after_next state) (Err why) → ReadsUntil reading state [] (Some why) new
+pub told_error : (state new : State) (why : NextError) → state.core.failed ≡ false → IsClientNext state (Err why)
+    → new ≡ unless_memory {R = Option Report} state (after_next state) (Err why)
+    → ReadsUntil client_reading state [] (Some why) new
 told_error state new (errors.Fault what offset) s (inl e) l =
-    subst (λ (x : State). Reads reading state [] (Some (errors.Fault what offset)) x) (sym l) (fault (sym e))
+    subst (λ (x : State). Reads client_reading state [] (Some (errors.Fault what offset)) x) (sym l) (fault (sym e))
 told_error state new (errors.Fault what offset) s (inr e) l = absurd (cc e.0)
 told_error state new errors.Failed s (inl e) l = absurd (never state errors.Failed s (λ what offset h. cc h) (sym e))
 told_error state new errors.Failed s (inr e) l = absurd (cc e.0)
 told_error state new errors.Memory s (inl e) l = absurd (never state errors.Memory s (λ what offset h. cc h) (sym e))
 told_error state new errors.Memory s (inr e) l = (let some = some_report needs_memory (next_answer state) e.1 in
-    subst (λ (x : State). ReadsUntil reading state [] (Some errors.Memory) x) (sym l) (nothing, (some.0, some.1)))
+    subst (λ (x : State). ReadsUntil client_reading state [] (Some errors.Memory) x) (sym l)
+    (nothing, (some.0, some.1)))
 told_error state new errors.OutFull s (inl e) l = absurd (never state errors.OutFull s (λ what offset h. cc h) (sym e))
 told_error state new errors.OutFull s (inr e) l = absurd (cc e.0)
 
 -- ---- what one reading is
 
 one_report : (state new : State) (r : Report) → next_answer state ≡ Ok (Some r) → new ≡ after_next state
-    → ReadsReport reading state r new
+    → ReadsReport client_reading state r new
 one_report state new r e l = record {
   is = e;
   leaves = l;
   stays = λ bytes tokens. answer_stays state r bytes tokens e;
   leaves_more = λ bytes tokens. after_stays state r bytes tokens e
-      ∙ ap (λ (s : State). arrived reading s bytes tokens) (sym l);
+      ∙ ap (λ (s : State). with_arrivals client_reading s bytes tokens) (sym l);
   fewer = subst (λ (s : State). length s.core.inbox.bytes < length state.core.inbox.bytes) (sym l)
       (fewer_wait state r e);
   ends = ap (λ (s : State). s.core.failed) l ∙ failed_after state r e;
 }
 
-no_report : (state : State) → next_answer state ≡ Ok None → ReadsNothing reading state
+no_report : (state : State) → next_answer state ≡ Ok None → ReadsNothing client_reading state
 no_report state e = record { is = e; sound = sound_none state e; short = none_waits state e }
 
 pub next_read : {A : Type 0} (state new : State) (r : Result (Option (OwnedIncoming A)) NextError)
-    → state.core.failed ≡ false → IsNext state (report_in r) → new ≡ left state (after_next state) (report_in r)
-    → ReadsNext reading report_of state r new
+    → state.core.failed ≡ false → IsClientNext state (report_in r)
+    → new ≡ unless_memory state (after_next state) (report_in r)
+    → ReadsNext client_reading report_of state r new
 next_read state new (Ok (Some x)) s t l = one_report state new (report_of x) (told_report state new _ (report_of x) t) l
 next_read state new (Ok None) s t l = (
   l ∙ none_leaves state (told_none state new _ t),

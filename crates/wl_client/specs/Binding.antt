@@ -2,7 +2,7 @@
 use Rattle.std.specs.Prelude.{◌≡◌, ◌<◌, ◌^◌, ◌≤◌, ℕ, List, Option, Some}
 use Rattle.std.specs.declared.result.Result.TheVariants.{Ok}
 use Rattle.wl_sigs.specs.declared.signature.Side.TheVariants.{Request}
-use Rattle.wl_sigs.specs.Tables.{Message, signature_at}
+use Rattle.wl_sigs.specs.Tables.{MessageSignature, signature_at}
 use Rattle.wl_sigs.specs.Valid.{Valid}
 use Rattle.wl_message.specs.Cut.{usual_limit}
 use Rattle.wl_object_map.specs.declared.object.Object.{Object}
@@ -23,7 +23,7 @@ abbrev pub BindSpells : State → Object → ℕ → List ℕ → ℕ → Type 0
 BindSpells state target name iface version =
     Valid state.core.tables → Sound state.core.view → name < 2 ^ 32 → version < 2 ^ 32
     → (new : Option Object) → bind_answer state target name iface version ≡ Ok new
-    → (signature : Message) → signature_at state.core.tables 1 Request 0 ≡ Some signature
+    → (signature : MessageSignature) → signature_at state.core.tables 1 Request 0 ≡ Some signature
     → MessageSpells usual_limit signature.kinds target.id 0
     (bind_values name iface version (next_id state.core.view))
     (message_bytes target.id 0 (bind_values name iface version (next_id state.core.view)))

@@ -35,8 +35,8 @@ iface_or None = registry
 iface_or (Some global) = global.iface
 
 -- the object that a bind makes, at the next id
-abbrev pub bound : State → ℕ → ℕ → NewObject
-bound state name version = record {
+abbrev pub bound_object : State → ℕ → ℕ → NewObject
+bound_object state name version = record {
   id = next_id state.core.view;
   iface = iface_or (global_of state.globals name);
   version = version;
@@ -49,7 +49,7 @@ bind_at state name iface version (Some entry) =
     else if not (can_bind state.core.tables iface version (global_of state.globals name))
     then Err refusals.BadBind
     else if fits state.core.outbox (message_len (bind_values name iface version 0)) 0
-    then opening_answer state.core (Some (bound state name version))
+    then opening_answer state.core (Some (bound_object state name version))
     else Err refusals.Full
 
 -- What `bind` returns, where no memory is needed: S1, S2, S3, S7, S9, S10; else the new object.
@@ -64,5 +64,5 @@ after_bind state target name iface version = record state {
   core =
       with_view (with_sent state.core target.id 0
       (bind_values name iface version (next_id state.core.view)) [])
-      (opened state.core.view (bound state name version).iface version);
+      (opened state.core.view (bound_object state name version).iface version);
 }

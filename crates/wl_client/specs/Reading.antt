@@ -18,7 +18,7 @@ use Rattle.wl_client.specs.declared.pending.PendingEvent.{PendingEvent}
 use Rattle.wl_client.specs.State.{State, Global}
 use Rattle.wl_client.specs.Reports.{Report, report, is_error_event}
 use Rattle.wl_client.specs.Outlines.{outline_entry, outlined}
-use Rattle.wl_client.specs.Steps.{report_by, view_by, globals_by, changed, CanChange, state_of}
+use Rattle.wl_client.specs.Steps.{report_by, view_by, globals_by, changed, CanChange, client_state}
 use Rattle.wl_client.specs.Steps.{stepped, with_global_change}
 
 -- A pending event is what this message, of this body and these parsed arguments, is and does where
@@ -95,8 +95,8 @@ core_unless core result = core
 -- the client after what was found is taken
 abbrev pub after_front : Core → List Global → Result (Option PendingEvent) NextError → State
 after_front core globals (Ok (Some event)) =
-    state_of (stepped core event) (with_global_change globals event.change.globals)
-after_front core globals result = state_of (core_unless core result) globals
+    client_state (stepped core event) (with_global_change globals event.change.globals)
+after_front core globals result = client_state (core_unless core result) globals
 
 -- what is reported of an event whose message an end took last
 abbrev pub taken_in : Core → List ParsedArg → Result (Option PendingEvent) NextError

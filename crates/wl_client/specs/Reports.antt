@@ -18,14 +18,15 @@ use Rattle.wl_objects.specs.declared.error.NextError.{NextError}
 use Rattle.wl_objects.specs.declared.error.NextError.TheVariants as errors
 use Rattle.wl_object_map.specs.declared.object.Entry.{Entry}
 use Rattle.wl_object_map.specs.View.{View, look, is_held}
-use Rattle.wl_objects.specs.Writing.{is_live}
 use Rattle.wl_objects.specs.Reading.{Reported, named_at}
 use Rattle.wl_objects.specs.Messages.{Received, reader_of, is_error, is_delete_id, same_iface}
 use Rattle.wl_objects.specs.Messages.{Client as client, after, after_delete_id, ended_id}
 use Rattle.wl_connection.specs.Core.{Core, with_view, with_failure}
 use Rattle.wl_connection.specs.Outcomes.{AnswersOrMemory, answers_with}
 use Rattle.wl_connection.specs.Receiving.{Found, found, reported, own_tokens, past_found, is_none}
-use Rattle.wl_client.specs.State.{State, Global, max_globals, is_named, global_of, with_core}
+use Rattle.wl_client.specs.State.{State, Global, is_named, global_of, with_core}
+use Rattle.wl_object_map.specs.View.{lives}
+use Rattle.wl_connection.specs.Core.{max_globals}
 
 -- What a client reports.
 pub data Report : Type 0 where
@@ -71,8 +72,8 @@ error_report core values =
     (number_in (argument values 1)) (text_in (argument values 2))
 
 -- whether delete_id of an id ends an object
-abbrev pub deletes : Core → ℕ → Bool
-deletes core id = is_held core.view id && not (nat_eq id 1)
+abbrev pub deletes_held : Core → ℕ → Bool
+deletes_held core id = is_held core.view id && not (nat_eq id 1)
 
 abbrev pub deleted : ℕ → Option Entry → Report
 deleted id None = Stray id
@@ -162,7 +163,7 @@ globals_told tables globals opcode values =
 -- only events on a live registry teach
 abbrev pub globals_after : State → Found → List Global
 globals_after state f =
-    if same_iface f.message.entry.iface registry && is_live f.message.entry.state
+    if same_iface f.message.entry.iface registry && lives f.message.entry.state
     then globals_told state.core.tables state.globals f.opcode f.message.values
     else state.globals
 
@@ -201,7 +202,7 @@ after_next state =
 
 -- What `next_owned` returns where memory can be refused: out of memory stands only in place of a
 -- report that needs some.
-abbrev pub IsNext : State → Result (Option Report) NextError → Type 0
-IsNext state result =
+abbrev pub IsClientNext : State → Result (Option Report) NextError → Type 0
+IsClientNext state result =
     AnswersOrMemory errors.Memory (answers_with needs_memory (next_answer state))
     (next_answer state) result

@@ -17,11 +17,11 @@ report_of (incoming.Stray id) = Stray id
 report_of (incoming.Error id named code text) = Error id named code text
 
 -- what `next_owned_with_entry` returned, but for the entry
-abbrev pub incoming_in : {A : Type 0} → Result (Option (OwnedIncomingWithEntry A)) NextError
+abbrev pub owned_incoming_in : {A : Type 0} → Result (Option (OwnedIncomingWithEntry A)) NextError
     → Result (Option Report) NextError
-incoming_in (Err why) = Err why
-incoming_in (Ok None) = Ok None
-incoming_in (Ok (Some read)) = Ok (Some (report_of read.incoming))
+owned_incoming_in (Err why) = Err why
+owned_incoming_in (Ok None) = Ok None
+owned_incoming_in (Ok (Some read)) = Ok (Some (report_of read.incoming))
 
 -- what `next_owned` returned
 abbrev pub report_in : {A : Type 0} → Result (Option (OwnedIncoming A)) NextError

@@ -20,10 +20,6 @@ is_named name global = nat_eq global.name name
 abbrev pub global_of : List Global → ℕ → Option Global
 global_of globals name = find (is_named name) globals
 
--- the most globals that a client remembers
-abbrev pub max_globals : ℕ
-max_globals = 1024
-
 abbrev pub new_state : List Interface → Sizes → State
 new_state tables sizes = record { core = new_core tables sizes; globals = [] }
 

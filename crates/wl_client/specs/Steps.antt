@@ -5,7 +5,7 @@ use Rattle.wl_message.specs.Outgoing.{no_messages}
 use Rattle.wl_objects.specs.declared.reading.Received.{Received as Read}
 use Rattle.wl_sigs.specs.Fixed.{display}
 use Rattle.wl_object_map.specs.View.{View, opening, is_held, is_live, closed, zombied}
-use Rattle.wl_objects.specs.Seen.{message_of}
+use Rattle.wl_objects.specs.Seen.{received_of}
 use Rattle.wl_connection.specs.Core.{Core, past, with_view}
 use Rattle.wl_connection.specs.Receiving.{Found}
 use Rattle.wl_client.specs.declared.changes.ObjectChange.{ObjectChange}
@@ -39,10 +39,10 @@ end_with tables view tokens = record {
 
 -- the message as it was found, where its size does not matter
 abbrev pub found_as : ℕ → Read → Found
-found_as opcode read = record { size = 0; opcode = opcode; message = message_of read }
+found_as opcode read = record { size = 0; opcode = opcode; message = received_of read }
 
-abbrev pub state_of : Core → List Global → State
-state_of core globals = record { core = core; globals = globals }
+abbrev pub client_state : Core → List Global → State
+client_state core globals = record { core = core; globals = globals }
 
 -- what is reported where these objects and tokens are there
 abbrev pub report_by : View → List ℕ → Found → Report
@@ -55,7 +55,7 @@ view_by view f = view_after (end_with [] view []) f
 -- the globals after a message
 abbrev pub globals_by : List Interface → List Global → Found → List Global
 globals_by tables globals f =
-    globals_after (state_of (end_with tables (opening display) []) globals) f
+    globals_after (client_state (end_with tables (opening display) []) globals) f
 
 -- the objects after a change
 abbrev pub changed : View → ObjectChange → View

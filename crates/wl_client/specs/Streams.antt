@@ -9,8 +9,8 @@ abbrev pub is_last : Report → Bool
 is_last (Error id named code text) = true
 is_last _ = false
 
-abbrev pub reading : Reading State Report
-reading = record {
+abbrev pub client_reading : Reading State Report
+client_reading = record {
   core = λ state. state.core;
   with_core = with_core;
   answer = next_answer;

@@ -1,6 +1,7 @@
 //! How a client binds a global.
-ghost use Rattle.std.specs.Prelude.{◌≡◌, Some, true, OnErr, OnOk};
-ghost use Rattle.wl_connection.specs.Outcomes.{AnswersOrMemory, new_in};
+ghost use Rattle.std.specs.Prelude.{◌≡◌, Some, true, OnErr, OnOk, is_some};
+ghost use Rattle.wl_connection.specs.Outcomes.{AnswersOrMemory, some_object};
+ghost use Rattle.wl_client.specs.State.{global_of};
 ghost use Rattle.wl_client.specs.Calls.{after_bind, bind_answer, can_bind};
 ghost use Rattle.wl_client.specs.Binding.{FitsBind};
 
@@ -11,6 +12,15 @@ use wl_sigs::Tables;
 use wl_wire::ValueRef;
 
 impl<'t, T: Table> Client<'t, T> {
+    /// Whether the client remembers a global of this name. One that it was told is not remembered
+    /// where its interface is not in the tables, or 1,024 others were remembered then, and so it
+    /// cannot be bound.
+    pub fn remembers(&self, name: u32) -> bool
+        ensures { result ≡ is_some (global_of self.now.globals name) }
+    {
+        self.globals.get(name).is_some()
+    }
+
     /// Binds a global that the client was told, of this name and interface, and returns the new
     /// object, of this version.
     ///
@@ -24,7 +34,7 @@ impl<'t, T: Table> Client<'t, T> {
         version: u32,
     ) -> Result<Object, SendError>
         ensures answer { AnswersOrMemory SendError.Memory true
-            (bind_answer self.old registry name iface.now version) (new_in result) }
+            (bind_answer self.old registry name iface.now version) (some_object result) }
         ensures ok { OnOk result (self.new ≡ after_bind self.old registry name iface.now version) }
         ensures err { OnErr result (self.new ≡ self.old) }
     {

@@ -1,8 +1,9 @@
 //! The globals that a client was told.
 ghost use Rattle.std.specs.Prelude.{◌≡◌, ◌<◌, ◌≤◌, [], ◌∷◌, ◌++◌, IfOk, length, map, if◌then◌else◌};
-ghost use Rattle.wl_client.specs.State.{global_of, is_named, max_globals};
+ghost use Rattle.wl_client.specs.State.{global_of, is_named};
 ghost use Rattle.wl_client.specs.Reports.{forgotten, replaced, remembered};
 ghost use Rattle.wl_client.specs.Steps.{with_global_change};
+ghost use Rattle.wl_connection.specs.Core.{max_globals};
 
 use crate::changes::GlobalChange;
 use std::alloc::{AllocError, Allocator};

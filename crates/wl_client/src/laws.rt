@@ -6,21 +6,21 @@ ghost use Rattle.wl_connection.specs.Reads.{AnyCutReads, HasOneReading, ReadsWho
 ghost use Rattle.wl_object_map.specs.declared.object.Object.{Object};
 ghost use Rattle.wl_client.specs.Binding.{BindSpells};
 ghost use Rattle.wl_client.specs.State.{State};
-ghost use Rattle.wl_client.specs.Streams.{reading};
+ghost use Rattle.wl_client.specs.Streams.{client_reading};
 
 /// What waits is read in one way, also when more comes behind it.
 pub fn one_reading()
-    ensures { HasOneReading reading }
+    ensures { HasOneReading client_reading }
 {}
 
 /// It does not matter how a stream is cut, where its pieces are in step.
 pub fn any_cut_reads()
-    ensures { AnyCutReads reading event_side }
+    ensures { AnyCutReads client_reading event_side }
 {}
 
 /// What is read begins what waits: as many whole messages as there are reports.
 pub fn whole_messages_are_read()
-    ensures { ReadsWhole reading }
+    ensures { ReadsWhole client_reading }
 {}
 
 /// What an accepted bind writes is a spelling by the tables' signature.

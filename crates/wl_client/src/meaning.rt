@@ -14,7 +14,7 @@ ghost use Rattle.wl_objects.specs.declared.parsed.ParsedArg.{ParsedArg};
 ghost use Rattle.wl_objects.specs.Messages.{after_delete_id, is_error, reader_of};
 ghost use Rattle.wl_objects.specs.Parsed.{AreParsed, spelled_in};
 ghost use Rattle.wl_objects.specs.Reading.{descriptors};
-ghost use Rattle.wl_objects.specs.Seen.{message_of};
+ghost use Rattle.wl_objects.specs.Seen.{received_of};
 
 use crate::arguments::{id_at, number_at};
 use crate::changes::{Change, GlobalChange, ObjectChange, global_change_of};
@@ -30,7 +30,7 @@ pub(crate) fn meaning_of<T: Table>(
     message: &Received<'_, '_>,
 ) -> (Outline, Change, Option<Entry>)
     requires parsed { AreParsed (reader_of (T.view table.now)) message.now.body.now
-        message.now.args.now (message_of message.now).values }
+        message.now.args.now (received_of message.now).values }
     requires tokens { message.now.tokens ≡ descriptors message.now.signature.now.kinds }
     requires error { message.now.is_error ≡ is_error Event message.now.entry.iface opcode }
     requires display { HasDisplay (T.view table.now) }

@@ -4,7 +4,7 @@ ghost use Rattle.wl_message.specs.InStep.{part};
 ghost use Rattle.wl_connection.specs.Core.{no_room};
 ghost use Rattle.wl_connection.specs.Reads.{appended, ReadsAll};
 ghost use Rattle.wl_client.specs.Seen.{report_of};
-ghost use Rattle.wl_client.specs.Streams.{reading};
+ghost use Rattle.wl_client.specs.Streams.{client_reading};
 
 use crate::client::Client;
 use crate::report::OwnedIncoming;
@@ -28,7 +28,7 @@ impl<'t, T: Table> Client<'t, T> {
     ) -> ReadAll
         ensures reports { take (length reports.old.items) reports.new.items ≡ reports.old.items }
         ensures reads { self.old.core.failed ≡ false
-            → ReadsAll reading self.old (map part pieces.now)
+            → ReadsAll client_reading self.old (map part pieces.now)
             (appended report_of reports.old.items reports.new.items) result self.new }
 
         // A client that has failed reads nothing, not even where there are no pieces.

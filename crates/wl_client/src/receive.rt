@@ -3,13 +3,14 @@ ghost use Rattle.std.specs.Prelude.{◌≡◌, List, [], IfOk, IfSome, OnErr, fa
 ghost use Rattle.std.specs.Borrow.{sem};
 ghost use Rattle.std.specs.Io.BufRead.{Rests};
 ghost use Rattle.wl_object_map.specs.View.{View};
-ghost use Rattle.wl_connection.specs.Outcomes.{left};
+ghost use Rattle.wl_connection.specs.Outcomes.{unless_memory};
 ghost use Rattle.wl_client.specs.State.{Global as Told};
-ghost use Rattle.wl_client.specs.Reports.{IsNext, after_next, entry_of, needs_memory, next_answer};
+ghost use Rattle.wl_client.specs.Reports.{IsClientNext, after_next, entry_of, needs_memory};
+ghost use Rattle.wl_client.specs.Reports.{next_answer};
 ghost use Rattle.wl_client.specs.Outlines.{client_row, incoming_in, lent_in, lent_report};
 ghost use Rattle.wl_client.specs.Outlines.{outline_entry, outlined};
-ghost use Rattle.wl_client.specs.Seen.{incoming_in as owned_in, report_in, report_of};
-ghost use Rattle.wl_client.specs.Steps.{state_of, stepped, with_global_change};
+ghost use Rattle.wl_client.specs.Seen.{owned_incoming_in as owned_in, report_in, report_of};
+ghost use Rattle.wl_client.specs.Steps.{client_state, stepped, with_global_change};
 ghost use Rattle.wl_client.specs.Reading.{CanTake, after_front, core_unless, front_report};
 ghost use Rattle.wl_client.specs.Reading.{fronts_in, taken_in};
 
@@ -64,8 +65,8 @@ impl<'t, T: Table> Client<'t, T> {
     /// be only at an `Event` that has arguments and at an `Error`: `Discarded`, `Deleted`, `Stray`
     /// and an event without arguments take no memory.
     pub fn next_owned(&mut self) -> Result<Option<OwnedIncoming<T::Alloc>>, NextError>
-        ensures answer { IsNext self.old (report_in result) }
-        ensures state { self.new ≡ left self.old (after_next self.old) (report_in result) }
+        ensures answer { IsClientNext self.old (report_in result) }
+        ensures state { self.new ≡ unless_memory self.old (after_next self.old) (report_in result) }
     {
         match read_owned(&mut self.end, &mut self.globals, &self.alloc)? {
             Some(read) => Ok(Some(read.incoming)),
@@ -78,8 +79,8 @@ impl<'t, T: Table> Client<'t, T> {
     pub fn next_owned_with_entry(
         &mut self,
     ) -> Result<Option<OwnedIncomingWithEntry<T::Alloc>>, NextError>
-        ensures answer { IsNext self.old (owned_in result) }
-        ensures state { self.new ≡ left self.old (after_next self.old) (owned_in result) }
+        ensures answer { IsClientNext self.old (owned_in result) }
+        ensures state { self.new ≡ unless_memory self.old (after_next self.old) (owned_in result) }
         ensures entry { IfOk result (λ read. IfSome read (λ told. told.entry
             ≡ entry_of self.old.core.view (report_of told.incoming))) }
     {
@@ -94,9 +95,9 @@ fn read<T: Table>(
     globals: &mut Remembered<T::Alloc>,
 ) -> Result<Option<PendingEvent>, NextError>
     ensures answer { taken_in end.new.core end.new.args result
-        ≡ next_answer (state_of end.old.core globals.old) }
-    ensures state { state_of end.new.core globals.new
-        ≡ after_next (state_of end.old.core globals.old) }
+        ≡ next_answer (client_state end.old.core globals.old) }
+    ensures state { client_state end.new.core globals.new
+        ≡ after_next (client_state end.old.core globals.old) }
     ensures entry { IfOk result (λ read. IfSome read (λ event. event.entry
         ≡ outline_entry end.old.core.view event.outline)) }
 {
@@ -104,7 +105,7 @@ fn read<T: Table>(
         Some(event) => event,
         None => return Ok(None),
     };
-    take(end, globals, &event);
+    take_event(end, globals, &event);
     Ok(Some(event))
 }
 
@@ -114,10 +115,10 @@ fn read_owned<T: Table>(
     globals: &mut Remembered<T::Alloc>,
     alloc: &T::Alloc,
 ) -> Result<Option<OwnedIncomingWithEntry<T::Alloc>>, NextError>
-    ensures answer { IsNext (state_of end.old.core globals.old) (owned_in result) }
-    ensures state { state_of end.new.core globals.new
-        ≡ left (state_of end.old.core globals.old)
-        (after_next (state_of end.old.core globals.old)) (owned_in result) }
+    ensures answer { IsClientNext (client_state end.old.core globals.old) (owned_in result) }
+    ensures state { client_state end.new.core globals.new
+        ≡ unless_memory (client_state end.old.core globals.old)
+        (after_next (client_state end.old.core globals.old)) (owned_in result) }
     ensures entry { IfOk result (λ read. IfSome read (λ told. told.entry
         ≡ entry_of end.old.core.view (report_of told.incoming))) }
 {
@@ -129,7 +130,7 @@ fn read_owned<T: Table>(
         Ok(incoming) => incoming,
         Err(_) => return Err(NextError::Memory),
     };
-    take(end, globals, &event);
+    take_event(end, globals, &event);
     Ok(Some(OwnedIncomingWithEntry {
         incoming,
         entry: event.entry,
@@ -139,10 +140,10 @@ fn read_owned<T: Table>(
 /// The event in front, once it is whole. The end fails with a fault; else nothing changes.
 fn find_or_fail<T: Table>(end: &mut Endpoint<'_, T>) -> Result<Option<PendingEvent>, NextError>
     ensures answer { fronts_in end.old.core end.new.args result
-        ≡ next_answer (state_of end.old.core []) }
+        ≡ next_answer (client_state end.old.core []) }
     ensures core { end.new.core ≡ core_unless end.old.core result }
     ensures state { (globals : List Told) → after_front end.old.core globals result
-        ≡ after_next (state_of end.old.core globals) }
+        ≡ after_next (client_state end.old.core globals) }
     ensures can { IfOk result (λ found. IfSome found (λ event. CanTake end.old.core event)) }
     ensures lives { IfOk result (λ _. end.old.core.failed ≡ false) }
 {
@@ -187,7 +188,7 @@ fn copy<T: Table>(
 
 /// Takes the message in front with its tokens, and makes its changes. The end fails with the last
 /// message.
-fn take<T: Table>(
+fn take_event<T: Table>(
     end: &mut Endpoint<'_, T>,
     globals: &mut Remembered<T::Alloc>,
     event: &PendingEvent,

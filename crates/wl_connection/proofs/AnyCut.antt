@@ -7,7 +7,7 @@ use Rattle.std.specs.declared.result.Result.{Result}
 use Rattle.std.specs.declared.result.Result.TheVariants.{Ok, Err}
 use Rattle.wl_sigs.specs.declared.signature.Side.{Side}
 use Rattle.wl_message.specs.declared.limit.Limit.{Limit}
-use Rattle.wl_message.specs.declared.amounts.Fed.{Fed}
+use Rattle.wl_message.specs.declared.amounts.Amounts.{Amounts}
 use Rattle.wl_message.specs.InStep.{Part, InStep, part_bytes, part_tokens}
 use Rattle.wl_message.proofs.Steps.{step_first, step_read}
 use Rattle.wl_objects.specs.declared.error.Fault.{Fault}
@@ -15,9 +15,10 @@ use Rattle.wl_objects.specs.declared.error.NextError.{NextError}
 use Rattle.wl_objects.specs.declared.error.NextError.TheVariants as errors
 use Rattle.wl_connection.specs.Core.{Core, with_arrived}
 use Rattle.wl_connection.specs.Receiving.{Found, found, past_found}
-use Rattle.wl_connection.specs.Streams.{waiting, need_of, Wants, IsTaken, taken_bytes, taken_tokens, untaken, BeginWith}
-use Rattle.wl_connection.specs.Reads.{Reading, IsCoreOf, arrived, Reads, none, fault, full, last}
-use Rattle.wl_connection.specs.Reads.{next, ReadsSome, nothing, more, Begins, ends, goes_on}
+use Rattle.wl_connection.specs.Streams.{waiting_part, need_of, Wants, IsTaken, taken_bytes, taken_tokens, untaken}
+use Rattle.wl_connection.specs.Streams.{BeginWith}
+use Rattle.wl_connection.specs.Reads.{Reading, IsCoreOf, with_arrivals, Reads, none, fault, full, last}
+use Rattle.wl_connection.specs.Reads.{next, ReadsSome, nothing, more, BeginsWithNeeds, ends, goes_on}
 use Rattle.wl_connection.specs.Reads.{ComeInStep, HasOneReading, ReadsWhole}
 use Rattle.wl_connection.proofs.FoundStays.{is_found, Faulty, always, lacks, is_fault, arrived_twice}
 use Rattle.wl_connection.proofs.Pieces.{taken-untaken_bytes, taken-untaken_tokens, taken_in_step}
@@ -30,14 +31,14 @@ use Rattle.wl_connection.proofs.Spelled.{begin_none, begin_more}
 pub record IsOfMessage {S R : Type 0} (e : Reading S R) (side : Side) (state : S) : Type 0 where
   pub message : Found
   pub there : found (e.core state) side ≡ Ok (Some message)
-  pub left : waiting (e.core (e.after state)) ≡ waiting (past_found (e.core state) message)
+  pub left : waiting_part (e.core (e.after state)) ≡ waiting_part (past_found (e.core state) message)
   pub kept : (e.core (e.after state)).inbox.limit ≡ (e.core state).inbox.limit
 
 -- a fault is there with more behind it too
 pub record IsFaultAgain {S R : Type 0} (e : Reading S R) (state : S) (what : Fault) (offset : ℕ)
     (bytes tokens : List ℕ) : Type 0 where
-  pub is : e.answer (arrived e state bytes tokens) ≡ Err (errors.Fault what offset)
-  pub leaves : e.after (arrived e state bytes tokens) ≡ arrived e (e.after state) bytes tokens
+  pub is : e.answer (with_arrivals e state bytes tokens) ≡ Err (errors.Fault what offset)
+  pub leaves : e.after (with_arrivals e state bytes tokens) ≡ with_arrivals e (e.after state) bytes tokens
 
 -- a fault stays whatever comes, or as long as the same is found in front
 pub data IsFault {S R : Type 0} (e : Reading S R) (side : Side) (state : S) (what : Fault) (offset : ℕ) : Type 0 where
@@ -50,9 +51,9 @@ pub record IsReading {S R : Type 0} (e : Reading S R) (side : Side) : Type 0 whe
   pub laws : IsCoreOf e.core e.with_core
   pub failed : (state : S) → (e.core state).failed ≡ true → e.answer state ≡ Err errors.Failed
   pub report_stays : (state : S) (report : R) (bytes tokens : List ℕ) → e.answer state ≡ Ok (Some report)
-      → e.answer (arrived e state bytes tokens) ≡ Ok (Some report)
+      → e.answer (with_arrivals e state bytes tokens) ≡ Ok (Some report)
   pub leaves_more : (state : S) (report : R) (bytes tokens : List ℕ) → e.answer state ≡ Ok (Some report)
-      → e.after (arrived e state bytes tokens) ≡ arrived e (e.after state) bytes tokens
+      → e.after (with_arrivals e state bytes tokens) ≡ with_arrivals e (e.after state) bytes tokens
   pub message : (state : S) (report : R) → e.answer state ≡ Ok (Some report) → IsOfMessage e side state
   pub sound : (state : S) (what : Fault) (offset : ℕ) → e.answer state ≡ Err (errors.Fault what offset)
       → (e.core state).failed ≡ false
@@ -65,37 +66,39 @@ pub record IsReading {S R : Type 0} (e : Reading S R) (side : Side) : Type 0 whe
 
 pub some_stays : {S R : Type 0} {e : Reading S R} {side : Side} {state end : S} {reports : List R} → IsReading e side
     → (bytes tokens : List ℕ) → ReadsSome e state reports end
-    → ReadsSome e (arrived e state bytes tokens) reports (arrived e end bytes tokens)
+    → ReadsSome e (with_arrivals e state bytes tokens) reports (with_arrivals e end bytes tokens)
 some_stays i bytes tokens nothing = nothing
 some_stays {e = e} i bytes tokens (more {state = state} {end = end} {report = r} {reports = rs} a n h) =
     more (i.report_stays state r bytes tokens a) n
-    (subst (λ s. ReadsSome e s rs (arrived e end bytes tokens)) (sym (i.leaves_more state r bytes tokens a))
+    (subst (λ s. ReadsSome e s rs (with_arrivals e end bytes tokens)) (sym (i.leaves_more state r bytes tokens a))
     (some_stays i bytes tokens h))
 
 -- ---- whatever the cut
 
 fault_again : {S R : Type 0} (e : Reading S R) (state : S) (what : Fault) (offset : ℕ) (bytes tokens : List ℕ)
     → IsFaultAgain e state what offset bytes tokens
-    → Reads e (arrived e state bytes tokens) [] (Some (errors.Fault what offset))
-    (arrived e (e.after state) bytes tokens)
+    → Reads e (with_arrivals e state bytes tokens) [] (Some (errors.Fault what offset))
+    (with_arrivals e (e.after state) bytes tokens)
 fault_again e state what offset bytes tokens f =
-    subst (λ s. Reads e (arrived e state bytes tokens) [] (Some (errors.Fault what offset)) s) f.leaves (fault f.is)
+    subst (λ s. Reads e (with_arrivals e state bytes tokens) [] (Some (errors.Fault what offset)) s) f.leaves
+    (fault f.is)
 
 -- what is found at an end with more that came in
 wants_more : {S R : Type 0} (e : Reading S R) (side : Side) → IsReading e side
     → (state : S) (bytes tokens : List ℕ) (need : _) → Wants (with_arrived (e.core state) bytes tokens) side need
-    → Wants (e.core (arrived e state bytes tokens)) side need
+    → Wants (e.core (with_arrivals e state bytes tokens)) side need
 wants_more e side i state bytes tokens need w = subst (λ c. Wants c side need)
     (sym (i.laws.new state (with_arrived (e.core state) bytes tokens))) w
 
 sound_more : {S R : Type 0} (e : Reading S R) (side : Side) → IsReading e side → (state : S) (bytes tokens : List ℕ)
-    → (e.core state).failed ≡ false → (e.core (arrived e state bytes tokens)).failed ≡ false
+    → (e.core state).failed ≡ false → (e.core (with_arrivals e state bytes tokens)).failed ≡ false
 sound_more e side i state bytes tokens h = ap (λ (c : Core). c.failed)
     (i.laws.new state (with_arrived (e.core state) bytes tokens)) ∙ h
 
 fault_found : {S R : Type 0} (e : Reading S R) (side : Side) → IsReading e side
     → (state : S) (what : Fault) (offset : ℕ) (later : List Part) → (e.core state).failed ≡ false
-    → ComeInStep e side (arrived e state (part_bytes later) (part_tokens later)) (waiting (e.core state) ∷ later)
+    → ComeInStep e side (with_arrivals e state (part_bytes later) (part_tokens later))
+    (waiting_part (e.core state) ∷ later)
     → ((bytes tokens : List ℕ) → found (with_arrived (e.core state) bytes tokens) side ≡ Err what
     → IsFaultAgain e state what offset bytes tokens)
     → Faulty (e.core state) side what → IsFaultAgain e state what offset (part_bytes later) (part_tokens later)
@@ -104,7 +107,7 @@ fault_found e side i state what offset later sound s again (always h) =
 fault_found e side i state what offset later sound s again (lacks need w few some same h) =
     let bytes = part_bytes later in
     let tokens = part_tokens later in
-    elim (step_first need [] (waiting (e.core state)) later
+    elim (step_first need [] (waiting_part (e.core state)) later
     (s (need ∷ []) (ends (sound_more e side i state bytes tokens sound)
     (wants_more e side i state bytes tokens need (w bytes tokens)))) some) [
       | inl x ↦ absurd (omega arith)
@@ -113,7 +116,8 @@ fault_found e side i state what offset later sound s again (lacks need w few som
 
 fault_by : {S R : Type 0} (e : Reading S R) (side : Side) → IsReading e side
     → (state : S) (what : Fault) (offset : ℕ) (later : List Part) → (e.core state).failed ≡ false
-    → ComeInStep e side (arrived e state (part_bytes later) (part_tokens later)) (waiting (e.core state) ∷ later)
+    → ComeInStep e side (with_arrivals e state (part_bytes later) (part_tokens later))
+    (waiting_part (e.core state) ∷ later)
     → IsFault e side state what offset
     → IsFaultAgain e state what offset (part_bytes later) (part_tokens later)
 fault_by e side i state what offset later sound s (stays h) = h (part_bytes later) (part_tokens later)
@@ -123,9 +127,10 @@ fault_by e side i state what offset later sound s (comes h again) =
 -- once the first message is read, with its tokens, the others come in step
 step_past : {S R : Type 0} (e : Reading S R) (side : Side) → IsReading e side → (state : S) (r : R) (later : List Part)
     → e.answer state ≡ Ok (Some r)
-    → ComeInStep e side (arrived e state (part_bytes later) (part_tokens later)) (waiting (e.core state) ∷ later)
-    → ComeInStep e side (arrived e (e.after state) (part_bytes later) (part_tokens later))
-    (waiting (e.core (e.after state)) ∷ later)
+    → ComeInStep e side (with_arrivals e state (part_bytes later) (part_tokens later))
+    (waiting_part (e.core state) ∷ later)
+    → ComeInStep e side (with_arrivals e (e.after state) (part_bytes later) (part_tokens later))
+    (waiting_part (e.core (e.after state)) ∷ later)
 step_past e side i state r later a s needs b =
     let bytes = part_bytes later in
     let tokens = part_tokens later in
@@ -141,58 +146,61 @@ step_past e side i state r later a s needs b =
     } in
     let begins = goes_on (i.report_stays state r bytes tokens a)
     (wants_more e side i state bytes tokens (need_of m.message) wants)
-    (subst (λ x. Begins e side x needs) (sym (i.leaves_more state r bytes tokens a)) b) in
+    (subst (λ x. BeginsWithNeeds e side x needs) (sym (i.leaves_more state r bytes tokens a)) b) in
     subst (λ (x : Part). InStep needs (x ∷ later)) (sym m.left)
-    (step_read (need_of m.message) needs (waiting (e.core state)) later
+    (step_read (need_of m.message) needs (waiting_part (e.core state)) later
     (s (need_of m.message ∷ needs) begins) h.there h.enough)
 
 -- What is read up to a fault or a last report is read in the same way when more comes in step.
 pub reads_stay : {S R : Type 0} {e : Reading S R} {side : Side} {state end : S} {reports : List R} {stop : Option
     NextError} → IsReading e side → (later : List Part) → Reads e state reports stop end → (e.core end).failed ≡ true
-    → ComeInStep e side (arrived e state (part_bytes later) (part_tokens later)) (waiting (e.core state) ∷ later)
-    → Reads e (arrived e state (part_bytes later) (part_tokens later)) reports stop
-    (arrived e end (part_bytes later) (part_tokens later))
+    → ComeInStep e side (with_arrivals e state (part_bytes later) (part_tokens later))
+    (waiting_part (e.core state) ∷ later)
+    → Reads e (with_arrivals e state (part_bytes later) (part_tokens later)) reports stop
+    (with_arrivals e end (part_bytes later) (part_tokens later))
 reads_stay i later (none {state = state} a) f s = absurd (cc (i.failed state f, a))
 reads_stay i later (full {state = state} a) f s = absurd (cc (i.failed state f, a))
 reads_stay {e = e} {side = side} i later (fault {state = state} {what = what} {offset = offset} a) f s =
     fault_again e state what offset (part_bytes later) (part_tokens later)
     (fault_by e side i state what offset later (i.sound state what offset a) s (i.fault state what offset a))
 reads_stay {e = e} i later (last {state = state} {report = r} a n) f s =
-    subst (λ x. Reads e (arrived e state (part_bytes later) (part_tokens later)) (r ∷ []) None x)
+    subst (λ x. Reads e (with_arrivals e state (part_bytes later) (part_tokens later)) (r ∷ []) None x)
     (i.leaves_more state r (part_bytes later) (part_tokens later) a)
     (last (i.report_stays state r (part_bytes later) (part_tokens later) a) n)
 reads_stay {e = e} {side = side} i later (next {state = state} {end = end} {report = r} {reports = rs} {stop = stop} a n
     h) f s =
     next (i.report_stays state r (part_bytes later) (part_tokens later) a) n
-    (subst (λ x. Reads e x rs stop (arrived e end (part_bytes later) (part_tokens later)))
+    (subst (λ x. Reads e x rs stop (with_arrivals e end (part_bytes later) (part_tokens later)))
     (sym (i.leaves_more state r (part_bytes later) (part_tokens later) a))
     (reads_stay i later h f (step_past e side i state r later a s)))
 
 pub any_cut : {S R : Type 0} (e : Reading S R) (side : Side) → IsReading e side
-    → (state end : S) (pieces : List Part) (count : ℕ) (some : Fed) (reports : List R) (stop : Option NextError)
+    → (state end : S) (pieces : List Part) (count : ℕ) (some : Amounts) (reports : List R) (stop : Option NextError)
     → IsTaken pieces count some
-    → ComeInStep e side (arrived e state (part_bytes pieces) (part_tokens pieces)) (waiting (e.core state) ∷ pieces)
-    → Reads e (arrived e state (taken_bytes pieces count some) (taken_tokens pieces count some)) reports stop end
+    → ComeInStep e side (with_arrivals e state (part_bytes pieces) (part_tokens pieces))
+    (waiting_part (e.core state) ∷ pieces)
+    → Reads e (with_arrivals e state (taken_bytes pieces count some) (taken_tokens pieces count some)) reports stop end
     → (e.core end).failed ≡ true
-    → Reads e (arrived e state (part_bytes pieces) (part_tokens pieces)) reports stop
-    (arrived e end (part_bytes (untaken pieces count some)) (part_tokens (untaken pieces count some)))
+    → Reads e (with_arrivals e state (part_bytes pieces) (part_tokens pieces)) reports stop
+    (with_arrivals e end (part_bytes (untaken pieces count some)) (part_tokens (untaken pieces count some)))
 any_cut e side i state end pieces count some reports stop t s h f =
     let later = untaken pieces count some in
     let bytes = taken_bytes pieces count some in
     let tokens = taken_tokens pieces count some in
     let b = taken-untaken_bytes pieces count some in
     let k = taken-untaken_tokens pieces count some in
-    let whole : arrived e (arrived e state bytes tokens) (part_bytes later) (part_tokens later)
-    ≡ arrived e state (part_bytes pieces) (part_tokens pieces) =
+    let whole : with_arrivals e (with_arrivals e state bytes tokens) (part_bytes later) (part_tokens later)
+    ≡ with_arrivals e state (part_bytes pieces) (part_tokens pieces) =
     arrived_again e i.laws state bytes tokens (part_bytes later) (part_tokens later)
-    ∙ (λ j. arrived e state (b j) (k j)) in
-    let waits : waiting (with_arrived (e.core state) bytes tokens) ≡ waiting (e.core (arrived e state bytes tokens)) =
-    ap waiting (sym (i.laws.new state (with_arrived (e.core state) bytes tokens))) in
-    subst (λ x. Reads e x reports stop (arrived e end (part_bytes later) (part_tokens later))) whole
+    ∙ (λ j. with_arrivals e state (b j) (k j)) in
+    let waits : waiting_part (with_arrived (e.core state) bytes tokens)
+    ≡ waiting_part (e.core (with_arrivals e state bytes tokens)) =
+    ap waiting_part (sym (i.laws.new state (with_arrived (e.core state) bytes tokens))) in
+    subst (λ x. Reads e x reports stop (with_arrivals e end (part_bytes later) (part_tokens later))) whole
     (reads_stay i later h f (λ needs g.
     subst (λ (w : Part). InStep needs (w ∷ later)) waits
-    (taken_in_step needs (waiting (e.core state)) pieces count some t
-    (s needs (subst (λ x. Begins e side x needs) whole g)))))
+    (taken_in_step needs (waiting_part (e.core state)) pieces count some t
+    (s needs (subst (λ x. BeginsWithNeeds e side x needs) whole g)))))
 
 -- ---- what waits is read in one way
 

@@ -14,7 +14,7 @@ use Rattle.wl_wire.specs.Argument.{Argument, Int, Uint, Fixed, Str, Obj, Array, 
 use Rattle.wl_sigs.specs.declared.signature.Side.{Side}
 use Rattle.wl_sigs.specs.declared.signature.Destroys.{Destroys}
 use Rattle.wl_sigs.specs.declared.signature.Destroys.TheVariants.{Nothing, Target, Arg as ends_arg}
-use Rattle.wl_sigs.specs.Tables.{Message, makes, new_objects, first, destroys_one}
+use Rattle.wl_sigs.specs.Tables.{MessageSignature, makes, new_objects, first, destroys_one}
 use Rattle.wl_sigs.specs.Fixed.{display}
 use Rattle.wl_sigs.specs.Valid.{Valid}
 use Rattle.wl_message.specs.Outgoing.{Outgoing}
@@ -31,7 +31,6 @@ use Rattle.wl_object_map.specs.Views.{look-opened_at}
 use Rattle.wl_objects.specs.Writing.{Given, given, given_of, wired, on_wire, suits, wrong_place}
 use Rattle.wl_objects.specs.Writing.{lost_place, call_makes, id_of, message_len, message_bytes}
 use Rattle.wl_objects.specs.Writing.{tokens_of}
-use Rattle.wl_objects.specs.Writing as writing
 use Rattle.wl_objects.specs.Messages.{ended_id, NewObject, opens, checked, destroys}
 use Rattle.wl_objects.proofs.Calls.{len-any}
 use Rattle.wl_objects.proofs.WrittenArrives.{if-none}
@@ -98,7 +97,7 @@ makes-some (kinds.New iface ∷ ks) h = refl
 makes-some (kinds.Array ∷ ks) h = makes-some ks h
 makes-some (kinds.Fd ∷ ks) h = makes-some ks h
 
-version-at : (core : Core) (target : Object) (signature : Message) (list : List Arg) (entry : Entry)
+version-at : (core : Core) (target : Object) (signature : MessageSignature) (list : List Arg) (entry : Entry)
     → look core.view target.id ≡ Some entry
     → wrong_place 0 signature.kinds (given list) ≡ None
     → made_at core target signature (given list) ≡ next_object core.view entry.version (call_makes signature.kinds)
@@ -106,7 +105,8 @@ version-at core target signature list entry row w =
     rw row (call-makes core.tables entry.version (next_id core.view) 0 signature.kinds list w)
 
 -- the object that a call makes is the one that is opened next, if its signature has one
-pub made-next : (core : Core) (side : Side) (target : Object) (opcode : ℕ) (list : List Arg) (signature : Message)
+pub made-next : (core : Core) (side : Side) (target : Object) (opcode : ℕ) (list : List Arg)
+    (signature : MessageSignature)
     (entry : Entry)
     → checked core.outbox.limit.bytes core.tables side core.view target opcode (given list) ≡ Ok signature
     → look core.view target.id ≡ Some entry
@@ -116,7 +116,8 @@ made-next core side target opcode list signature entry e row =
     (passes core.outbox.limit.bytes core.tables side core.view target opcode (given list) signature e).suit
 
 -- what is written is the same with the new object's id as with the next one, also where no object is new
-pub wired-next : (core : Core) (side : Side) (target : Object) (opcode : ℕ) (list : List Arg) (signature : Message)
+pub wired-next : (core : Core) (side : Side) (target : Object) (opcode : ℕ) (list : List Arg)
+    (signature : MessageSignature)
     (id : ℕ) (iface : Option Iface)
     → checked core.outbox.limit.bytes core.tables side core.view target opcode (given list) ≡ Ok signature
     → iface ≡ call_makes signature.kinds → (is_some iface ≡ true → id ≡ next_id core.view)
@@ -142,11 +143,12 @@ live-opened view (Some iface) version id h =
     by_id true = refl
     by_id false = h
 
-state-lives : (s : State) → writing.is_live s ≡ true → lives s ≡ true
+state-lives : (s : State) → lives s ≡ true → lives s ≡ true
 state-lives Live h = refl
 state-lives Zombie h = h
 
-pub target-live : (core : Core) (side : Side) (target : Object) (opcode : ℕ) (list : List Arg) (signature : Message)
+pub target-live : (core : Core) (side : Side) (target : Object) (opcode : ℕ) (list : List Arg)
+    (signature : MessageSignature)
     (new : Option Iface) (version : ℕ)
     → checked core.outbox.limit.bytes core.tables side core.view target opcode (given list) ≡ Ok signature
     → is_live (opens core.view (next_object core.view version new)) target.id ≡ true
@@ -189,7 +191,8 @@ gives-more memory wants more answer result f (inl e) = inl e
 gives-more memory wants more answer result f (inr w) = inr (w.0, f w.1, w.2)
 
 -- a call that has room is answered as the opening of its object is
-pub answered : (core : Core) (side : Side) (target : Object) (opcode : ℕ) (list : List Arg) (signature : Message)
+pub answered : (core : Core) (side : Side) (target : Object) (opcode : ℕ) (list : List Arg)
+    (signature : MessageSignature)
     (entry : Entry) (result : Result (Option Object) SendError)
     → checked core.outbox.limit.bytes core.tables side core.view target opcode (given list) ≡ Ok signature
     → look core.view target.id ≡ Some entry
@@ -217,7 +220,7 @@ id-where new view (Some iface) h s = h
 
 -- the message in the outbox and the new object in the table
 pub written-known : (core opened written : Core) (side : Side) (target : Object) (opcode : ℕ) (list : List Arg)
-    (signature : Message) (entry : Entry) (new : Option Object) (iface : Option Iface) (tokens : List ℕ)
+    (signature : MessageSignature) (entry : Entry) (new : Option Object) (iface : Option Iface) (tokens : List ℕ)
     → checked core.outbox.limit.bytes core.tables side core.view target opcode (given list) ≡ Ok signature
     → look core.view target.id ≡ Some entry → iface ≡ call_makes signature.kinds
     → opened ≡ with_view core (opens core.view (next_object core.view entry.version iface))
@@ -238,7 +241,8 @@ written-known core opened written side target opcode list signature entry new if
     (on_wire (next_id core.view) list)) t))
 
 -- no message ends wl_display
-pub ends-other : (core : Core) (side : Side) (target : Object) (opcode : ℕ) (list : List Arg) (signature : Message)
+pub ends-other : (core : Core) (side : Side) (target : Object) (opcode : ℕ) (list : List Arg)
+    (signature : MessageSignature)
     → Valid core.tables → HasDisplay core.view
     → checked core.outbox.limit.bytes core.tables side core.view target opcode (given list) ≡ Ok signature
     → signature.destroys ≡ Target → target.id ≢ 1
@@ -248,7 +252,7 @@ ends-other core side target opcode list signature v d e t =
 
 -- and then what the message ends
 pub ended-known : (core written ended : Core) (side : Side) (target : Object) (opcode : ℕ) (list : List Arg)
-    (signature : Message) (what : Destroys) (id : ℕ)
+    (signature : MessageSignature) (what : Destroys) (id : ℕ)
     → written ≡ with_view (with_sent core target.id opcode (map (wired (next_id core.view)) (given list))
     (tokens_of (given list))) (opens core.view (made_at core target signature (given list)))
     → ended ≡ with_following (following side what) id (with_view written (destroys (writer side) what id written.view))
@@ -267,7 +271,8 @@ open_row : (view : View) (new : Option Iface) (version id : ℕ) → NamesRegist
 open_row view new version id n = live-opened view new version id
     (ap lives_in n.there ∙ state-lives n.entry.state n.live)
 
-argument-named : (core : Core) (side : Side) (target : Object) (opcode : ℕ) (list : List Arg) (signature : Message)
+argument-named : (core : Core) (side : Side) (target : Object) (opcode : ℕ) (list : List Arg)
+    (signature : MessageSignature)
     (k : ℕ) → Valid core.tables
     → checked core.outbox.limit.bytes core.tables side core.view target opcode (given list) ≡ Ok signature
     → signature.destroys ≡ ends_arg k → NamesRegistry core.view (ended_id signature.destroys target.id (on_wire 0 list))
@@ -275,12 +280,14 @@ argument-named core side target opcode list signature k v e d =
     let p = passes core.outbox.limit.bytes core.tables side core.view target opcode (given list) signature e in
     let same : signature ≡ the_destroy = is_the_destroy core.tables p.entry.iface.0 side opcode signature k v p.exists d
     in
-    subst (λ (m : Message). NamesRegistry core.view (ended_id m.destroys target.id (on_wire 0 list))) (sym same)
+    subst (λ (m : MessageSignature). NamesRegistry core.view (ended_id m.destroys target.id (on_wire 0 list)))
+    (sym same)
     (names_registry core.view (given list) (subst
-    (λ (m : Message). wrong_place 0 m.kinds (given list) ≡ None) same p.suit)
-    (subst (λ (m : Message). lost_place (look core.view) 0 m.kinds (given list) ≡ None) same p.can_name))
+    (λ (m : MessageSignature). wrong_place 0 m.kinds (given list) ≡ None) same p.suit)
+    (subst (λ (m : MessageSignature). lost_place (look core.view) 0 m.kinds (given list) ≡ None) same p.can_name))
 
-pub ended-live : (core : Core) (side : Side) (target : Object) (opcode : ℕ) (list : List Arg) (signature : Message)
+pub ended-live : (core : Core) (side : Side) (target : Object) (opcode : ℕ) (list : List Arg)
+    (signature : MessageSignature)
     (new : Option Iface) (version : ℕ) → Valid core.tables
     → checked core.outbox.limit.bytes core.tables side core.view target opcode (given list) ≡ Ok signature
     → is_live (opens core.view (next_object core.view version new))
@@ -302,7 +309,8 @@ registry-other view id d n = λ same. (
     let place : Some n.entry.iface.0 ≡ Some 0 = ap (option_map (λ (x : Entry). x.iface.0)) one in
     let r = n.registers in cc (place, r))
 
-pub ended-other : (core : Core) (side : Side) (target : Object) (opcode : ℕ) (list : List Arg) (signature : Message)
+pub ended-other : (core : Core) (side : Side) (target : Object) (opcode : ℕ) (list : List Arg)
+    (signature : MessageSignature)
     → Valid core.tables → HasDisplay core.view
     → checked core.outbox.limit.bytes core.tables side core.view target opcode (given list) ≡ Ok signature
     → destroys_one signature.destroys ≡ true → ended_id signature.destroys target.id (on_wire 0 list) ≢ 1

@@ -15,9 +15,9 @@ use Rattle.wl_wire.specs.Argument.{Argument, Int, Uint, Fixed, Str, Obj, New, Ne
 use Rattle.wl_wire.specs.Spelling.{padded}
 use Rattle.wl_wire.specs.Reading.{reading, asked, on_found, argument_of, text_of, number_at}
 use Rattle.wl_objects.specs.declared.error.Fault.{Fault}
-use Rattle.wl_objects.specs.Reading.{Reader, kind_at, value_fault, unless, judged, before}
+use Rattle.wl_objects.specs.Reading.{Reader, forgiving_kind, value_fault, unless, value_or_fault, before}
 use Rattle.wl_objects.specs.Reading.{and_those, arguments_at, descriptors, is_descriptor}
-use Rattle.wl_objects.specs.Reading.{is_descriptor_kind, report_of, reports_of}
+use Rattle.wl_objects.specs.Reading.{is_descriptor_kind, reported_argument, reports_of}
 
 -- how many of the values are descriptors
 abbrev pub fds : List Argument → ℕ
@@ -78,7 +78,8 @@ read_as kind bytes =
     (on_found (λ value. (value, asked kind bytes)) (argument_of kind bytes))
     (with_len kind (asked kind bytes) (argument_of kind bytes) (argument_as kind bytes))
 
-kind_stays : (forgives : Bool) (kind : Kind) → is_descriptor_kind (kind_at forgives kind) ≡ is_descriptor_kind kind
+kind_stays : (forgives : Bool) (kind : Kind) → is_descriptor_kind (forgiving_kind forgives kind)
+    ≡ is_descriptor_kind kind
 kind_stays true kinds.Int = refl
 kind_stays true kinds.Uint = refl
 kind_stays true kinds.Fixed = refl
@@ -112,8 +113,9 @@ has_unless kind ks v bytes None others e h = has_before kind ks v.0 (others (dro
 
 has_judged : (r : Reader) (place : ℕ) (kind : Kind) (ks : List Kind) (bytes : List ℕ)
     (x : Result (Argument × ℕ) ArgFault) (others : List ℕ → Result (List Argument × List ℕ) Fault)
-    → ReadAs (kind_at r.forgives kind) x
-    → ((rest : List ℕ) → HasAll ks (others rest)) → HasAll (kind ∷ ks) (and_those others bytes (judged r place kind x))
+    → ReadAs (forgiving_kind r.forgives kind) x
+    → ((rest : List ℕ) → HasAll ks (others rest)) → HasAll (kind ∷ ks)
+    (and_those others bytes (value_or_fault r place kind x))
 has_judged r place kind ks bytes (Err fault) others e h = tt
 has_judged r place kind ks bytes (Ok v) others e h =
     has_unless kind ks v bytes (value_fault r place kind v.0) others (e ∙ kind_stays r.forgives kind) h
@@ -121,30 +123,30 @@ has_judged r place kind ks bytes (Ok v) others e h =
 pub all_read : (r : Reader) (place : ℕ) (ks : List Kind) (bytes : List ℕ) → HasAll ks (arguments_at r place ks bytes)
 all_read r place [] bytes = refl
 all_read r place (kind ∷ ks) bytes =
-    has_judged r place kind ks bytes (reading (kind_at r.forgives kind) bytes) (arguments_at r (suc place) ks)
-    (read_as (kind_at r.forgives kind) bytes) (λ rest. all_read r (suc place) ks rest)
+    has_judged r place kind ks bytes (reading (forgiving_kind r.forgives kind) bytes) (arguments_at r (suc place) ks)
+    (read_as (forgiving_kind r.forgives kind) bytes) (λ rest. all_read r (suc place) ks rest)
 
 -- ---- they are reported by the first tokens, whatever tokens stand behind these
 
 pub reports_stay : (r : Reader) (tokens more : List ℕ) (vs : List Argument) → fds vs ≤ length tokens
     → reports_of r (tokens ++ more) vs ≡ reports_of r tokens vs
 reports_stay r tokens more [] h = refl
-reports_stay r tokens more (Int z ∷ vs) h = ap (λ l. report_of r 0 (Int z) ∷ l)
+reports_stay r tokens more (Int z ∷ vs) h = ap (λ l. reported_argument r 0 (Int z) ∷ l)
     (reports_stay r tokens more vs (omega arith))
-reports_stay r tokens more (Uint z ∷ vs) h = ap (λ l. report_of r 0 (Uint z) ∷ l)
+reports_stay r tokens more (Uint z ∷ vs) h = ap (λ l. reported_argument r 0 (Uint z) ∷ l)
     (reports_stay r tokens more vs (omega arith))
-reports_stay r tokens more (Fixed z ∷ vs) h = ap (λ l. report_of r 0 (Fixed z) ∷ l)
+reports_stay r tokens more (Fixed z ∷ vs) h = ap (λ l. reported_argument r 0 (Fixed z) ∷ l)
     (reports_stay r tokens more vs (omega arith))
-reports_stay r tokens more (Str z ∷ vs) h = ap (λ l. report_of r 0 (Str z) ∷ l)
+reports_stay r tokens more (Str z ∷ vs) h = ap (λ l. reported_argument r 0 (Str z) ∷ l)
     (reports_stay r tokens more vs (omega arith))
-reports_stay r tokens more (Obj z ∷ vs) h = ap (λ l. report_of r 0 (Obj z) ∷ l)
+reports_stay r tokens more (Obj z ∷ vs) h = ap (λ l. reported_argument r 0 (Obj z) ∷ l)
     (reports_stay r tokens more vs (omega arith))
-reports_stay r tokens more (New z ∷ vs) h = ap (λ l. report_of r 0 (New z) ∷ l)
+reports_stay r tokens more (New z ∷ vs) h = ap (λ l. reported_argument r 0 (New z) ∷ l)
     (reports_stay r tokens more vs (omega arith))
 reports_stay r tokens more (NewNamed name own z ∷ vs) h =
-    ap (λ l. report_of r 0 (NewNamed name own z) ∷ l) (reports_stay r tokens more vs (omega arith))
-reports_stay r tokens more (Array z ∷ vs) h = ap (λ l. report_of r 0 (Array z) ∷ l)
+    ap (λ l. reported_argument r 0 (NewNamed name own z) ∷ l) (reports_stay r tokens more vs (omega arith))
+reports_stay r tokens more (Array z ∷ vs) h = ap (λ l. reported_argument r 0 (Array z) ∷ l)
     (reports_stay r tokens more vs (omega arith))
 reports_stay r [] more (Fd z ∷ vs) h = absurd (omega arith)
-reports_stay r (t ∷ tokens) more (Fd z ∷ vs) h = ap (λ l. report_of r t (Fd z) ∷ l)
+reports_stay r (t ∷ tokens) more (Fd z ∷ vs) h = ap (λ l. reported_argument r t (Fd z) ∷ l)
     (reports_stay r tokens more vs (omega arith))

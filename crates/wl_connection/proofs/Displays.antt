@@ -9,7 +9,7 @@ use Rattle.wl_wire.specs.declared.kind.Iface.{Iface}
 use Rattle.wl_sigs.specs.declared.signature.Side.{Side}
 use Rattle.wl_sigs.specs.declared.signature.Side.TheVariants.{Request, Event}
 use Rattle.wl_sigs.specs.declared.signature.Destroys.TheVariants.{Nothing, Target}
-use Rattle.wl_sigs.specs.Tables.{Interface, Message, signature_at, messages_of}
+use Rattle.wl_sigs.specs.Tables.{Interface, MessageSignature, signature_at, messages_of}
 use Rattle.wl_sigs.specs.Fixed.{wl_display, display}
 use Rattle.wl_sigs.specs.Valid.{Valid}
 use Rattle.wl_object_map.specs.declared.object.Entry.{Entry}
@@ -66,17 +66,18 @@ HasDisplay-zombied view id n d = look-zombied view id 1
     ∙ (ap (λ b. cond b (option_map zombie (look view 1)) (look view 1)) (other id n) ∙ d)
 
 -- what a message of wl_display destroys
-nothing-at : (side : Side) (opcode : ℕ) (m : Message) → slice_get (messages_of side wl_display) opcode ≡ Some m
+nothing-at : (side : Side) (opcode : ℕ) (m : MessageSignature) → slice_get (messages_of side wl_display) opcode ≡ Some m
     → m.destroys ≡ Nothing
-nothing-at Request zero m e = let d = ap (option_map (λ (n : Message). n.destroys)) e in cc
-nothing-at Request (suc zero) m e = let d = ap (option_map (λ (n : Message). n.destroys)) e in cc
+nothing-at Request zero m e = let d = ap (option_map (λ (n : MessageSignature). n.destroys)) e in cc
+nothing-at Request (suc zero) m e = let d = ap (option_map (λ (n : MessageSignature). n.destroys)) e in cc
 nothing-at Request (suc (suc n)) m e = absurd (cc)
-nothing-at Event zero m e = let d = ap (option_map (λ (n : Message). n.destroys)) e in cc
-nothing-at Event (suc zero) m e = let d = ap (option_map (λ (n : Message). n.destroys)) e in cc
+nothing-at Event zero m e = let d = ap (option_map (λ (n : MessageSignature). n.destroys)) e in cc
+nothing-at Event (suc zero) m e = let d = ap (option_map (λ (n : MessageSignature). n.destroys)) e in cc
 nothing-at Event (suc (suc n)) m e = absurd (cc)
 
 -- no message destroys wl_display
-pub ends-another : (tables : List Interface) (view : View) (side : Side) (id opcode : ℕ) (entry : Entry) (m : Message)
+pub ends-another : (tables : List Interface) (view : View) (side : Side) (id opcode : ℕ) (entry : Entry)
+    (m : MessageSignature)
     → Valid tables → HasDisplay view
     → look view id ≡ Some entry → signature_at tables entry.iface.0 side opcode ≡ Some m → m.destroys ≡ Target → id ≢ 1
 ends-another tables view side id opcode entry m valid d row e t = λ same.

@@ -14,7 +14,8 @@ use Rattle.wl_sigs.specs.declared.signature.Destroys.TheVariants.{Nothing, Targe
 use Rattle.wl_sigs.specs.declared.signature.Destroys.{Destroys}
 use Rattle.wl_sigs.specs.declared.signature.Side.{Side}
 use Rattle.wl_sigs.specs.declared.signature.Side.TheVariants.{Request, Event}
-use Rattle.wl_sigs.specs.Tables.{Message, Interface, signature_at, messages_of, destroys_argument, destroys_one}
+use Rattle.wl_sigs.specs.Tables.{MessageSignature, Interface, signature_at, messages_of, destroys_argument}
+use Rattle.wl_sigs.specs.Tables.{destroys_one}
 use Rattle.wl_sigs.specs.Fixed as fixed
 use Rattle.wl_sigs.specs.Fixed.{registry, wl_fixes}
 use Rattle.wl_sigs.specs.Valid.{Valid}
@@ -22,10 +23,10 @@ use Rattle.wl_object_map.specs.View.{View, look}
 use Rattle.wl_object_map.specs.declared.object.Object.{Object}
 use Rattle.wl_object_map.specs.declared.object.Entry.{Entry}
 use Rattle.wl_objects.specs.declared.argument.Arg.{Arg}
-use Rattle.wl_objects.specs.Writing.{given, given_of, wired, on_wire, Given, is_live, is_live_as}
+use Rattle.wl_objects.specs.Writing.{given, given_of, wired, on_wire, Given, is_live_as}
 use Rattle.wl_objects.specs.Writing.{row_is_of, names_one, wrong_place, lost_place}
-use Rattle.wl_objects.specs.Messages.{id_named, id_at, End, destroys, destroyed, Received, received}
-use Rattle.wl_objects.specs.Reading.{Reader, forgiving, object_fault, unless, judged, and_those, arguments_at}
+use Rattle.wl_objects.specs.Messages.{id_named, id_at, Role, destroys, destroyed, Received, received}
+use Rattle.wl_objects.specs.Reading.{Reader, forgiving, object_fault, unless, value_or_fault, and_those, arguments_at}
 use Rattle.wl_objects.specs.declared.error.Fault.{Fault}
 use Rattle.wl_wire.specs.declared.kind.ArgFault.TheVariants.{Short, NullNotAllowed}
 use Rattle.wl_wire.specs.declared.kind.Kind.{Kind}
@@ -33,6 +34,7 @@ use Rattle.wl_wire.specs.declared.kind.Kind.TheVariants as kinds
 use Rattle.wl_wire.specs.declared.header.Header.{Header}
 use Rattle.wl_wire.specs.Argument.{Argument}
 use Rattle.wl_wire.specs.Reading.{on_found, number_at}
+use Rattle.wl_object_map.specs.View.{lives}
 use Rattle.wl_connection.proofs.ReceivedMessage.{is_received}
 use Rattle.wl_connection.proofs.Spelled.{read_row}
 
@@ -46,18 +48,19 @@ named_known list place = ap id_named (slice_get-map (wired 0) (given list) place
     both None = refl
     both (Some a) = refl
 
-abbrev pub the_destroy : Message
+abbrev pub the_destroy : MessageSignature
 the_destroy = fixed.message (codes "destroy_registry") 1 (fixed.object registry ∷ []) (ends_arg 0)
 
-found_at : (side : Side) (opcode : ℕ) (m : Message) (k : ℕ) → slice_get (messages_of side wl_fixes) opcode ≡ Some m
+found_at : (side : Side) (opcode : ℕ) (m : MessageSignature) (k : ℕ)
+    → slice_get (messages_of side wl_fixes) opcode ≡ Some m
     → m.destroys ≡ ends_arg k → m ≡ the_destroy
-found_at Request zero m k e d = let x = ap (option_map (λ (n : Message). n.destroys)) e in absurd (cc (x, d))
+found_at Request zero m k e d = let x = ap (option_map (λ (n : MessageSignature). n.destroys)) e in absurd (cc (x, d))
 found_at Request (suc zero) m k e d = sym (cc e)
 found_at Request (suc (suc n)) m k e d = absurd (cc e)
 found_at Event opcode m k e d = absurd (cc e)
 
 -- what destroys an argument is wl_fixes.destroy_registry
-pub is_the_destroy : (tables : List Interface) (place : ℕ) (side : Side) (opcode : ℕ) (m : Message) (k : ℕ)
+pub is_the_destroy : (tables : List Interface) (place : ℕ) (side : Side) (opcode : ℕ) (m : MessageSignature) (k : ℕ)
     → Valid tables → signature_at tables place side opcode ≡ Some m → m.destroys ≡ ends_arg k → m ≡ the_destroy
 is_the_destroy tables place side opcode m k v e d = elim (v.argument_ends place side opcode m e) [
   | inl p ↦ (
@@ -69,7 +72,7 @@ is_the_destroy tables place side opcode m k v e d = elim (v.argument_ends place 
 ]
 
 -- no event destroys an argument
-pub ends_no_argument : (tables : List Interface) (place : ℕ) (opcode : ℕ) (m : Message) → Valid tables
+pub ends_no_argument : (tables : List Interface) (place : ℕ) (opcode : ℕ) (m : MessageSignature) → Valid tables
     → signature_at tables place Event opcode ≡ Some m → destroys_argument m.destroys ≡ false
 ends_no_argument tables place opcode m v e = elim (v.argument_ends place Event opcode m e) [
   | inl p ↦ (
@@ -80,7 +83,7 @@ ends_no_argument tables place opcode m v e = elim (v.argument_ends place Event o
   | inr never ↦ never
 ]
 
-pub no_event : (tables : List Interface) (place : ℕ) (opcode : ℕ) (m : Message) (k : ℕ) → Valid tables
+pub no_event : (tables : List Interface) (place : ℕ) (opcode : ℕ) (m : MessageSignature) (k : ℕ) → Valid tables
     → signature_at tables place Event opcode ≡ Some m → m.destroys ≡ ends_arg k → ⊥
 no_event tables place opcode m k v e d = let yes : true ≡ false =
     sym (ap destroys_argument d) ∙ ends_no_argument tables place opcode m v e in cc yes
@@ -89,7 +92,7 @@ no_event tables place opcode m k v e d = let yes : true ≡ false =
 pub record NamesRegistry (view : View) (id : ℕ) : Type 0 where
   pub entry : Entry
   pub there : look view id ≡ Some entry
-  pub live : is_live entry.state ≡ true
+  pub live : lives entry.state ≡ true
   pub registers : entry.iface.0 ≡ 1
 
 row_named : (view : View) (o : Object) (row : Option Entry) → look view o.id ≡ row
@@ -100,7 +103,7 @@ row_named view o (Some entry) e h =
     record {
       entry = entry;
       there = e;
-      live = (both_of (nat_eq entry.birth o.birth) (is_live entry.state) both.0).1;
+      live = (both_of (nat_eq entry.birth o.birth) (lives entry.state) both.0).1;
       registers = sym (eqb-true 1 entry.iface.0 both.1);
     }
   where
@@ -140,7 +143,7 @@ pub named_past : (list : List Arg) (place : ℕ) → length list ≤ place → i
 named_past list place h = named_known list place ∙ ap
     (λ (o : Option Arg). id_named (option_map (λ a. wired 0 (given_of a)) o)) (none_past list place h)
 
-pub ends_by : (end : End) (what : Destroys) (id : ℕ) (view : View) → true ≡ destroys_one what
+pub ends_by : (end : Role) (what : Destroys) (id : ℕ) (view : View) → true ≡ destroys_one what
     → destroys end what id view ≡ destroyed end view id
 ends_by end Nothing id view h = absurd (cc h)
 ends_by end Target id view h = refl
@@ -188,7 +191,7 @@ row_test r n values body (Some entry) e z h = iface_test r n values body entry (
 
 read_test : (reader : Reader) (n : ℕ) (values : List Argument) (body : List ℕ) (a b : Bool) → nat_eq n 0 ≡ b
     → (let r = forgiving false reader in and_those (arguments_at r 1 []) body
-    (judged r 0 registry_kind (if a then Err Short
+    (value_or_fault r 0 registry_kind (if a then Err Short
     else on_found (λ value. (value, 4)) (if b then Err NullNotAllowed else Ok (Obj n))))) ≡ Ok (values, [])
     → NamesRow reader.object values
 read_test reader n values body true b z h = absurd (cc h)
@@ -207,9 +210,10 @@ argument_received tables reader h body waiting m k v e d =
     let signature = (is_received tables Request reader h body waiting m e).signature in
     let same : m.signature ≡ the_destroy = is_the_destroy tables m.entry.iface.0 Request h.opcode m.signature k v
     signature d in
-    let place : ends_arg k ≡ ends_arg 0 = sym d ∙ ap (λ (s : Message). s.destroys) same in
+    let place : ends_arg k ≡ ends_arg 0 = sym d ∙ ap (λ (s : MessageSignature). s.destroys) same in
     let read = read_row tables Request reader h body waiting m (reader.object h.object) e in (
       cc place,
       read_test reader (number_at body) m.values body (nat_lt (length body) 4) (nat_eq (number_at body) 0) refl
-          (subst (λ (s : Message). arguments_at (forgiving false reader) 0 s.kinds body ≡ Ok (m.values, [])) same read),
+          (subst (λ (s : MessageSignature). arguments_at (forgiving false reader) 0 s.kinds body ≡ Ok (m.values, []))
+          same read),
     )

@@ -16,7 +16,7 @@ use Rattle.wl_wire.specs.declared.header.Header.{Header}
 use Rattle.wl_wire.specs.Argument.{Argument}
 use Rattle.wl_wire.specs.Word.{number_at}
 use Rattle.wl_sigs.specs.declared.signature.Side.{Side}
-use Rattle.wl_sigs.specs.Tables.{Interface, Message, signature_at}
+use Rattle.wl_sigs.specs.Tables.{Interface, MessageSignature, signature_at}
 use Rattle.wl_message.specs.Arrived.{in_front}
 use Rattle.wl_message.specs.Cut.{Front, More, Bad, Whole}
 use Rattle.wl_message.specs.InStep.{Need}
@@ -26,12 +26,13 @@ use Rattle.wl_object_map.specs.declared.object.Entry.{Entry}
 use Rattle.wl_objects.specs.declared.error.Fault.{Fault}
 use Rattle.wl_objects.specs.declared.error.Fault.TheVariants as faults
 use Rattle.wl_objects.specs.Reading.{Reader, forgiving, arguments_at, descriptors, reports_of}
-use Rattle.wl_objects.specs.Messages.{Received, reader_of, is_error, is_empty, received_whole}
+use Rattle.wl_objects.specs.Messages.{Received, reader_of, is_error, received_whole}
 use Rattle.wl_objects.specs.Messages.{received_as, received_by, received}
 use Rattle.wl_connection.specs.Core.{Core, with_arrived}
 use Rattle.wl_connection.specs.Receiving.{Found, found_in, found_at, found, header_of, takes}
 use Rattle.wl_connection.specs.Receiving.{reported, own_tokens, past_found}
 use Rattle.wl_connection.specs.Streams.{Wants, need_of}
+use Rattle.wl_sigs.specs.Rules.{is_empty}
 use Rattle.wl_connection.proofs.Descriptors.{fds, HasAll, all_read, reports_stay}
 
 -- ---- the header
@@ -63,7 +64,8 @@ pub data Meets (answer : ℕ → Result Received Fault) : Type 0 where
 lt_true : (a b : ℕ) → a < b → nat_lt a b ≡ true
 lt_true a b h = grind (arith, nat_tests)
 
-whole_at : (header : Header) (entry : Entry) (signature : Message) (values : List Argument) (rest : List ℕ) (b : Bool)
+whole_at : (header : Header) (entry : Entry) (signature : MessageSignature) (values : List Argument) (rest : List ℕ)
+    (b : Bool)
     → fds values ≡ descriptors signature.kinds
     → Meets (λ w. cond (not b) (Err faults.TrailingBytes)
     (cond (nat_lt w (descriptors signature.kinds)) (Err faults.MissingDescriptor)
@@ -85,18 +87,20 @@ whole_at header entry signature values rest true h =
     gives m h (λ k p. ap answer (le-ltb k (descriptors signature.kinds) p))
     (λ k p. ap answer (lt_true k (descriptors signature.kinds) p))
 
-whole_meets : (header : Header) (entry : Entry) (signature : Message) (x : Result (List Argument × List ℕ) Fault)
+whole_meets : (header : Header) (entry : Entry) (signature : MessageSignature)
+    (x : Result (List Argument × List ℕ) Fault)
     → HasAll signature.kinds x → Meets (λ w. received_whole header entry signature w x)
 whole_meets header entry signature (Err fault) h = fails fault (λ k. refl)
 whole_meets header entry signature (Ok found) h = whole_at header entry signature found.0 found.1 (is_empty found.1) h
 
-since_meets : (old : Bool) (header : Header) (entry : Entry) (signature : Message)
+since_meets : (old : Bool) (header : Header) (entry : Entry) (signature : MessageSignature)
     (x : Result (List Argument × List ℕ) Fault) → HasAll signature.kinds x
     → Meets (λ w. cond old (Err faults.UnknownMessage) (received_whole header entry signature w x))
 since_meets true header entry signature x h = fails faults.UnknownMessage (λ k. refl)
 since_meets false header entry signature x h = whole_meets header entry signature x h
 
-as_meets : (side : Side) (reader : Reader) (header : Header) (body : List ℕ) (entry : Entry) (o : Option Message)
+as_meets : (side : Side) (reader : Reader) (header : Header) (body : List ℕ) (entry : Entry)
+    (o : Option MessageSignature)
     → Meets (λ w. received_as side reader header body w entry o)
 as_meets side reader header body entry None = fails faults.UnknownMessage (λ k. refl)
 as_meets side reader header body entry (Some signature) =

@@ -11,7 +11,7 @@ use Rattle.wl_wire.specs.Word.{IsHeader, header_at, header_bytes}
 use Rattle.wl_wire.proofs.Canonicals.{header_at-bytes}
 use Rattle.wl_sigs.specs.declared.signature.Side.{Side}
 use Rattle.wl_message.specs.declared.inbox.Frame.{Frame}
-use Rattle.wl_message.specs.Arrived.{Tells, in_front}
+use Rattle.wl_message.specs.Arrived.{TellsFront, in_front}
 use Rattle.wl_message.specs.Cut.{Whole, front}
 use Rattle.wl_objects.specs.Reading.{descriptors, is_descriptor_kind}
 use Rattle.wl_objects.specs.Messages.{received, reader_of}
@@ -41,7 +41,8 @@ found_frame core side h body waiting f =
     (received core.tables side (reader_of core.view) h x (length core.inbox.tokens))) (ap (drop 8) f.parts)
     ∙ ap (λ (n : ℕ). found_in h.size h.opcode (received core.tables side (reader_of core.view) h body n)) (sym f.tokens)
 
-pub framed : (core : Core) (o : Option Frame) (f : Frame) → o ≡ Some f → Tells core.inbox (Ok o) → IsHeader f.header
+pub framed : (core : Core) (o : Option Frame) (f : Frame) → o ≡ Some f → TellsFront core.inbox (Ok o)
+    → IsHeader f.header
     → IsFrame core f.header f.body.now f.tokens
 framed core o f e t h = let k = rw e at t in record { header = h; whole = k.0; parts = k.1; tokens = k.2 }
 

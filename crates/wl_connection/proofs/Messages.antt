@@ -5,7 +5,7 @@ use Rattle.std.proofs.lemmas.Grind.{common_steps}
 use Rattle.wl_wire.specs.Argument.{Argument}
 use Rattle.wl_message.specs.declared.limit.Limit.{Limit}
 use Rattle.wl_message.specs.Cut.{IsMessage}
-use Rattle.wl_message.specs.Outgoing.{Outgoing, all_bytes, message, room_of, token_room_of, with_message}
+use Rattle.wl_message.specs.Outgoing.{Outgoing, all_bytes, queued, room_of, token_room_of, with_message}
 use Rattle.wl_message.proofs.Cuts.{headed}
 use Rattle.wl_message.proofs.TakenInStep.{bytes_append}
 use Rattle.wl_objects.specs.Writing.{message_len, message_bytes, spelled}
@@ -43,11 +43,11 @@ room-left : (o : Outgoing) (bytes tokens : List ℕ) (more : ℕ) → length byt
 room-left o bytes tokens more h =
     omega (
       arith,
-      ap length (bytes_append o.messages (message bytes tokens ∷ [])),
-      length-append (all_bytes o.messages) (all_bytes (message bytes tokens ∷ [])),
+      ap length (bytes_append o.messages (queued bytes tokens ∷ [])),
+      length-append (all_bytes o.messages) (all_bytes (queued bytes tokens ∷ [])),
       length-append bytes [],
       length-append o.left (all_bytes o.messages),
-      length-append o.left (all_bytes (o.messages ++ message bytes tokens ∷ [])),
+      length-append o.left (all_bytes (o.messages ++ queued bytes tokens ∷ [])),
     )
 
 pub fits-after : (o : Outgoing) (bytes tokens : List ℕ) (more : ℕ) → fits o (length bytes + more) (length tokens) ≡ true

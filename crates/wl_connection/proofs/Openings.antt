@@ -11,7 +11,7 @@ use Rattle.wl_wire.specs.declared.kind.Kind.TheVariants as kinds
 use Rattle.wl_wire.specs.Argument.{Argument}
 use Rattle.wl_sigs.specs.declared.signature.Side.{Side}
 use Rattle.wl_sigs.specs.declared.signature.Side.TheVariants.{Event}
-use Rattle.wl_sigs.specs.Tables.{Interface, Message, makes, new_objects, first, signature_at}
+use Rattle.wl_sigs.specs.Tables.{Interface, MessageSignature, makes, new_objects, first, signature_at}
 use Rattle.wl_sigs.specs.Valid.{Valid}
 use Rattle.wl_object_map.specs.declared.object.Object.{Object}
 use Rattle.wl_object_map.specs.declared.object.Entry.{Entry}
@@ -27,27 +27,28 @@ use Rattle.wl_connection.specs.Sending.{IsSendAnswer, OpensNothing, answer_of, o
 use Rattle.wl_connection.specs.Sending.{opens_object, made_at, version_at, following_len, fits}
 
 -- what is refused before the room is looked at
-abbrev IsEarly : Result Message SendError → Type 0
+abbrev IsEarly : Result MessageSignature SendError → Type 0
 IsEarly (Ok m) = Unit {0}
 IsEarly (Err why) = (why ≢ refusals.NoIds) × (why ≢ refusals.Memory)
 
-early_len : (b : Bool) (m : Message) → IsEarly (if b then Err refusals.TooLong else Ok m)
+early_len : (b : Bool) (m : MessageSignature) → IsEarly (if b then Err refusals.TooLong else Ok m)
 early_len true m = (λ e. cc e, λ e. cc e)
 early_len false m = tt
 
-early_lost : (limit len : ℕ) (o : Option ℕ) (m : Message) → IsEarly (unless_lost limit o len m)
+early_lost : (limit len : ℕ) (o : Option ℕ) (m : MessageSignature) → IsEarly (unless_lost limit o len m)
 early_lost limit len None m = early_len (nat_lt limit len) m
 early_lost limit len (Some place) m = (λ e. cc e, λ e. cc e)
 
-early_wrong : (limit len : ℕ) (o lost : Option ℕ) (m : Message) → IsEarly (unless_wrong limit o lost len m)
+early_wrong : (limit len : ℕ) (o lost : Option ℕ) (m : MessageSignature) → IsEarly (unless_wrong limit o lost len m)
 early_wrong limit len None lost m = early_lost limit len lost m
 early_wrong limit len (Some place) lost m = (λ e. cc e, λ e. cc e)
 
-early_old : (b : Bool) (r : Result Message SendError) → IsEarly r → IsEarly (if b then Err refusals.TooOld else r)
+early_old : (b : Bool) (r : Result MessageSignature SendError) → IsEarly r
+    → IsEarly (if b then Err refusals.TooOld else r)
 early_old true r h = (λ e. cc e, λ e. cc e)
 early_old false r h = h
 
-early_as : (limit : ℕ) (view : View) (given : List Given) (entry : Entry) (o : Option Message)
+early_as : (limit : ℕ) (view : View) (given : List Given) (entry : Entry) (o : Option MessageSignature)
     → IsEarly (checked_as limit view given entry o)
 early_as limit view given entry None = (λ e. cc e, λ e. cc e)
 early_as limit view given entry (Some m) =
@@ -87,7 +88,7 @@ nothing_room : (core : Core) (b : Bool) (o : Option NewObject) → o ≡ None
 nothing_room core true o e = rw e refl
 nothing_room core false o e = (λ f. cc f, λ f. cc f)
 
-nothing_of : (core : Core) (side : Side) (target : Object) (given : List Given) (r : Result Message SendError)
+nothing_of : (core : Core) (side : Side) (target : Object) (given : List Given) (r : Result MessageSignature SendError)
     → IsEarly r → opens_object r ≡ false → OpensNothing (answer_of core side target given r)
 nothing_of core side target given (Err why) early h = early
 nothing_of core side target given (Ok m) early h =
@@ -115,7 +116,7 @@ opens_nothing core side target opcode given result (inl e) h =
 opens_nothing core side target opcode given result (inr m) h = absurd (let yes = m.1 in cc (yes, h))
 
 -- no event opens an object
-event_as : (b : Bool) (o : Option Message) → ((m : Message) → o ≡ Some m → new_objects m.kinds ≡ [])
+event_as : (b : Bool) (o : Option MessageSignature) → ((m : MessageSignature) → o ≡ Some m → new_objects m.kinds ≡ [])
     → (limit : ℕ) (view : View) (given : List Given) (entry : Entry)
     → opens_object (checked_as limit view given entry (unless_hidden b o)) ≡ false
 event_as true o h limit view given entry = refl
@@ -157,7 +158,7 @@ event_opens_none limit tables view target opcode given v =
     event_by limit tables view opcode given (live_row view target) v
 
 -- an event that passed its checks opens nothing
-pub event_sent : (core : Core) (side : Side) (target : Object) (opcode : ℕ) (given : List Given) (m : Message)
+pub event_sent : (core : Core) (side : Side) (target : Object) (opcode : ℕ) (given : List Given) (m : MessageSignature)
     (result : Result (Option Object) SendError) → side ≡ Event → Valid core.tables
     → checked core.outbox.limit.bytes core.tables side core.view target opcode given ≡ Ok m
     → AnswersOrMemory refusals.Memory (is_some (makes m)) (answer_of core side target given (Ok m)) result

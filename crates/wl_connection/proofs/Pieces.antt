@@ -3,7 +3,7 @@ use Rattle.std.proofs.Common.{◌≡◌, ℕ, get_or, map, ◌≤◌, zero, suc,
 use Rattle.std.proofs.Common.{[], ◌∷◌, ◌++◌, length, take, drop, refl, sym, ap, subst, ◌∙◌, arith}
 use Rattle.std.proofs.lemmas.List.{append_assoc, append-nil, take-append-drop, take_all, drop_all}
 use Rattle.std.proofs.Math.Seq.{take-append-add, drop-append-add}
-use Rattle.wl_message.specs.declared.amounts.Fed.{Fed}
+use Rattle.wl_message.specs.declared.amounts.Amounts.{Amounts}
 use Rattle.wl_message.specs.declared.amounts.Piece.{Piece}
 use Rattle.wl_message.specs.InStep.{part, Part, Need, part_bytes, part_tokens, InStep}
 use Rattle.wl_message.proofs.Steps.{step_joined, step_parted}
@@ -11,7 +11,7 @@ use Rattle.wl_connection.specs.Core.{no_room}
 use Rattle.wl_connection.specs.Streams.{IsTaken, taken_bytes, taken_tokens, untaken, longer, NoneFits}
 
 -- what was taken and what was not are all
-pub taken-untaken_bytes : (pieces : List Part) (count : ℕ) (some : Fed)
+pub taken-untaken_bytes : (pieces : List Part) (count : ℕ) (some : Amounts)
     → taken_bytes pieces count some ++ part_bytes (untaken pieces count some) ≡ part_bytes pieces
 taken-untaken_bytes [] count some = refl
 taken-untaken_bytes (p ∷ ps) zero some = sym (append_assoc (take some.bytes p.bytes) (drop some.bytes p.bytes)
@@ -19,7 +19,7 @@ taken-untaken_bytes (p ∷ ps) zero some = sym (append_assoc (take some.bytes p.
 taken-untaken_bytes (p ∷ ps) (suc count) some = append_assoc p.bytes (taken_bytes ps count some)
     (part_bytes (untaken ps count some)) ∙ ap (λ (l : List ℕ). p.bytes ++ l) (taken-untaken_bytes ps count some)
 
-pub taken-untaken_tokens : (pieces : List Part) (count : ℕ) (some : Fed)
+pub taken-untaken_tokens : (pieces : List Part) (count : ℕ) (some : Amounts)
     → taken_tokens pieces count some ++ part_tokens (untaken pieces count some) ≡ part_tokens pieces
 taken-untaken_tokens [] count some = refl
 taken-untaken_tokens (p ∷ ps) zero some = sym (append_assoc (take some.tokens p.tokens) (drop some.tokens p.tokens)
@@ -41,7 +41,7 @@ take_over xs ys n = take-append-add xs ys n
 drop_over : (xs ys : List ℕ) (n : ℕ) → drop (length xs + n) (xs ++ ys) ≡ drop n ys
 drop_over xs ys n = drop-append-add xs ys n
 
-step_some : (needs : List Need) (w p : Part) (ps : List Part) (some : Fed) → some.tokens ≡ length p.tokens
+step_some : (needs : List Need) (w p : Part) (ps : List Part) (some : Amounts) → some.tokens ≡ length p.tokens
     → InStep needs (w ∷ p ∷ ps)
     → InStep needs (longer w (take some.bytes p.bytes) (take some.tokens p.tokens)
     ∷ record { bytes = drop some.bytes p.bytes; tokens = drop some.tokens p.tokens } ∷ ps)
@@ -55,18 +55,18 @@ step_some needs w p ps some e s =
     subst (InStep needs) (λ i. record { bytes = b1 i; tokens = w.tokens ++ t1 i }
     ∷ record { bytes = b2 i; tokens = t2 i } ∷ ps) parted
 
-step_next : (needs : List Need) (w p : Part) (ps : List Part) (some : Fed)
+step_next : (needs : List Need) (w p : Part) (ps : List Part) (some : Amounts)
     → (some ≡ no_room) ⊎ ((some.bytes < length p.bytes) × (some.tokens ≡ length p.tokens)) → InStep needs (w ∷ p ∷ ps)
     → InStep needs (longer w (take some.bytes p.bytes) (take some.tokens p.tokens)
     ∷ record { bytes = drop some.bytes p.bytes; tokens = drop some.tokens p.tokens } ∷ ps)
 step_next needs w p ps some (inl e) s =
-    let all : Fed → List Part = λ (f : Fed). longer w (take f.bytes p.bytes) (take f.tokens p.tokens)
+    let all : Amounts → List Part = λ (f : Amounts). longer w (take f.bytes p.bytes) (take f.tokens p.tokens)
     ∷ record { bytes = drop f.bytes p.bytes; tokens = drop f.tokens p.tokens } ∷ ps in
-    subst (λ (f : Fed). InStep needs (all f)) (sym e)
+    subst (λ (f : Amounts). InStep needs (all f)) (sym e)
     (subst (λ (x : Part). InStep needs (x ∷ p ∷ ps)) (sym (longer_none w)) s)
 step_next needs w p ps some (inr e) s = step_some needs w p ps some e.1 s
 
-pub taken_in_step : (needs : List Need) (w : Part) (pieces : List Part) (count : ℕ) (some : Fed)
+pub taken_in_step : (needs : List Need) (w : Part) (pieces : List Part) (count : ℕ) (some : Amounts)
     → IsTaken pieces count some → InStep needs (w ∷ pieces)
     → InStep needs (longer w (taken_bytes pieces count some) (taken_tokens pieces count some)
     ∷ untaken pieces count some)
@@ -83,7 +83,8 @@ taken_in_step needs w (p ∷ ps) (suc count) some t s =
 same_first : (p q : Part) (ps qs : List Part) → p ∷ ps ≡ q ∷ qs → p ≡ q
 same_first p q ps qs h = cc h
 
-pub taken_bytes-at : (pieces : List Part) (i : ℕ) (some : Fed) (p : Part) (rest : List Part) → drop i pieces ≡ p ∷ rest
+pub taken_bytes-at : (pieces : List Part) (i : ℕ) (some : Amounts) (p : Part) (rest : List Part)
+    → drop i pieces ≡ p ∷ rest
     → taken_bytes pieces i some ≡ part_bytes (take i pieces) ++ take some.bytes p.bytes
 taken_bytes-at [] zero some p rest h = absurd (cc h)
 taken_bytes-at [] (suc i) some p rest h = absurd (cc h)
@@ -92,7 +93,8 @@ taken_bytes-at (q ∷ ps) (suc i) some p rest h =
     ap (λ (l : List ℕ). q.bytes ++ l) (taken_bytes-at ps i some p rest h)
     ∙ sym (append_assoc q.bytes (part_bytes (take i ps)) (take some.bytes p.bytes))
 
-pub taken_tokens-at : (pieces : List Part) (i : ℕ) (some : Fed) (p : Part) (rest : List Part) → drop i pieces ≡ p ∷ rest
+pub taken_tokens-at : (pieces : List Part) (i : ℕ) (some : Amounts) (p : Part) (rest : List Part)
+    → drop i pieces ≡ p ∷ rest
     → taken_tokens pieces i some ≡ part_tokens (take i pieces) ++ take some.tokens p.tokens
 taken_tokens-at [] zero some p rest h = absurd (cc h)
 taken_tokens-at [] (suc i) some p rest h = absurd (cc h)
@@ -101,7 +103,7 @@ taken_tokens-at (q ∷ ps) (suc i) some p rest h =
     ap (λ (l : List ℕ). q.tokens ++ l) (taken_tokens-at ps i some p rest h)
     ∙ sym (append_assoc q.tokens (part_tokens (take i ps)) (take some.tokens p.tokens))
 
-pub is_taken_at : (pieces : List Part) (i : ℕ) (some : Fed) (p : Part) (rest : List Part) → drop i pieces ≡ p ∷ rest
+pub is_taken_at : (pieces : List Part) (i : ℕ) (some : Amounts) (p : Part) (rest : List Part) → drop i pieces ≡ p ∷ rest
     → (some ≡ no_room) ⊎ ((some.bytes < length p.bytes) × (some.tokens ≡ length p.tokens)) → IsTaken pieces i some
 is_taken_at [] zero some p rest h t = absurd (cc h)
 is_taken_at [] (suc i) some p rest h t = absurd (cc h)

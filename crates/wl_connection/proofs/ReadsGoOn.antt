@@ -9,7 +9,7 @@ use Rattle.std.specs.declared.result.Result.TheVariants.{Ok, Err}
 use Rattle.std.proofs.lemmas.Bool.Decides.{nat_tests}
 use Rattle.std.proofs.lemmas.List.{append-nil, length-drop, take_all}
 use Rattle.std.proofs.Math.Seq.{take-add}
-use Rattle.wl_message.specs.declared.amounts.Fed.{Fed}
+use Rattle.wl_message.specs.declared.amounts.Amounts.{Amounts}
 use Rattle.wl_message.specs.Arrived.{Arrived, free_bytes, free_tokens, fed}
 use Rattle.wl_message.specs.InStep.{Part, part_bytes, part_tokens}
 use Rattle.wl_objects.specs.declared.error.NextError.{NextError}
@@ -17,7 +17,7 @@ use Rattle.wl_objects.specs.declared.error.NextError.TheVariants as errors
 use Rattle.wl_connection.specs.declared.streams.ReadAll.{ReadAll}
 use Rattle.wl_connection.specs.Core.{Core, feeds, no_room, in_room, with_arrived}
 use Rattle.wl_connection.specs.Streams.{taken_bytes, taken_tokens, NoneFits}
-use Rattle.wl_connection.specs.Reads.{Reading, IsCoreOf, arrived, Reads, none, last, next}
+use Rattle.wl_connection.specs.Reads.{Reading, IsCoreOf, with_arrivals, Reads, none, last, next}
 use Rattle.wl_connection.specs.Reads.{ReadsSome, nothing, more, ReadsUntil, ReadsAll, appended}
 use Rattle.wl_connection.specs.Reads.{ReadsReport, ReadsNothing, ReadsNext, HasReport, ReadsOn}
 use Rattle.wl_connection.specs.Reads.{WaitingIsRead}
@@ -52,20 +52,20 @@ until_then e state middle end reports others (Some errors.OutFull) h g = some_re
 -- ---- what came at two times
 
 pub arrived_again : {S R : Type 0} (e : Reading S R) → IsCoreOf e.core e.with_core → (state : S) (a s b t : List ℕ)
-    → arrived e (arrived e state a s) b t ≡ arrived e state (a ++ b) (s ++ t)
+    → with_arrivals e (with_arrivals e state a s) b t ≡ with_arrivals e state (a ++ b) (s ++ t)
 arrived_again e laws state a s b t =
-    ap (λ (c : Core). e.with_core (arrived e state a s) (with_arrived c b t))
+    ap (λ (c : Core). e.with_core (with_arrivals e state a s) (with_arrived c b t))
     (laws.new state (with_arrived (e.core state) a s))
     ∙ laws.again state (with_arrived (e.core state) a s) (with_arrived (with_arrived (e.core state) a s) b t)
     ∙ ap (e.with_core state) (arrived_twice (e.core state) a s b t)
 
 pub arrived_nothing : {S R : Type 0} (e : Reading S R) → IsCoreOf e.core e.with_core → (state : S)
-    → arrived e state [] [] ≡ state
+    → with_arrivals e state [] [] ≡ state
 arrived_nothing e laws state = ap (e.with_core state) (arrived_none (e.core state)) ∙ laws.kept state
 
 -- an end with more that came in has failed where it had
 arrived_open : {S R : Type 0} (e : Reading S R) → IsCoreOf e.core e.with_core → (state : S) (bytes tokens : List ℕ)
-    → (e.core (arrived e state bytes tokens)).failed ≡ (e.core state).failed
+    → (e.core (with_arrivals e state bytes tokens)).failed ≡ (e.core state).failed
 arrived_open e laws state bytes tokens = ap (λ (c : Core). c.failed)
     (laws.new state (with_arrived (e.core state) bytes tokens))
 
@@ -81,17 +81,17 @@ on_then e state middle end reports others h g bytes tokens = some_then (h bytes 
 pub on_one : {S R : Type 0} (e : Reading S R) (state end : S) (report : R) → ReadsReport e state report end
     → e.is_last report ≡ false → ReadsOn e state (report ∷ []) end
 on_one e state end report h n bytes tokens =
-    more (h.stays bytes tokens) n (subst (λ s. ReadsSome e s [] (arrived e end bytes tokens))
+    more (h.stays bytes tokens) n (subst (λ s. ReadsSome e s [] (with_arrivals e end bytes tokens))
     (sym (h.leaves_more bytes tokens)) nothing)
 
 -- with more behind it that is there
 on_more : {S R : Type 0} (e : Reading S R) → IsCoreOf e.core e.with_core
     → (state end : S) (reports : List R) (bytes tokens : List ℕ) → ReadsOn e state reports end
-    → ReadsOn e (arrived e state bytes tokens) reports (arrived e end bytes tokens)
+    → ReadsOn e (with_arrivals e state bytes tokens) reports (with_arrivals e end bytes tokens)
 on_more e laws state end reports bytes tokens h others marks =
-    subst (λ s. ReadsSome e s reports (arrived e (arrived e end bytes tokens) others marks))
+    subst (λ s. ReadsSome e s reports (with_arrivals e (with_arrivals e end bytes tokens) others marks))
     (sym (arrived_again e laws state bytes tokens others marks))
-    (subst (λ s. ReadsSome e (arrived e state (bytes ++ others) (tokens ++ marks)) reports s)
+    (subst (λ s. ReadsSome e (with_arrivals e state (bytes ++ others) (tokens ++ marks)) reports s)
     (sym (arrived_again e laws end bytes tokens others marks)) (h (bytes ++ others) (tokens ++ marks)))
 
 -- with nothing behind it
@@ -99,7 +99,7 @@ pub on_alone : {S R : Type 0} (e : Reading S R) → IsCoreOf e.core e.with_core 
     → ReadsOn e state reports end → ReadsSome e state reports end
 on_alone e laws state end reports h =
     subst (λ s. ReadsSome e s reports end) (arrived_nothing e laws state)
-    (subst (λ s. ReadsSome e (arrived e state [] []) reports s) (arrived_nothing e laws end) (h [] []))
+    (subst (λ s. ReadsSome e (with_arrivals e state [] []) reports s) (arrived_nothing e laws end) (h [] []))
 
 pub on_until : {S R : Type 0} (e : Reading S R) → IsCoreOf e.core e.with_core
     → (state middle end : S) (reports others : List R) (stop : Option NextError) → ReadsOn e state reports middle
@@ -223,11 +223,11 @@ pub feeds_open : (core : Core) (bytes tokens : List ℕ) → core.failed ≡ fal
 feeds_open core bytes tokens h = ap (λ (b : Bool). cond b no_room (fed core.inbox bytes tokens)) h
 
 -- tokens that find room are all taken
-pub fed_tokens : (core : Core) (bytes tokens : List ℕ) (r : Fed) → core.failed ≡ false
+pub fed_tokens : (core : Core) (bytes tokens : List ℕ) (r : Amounts) → core.failed ≡ false
     → length tokens ≤ free_tokens core.inbox → r ≡ feeds core bytes tokens → r.tokens ≡ length tokens
 fed_tokens core bytes tokens r h room e =
     let t : r.tokens ≡ min (length tokens) (free_tokens core.inbox) =
-    ap (λ (f : Fed). f.tokens) (e ∙ feeds_open core bytes tokens h) in
+    ap (λ (f : Amounts). f.tokens) (e ∙ feeds_open core bytes tokens h) in
     omega arith
 
 fed_by : (a : Arrived) (bytes tokens : List ℕ) → length tokens ≤ free_tokens a
@@ -236,48 +236,49 @@ fed_by a bytes tokens room =
     let fits : nat_le (length tokens) (free_tokens a) ≡ true = grind (arith, nat_tests) in
     ap (λ (b : Bool). cond b (min (length bytes) (free_bytes a)) 0) fits
 
-pub fed_bytes : (core : Core) (bytes tokens : List ℕ) (r : Fed) → core.failed ≡ false
+pub fed_bytes : (core : Core) (bytes tokens : List ℕ) (r : Amounts) → core.failed ≡ false
     → length tokens ≤ free_tokens core.inbox → r ≡ feeds core bytes tokens
     → r.bytes ≡ min (length bytes) (free_bytes core.inbox)
-fed_bytes core bytes tokens r h room e = ap (λ (f : Fed). f.bytes) (e ∙ feeds_open core bytes tokens h)
+fed_bytes core bytes tokens r h room e = ap (λ (f : Amounts). f.bytes) (e ∙ feeds_open core bytes tokens h)
     ∙ fed_by core.inbox bytes tokens room
 
 -- ---- a piece
 
 -- once it was fed at first
-pub fed_first : {S R X : Type 0} (e : Reading S R) (seen : X → R) (state new : S) (bytes tokens : List ℕ) (r : Fed)
+pub fed_first : {S R X : Type 0} (e : Reading S R) (seen : X → R) (state new : S) (bytes tokens : List ℕ) (r : Amounts)
     (xs : List X) → (e.core state).failed ≡ false → length tokens ≤ free_tokens (e.core state).inbox
-    → r ≡ feeds (e.core state) bytes tokens → new ≡ arrived e state (take r.bytes bytes) (take r.tokens tokens)
-    → ReadsOn e (arrived e state (take r.bytes bytes) tokens) (appended seen xs xs) new
+    → r ≡ feeds (e.core state) bytes tokens → new ≡ with_arrivals e state (take r.bytes bytes) (take r.tokens tokens)
+    → ReadsOn e (with_arrivals e state (take r.bytes bytes) tokens) (appended seen xs xs) new
 fed_first e seen state new bytes tokens r xs s room f n =
     let t = fed_tokens (e.core state) bytes tokens r s room f in
     let all : take r.tokens tokens ≡ tokens = take_all r.tokens tokens (omega arith) in
-    let same : arrived e state (take r.bytes bytes) tokens ≡ new =
-    ap (arrived e state (take r.bytes bytes)) (sym all) ∙ sym n in
-    subst (λ x. ReadsOn e (arrived e state (take r.bytes bytes) tokens) (appended seen xs xs) x) same
-    (on_first e seen (arrived e state (take r.bytes bytes) tokens) xs)
+    let same : with_arrivals e state (take r.bytes bytes) tokens ≡ new =
+    ap (with_arrivals e state (take r.bytes bytes)) (sym all) ∙ sym n in
+    subst (λ x. ReadsOn e (with_arrivals e state (take r.bytes bytes) tokens) (appended seen xs xs) x) same
+    (on_first e seen (with_arrivals e state (take r.bytes bytes) tokens) xs)
 
 -- once more of it was fed
 pub fed_more : {S R : Type 0} (e : Reading S R) → IsCoreOf e.core e.with_core
     → (state middle new : S) (bytes tokens rest others : List ℕ) (k n : ℕ) (reports : List R)
-    → ReadsOn e (arrived e state (take k bytes) tokens) reports middle
-    → new ≡ arrived e middle (take n rest) others → rest ≡ drop k bytes → others ≡ []
-    → ReadsOn e (arrived e state (take (k + n) bytes) tokens) reports new
+    → ReadsOn e (with_arrivals e state (take k bytes) tokens) reports middle
+    → new ≡ with_arrivals e middle (take n rest) others → rest ≡ drop k bytes → others ≡ []
+    → ReadsOn e (with_arrivals e state (take (k + n) bytes) tokens) reports new
 fed_more e laws state middle new bytes tokens rest others k n reports h a r o =
     let more = take n rest in
     let b : take k bytes ++ more ≡ take (k + n) bytes =
     ap (λ (l : List ℕ). take k bytes ++ take n l) r ∙ sym (take-add k n bytes) in
     let t : tokens ++ others ≡ tokens = ap (λ (l : List ℕ). tokens ++ l) o ∙ append-nil tokens in
-    let same : arrived e (arrived e state (take k bytes) tokens) more others
-    ≡ arrived e state (take (k + n) bytes) tokens =
-    arrived_again e laws state (take k bytes) tokens more others ∙ (λ i. arrived e state (b i) (t i)) in
+    let same : with_arrivals e (with_arrivals e state (take k bytes) tokens) more others
+    ≡ with_arrivals e state (take (k + n) bytes) tokens =
+    arrived_again e laws state (take k bytes) tokens more others ∙ (λ i. with_arrivals e state (b i) (t i)) in
     subst (λ x. ReadsOn e x reports new) same
-    (subst (λ x. ReadsOn e (arrived e (arrived e state (take k bytes) tokens) more others) reports x) (sym a)
-    (on_more e laws (arrived e state (take k bytes) tokens) middle reports more others h))
+    (subst (λ x. ReadsOn e (with_arrivals e (with_arrivals e state (take k bytes) tokens) more others) reports x)
+    (sym a)
+    (on_more e laws (with_arrivals e state (take k bytes) tokens) middle reports more others h))
 
 -- it has not failed, as before
 pub fed_open : {S R : Type 0} (e : Reading S R) → IsCoreOf e.core e.with_core → (state new : S) (bytes tokens : List ℕ)
-    → (e.core state).failed ≡ false → new ≡ arrived e state bytes tokens → (e.core new).failed ≡ false
+    → (e.core state).failed ≡ false → new ≡ with_arrivals e state bytes tokens → (e.core new).failed ≡ false
 fed_open e laws state new bytes tokens h n = ap (λ s. (e.core s).failed) n ∙ arrived_open e laws state bytes tokens ∙ h
 
 -- the bytes from a place on
@@ -288,14 +289,14 @@ pub rest_len : (k : ℕ) (bytes : List ℕ) → length (take (length bytes - k) 
 rest_len k bytes = ap (λ (l : List ℕ). length l) (rest_is k bytes) ∙ length-drop k bytes
 
 -- A byte finds room where no whole message waits.
-pub fed_some : (core : Core) (bytes : List ℕ) (r : Fed) → core.failed ≡ false
+pub fed_some : (core : Core) (bytes : List ℕ) (r : Amounts) → core.failed ≡ false
     → length core.inbox.bytes < core.inbox.limit.bytes → core.inbox.limit.bytes ≤ core.inbox.capacity → 0 < length bytes
     → r ≡ feeds core bytes [] → 0 < r.bytes
 fed_some core bytes r h short capacity some f =
     let b = fed_bytes core bytes [] r h (omega arith) f in
     omega arith
 
-pub fed_within : (core : Core) (bytes : List ℕ) (r : Fed) → core.failed ≡ false → r ≡ feeds core bytes []
+pub fed_within : (core : Core) (bytes : List ℕ) (r : Amounts) → core.failed ≡ false → r ≡ feeds core bytes []
     → r.bytes ≤ length bytes
 fed_within core bytes r h f =
     let b = fed_bytes core bytes [] r h (omega arith) f in
@@ -307,7 +308,7 @@ fed_within core bytes r h f =
 pub ends_between : {S R : Type 0} (e : Reading S R) (state end : S) (pieces : List Part) (i : ℕ) (reports : List R)
     (answer : ReadAll) (stop : Option NextError) → i ≤ length pieces
     → answer ≡ record { pieces = i; part = no_room; stop = stop }
-    → ReadsUntil e (arrived e state (part_bytes (take i pieces)) (part_tokens (take i pieces))) reports stop end
+    → ReadsUntil e (with_arrivals e state (part_bytes (take i pieces)) (part_tokens (take i pieces))) reports stop end
     → (stop ≡ None → (e.core end).failed ≡ false → NoneFits (free_tokens (e.core end).inbox) pieces i)
     → ReadsAll e state pieces reports answer end
 ends_between e state end pieces i reports answer stop within is h n =
@@ -317,33 +318,35 @@ ends_between e state end pieces i reports answer stop within is h n =
     subst (λ (a : ReadAll). ReadsAll e state pieces reports a end) (sym is)
     (record {
       taken = is_taken_none pieces i within;
-      reads = subst (λ x. ReadsUntil e x reports stop end) (λ j. arrived e state (sym b j) (sym t j)) h;
+      reads = subst (λ x. ReadsUntil e x reports stop end) (λ j. with_arrivals e state (sym b j) (sym t j)) h;
       to_the_end = λ s f. (refl, n s f);
     })
 
 -- in the midst of a piece
 pub ends_within : {S R : Type 0} (e : Reading S R) → IsCoreOf e.core e.with_core
     → (state middle end : S) (pieces : List Part) (i : ℕ) (p : Part) (rest : List Part) (before others : List R)
-    (some : Fed) (stop : Option NextError)
-    → drop i pieces ≡ p ∷ rest → ReadsOn e (arrived e state (part_bytes (take i pieces)) (part_tokens (take i pieces)))
+    (some : Amounts) (stop : Option NextError)
+    → drop i pieces ≡ p ∷ rest → ReadsOn e (with_arrivals e state (part_bytes (take i pieces))
+    (part_tokens (take i pieces)))
     before middle
-    → ReadsUntil e (arrived e middle (take some.bytes p.bytes) (take some.tokens p.tokens)) others stop end
+    → ReadsUntil e (with_arrivals e middle (take some.bytes p.bytes) (take some.tokens p.tokens)) others stop end
     → (stop ≡ None → (e.core end).failed ≡ true) → some.bytes < length p.bytes → some.tokens ≡ length p.tokens
     → ReadsAll e state pieces (before ++ others) (record { pieces = i; part = some; stop = stop }) end
 ends_within e laws state middle end pieces i p rest before others some stop d h g n less all =
     let bytes = take some.bytes p.bytes in
     let tokens = take some.tokens p.tokens in
-    let first = arrived e state (part_bytes (take i pieces)) (part_tokens (take i pieces)) in
+    let first = with_arrivals e state (part_bytes (take i pieces)) (part_tokens (take i pieces)) in
     let b = taken_bytes-at pieces i some p rest d in
     let t = taken_tokens-at pieces i some p rest d in
-    let whole : arrived e first bytes tokens ≡ arrived e state (taken_bytes pieces i some)
+    let whole : with_arrivals e first bytes tokens ≡ with_arrivals e state (taken_bytes pieces i some)
     (taken_tokens pieces i some) =
     arrived_again e laws state (part_bytes (take i pieces)) (part_tokens (take i pieces)) bytes tokens
-    ∙ (λ j. arrived e state (sym b j) (sym t j)) in
+    ∙ (λ j. with_arrivals e state (sym b j) (sym t j)) in
     record {
       taken = is_taken_at pieces i some p rest d (inr (less, all));
       reads = subst (λ x. ReadsUntil e x (before ++ others) stop end) whole
-          (until_then e (arrived e first bytes tokens) (arrived e middle bytes tokens) end before others stop
+          (until_then e (with_arrivals e first bytes tokens) (with_arrivals e middle bytes tokens) end before others
+          stop
           (h bytes tokens) g);
       to_the_end = λ s f. absurd (cc (n s, f));
     }
@@ -352,24 +355,25 @@ ends_within e laws state middle end pieces i p rest before others some stop d h 
 pub reads_piece : {S R : Type 0} (e : Reading S R) → IsCoreOf e.core e.with_core
     → (state middle end : S) (pieces : List Part) (i j : ℕ) (p : Part) (rest : List Part) (before others : List R)
     → drop i pieces ≡ p ∷ rest → j ≡ suc i
-    → ReadsOn e (arrived e state (part_bytes (take i pieces)) (part_tokens (take i pieces))) before middle
-    → ReadsOn e (arrived e middle p.bytes p.tokens) others end
-    → ReadsOn e (arrived e state (part_bytes (take j pieces)) (part_tokens (take j pieces))) (before ++ others) end
+    → ReadsOn e (with_arrivals e state (part_bytes (take i pieces)) (part_tokens (take i pieces))) before middle
+    → ReadsOn e (with_arrivals e middle p.bytes p.tokens) others end
+    → ReadsOn e (with_arrivals e state (part_bytes (take j pieces)) (part_tokens (take j pieces))) (before ++ others)
+    end
 reads_piece e laws state middle end pieces i j p rest before others d is h g =
-    let first = arrived e state (part_bytes (take i pieces)) (part_tokens (take i pieces)) in
+    let first = with_arrivals e state (part_bytes (take i pieces)) (part_tokens (take i pieces)) in
     let b = part_bytes-next pieces i p rest d in
     let t = part_tokens-next pieces i p rest d in
-    let whole : arrived e first p.bytes p.tokens ≡ arrived e state (part_bytes (take (suc i) pieces))
+    let whole : with_arrivals e first p.bytes p.tokens ≡ with_arrivals e state (part_bytes (take (suc i) pieces))
     (part_tokens (take (suc i) pieces)) =
     arrived_again e laws state (part_bytes (take i pieces)) (part_tokens (take i pieces)) p.bytes p.tokens
-    ∙ (λ j. arrived e state (sym b j) (sym t j)) in
-    subst (λ (n : ℕ). ReadsOn e (arrived e state (part_bytes (take n pieces)) (part_tokens (take n pieces)))
+    ∙ (λ j. with_arrivals e state (sym b j) (sym t j)) in
+    subst (λ (n : ℕ). ReadsOn e (with_arrivals e state (part_bytes (take n pieces)) (part_tokens (take n pieces)))
     (before ++ others) end) (sym is)
     (subst (λ x. ReadsOn e x (before ++ others) end) whole
-    (on_then e (arrived e first p.bytes p.tokens) (arrived e middle p.bytes p.tokens) end before others
+    (on_then e (with_arrivals e first p.bytes p.tokens) (with_arrivals e middle p.bytes p.tokens) end before others
     (on_more e laws first middle before p.bytes p.tokens h) g))
 
 -- the room that an end says it has
-pub room_is : (core : Core) (r : Fed) → core.failed ≡ false → r ≡ in_room core → r.tokens ≡ free_tokens core.inbox
-room_is core r h e = ap (λ (f : Fed). f.tokens) (e
+pub room_is : (core : Core) (r : Amounts) → core.failed ≡ false → r ≡ in_room core → r.tokens ≡ free_tokens core.inbox
+room_is core r h e = ap (λ (f : Amounts). f.tokens) (e
     ∙ ap (λ (b : Bool). cond b no_room (record { bytes = free_bytes core.inbox; tokens = free_tokens core.inbox })) h)

@@ -13,17 +13,18 @@ use Rattle.wl_wire.specs.declared.header.Header.{Header}
 use Rattle.wl_wire.specs.Argument.{Argument, Int, Uint, Fixed, Str, Obj, New, NewNamed, Array, Fd}
 use Rattle.wl_wire.specs.Reading.{reading}
 use Rattle.wl_sigs.specs.declared.signature.Side.{Side}
-use Rattle.wl_sigs.specs.Tables.{Message, Interface, signature_at}
+use Rattle.wl_sigs.specs.Tables.{MessageSignature, Interface, signature_at}
 use Rattle.wl_object_map.specs.declared.object.Entry.{Entry}
 use Rattle.wl_objects.specs.declared.error.Fault.{Fault}
 use Rattle.wl_objects.specs.declared.error.Fault.TheVariants as faults
-use Rattle.wl_objects.specs.Reading.{Reader, kind_at, value_fault, unless, judged, before}
-use Rattle.wl_objects.specs.Reading.{and_those, arguments_at, forgiving, descriptors, first_or}
-use Rattle.wl_objects.specs.Reading.{tokens_after, report_of, reports_of}
-use Rattle.wl_objects.specs.Messages.{Received, is_empty, is_error, received_whole, received_as, received_by, received}
+use Rattle.wl_objects.specs.Reading.{Reader, forgiving_kind, value_fault, unless, value_or_fault, before}
+use Rattle.wl_objects.specs.Reading.{and_those, arguments_at, forgiving, descriptors, head_or}
+use Rattle.wl_objects.specs.Reading.{tokens_after, reported_argument, reports_of}
+use Rattle.wl_objects.specs.Messages.{Received, is_error, received_whole, received_as, received_by, received}
 use Rattle.wl_objects.specs.declared.error.NextError.{NextError}
 use Rattle.wl_connection.specs.Receiving.{is_none}
 use Rattle.wl_connection.specs.Outcomes.{answers_with}
+use Rattle.wl_sigs.specs.Rules.{is_empty}
 
 -- What a message that was received says: its target has a row, its signature is that of the
 -- target's interface, its tokens wait, and
@@ -55,13 +56,13 @@ few-unless n v bytes None others h = few-before n v.0 (others (drop v.1 bytes)) 
 
 few-judged : (n : ℕ) (r : Reader) (place : ℕ) (k : Kind) (bytes : List ℕ) (x : Result (Argument × ℕ) ArgFault)
     (others : List ℕ → Result (List Argument × List ℕ) Fault)
-    → ((rest : List ℕ) → Few n (others rest)) → Few (suc n) (and_those others bytes (judged r place k x))
+    → ((rest : List ℕ) → Few n (others rest)) → Few (suc n) (and_those others bytes (value_or_fault r place k x))
 few-judged n r place k bytes (Err fault) others h = tt
 few-judged n r place k bytes (Ok v) others h = few-unless n v bytes (value_fault r place k v.0) others h
 
 few : (r : Reader) (place : ℕ) (ks : List Kind) (bytes : List ℕ) → Few (length ks) (arguments_at r place ks bytes)
 few r place [] bytes = omega arith
-few r place (k ∷ ks) bytes = few-judged (length ks) r place k bytes (reading (kind_at r.forgives k) bytes)
+few r place (k ∷ ks) bytes = few-judged (length ks) r place k bytes (reading (forgiving_kind r.forgives k) bytes)
     (arguments_at r (suc place) ks) (λ rest. few r (suc place) ks rest)
 
 -- ---- case by case
@@ -71,7 +72,7 @@ ok_or_this d (Ok x) = x
 ok_or_this d (Err fault) = d
 
 whole-tests : (tables : List Interface) (side : Side) (reader : Reader) (header : Header) (waiting : ℕ) (m : Received)
-    (entry : Entry) (signature : Message) (found : List Argument × List ℕ) (a b : Bool)
+    (entry : Entry) (signature : MessageSignature) (found : List Argument × List ℕ) (a b : Bool)
     → reader.object header.object ≡ Some entry → signature_at tables entry.iface.0 side header.opcode ≡ Some signature
     → length found.0 ≤ length signature.kinds
     → nat_lt waiting (descriptors signature.kinds) ≡ b
@@ -97,7 +98,7 @@ whole-tests tables side reader header waiting m entry signature found false fals
     })
 
 whole : (tables : List Interface) (side : Side) (reader : Reader) (header : Header) (waiting : ℕ) (m : Received)
-    (entry : Entry) (signature : Message) (x : Result (List Argument × List ℕ) Fault)
+    (entry : Entry) (signature : MessageSignature) (x : Result (List Argument × List ℕ) Fault)
     → reader.object header.object ≡ Some entry → signature_at tables entry.iface.0 side header.opcode ≡ Some signature
     → Few (length signature.kinds) x
     → received_whole header entry signature waiting x ≡ Ok m → IsReceived tables side reader header waiting m
@@ -107,7 +108,7 @@ whole tables side reader header waiting m entry signature (Ok found) r s n h =
     (nat_lt waiting (descriptors signature.kinds)) r s n refl h
 
 as-test : (tables : List Interface) (side : Side) (reader : Reader) (header : Header) (body : List ℕ) (waiting : ℕ)
-    (m : Received) (entry : Entry) (signature : Message) (b : Bool)
+    (m : Received) (entry : Entry) (signature : MessageSignature) (b : Bool)
     → reader.object header.object ≡ Some entry → signature_at tables entry.iface.0 side header.opcode ≡ Some signature
     → (if b then Err faults.UnknownMessage
     else received_whole header entry signature waiting
@@ -120,7 +121,7 @@ as-test tables side reader header body waiting m entry signature false r s h =
     (few r' 0 signature.kinds body) h
 
 of-entry : (tables : List Interface) (side : Side) (reader : Reader) (header : Header) (body : List ℕ) (waiting : ℕ)
-    (m : Received) (entry : Entry) (o : Option Message)
+    (m : Received) (entry : Entry) (o : Option MessageSignature)
     → reader.object header.object ≡ Some entry → signature_at tables entry.iface.0 side header.opcode ≡ o
     → received_as side reader header body waiting entry o ≡ Ok m → IsReceived tables side reader header waiting m
 of-entry tables side reader header body waiting m entry None r s h = absurd (cc h)
@@ -144,7 +145,7 @@ is_received tables side reader header body waiting m h =
 
 -- ---- what is reported needs the first tokens alone
 
-first-at : (xs : List ℕ) → first_or xs 0 ≡ get_or xs 0 0
+first-at : (xs : List ℕ) → head_or xs 0 ≡ get_or xs 0 0
 first-at [] = refl
 first-at (x ∷ xs) = refl
 
@@ -178,8 +179,8 @@ pub reports-same : (r : Reader) (n : ℕ) (a b : List ℕ) (values : List Argume
 reports-same r n a b [] l h = refl
 reports-same r zero a b (value ∷ values) l h = absurd (omega arith)
 reports-same r (suc n) a b (value ∷ values) l h =
-    let one : report_of r (first_or a 0) value ≡ report_of r (first_or b 0) value =
-    ap (λ t. report_of r t value) (first-at a ∙ (h 0 (omega arith) ∙ sym (first-at b))) in
+    let one : reported_argument r (head_or a 0) value ≡ reported_argument r (head_or b 0) value =
+    ap (λ t. reported_argument r t value) (first-at a ∙ (h 0 (omega arith) ∙ sym (first-at b))) in
     let more = reports-same r n (tokens_after value a) (tokens_after value b) values (omega arith)
     (lefts n a b value h) in
     λ i. one i ∷ more i

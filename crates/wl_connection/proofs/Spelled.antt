@@ -16,7 +16,7 @@ use Rattle.wl_wire.specs.Argument.{Argument, Int, Uint, Fixed, Str, Obj, New, Ne
 use Rattle.wl_wire.proofs.Canonicals.{canonical-spells, header_at-bytes, header_bytes-at}
 use Rattle.wl_wire.proofs.Numbers.{number_at_fits}
 use Rattle.wl_sigs.specs.declared.signature.Side.{Side}
-use Rattle.wl_sigs.specs.Tables.{Interface, Message, signature_at}
+use Rattle.wl_sigs.specs.Tables.{Interface, MessageSignature, signature_at}
 use Rattle.wl_message.specs.Arrived.{in_front}
 use Rattle.wl_message.specs.Cut.{usual_limit, Front, More, Bad, Whole, IsSize, told_size}
 use Rattle.wl_message.proofs.Fronts.{front_stands, parts_of}
@@ -34,7 +34,7 @@ use Rattle.wl_wire.specs.Spelling.{Suits}
 use Rattle.wl_objects.specs.Writing.{Given, wired, spelled, lost_place, wrong_place, can_name}
 use Rattle.wl_objects.specs.Writing.{is_live_as, message_len, message_bytes}
 use Rattle.wl_objects.specs.Messages.{Received, received, received_by, received_as, received_whole}
-use Rattle.wl_objects.specs.Messages.{is_empty, is_error, reader_of}
+use Rattle.wl_objects.specs.Messages.{is_error, reader_of}
 use Rattle.wl_objects.proofs.WrittenArrives.{if-none}
 use Rattle.wl_objects.proofs.Calls.{len-any, len-least}
 use Rattle.wl_objects.proofs.ArgumentsMeet.{met}
@@ -43,6 +43,7 @@ use Rattle.wl_connection.specs.Core.{Core}
 use Rattle.wl_connection.specs.Receiving.{Found, found, found_at, found_in, header_of}
 use Rattle.wl_connection.specs.Spelled.{MessageSpells, CallsSpell, FoundSpells}
 use Rattle.wl_connection.specs.Streams.{BeginWith}
+use Rattle.wl_sigs.specs.Rules.{is_empty}
 use Rattle.wl_connection.proofs.ReceivedMessage.{is_received}
 
 -- ---- what is written
@@ -87,7 +88,8 @@ none_null view place (k ∷ ks) (x ∷ list) s w l =
     let b = if-none (can_name (look view) k x) (lost_place (look view) (suc place) ks list) place l in
     All-cons NoNull x list (no_null view k x s b.0) (none_null view (suc place) ks list s a.1 b.1)
 
-pub calls_spell : (core : Core) (side : Side) (target : Object) (opcode : ℕ) (list : List Given) (signature : Message)
+pub calls_spell : (core : Core) (side : Side) (target : Object) (opcode : ℕ) (list : List Given)
+    (signature : MessageSignature)
     → CallsSpell core side target opcode list signature
 calls_spell core side target opcode list signature s e r =
     let n = next_id core.view in
@@ -143,7 +145,8 @@ own-spelled kinds object opcode values s l =
 -- ---- what is read
 
 -- the arguments of a message that was received
-record ReadBy (side : Side) (reader : Reader) (opcode : ℕ) (body : List ℕ) (entry : Entry) (signature : Message)
+record ReadBy (side : Side) (reader : Reader) (opcode : ℕ) (body : List ℕ) (entry : Entry)
+    (signature : MessageSignature)
     (m : Received) : Type 0 where
   entry_is : m.entry ≡ entry
   signature_is : m.signature ≡ signature
@@ -159,7 +162,7 @@ empty_is [] h = refl
 empty_is (x ∷ xs) h = absurd (cc h)
 
 read_tests : (side : Side) (reader : Reader) (header : Header) (body : List ℕ) (m : Received) (entry : Entry)
-    (signature : Message) (got : List Argument × List ℕ) (a b : Bool) → not (is_empty got.1) ≡ a
+    (signature : MessageSignature) (got : List Argument × List ℕ) (a b : Bool) → not (is_empty got.1) ≡ a
     → arguments_at (forgiving (is_error side entry.iface header.opcode) reader) 0 signature.kinds body ≡ Ok got
     → (if a then Err faults.TrailingBytes
     else if b then Err faults.MissingDescriptor
@@ -187,7 +190,7 @@ read_tests side reader header body m entry signature got false false t r h =
     })
 
 read_whole : (side : Side) (reader : Reader) (header : Header) (body : List ℕ) (waiting : ℕ) (m : Received)
-    (entry : Entry) (signature : Message) (x : Result (List Argument × List ℕ) Fault)
+    (entry : Entry) (signature : MessageSignature) (x : Result (List Argument × List ℕ) Fault)
     → arguments_at (forgiving (is_error side entry.iface header.opcode) reader) 0 signature.kinds body ≡ x
     → received_whole header entry signature waiting x ≡ Ok m → ReadBy side reader header.opcode body entry signature m
 read_whole side reader header body waiting m entry signature (Err fault) r h = absurd (cc h)
@@ -196,7 +199,7 @@ read_whole side reader header body waiting m entry signature (Ok got) r h =
     (nat_lt waiting (descriptors signature.kinds)) refl r h
 
 read_as : (side : Side) (reader : Reader) (header : Header) (body : List ℕ) (waiting : ℕ) (m : Received) (entry : Entry)
-    (signature : Message) (b : Bool)
+    (signature : MessageSignature) (b : Bool)
     → (if b then Err faults.UnknownMessage
     else received_whole header entry signature waiting
     (arguments_at (forgiving (is_error side entry.iface header.opcode) reader) 0 signature.kinds body)) ≡ Ok m
@@ -209,14 +212,14 @@ abbrev pub IsRead : Side → Reader → ℕ → List ℕ → Received → Type 0
 IsRead side reader opcode body m = arguments_at (forgiving (is_error side m.entry.iface opcode) reader) 0
     m.signature.kinds body ≡ Ok (m.values, [])
 
-is_read : (side : Side) (reader : Reader) (opcode : ℕ) (body : List ℕ) (entry : Entry) (signature : Message)
+is_read : (side : Side) (reader : Reader) (opcode : ℕ) (body : List ℕ) (entry : Entry) (signature : MessageSignature)
     (m : Received) → ReadBy side reader opcode body entry signature m → IsRead side reader opcode body m
 is_read side reader opcode body entry signature m r =
     (λ i. arguments_at (forgiving (is_error side (r.entry_is i).iface opcode) reader) 0 (r.signature_is i).kinds body)
     ∙ r.arguments
 
 read_entry : (side : Side) (reader : Reader) (header : Header) (body : List ℕ) (waiting : ℕ) (m : Received)
-    (entry : Entry) (o : Option Message)
+    (entry : Entry) (o : Option MessageSignature)
     → received_as side reader header body waiting entry o ≡ Ok m → IsRead side reader header.opcode body m
 read_entry side reader header body waiting m entry None h = absurd (cc h)
 read_entry side reader header body waiting m entry (Some signature) h =

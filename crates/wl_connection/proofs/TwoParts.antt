@@ -5,8 +5,9 @@ use Rattle.std.proofs.Common.{append_assoc}
 use Rattle.std.proofs.lemmas.List.{append-nil, drop-append-le, drop-drop, drop_all, drop_at}
 use Rattle.std.proofs.lemmas.List.{length-drop, length-take, take-append-le, take_all, take_at}
 use Rattle.std.proofs.Math.Seq.{take-add}
-use Rattle.wl_message.specs.declared.amounts.Taken.{Taken}
-use Rattle.wl_message.specs.Outgoing.{Message, Outgoing, Goes, after_taking, all_tokens, newly_begun, waiting_tokens}
+use Rattle.wl_message.specs.declared.amounts.Amounts.{Amounts}
+use Rattle.wl_message.specs.Outgoing.{QueuedMessage, Outgoing, Goes, after_taking, all_tokens, newly_begun}
+use Rattle.wl_message.specs.Outgoing.{waiting_tokens}
 use Rattle.wl_message.proofs.TakenInStep.{passes, tokens_append}
 use Rattle.wl_message.proofs.Steps.{side}
 
@@ -59,13 +60,13 @@ both_written unread unsent old first second k d is first_is few second_is =
     ∙ written unread unsent old k d (omega (arith, is)) (places (length old) k d (length unread) is bound)
 
 -- where no token is left all were taken
-pub all_taken : (o : Outgoing) (b t : ℕ) (taken : Taken) → Goes o b t taken
+pub all_taken : (o : Outgoing) (b t : ℕ) (taken : Amounts) → Goes o b t taken
     → waiting_tokens (after_taking o taken.bytes) ≡ [] → taken.tokens ≡ length (waiting_tokens o)
 all_taken o b t taken g none =
     let p = passes o b t taken g in
     let parts : waiting_tokens o ≡ all_tokens (newly_begun o taken.bytes)
     ++ all_tokens (after_taking o taken.bytes).messages =
-    ap (λ (ms : List Message). all_tokens ms) p.rest
+    ap (λ (ms : List QueuedMessage). all_tokens ms) p.rest
     ∙ tokens_append (newly_begun o taken.bytes) (after_taking o taken.bytes).messages in
     omega (
       arith,

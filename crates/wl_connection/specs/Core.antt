@@ -5,17 +5,18 @@ use Rattle.std.specs.Prelude.{Option, Some, option_map}
 use Rattle.wl_wire.specs.declared.kind.Iface.{Iface}
 use Rattle.wl_sigs.specs.Tables.{Interface}
 use Rattle.wl_sigs.specs.Fixed.{display}
-use Rattle.wl_message.specs.declared.amounts.Fed.{Fed}
+use Rattle.wl_message.specs.declared.amounts.Amounts.{Amounts}
 use Rattle.wl_message.specs.declared.amounts.Sizes.{Sizes}
 use Rattle.wl_message.specs.Arrived.{Arrived, nothing_arrived, free_bytes, free_tokens, fed}
-use Rattle.wl_message.specs.Arrived.{with_more, without_first}
+use Rattle.wl_message.specs.Arrived.{fed_of_len, with_more, without_first}
 use Rattle.wl_message.specs.Outgoing.{Outgoing, no_messages, waiting_bytes, waiting_tokens}
 use Rattle.wl_message.specs.Outgoing.{after_taking}
 use Rattle.wl_object_map.specs.declared.object.Object.{Object}
 use Rattle.wl_object_map.specs.declared.object.Entry.{Entry}
 use Rattle.wl_object_map.specs.declared.object.State.TheVariants.{Live}
 use Rattle.wl_object_map.specs.View.{View, opening, look}
-use Rattle.wl_objects.specs.Messages.{live_row, is_empty}
+use Rattle.wl_objects.specs.Messages.{live_row}
+use Rattle.wl_sigs.specs.Rules.{is_empty}
 
 pub record Core : Type 0 where
   pub tables : List Interface
@@ -25,6 +26,10 @@ pub record Core : Type 0 where
   pub failed : Bool
   -- the bytes of the messages that were read; it stays at the greatest number of 64 bits
   pub read : ℕ
+
+-- the most globals that a server adds in its life, and that a client remembers
+abbrev pub max_globals : ℕ
+max_globals = 1024
 
 abbrev pub max_read : ℕ
 max_read = 18446744073709551615
@@ -62,18 +67,22 @@ kind_and_version entry = (entry.iface, entry.version)
 abbrev pub live : Core → Object → Option (Iface × ℕ)
 live core object = option_map kind_and_version (live_row core.view object)
 
-abbrev pub no_room : Fed
+abbrev pub no_room : Amounts
 no_room = record { bytes = 0; tokens = 0 }
 
 -- how much the inbox takes; a failed end takes nothing
-abbrev pub in_room : Core → Fed
+abbrev pub in_room : Core → Amounts
 in_room core =
     if core.failed then no_room
     else record { bytes = free_bytes core.inbox; tokens = free_tokens core.inbox }
 
 -- how much of a piece is taken in
-abbrev pub feeds : Core → List ℕ → List ℕ → Fed
+abbrev pub feeds : Core → List ℕ → List ℕ → Amounts
 feeds core bytes tokens = if core.failed then no_room else fed core.inbox bytes tokens
+
+-- how much is taken in of n bytes and of these tokens
+abbrev pub feeds_len : Core → ℕ → List ℕ → Amounts
+feeds_len core n tokens = if core.failed then no_room else fed_of_len core.inbox n tokens
 
 -- the end with more that came in
 abbrev pub with_arrived : Core → List ℕ → List ℕ → Core

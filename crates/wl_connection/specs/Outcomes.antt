@@ -18,14 +18,14 @@ answers_with is (Ok (Some report)) = is report
 answers_with is _ = false
 
 -- what a read leaves: out of memory, nothing has changed
-abbrev pub left : {S R : Type 0} → S → S → Result R NextError → S
-left before after (Err errors.Memory) = before
-left before after result = after
+abbrev pub unless_memory : {S R : Type 0} → S → S → Result R NextError → S
+unless_memory before after (Err errors.Memory) = before
+unless_memory before after result = after
 
 -- what a call that makes an object returned, as of a call that may make one
-abbrev pub new_in : {E : Type 0} → Result Object E → Result (Option Object) E
-new_in (Err why) = Err why
-new_in (Ok object) = Ok (Some object)
+abbrev pub some_object : {E : Type 0} → Result Object E → Result (Option Object) E
+some_object (Err why) = Err why
+some_object (Ok object) = Ok (Some object)
 
 -- why a call was refused, if it was
 abbrev pub refusal_in : {X E : Type 0} → Result X E → Option E

@@ -4,7 +4,7 @@ use Rattle.std.specs.Prelude.{drop, Option, Some, None}
 use Rattle.std.specs.declared.result.Result.{Result}
 use Rattle.std.specs.declared.result.Result.TheVariants.{Ok, Err}
 use Rattle.wl_sigs.specs.declared.signature.Side.{Side}
-use Rattle.wl_message.specs.declared.amounts.Fed.{Fed}
+use Rattle.wl_message.specs.declared.amounts.Amounts.{Amounts}
 use Rattle.wl_message.specs.Arrived.{free_tokens}
 use Rattle.wl_message.specs.InStep.{Part, Need, InStep, part_bytes, part_tokens}
 use Rattle.wl_objects.specs.declared.error.Fault.{Fault}
@@ -12,8 +12,8 @@ use Rattle.wl_objects.specs.declared.error.NextError.{NextError}
 use Rattle.wl_objects.specs.declared.error.NextError.TheVariants as errors
 use Rattle.wl_connection.specs.declared.streams.ReadAll.{ReadAll}
 use Rattle.wl_connection.specs.Core.{Core, with_arrived, no_room}
-use Rattle.wl_connection.specs.Streams.{BeginWith, Wants, IsTaken, taken_bytes, taken_tokens, untaken}
-use Rattle.wl_connection.specs.Streams.{NoneFits, waiting}
+use Rattle.wl_connection.specs.Streams.{BeginWith, Wants, IsTaken, taken_bytes, taken_tokens}
+use Rattle.wl_connection.specs.Streams.{untaken, NoneFits, waiting_part}
 
 -- what a reading returns: a report, nothing where no whole message waits, or why none can be read
 abbrev pub Answer : Type 0 → Type 0
@@ -40,8 +40,8 @@ pub record IsCoreOf {S : Type 0} (core : S → Core) (with_core : S → Core →
   pub again : (state : S) (c d : Core) → with_core (with_core state c) d ≡ with_core state d
 
 -- the end with more that came in
-abbrev pub arrived : {S R : Type 0} → Reading S R → S → List ℕ → List ℕ → S
-arrived e state bytes tokens = e.with_core state (with_arrived (e.core state) bytes tokens)
+abbrev pub with_arrivals : {S R : Type 0} → Reading S R → S → List ℕ → List ℕ → S
+with_arrivals e state bytes tokens = e.with_core state (with_arrived (e.core state) bytes tokens)
 
 -- All that waits is read: these are the reports of the messages, in order, why the reading stopped,
 -- if it did, and the state that is left. Without a stop and without a last report no whole message
@@ -83,7 +83,7 @@ ReadsUntil e state reports stop end = Reads e state reports stop end
 pub record ReadsAll {S R : Type 0} (e : Reading S R) (state : S) (pieces : List Part)
     (reports : List R) (answer : ReadAll) (end : S) : Type 0 where
   pub taken : IsTaken pieces answer.pieces answer.part
-  pub reads : ReadsUntil e (arrived e state (taken_bytes pieces answer.pieces answer.part)
+  pub reads : ReadsUntil e (with_arrivals e state (taken_bytes pieces answer.pieces answer.part)
       (taken_tokens pieces answer.pieces answer.part)) reports answer.stop end
   pub to_the_end : answer.stop ≡ None → (e.core end).failed ≡ false
       → (answer.part ≡ no_room) × NoneFits (free_tokens (e.core end).inbox) pieces answer.pieces
@@ -99,9 +99,10 @@ pub record ReadsReport {S R : Type 0} (e : Reading S R) (state : S) (report : R)
     : Type 0 where
   pub is : e.answer state ≡ Ok (Some report)
   pub leaves : end ≡ e.after state
-  pub stays : (bytes tokens : List ℕ) → e.answer (arrived e state bytes tokens) ≡ Ok (Some report)
+  pub stays : (bytes tokens : List ℕ) → e.answer (with_arrivals e state bytes tokens)
+      ≡ Ok (Some report)
   pub leaves_more : (bytes tokens : List ℕ)
-      → e.after (arrived e state bytes tokens) ≡ arrived e end bytes tokens
+      → e.after (with_arrivals e state bytes tokens) ≡ with_arrivals e end bytes tokens
   pub fewer : length (e.core end).inbox.bytes < length (e.core state).inbox.bytes
   pub ends : (e.core end).failed ≡ e.is_last report
 
@@ -122,7 +123,7 @@ ReadsNext e seen state (Err why) end = ReadsUntil e state [] (Some why) end
 -- Some of what waits is read, and would be read so with more behind it, which would stay behind.
 abbrev pub ReadsOn : {S R : Type 0} → Reading S R → S → List R → S → Type 0
 ReadsOn e state reports end = (bytes tokens : List ℕ)
-    → ReadsSome e (arrived e state bytes tokens) reports (arrived e end bytes tokens)
+    → ReadsSome e (with_arrivals e state bytes tokens) reports (with_arrivals e end bytes tokens)
 
 -- What waits is read: all of it, with nothing left to read; or up to a stop, or to a last report,
 -- where there is none.
@@ -137,10 +138,12 @@ WaitingIsRead e state reports (Err stop) end =
 abbrev pub PieceIsRead : {S R X : Type 0} → Reading S R → S → Part → List R → Result X ReadAll → S
     → Type 0
 PieceIsRead e state piece reports (Ok _) end =
-    ReadsOn e (arrived e state piece.bytes piece.tokens) reports end × ((e.core end).failed ≡ false)
+    ReadsOn e (with_arrivals e state piece.bytes piece.tokens) reports end
+    × ((e.core end).failed ≡ false)
 PieceIsRead e state piece reports (Err ended) end =
     ReadsUntil e
-    (arrived e state (take ended.part.bytes piece.bytes) (take ended.part.tokens piece.tokens))
+    (with_arrivals e state (take ended.part.bytes piece.bytes)
+    (take ended.part.tokens piece.tokens))
     reports ended.stop end
     × (ended.stop ≡ None → (e.core end).failed ≡ true)
     × (ended.part.bytes < length piece.bytes) × (ended.part.tokens ≡ length piece.tokens)
@@ -150,18 +153,19 @@ PieceIsRead e state piece reports (Err ended) end =
 
 -- What waits begins with messages of these needs: each is read before the next stands in front.
 -- Messages of this side come in.
-pub data Begins {S R : Type 0} (e : Reading S R) (side : Side) : S → List Need → Type 0 where
-  here : {state : S} → Begins e side state []
+pub data BeginsWithNeeds {S R : Type 0} (e : Reading S R) (side : Side) : S → List Need
+    → Type 0 where
+  here : {state : S} → BeginsWithNeeds e side state []
   ends : {state : S} {need : Need} → (e.core state).failed ≡ false → Wants (e.core state) side need
-      → Begins e side state (need ∷ [])
+      → BeginsWithNeeds e side state (need ∷ [])
   goes_on : {state : S} {need : Need} {needs : List Need} {report : R}
       → e.answer state ≡ Ok (Some report) → Wants (e.core state) side need
-      → Begins e side (e.after state) needs → Begins e side state (need ∷ needs)
+      → BeginsWithNeeds e side (e.after state) needs → BeginsWithNeeds e side state (need ∷ needs)
 
 -- the pieces bring the messages in step, with which what waits begins
 abbrev pub ComeInStep : {S R : Type 0} → Reading S R → Side → S → List Part → Type 0
 ComeInStep e side state pieces =
-    (needs : List Need) → Begins e side state needs → InStep needs pieces
+    (needs : List Need) → BeginsWithNeeds e side state needs → InStep needs pieces
 
 -- ---- what holds of how an end reads
 
@@ -176,21 +180,22 @@ pub record HasOneReading {S R : Type 0} (e : Reading S R) : Type 0 where
       → Reads e state reports stop last → Reads e state others halt end → last ≡ end
   pub stays : (state last : S) (reports : List R) (bytes tokens : List ℕ)
       → ReadsSome e state reports last
-      → ReadsSome e (arrived e state bytes tokens) reports (arrived e last bytes tokens)
+      → ReadsSome e (with_arrivals e state bytes tokens) reports (with_arrivals e last bytes tokens)
 
 -- It does not matter how a stream is cut, where its pieces are in step: what was read up to a
 -- fault, or to the last report that there is, is what would be read had all pieces come at once,
 -- and what was not taken of them stays behind.
 abbrev pub AnyCutReads : {S R : Type 0} → Reading S R → Side → Type 0
 AnyCutReads {S = S} {R = R} e side =
-    (state last : S) (pieces : List Part) (count : ℕ) (some : Fed)
+    (state last : S) (pieces : List Part) (count : ℕ) (some : Amounts)
     (reports : List R) (stop : Option NextError) → IsTaken pieces count some
-    → ComeInStep e side (arrived e state (part_bytes pieces) (part_tokens pieces))
-    (waiting (e.core state) ∷ pieces)
-    → Reads e (arrived e state (taken_bytes pieces count some) (taken_tokens pieces count some))
+    → ComeInStep e side (with_arrivals e state (part_bytes pieces) (part_tokens pieces))
+    (waiting_part (e.core state) ∷ pieces)
+    → Reads e (with_arrivals e state (taken_bytes pieces count some)
+    (taken_tokens pieces count some))
     reports stop last → (e.core last).failed ≡ true
-    → Reads e (arrived e state (part_bytes pieces) (part_tokens pieces)) reports stop
-    (arrived e last (part_bytes (untaken pieces count some))
+    → Reads e (with_arrivals e state (part_bytes pieces) (part_tokens pieces)) reports stop
+    (with_arrivals e last (part_bytes (untaken pieces count some))
     (part_tokens (untaken pieces count some)))
 
 -- What is read begins what waits: as many whole messages as there are reports, cut off by the sizes

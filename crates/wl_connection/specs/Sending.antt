@@ -1,13 +1,13 @@
 -- What an end writes.
-use Rattle.std.specs.Prelude.{◌≡◌, ◌≢◌, ℕ, ◌+◌, Bool, true, false, ◌||◌, nat_lt, if◌then◌else◌, List, [], ◌∷◌}
-use Rattle.std.specs.Prelude.{length, map, Option, Some, None, is_some, option_map}
+use Rattle.std.specs.Prelude.{◌≡◌, ◌≢◌, ℕ, ◌+◌, Bool, true, false, ◌||◌, nat_lt, if◌then◌else◌}
+use Rattle.std.specs.Prelude.{List, [], ◌∷◌, length, map, Option, Some, None, is_some, option_map}
 use Rattle.std.specs.declared.result.Result.{Result}
 use Rattle.std.specs.declared.result.Result.TheVariants.{Ok, Err}
 use Rattle.wl_wire.specs.Argument.{Argument, Uint, Str, Obj}
 use Rattle.wl_sigs.specs.declared.signature.Side.{Side}
 use Rattle.wl_sigs.specs.declared.signature.Side.TheVariants.{Request, Event}
 use Rattle.wl_sigs.specs.declared.signature.Destroys.{Destroys}
-use Rattle.wl_sigs.specs.Tables.{Message, destroys_one, makes}
+use Rattle.wl_sigs.specs.Tables.{MessageSignature, destroys_one, makes}
 use Rattle.wl_message.specs.Outgoing.{Outgoing, room_of, token_room_of, with_message, with_error}
 use Rattle.wl_object_map.specs.declared.object.Object.{Object}
 use Rattle.wl_object_map.specs.declared.object.Entry.{Entry}
@@ -16,7 +16,7 @@ use Rattle.wl_objects.specs.declared.error.SendError.TheVariants as refusals
 use Rattle.wl_wire.specs.declared.kind.Iface.{Iface}
 use Rattle.wl_object_map.specs.View.{View, next_id, can_open, look}
 use Rattle.wl_objects.specs.Writing.{Given, wired, message_len, message_bytes, tokens_of}
-use Rattle.wl_objects.specs.Messages.{NewObject, made, checked, End, Client, Server, after}
+use Rattle.wl_objects.specs.Messages.{NewObject, made, checked, Role, Client, Server, after}
 use Rattle.wl_objects.specs.Messages.{ended_id}
 use Rattle.wl_connection.specs.Core.{Core, with_view}
 use Rattle.wl_connection.specs.Outcomes.{AnswersOrMemory}
@@ -53,7 +53,7 @@ next_object view version iface =
     option_map (λ i. record { id = next_id view; iface = i; version = version }) iface
 
 -- the object that a call makes, at the next id
-abbrev pub made_by_call : Core → ℕ → Message → List Given → Option NewObject
+abbrev pub made_by_call : Core → ℕ → MessageSignature → List Given → Option NewObject
 made_by_call core version signature given =
     made core.tables version signature.kinds (map (wired (next_id core.view)) given)
 
@@ -66,11 +66,11 @@ opening_answer core (Some m) =
     else Err refusals.NoIds
 
 -- the end that writes the messages of a side, and the end that reads them
-abbrev pub writer : Side → End
+abbrev pub writer : Side → Role
 writer Request = Client
 writer Event = Server
 
-abbrev pub reader : Side → End
+abbrev pub reader : Side → Role
 reader Request = Server
 reader Event = Client
 
@@ -87,11 +87,11 @@ version_at None = 0
 version_at (Some entry) = entry.version
 
 -- the object that a call at this target makes
-abbrev pub made_at : Core → Object → Message → List Given → Option NewObject
+abbrev pub made_at : Core → Object → MessageSignature → List Given → Option NewObject
 made_at core target signature given =
     made_by_call core (version_at (look core.view target.id)) signature given
 
-abbrev pub answer_of : Core → Side → Object → List Given → Result Message SendError
+abbrev pub answer_of : Core → Side → Object → List Given → Result MessageSignature SendError
     → Result (Option Object) SendError
 answer_of core side target given (Err refusal) = Err refusal
 answer_of core side target given (Ok signature) =
@@ -112,7 +112,7 @@ abbrev pub with_following : Bool → ℕ → Core → Core
 with_following true id core = with_delete_id core id
 with_following false id core = core
 
-abbrev pub sent : Core → Side → Object → ℕ → List Given → Message → Core
+abbrev pub sent : Core → Side → Object → ℕ → List Given → MessageSignature → Core
 sent core side target opcode given signature =
     let id = ended_id signature.destroys target.id (map (wired 0) given) in
     with_following (following side signature.destroys) id
@@ -120,7 +120,8 @@ sent core side target opcode given signature =
     (with_sent core target.id opcode (map (wired (next_id core.view)) given) (tokens_of given))
     (after (writer side) core.view (made_at core target signature given) signature.destroys id))
 
-abbrev pub after_checked : Core → Side → Object → ℕ → List Given → Result Message SendError → Core
+abbrev pub after_checked : Core → Side → Object → ℕ → List Given
+    → Result MessageSignature SendError → Core
 after_checked core side target opcode given (Err refusal) = core
 after_checked core side target opcode given (Ok signature) =
     sent core side target opcode given signature
@@ -134,7 +135,7 @@ after_send core side target opcode given =
     (checked core.outbox.limit.bytes core.tables side core.view target opcode given)
 
 -- whether a call opens an object
-abbrev pub opens_object : Result Message SendError → Bool
+abbrev pub opens_object : Result MessageSignature SendError → Bool
 opens_object (Err refusal) = false
 opens_object (Ok signature) = is_some (makes signature)
 

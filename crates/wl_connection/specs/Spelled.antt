@@ -6,11 +6,11 @@ use Rattle.wl_wire.specs.declared.kind.Kind.{Kind}
 use Rattle.wl_wire.specs.Word.{header_bytes}
 use Rattle.wl_wire.specs.Argument.{Argument}
 use Rattle.wl_sigs.specs.declared.signature.Side.{Side}
-use Rattle.wl_sigs.specs.Tables.{Message}
+use Rattle.wl_sigs.specs.Tables.{MessageSignature}
 use Rattle.wl_message.specs.Cut.{IsSize}
 use Rattle.wl_object_map.specs.declared.object.Object.{Object}
 use Rattle.wl_object_map.specs.View.{Sound, next_id}
-use Rattle.wl_objects.specs.Reading.{kind_at}
+use Rattle.wl_objects.specs.Reading.{forgiving_kind}
 use Rattle.wl_objects.specs.Spelling.{SpellsAll}
 use Rattle.wl_objects.specs.Writing.{Given, wired, message_bytes}
 use Rattle.wl_objects.specs.Carried.{InRange}
@@ -31,7 +31,7 @@ pub record MessageSpells (limit : ℕ) (kinds : List Kind) (object opcode : ℕ)
 
 -- What a call that passed its checks writes is a spelling of its values, objects by their ids and
 -- the new one by the next id.
-abbrev pub CallsSpell : Core → Side → Object → ℕ → List Given → Message → Type 0
+abbrev pub CallsSpell : Core → Side → Object → ℕ → List Given → MessageSignature → Type 0
 CallsSpell core side target opcode given signature =
     Sound core.view → checked core.outbox.limit.bytes core.tables side core.view target opcode given
     ≡ Ok signature
@@ -43,7 +43,7 @@ CallsSpell core side target opcode given signature =
 -- The kinds of a message that was found: the object of wl_display.error may be null.
 abbrev pub kinds_of : Side → Found → List Kind
 kinds_of side f =
-    map (kind_at (is_error side f.message.entry.iface f.opcode)) f.message.signature.kinds
+    map (forgiving_kind (is_error side f.message.entry.iface f.opcode)) f.message.signature.kinds
 
 -- What is found in front of the waiting bytes is a spelling of its values.
 abbrev pub FoundSpells : Core → Side → Found → Type 0

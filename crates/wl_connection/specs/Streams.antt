@@ -4,15 +4,15 @@ use Rattle.std.specs.Prelude.{Some}
 use Rattle.std.specs.List.{concat, AllByRecursion}
 use Rattle.std.specs.declared.result.Result.TheVariants.{Ok}
 use Rattle.wl_sigs.specs.declared.signature.Side.{Side}
-use Rattle.wl_message.specs.declared.amounts.Fed.{Fed}
+use Rattle.wl_message.specs.declared.amounts.Amounts.{Amounts}
 use Rattle.wl_message.specs.Cut.{IsMessage}
 use Rattle.wl_message.specs.InStep.{Part, Need}
 use Rattle.wl_connection.specs.Core.{Core, with_arrived, no_room}
 use Rattle.wl_connection.specs.Receiving.{Found, found, takes}
 
 -- what waits at an end, as a piece that came at one time
-abbrev pub waiting : Core → Part
-waiting core = record { bytes = core.inbox.bytes; tokens = core.inbox.tokens }
+abbrev pub waiting_part : Core → Part
+waiting_part core = record { bytes = core.inbox.bytes; tokens = core.inbox.tokens }
 
 -- how many bytes a message that stands in front has, and how many tokens it takes
 abbrev pub need_of : Found → Need
@@ -28,24 +28,24 @@ pub record Wants (core : Core) (side : Side) (need : Need) : Type 0 where
 -- ---- what was taken of pieces: a number of them whole, and some of the next
 
 -- Of the next piece nothing was taken, or all of its tokens and not all of its bytes.
-abbrev pub IsTaken : List Part → ℕ → Fed → Type 0
+abbrev pub IsTaken : List Part → ℕ → Amounts → Type 0
 IsTaken [] count some = (count ≡ 0) × (some ≡ no_room)
 IsTaken (p ∷ ps) zero some =
     (some ≡ no_room) ⊎ ((some.bytes < length p.bytes) × (some.tokens ≡ length p.tokens))
 IsTaken (p ∷ ps) (suc count) some = IsTaken ps count some
 
-abbrev pub taken_bytes : List Part → ℕ → Fed → List ℕ
+abbrev pub taken_bytes : List Part → ℕ → Amounts → List ℕ
 taken_bytes [] count some = []
 taken_bytes (p ∷ ps) zero some = take some.bytes p.bytes
 taken_bytes (p ∷ ps) (suc count) some = p.bytes ++ taken_bytes ps count some
 
-abbrev pub taken_tokens : List Part → ℕ → Fed → List ℕ
+abbrev pub taken_tokens : List Part → ℕ → Amounts → List ℕ
 taken_tokens [] count some = []
 taken_tokens (p ∷ ps) zero some = take some.tokens p.tokens
 taken_tokens (p ∷ ps) (suc count) some = p.tokens ++ taken_tokens ps count some
 
 -- what was not taken
-abbrev pub untaken : List Part → ℕ → Fed → List Part
+abbrev pub untaken : List Part → ℕ → Amounts → List Part
 untaken [] count some = []
 untaken (p ∷ ps) zero some =
     record { bytes = drop some.bytes p.bytes; tokens = drop some.tokens p.tokens } ∷ ps

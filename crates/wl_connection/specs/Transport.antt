@@ -1,9 +1,9 @@
 -- What passes between an end and a stream.
-use Rattle.std.specs.Prelude.{◌≡◌, ℕ, true, false, List, Option, Result, Ok}
+use Rattle.std.specs.Prelude.{◌≡◌, ℕ, true, false, List, length, Option, Result, Ok}
 use Rattle.wl_message.specs.declared.streams.FillError.{FillError}
 use Rattle.wl_message.specs.Arrived.{Arrived}
 use Rattle.wl_message.specs.Streams.{Fills}
-use Rattle.wl_connection.specs.Core.{Core}
+use Rattle.wl_connection.specs.Core.{Core, with_arrived}
 
 -- the end with another inbox
 abbrev pub with_inbox : Core → Arrived → Core
@@ -16,3 +16,9 @@ pub record EndFills (core : Core) (had : Option (List ℕ)) (result : Result ℕ
   pub inbox : core.failed ≡ false → Fills core.inbox had result core'.inbox has
   pub others : core' ≡ with_inbox core core'.inbox
   pub failed : core.failed ≡ true → (result ≡ Ok 0) × (core' ≡ core)
+
+-- n bytes and some tokens were taken in, whichever bytes these are
+pub record EndReceives (core : Core) (n : ℕ) (tokens : List ℕ) (core' : Core) : Type 0 where
+  pub bytes : List ℕ
+  pub count : length bytes ≡ n
+  pub behind : core' ≡ with_arrived core bytes tokens

@@ -1,6 +1,6 @@
 -- The tokens of an end that is over: those that came and were not read, and those that did not go.
 use Rattle.std.specs.Prelude.{ℕ, ◌+◌, ◌-◌, min, true, List, ◌++◌, length}
-use Rattle.wl_message.specs.declared.amounts.Taken.{Taken}
+use Rattle.wl_message.specs.declared.amounts.Amounts.{Amounts}
 use Rattle.wl_message.specs.Arrived.{without_tokens}
 use Rattle.wl_message.specs.Outgoing.{goes, waiting_bytes, waiting_tokens, after_taking}
 use Rattle.wl_connection.specs.Core.{Core}
@@ -15,7 +15,7 @@ unread_count core n = min n (length core.inbox.tokens)
 
 -- What the places that are left take of the outbox, as it would go into them with all of its bytes:
 -- the tokens of a message together.
-abbrev pub unsent : Core → ℕ → Taken
+abbrev pub unsent : Core → ℕ → Amounts
 unsent core n = goes core.outbox (length (waiting_bytes core.outbox)) (n - unread_count core n)
 
 -- how many tokens n places take

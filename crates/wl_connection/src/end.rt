@@ -1,18 +1,19 @@
 //! An end of a connection, whichever of the two it is.
-ghost use Rattle.std.specs.Prelude.{◌≡◌, ◌≤◌, ◌⊎◌, ◌++◌, [], true, Err, length, take, drop};
-ghost use Rattle.wl_message.specs.Outgoing.{goes, waiting_bytes, waiting_tokens};
-ghost use Rattle.wl_message.specs.Streams.{Flushes, written_of};
+ghost use Rattle.std.specs.Prelude.{◌≡◌, ◌≤◌, ◌⊎◌, ◌+◌, ◌++◌, [], true, Err, length, take, drop};
+ghost use Rattle.std.specs.Prelude.{min, slice_get};
+ghost use Rattle.wl_message.specs.Outgoing.{goes, Peeks, waiting_bytes, waiting_tokens};
+ghost use Rattle.wl_message.specs.Streams.{Flushes, bytes_written};
 ghost use Rattle.wl_message.specs.declared.streams.FillError.TheVariants.{NoRoom};
 ghost use Rattle.wl_connection.specs.Core.{Core as CoreState, display_object, live, in_room};
 ghost use Rattle.wl_connection.specs.Core.{is_drained};
-ghost use Rattle.wl_connection.specs.Core.{feeds, with_arrived, with_gone};
+ghost use Rattle.wl_connection.specs.Core.{feeds, feeds_len, with_arrived, with_gone};
 ghost use Rattle.wl_connection.specs.Reads.{IsCoreOf};
-ghost use Rattle.wl_connection.specs.Transport.{EndFills};
+ghost use Rattle.wl_connection.specs.Transport.{EndFills, EndReceives};
 ghost use Rattle.wl_connection.specs.Waiting.{waiting, waiting_count, given_up};
 
 use crate::shared::Core;
 use std::io::{Read, Write};
-use wl_message::{Fed, FillError, FlushError, Taken};
+use wl_message::{Fed, FillError, FlushError, Peek, Taken};
 use wl_object_map::DISPLAY_ID;
 use wl_objects::{Object, Table};
 use wl_wire::Iface;
@@ -51,6 +52,25 @@ pub trait End {
         ensures state { self.new
             ≡ with_core self.old (with_gone (core self.old) result.bytes) };
 
+    /// Takes in tokens, and bytes that were written where `space` says, so many of them from the
+    /// first place on, as `feed` does. Where no room for tokens keeps the bytes out they stay where
+    /// they are, as long as no other bytes are taken in. A failed end takes nothing.
+    fn received(&mut self, bytes: usize, tokens: &[u32]) -> Fed
+        ensures fed { result ≡ feeds_len (core self.old) bytes tokens.now }
+        ensures state { EndReceives (core self.old) result.bytes (take result.tokens tokens.now)
+            (core self.new) }
+        ensures others { self.new ≡ with_core self.old (core self.new) };
+
+    /// Takes out what went by other means: the first bytes, so many of them or all that wait, and
+    /// the tokens that go with them. Returns how many of each. At a failed end too.
+    fn sent(&mut self, bytes: usize) -> Taken
+        ensures taken { result
+            ≡ goes (core self.old).outbox bytes (length (waiting_tokens (core self.old).outbox)) }
+        ensures bytes { result.bytes
+            ≡ min bytes (length (waiting_bytes (core self.old).outbox)) }
+        ensures state { self.new
+            ≡ with_core self.old (with_gone (core self.old) result.bytes) };
+
     /// Reads once, at most 4096 bytes and at most as many as are free in the inbox, and adds what
     /// was read to the bytes that wait. Returns their number; 0 is the end of the input.
     ///
@@ -74,7 +94,7 @@ pub trait End {
         ensures flushes { Flushes (core self.old).outbox (W.contents writer.old) result
             (core self.new).outbox (W.contents writer.new) }
         ensures others { self.new
-            ≡ with_core self.old (with_gone (core self.old) (written_of result)) };
+            ≡ with_core self.old (with_gone (core self.old) (bytes_written result)) };
 
     /// Gives the end up, and takes the tokens out that wait in its boxes, as many as the slice
     /// holds: so no descriptor is lost where a connection ends.
@@ -82,8 +102,8 @@ pub trait End {
     /// First come those of the inbox, a message at fault first; then those of the outbox, the
     /// tokens of a message together. Repeat it until it returns 0, with room for those of the
     /// longest message. The end has failed afterwards, and what waited to go is dropped with its
-    /// tokens: what is still to be sent, as the error of a failed server, is taken before. Allocates
-    /// nothing.
+    /// tokens: what is still to be sent, as the error of a failed server, is taken before.
+    /// Allocates nothing.
     fn take_waiting_tokens(&mut self, tokens: &mut [u32]) -> usize
         ensures count { result ≡ waiting_count (core self.old) (length tokens.old) }
         ensures tokens { tokens.new
@@ -157,5 +177,35 @@ pub trait End {
         ensures { result ≡ goes (core self.now).outbox bytes tokens }
     {
         self.core().outbox.goes(bytes, tokens)
+    }
+
+    /// The most bytes that can go at one time so that each token goes with the first of them, as
+    /// `take` has it, however many of them go; and how many of the waiting tokens these are. `sent`
+    /// takes out what went. At a failed end too.
+    final fn peek(&self) -> Peek<'_>
+        ensures { Peeks (core self.now).outbox (result.front.now ++ result.back.now) result.tokens }
+    {
+        self.core().outbox.peek()
+    }
+
+    /// The token at this place, counted from 0, of those that wait to go.
+    final fn token_to_go(&self, place: usize) -> Option<u32>
+        ensures { result ≡ slice_get (waiting_tokens (core self.now).outbox) place }
+    {
+        self.core().outbox.token(place)
+    }
+
+    /// Where the free bytes of the inbox lie, in two parts, for one who writes there by means of
+    /// another language: `received` takes in what was written, from the first part on. No bytes at
+    /// a failed end.
+    final fn space(&self) -> (&[u8], &[u8])
+        ensures { length result.0.now + length result.1.now ≡ (in_room (core self.now)).bytes }
+    {
+        let core = self.core();
+        let (front, back) = core.inbox.space();
+        if core.failed {
+            return (&front[..0], &back[..0]);
+        }
+        (front, back)
     }
 }

@@ -6,9 +6,9 @@ ghost use Rattle.std.specs.declared.result.Result.{Result};
 ghost use Rattle.std.specs.declared.result.Result.TheVariants.{Ok, Err};
 ghost use Rattle.wl_sigs.specs.declared.signature.Side.{Side};
 ghost use Rattle.wl_sigs.specs.declared.signature.Side.TheVariants.{Event as event_side};
-ghost use Rattle.wl_message.specs.declared.amounts.Fed.{Fed};
+ghost use Rattle.wl_message.specs.declared.amounts.Amounts.{Amounts};
 ghost use Rattle.wl_message.specs.InStep.{Part, Need, part_bytes, part_tokens, InStep};
-ghost use Rattle.wl_sigs.specs.Tables.{Interface, Message};
+ghost use Rattle.wl_sigs.specs.Tables.{Interface, MessageSignature};
 ghost use Rattle.wl_sigs.specs.Valid.{Valid};
 ghost use Rattle.wl_object_map.specs.declared.object.Object.{Object};
 ghost use Rattle.wl_object_map.specs.View.{View};
@@ -47,13 +47,14 @@ pub fn found_stays()
 /// What was taken of pieces, and what was not, are all; and pieces in step stay so when what was
 /// taken of them joins what waits.
 pub fn taking_keeps_pieces()
-    ensures bytes { (pieces : List Part) (count : ℕ) (some : Fed)
+    ensures bytes { (pieces : List Part) (count : ℕ) (some : Amounts)
         → taken_bytes pieces count some ++ part_bytes (untaken pieces count some)
         ≡ part_bytes pieces }
-    ensures tokens { (pieces : List Part) (count : ℕ) (some : Fed)
+    ensures tokens { (pieces : List Part) (count : ℕ) (some : Amounts)
         → taken_tokens pieces count some ++ part_tokens (untaken pieces count some)
         ≡ part_tokens pieces }
-    ensures step { (needs : List Need) (waits : Part) (pieces : List Part) (count : ℕ) (some : Fed)
+    ensures step { (needs : List Need) (waits : Part) (pieces : List Part) (count : ℕ)
+        (some : Amounts)
         → IsTaken pieces count some → InStep needs (waits ∷ pieces)
         → InStep needs (longer waits (taken_bytes pieces count some)
         (taken_tokens pieces count some) ∷ untaken pieces count some) }
@@ -63,7 +64,7 @@ pub fn taking_keeps_pieces()
 /// and one that is found in front of what waits. In wl_display.error the object may be null.
 pub fn messages_are_spelled()
     ensures written { (core : Core) (side : Side) (target : Object) (opcode : ℕ)
-        (given : List Given) (signature : Message)
+        (given : List Given) (signature : MessageSignature)
         → CallsSpell core side target opcode given signature }
     ensures read { (core : Core) (side : Side) (f : Found) → FoundSpells core side f }
 {}

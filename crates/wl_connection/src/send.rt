@@ -10,7 +10,7 @@ ghost use Rattle.wl_objects.specs.Writing.{EachFits, bind_values, call_makes, gi
 ghost use Rattle.wl_objects.specs.Writing.{has_no_nul, id_of, message_len, on_wire, tokens_of};
 ghost use Rattle.wl_objects.specs.Writing.{wired};
 ghost use Rattle.wl_connection.specs.Core.{HasDisplay, with_view};
-ghost use Rattle.wl_connection.specs.Outcomes.{AnswersOrMemory, new_in};
+ghost use Rattle.wl_connection.specs.Outcomes.{AnswersOrMemory, some_object};
 ghost use Rattle.wl_connection.specs.Sending.{IsSendAnswer, OpensNothing, after_send, answer_of};
 ghost use Rattle.wl_connection.specs.Sending.{delete_id_len, fits};
 ghost use Rattle.wl_connection.specs.Sending.{following, following_len, next_object};
@@ -155,7 +155,7 @@ impl<'t, T: Table> Core<'t, T> {
         requires { Sound self.old.view }
         ensures answer { AnswersOrMemory SendError.Memory true
             (opening_answer self.old (next_object self.old.view version (Some iface)))
-            (new_in result) }
+            (some_object result) }
         ensures ok { OnOk result
             (self.new ≡ with_view self.old (opened self.old.view iface version)) }
         ensures id { IfOk result (λ object. object.id ≡ next_id self.old.view) }

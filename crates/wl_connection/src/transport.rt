@@ -1,11 +1,12 @@
-//! What an end reads of a stream.
-ghost use Rattle.std.specs.Prelude.{◌≡◌, ◌⊎◌, true, Err};
+//! What an end reads of a stream, or takes in where it was written into its inbox.
+ghost use Rattle.std.specs.Prelude.{◌≡◌, ◌⊎◌, true, Err, take};
 ghost use Rattle.wl_message.specs.declared.streams.FillError.TheVariants.{NoRoom};
-ghost use Rattle.wl_connection.specs.Transport.{EndFills};
+ghost use Rattle.wl_connection.specs.Core.{feeds_len};
+ghost use Rattle.wl_connection.specs.Transport.{EndFills, EndReceives};
 
 use crate::shared::Core;
 use std::io::Read;
-use wl_message::FillError;
+use wl_message::{Fed, FillError};
 use wl_objects::Table;
 
 impl<'t, T: Table> Core<'t, T> {
@@ -21,5 +22,19 @@ impl<'t, T: Table> Core<'t, T> {
             return Ok(0);
         }
         wl_message::fill(&mut self.inbox, reader)
+    }
+
+    /// Takes in what was written into the inbox, as `End::received` says.
+    pub fn received(&mut self, bytes: usize, tokens: &[u32]) -> Fed
+        ensures fed { result ≡ feeds_len self.old bytes tokens.now }
+        ensures state { EndReceives self.old result.bytes (take result.tokens tokens.now) self.new }
+    {
+        if self.failed {
+            return Fed {
+                bytes: 0,
+                tokens: 0,
+            };
+        }
+        self.inbox.received(bytes, tokens)
     }
 }

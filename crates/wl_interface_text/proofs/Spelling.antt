@@ -20,8 +20,8 @@ use Rattle.wl_wire.specs.declared.kind.Kind.TheVariants as kinds
 use Rattle.wl_line_text.specs.Number.{number_of}
 use Rattle.wl_line_text.proofs.Numbers.{number_is}
 use Rattle.wl_interface_text.specs.Text.{WrittenKind, is_text_byte, is_text_name, kind_of}
-use Rattle.wl_interface_text.specs.Text.{takes_interface, bracketed, argument_of}
-use Rattle.wl_interface_text.specs.TableText.{IsName, SpellsNumber, SpellsKind, int, uint, fixed}
+use Rattle.wl_interface_text.specs.Text.{takes_interface, bracketed, written_kind_of}
+use Rattle.wl_interface_text.specs.TableText.{IsTextName, SpellsNumber, SpellsKind, int, uint, fixed}
 use Rattle.wl_interface_text.specs.TableText.{string, null_string, array, descriptor, object}
 use Rattle.wl_interface_text.specs.TableText.{null_object, new_id, SpellsArgument, alone, named}
 
@@ -37,7 +37,7 @@ name_bytes byte is = (
   λ e. let no : is_text_byte 41 ≡ true = subst (λ (b : ℕ). is_text_byte b ≡ true) e is in cc no,
 )
 
-pub name_is : (name : List ℕ) → is_text_name name ≡ true → IsName name
+pub name_is : (name : List ℕ) → is_text_name name ≡ true → IsTextName name
 name_is name is =
     let parts = both (not (length name == 0)) (list_all is_text_byte name) is in
     let all = AllPass-from_list_all is_text_byte name parts.1 in
@@ -48,7 +48,7 @@ name_is name is =
       no_close = λ k d lt. (name_bytes _ (all k d lt)).2;
     }
 
-pub is_name : (name : List ℕ) → IsName name → is_text_name name ≡ true
+pub is_name : (name : List ℕ) → IsTextName name → is_text_name name ≡ true
 is_name name is =
     let some = is.some in
     let all : list_all is_text_byte name ≡ true = list_all-from_AllPass is_text_byte name (λ k d lt.
@@ -200,7 +200,7 @@ bracketed_by : (kind : Kind) (tail name : List ℕ) → takes_interface kind ≡
     → bracketed kind (40 ∷ tail) ≡ Some (naming kind name)
 bracketed_by kind tail name takes some close inner good = rw (takes, some, close, inner, good) refl
 
-bracketed_name : (kind : Kind) (name : List ℕ) → takes_interface kind ≡ true → IsName name
+bracketed_name : (kind : Kind) (name : List ℕ) → takes_interface kind ≡ true → IsTextName name
     → bracketed kind (40 ∷ (name ++ 41 ∷ [])) ≡ Some (naming kind name)
 bracketed_name kind name takes good =
     let len : length (name ++ 41 ∷ []) - 1 ≡ length name = grind (arith, common_steps) in
@@ -219,7 +219,7 @@ name_ends tail some close =
 record InBrackets (kind : Kind) (tail : List ℕ) (found : WrittenKind) : Type 0 where
   takes : takes_interface kind ≡ true
   name : List ℕ
-  good : IsName name
+  good : IsTextName name
   is : found ≡ naming kind name
   whole : tail ≡ name ++ 41 ∷ []
 
@@ -249,7 +249,8 @@ put_together : (front back rest name word : List ℕ) → front ++ back ≡ word
     → word ≡ front ++ 40 ∷ (name ++ 41 ∷ [])
 put_together front back rest name word whole opens closes = rw (← whole, opens, closes) refl
 
-pub argument_spells : (word : List ℕ) (found : WrittenKind) → argument_of word ≡ Some found → SpellsArgument word found
+pub argument_spells : (word : List ℕ) (found : WrittenKind) → written_kind_of word ≡ Some found
+    → SpellsArgument word found
 argument_spells word found is = by (kind_of (take (opens_at word) word)) refl is
   where
     whole : take (opens_at word) word ++ drop (opens_at word) word ≡ word
@@ -274,13 +275,14 @@ argument_spells word found is = by (kind_of (take (opens_at word) word)) refl is
           (kind_spells (take (opens_at word) word) kind letters) it.takes it.good refl split)
     ]
 
-pub spelled_argument : (word : List ℕ) (found : WrittenKind) → SpellsArgument word found → argument_of word ≡ Some found
+pub spelled_argument : (word : List ℕ) (found : WrittenKind) → SpellsArgument word found
+    → written_kind_of word ≡ Some found
 spelled_argument word found spelled = elim spelled [
   | alone kind none ↦ unnamed word found kind none
   | named letters name kind takes good is whole ↦ rw whole (with_name letters name found kind takes good is)
 ] where
   unnamed : (word : List ℕ) (found : WrittenKind) → SpellsKind word found.kind → found.iface ≡ None
-      → argument_of word ≡ Some found
+      → written_kind_of word ≡ Some found
   unnamed word found kind none = rw (
     opens_nowhere word
         (letters_no_open word _ kind),
@@ -291,8 +293,8 @@ spelled_argument word found spelled = elim spelled [
   ) refl
 
   with_name : (letters name : List ℕ) (found : WrittenKind) → SpellsKind letters found.kind
-      → takes_interface found.kind ≡ true → IsName name → found.iface ≡ Some name
-      → argument_of (letters ++ 40 ∷ (name ++ 41 ∷ [])) ≡ Some found
+      → takes_interface found.kind ≡ true → IsTextName name → found.iface ≡ Some name
+      → written_kind_of (letters ++ 40 ∷ (name ++ 41 ∷ [])) ≡ Some found
   with_name letters name found kind takes good is =
       rw (
         opens_behind letters (name ++ 41 ∷ []) (letters_no_open letters _ kind),
@@ -329,6 +331,6 @@ never_some : {X : Type 0} (o : Option X) → ((x : X) → o ≡ Some x → ⊥) 
 never_some None never = refl
 never_some (Some x) never = absurd (never x refl)
 
-pub at_sign : (word rest : List ℕ) → word ≡ 64 ∷ rest → argument_of word ≡ None
-at_sign word rest begins = never_some (argument_of word)
+pub at_sign : (word rest : List ℕ) → word ≡ 64 ∷ rest → written_kind_of word ≡ None
+at_sign word rest begins = never_some (written_kind_of word)
     (λ found is. no_argument word rest found begins (argument_spells word found is))

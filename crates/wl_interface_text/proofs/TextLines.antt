@@ -14,8 +14,8 @@ use Rattle.std.proofs.lemmas.Slice.Eq.{bytes_eq-Decides}
 use Rattle.wl_line_text.specs.Lines.{IsSkipped, is_empty, is_comment, says_nothing, words}
 use Rattle.wl_line_text.specs.Number.{number_of}
 use Rattle.wl_interface_text.specs.Text.{WrittenKind, WrittenMessage, WrittenInterface, Tail}
-use Rattle.wl_interface_text.specs.Text.{is_text_name, argument_of, at_number, since_of, ending_of}
-use Rattle.wl_interface_text.specs.Text.{with_kinds, tail_from, tail_of, message_of, interface_of}
+use Rattle.wl_interface_text.specs.Text.{is_text_name, written_kind_of, at_number, since_of, ending_of}
+use Rattle.wl_interface_text.specs.Text.{with_kinds, tail_from, tail_of, written_message_of, interface_of}
 use Rattle.wl_interface_text.specs.Text.{message_added, words_added, line_added}
 use Rattle.wl_interface_text.specs.TableText.{SpellsNumber, SpellsArgument, alone, named, tail_with}
 use Rattle.wl_interface_text.specs.TableText.{SpellsTail, ends, destroys, since, destroys_since}
@@ -176,7 +176,7 @@ ending_spells word more tail is = by (bytes_eq word (codes "D")) refl is
     by false other e = without_destroys word more tail e
 
 argument_first : (word : List ℕ) (more : List (List ℕ)) (tail : Tail) (kind : WrittenKind)
-    → argument_of word ≡ Some kind
+    → written_kind_of word ≡ Some kind
     → (o : Option Tail) → ((found : Tail) → o ≡ Some found → SpellsTail (spaced more) found)
     → option_map (with_kinds (kind ∷ [])) o ≡ Some tail → SpellsTail (spaced (word ∷ more)) tail
 argument_first word more tail kind here None rest e = cc e
@@ -184,7 +184,7 @@ argument_first word more tail kind here (Some found) rest e =
     let same : with_kinds (kind ∷ []) found ≡ tail = cc e in
     rw (← same) (argument (argument_spells word kind here) (rest found refl))
 
-tail_first : (word : List ℕ) (more : List (List ℕ)) (tail : Tail) → (o : Option WrittenKind) → argument_of word ≡ o
+tail_first : (word : List ℕ) (more : List (List ℕ)) (tail : Tail) → (o : Option WrittenKind) → written_kind_of word ≡ o
     → ((found : Tail) → tail_of more ≡ Some found → SpellsTail (spaced more) found)
     → tail_from o (tail_of more) (ending_of word more) ≡ Some tail → SpellsTail (spaced (word ∷ more)) tail
 tail_first word more tail None here rest e = ending_spells word more tail e
@@ -192,7 +192,7 @@ tail_first word more tail (Some kind) here rest e = argument_first word more tai
 
 pub tail_spells : (more : List (List ℕ)) (tail : Tail) → tail_of more ≡ Some tail → SpellsTail (spaced more) tail
 tail_spells [] tail is = let same : tail_with false 1 ≡ tail = cc is in rw (← same) ends
-tail_spells (word ∷ more) tail is = tail_first word more tail (argument_of word) refl
+tail_spells (word ∷ more) tail is = tail_first word more tail (written_kind_of word) refl
     (λ found e. tail_spells more found e) is
 
 -- the words of a tail
@@ -221,7 +221,8 @@ destroys_since_read : (digits : List ℕ) (number : ℕ) → SpellsNumber digits
     → tail_of (codes "D" ∷ (64 ∷ digits) ∷ []) ≡ Some (tail_with true number)
 destroys_since_read digits number spelled = ap (option_map (tail_with true)) (at_number_spelled digits number spelled)
 
-argument_read : (word : List ℕ) (more : List (List ℕ)) (kind : WrittenKind) (tail : Tail) → argument_of word ≡ Some kind
+argument_read : (word : List ℕ) (more : List (List ℕ)) (kind : WrittenKind) (tail : Tail)
+    → written_kind_of word ≡ Some kind
     → tail_of more ≡ Some tail
     → tail_of (word ∷ more) ≡ Some (with_kinds (kind ∷ []) tail)
 argument_read word more kind tail here rest =
@@ -262,7 +263,8 @@ message_with n name tail = record {
   destroys = tail.destroys;
 }
 
-pub message_says : (n : ℕ) (is_request : Bool) (more : List (List ℕ)) (m : WrittenMessage) → message_of n more ≡ Some m
+pub message_says : (n : ℕ) (is_request : Bool) (more : List (List ℕ)) (m : WrittenMessage)
+    → written_message_of n more ≡ Some m
     → (m.line ≡ n) × IsMessageLine (side_word is_request ++ spaced more) is_request m
 message_says n side [] m is = cc is
 message_says n side (name ∷ more) m is = by (is_text_name name) (tail_of more) refl refl is
@@ -299,10 +301,10 @@ side_no_space false = plain_word (codes "event") refl
 pub record MessageWords (n : ℕ) (line : List ℕ) (is_request : Bool) (m : WrittenMessage) : Type 0 where
   pub more : List (List ℕ)
   pub cut : words line ≡ side_word is_request ∷ more
-  pub read : message_of n more ≡ Some m
+  pub read : written_message_of n more ≡ Some m
 
 read_message : (n : ℕ) (m : WrittenMessage) (more : List (List ℕ)) → m.line ≡ n → is_text_name m.name ≡ true
-    → tail_of more ≡ Some (tail_in m) → message_of n (m.name ∷ more) ≡ Some m
+    → tail_of more ≡ Some (tail_in m) → written_message_of n (m.name ∷ more) ≡ Some m
 read_message n m more line good tail =
     rw good (ap (option_map (message_with n m.name)) tail
     ∙ ap (λ (l : ℕ). Some (message_with l m.name (tail_in m))) (sym line))
@@ -397,7 +399,7 @@ message_speaks line rest true whole = speaks line (codes "request") rest whole r
 message_speaks line rest false whole = speaks line (codes "event") rest whole refl
 
 by_side : (n : ℕ) (side : Bool) (more : List (List ℕ)) (m : WrittenMessage) (written : List WrittenInterface)
-    → message_of n more ≡ Some m → words_added n (side_word side ∷ more) written ≡ message_added side m written
+    → written_message_of n more ≡ Some m → words_added n (side_word side ∷ more) written ≡ message_added side m written
 by_side n true more m written read = ap (option_and_then (λ x. message_added true x written)) read
 by_side n false more m written read = ap (option_and_then (λ x. message_added false x written)) read
 
@@ -438,14 +440,15 @@ opens_so n line more says cut (Some i) is =
     it_opens it.name it.version (subst (λ (l : List ℕ). IsInterfaceLine l it.name it.version)
     (sym (joined_words line (codes "interface") more cut)) it.said)
 
-side_fails : (n : ℕ) (side : Bool) (more : List (List ℕ)) (written : List WrittenInterface) → message_of n more ≡ None
+side_fails : (n : ℕ) (side : Bool) (more : List (List ℕ)) (written : List WrittenInterface)
+    → written_message_of n more ≡ None
     → words_added n (side_word side ∷ more) written ≡ None
 side_fails n true more written none = ap (option_and_then (λ x. message_added true x written)) none
 side_fails n false more written none = ap (option_and_then (λ x. message_added false x written)) none
 
 adds_so : (n : ℕ) (line : List ℕ) (side : Bool) (more : List (List ℕ)) → says_nothing line ≡ false
     → words line ≡ side_word side ∷ more
-    → (o : Option WrittenMessage) → message_of n more ≡ o → LineSays n line
+    → (o : Option WrittenMessage) → written_message_of n more ≡ o → LineSays n line
 adds_so n line side more says cut None is = fails_so n line (side_word side ∷ more) says cut
     (λ written. side_fails n side more written is)
 adds_so n line side more says cut (Some m) is =
@@ -463,9 +466,9 @@ by_word : (n : ℕ) (line word : List ℕ) (more : List (List ℕ)) → says_not
 by_word n line word more says cut true r e is is' is'' =
     opens_so n line more says (word_is word (codes "interface") more _ cut is) (interface_of n more) refl
 by_word n line word more says cut false true e is is' is'' =
-    adds_so n line true more says (word_is word (codes "request") more _ cut is') (message_of n more) refl
+    adds_so n line true more says (word_is word (codes "request") more _ cut is') (written_message_of n more) refl
 by_word n line word more says cut false false true is is' is'' =
-    adds_so n line false more says (word_is word (codes "event") more _ cut is'') (message_of n more) refl
+    adds_so n line false more says (word_is word (codes "event") more _ cut is'') (written_message_of n more) refl
 by_word n line word more says cut false false false is is' is'' =
     fails_so n line (word ∷ more) says cut (λ written. rw (is, is', is'') refl)
 

@@ -5,8 +5,8 @@ use Rattle.std.proofs.Common.{append_assoc, arith}
 use Rattle.std.specs.Prelude.{Ok, Err, ◌↔◌, option_map}
 use Rattle.std.specs.Option.{option_map_or}
 use Rattle.std.specs.Str.Lines.{lines}
-use Rattle.wl_interface_text.specs.Text.{WrittenMessage, WrittenInterface, with_message}
-use Rattle.wl_interface_text.specs.Text.{message_added, line_added, listed}
+use Rattle.wl_interface_text.specs.Text.{WrittenMessage, WrittenInterface, with_written_message}
+use Rattle.wl_interface_text.specs.Text.{message_added, line_added, interfaces_from}
 use Rattle.wl_interface_text.specs.TableText.{IsMessageLine, IsInterfaceLine, Say, nothing, skipped}
 use Rattle.wl_interface_text.specs.TableText.{request, event, interface, TableText, MayStand, skips}
 use Rattle.wl_interface_text.specs.TableText.{opens, adds, IsFirstBadLine}
@@ -22,9 +22,9 @@ with_more i requests events = record i { requests = i.requests ++ requests; even
 -- the reading of a line and those below it
 listed_on : (n : ℕ) (line : List ℕ) (more : List (List ℕ)) (written : List WrittenInterface)
     (o : Option (List WrittenInterface)) → line_added n line written ≡ o
-    → listed n (line ∷ more) written ≡ option_map_or (λ all. listed (n + 1) more all) o (Err n)
+    → interfaces_from n (line ∷ more) written ≡ option_map_or (λ all. interfaces_from (n + 1) more all) o (Err n)
 listed_on n line more written o is = ap (λ (x : Option (List WrittenInterface)). option_map_or
-    (λ all. listed (n + 1) more all) x (Err n)) is
+    (λ all. interfaces_from (n + 1) more all) x (Err n)) is
 
 with_none : (i : WrittenInterface) → with_more i [] [] ≡ i
 with_none i = rw (append-nil i.requests, append-nil i.events) refl
@@ -35,7 +35,7 @@ with_first true m i requests events = with_more i (m ∷ requests) events
 with_first false m i requests events = with_more i requests (m ∷ events)
 
 first_then : (side : Bool) (m : WrittenMessage) (i : WrittenInterface) (requests events : List WrittenMessage)
-    → with_more (with_message side m i) requests events ≡ with_first side m i requests events
+    → with_more (with_written_message side m i) requests events ≡ with_first side m i requests events
 first_then true m i requests events = rw (append_assoc i.requests (m ∷ []) requests) refl
 first_then false m i requests events = rw (append_assoc i.events (m ∷ []) events) refl
 
@@ -43,19 +43,19 @@ first_then false m i requests events = rw (append_assoc i.events (m ∷ []) even
 pub said_below : {n : ℕ} {all : List (List ℕ)} {requests events : List WrittenMessage} {interfaces : List
     WrittenInterface} → Say n all requests events interfaces
     → (before : List WrittenInterface) (i : WrittenInterface)
-    → listed n all (before ++ i ∷ []) ≡ Ok (before ++ with_more i requests events ∷ interfaces)
+    → interfaces_from n all (before ++ i ∷ []) ≡ Ok (before ++ with_more i requests events ∷ interfaces)
 said_below nothing before i = ap (λ (x : WrittenInterface). Ok (before ++ x ∷ [])) (sym (with_none i))
 said_below (skipped {n} {line} {more} skip rest) before i =
     listed_on n line more (before ++ i ∷ []) _ (skipped_added n line skip (before ++ i ∷ [])) ∙ said_below rest before i
 said_below (request {n} {line} {more} {m} {requests} {events} {interfaces} said at rest) before i =
     listed_on n line more (before ++ i ∷ []) _ (message_line_added n line true m said at (before ++ i ∷ [])
     ∙ added_last true m before i)
-    ∙ said_below rest before (with_message true m i)
+    ∙ said_below rest before (with_written_message true m i)
     ∙ ap (λ (x : WrittenInterface). Ok (before ++ x ∷ interfaces)) (first_then true m i requests events)
 said_below (event {n} {line} {more} {m} {requests} {events} {interfaces} said at rest) before i =
     listed_on n line more (before ++ i ∷ []) _ (message_line_added n line false m said at (before ++ i ∷ [])
     ∙ added_last false m before i)
-    ∙ said_below rest before (with_message false m i)
+    ∙ said_below rest before (with_written_message false m i)
     ∙ ap (λ (x : WrittenInterface). Ok (before ++ x ∷ interfaces)) (first_then false m i requests events)
 said_below (interface {n} {line} {more} {i = j} {interfaces} said at rest) before i =
     listed_on n line more (before ++ i ∷ []) _ (interface_line_added n line j.name j.version said (before ++ i ∷ []))
@@ -67,7 +67,7 @@ said_below (interface {n} {line} {more} {i = j} {interfaces} said at rest) befor
 -- and above every interface
 pub said_first : {n : ℕ} {all : List (List ℕ)} {requests events : List WrittenMessage} {interfaces : List
     WrittenInterface} → Say n all requests events interfaces
-    → requests ≡ [] → events ≡ [] → listed n all [] ≡ Ok interfaces
+    → requests ≡ [] → events ≡ [] → interfaces_from n all [] ≡ Ok interfaces
 said_first nothing r e = refl
 said_first (skipped {n} {line} {more} skip rest) r e =
     listed_on n line more [] _ (skipped_added n line skip []) ∙ said_first rest r e
@@ -89,12 +89,12 @@ record Below (n : ℕ) (all : List (List ℕ)) (before : List WrittenInterface) 
 
 abbrev Reads : ℕ → List (List ℕ) → Type 0
 Reads n all = (before : List WrittenInterface) (i : WrittenInterface) (written : List WrittenInterface)
-    → listed n all (before ++ i ∷ []) ≡ Ok written → Below n all before i written
+    → interfaces_from n all (before ++ i ∷ []) ≡ Ok written → Below n all before i written
 
 below_added : (n : ℕ) (line : List ℕ) (more : List (List ℕ)) (before : List WrittenInterface) (i : WrittenInterface)
     (written : List WrittenInterface)
     → (side : Bool) (m : WrittenMessage) → m.line ≡ n → IsMessageLine line side m
-    → Below (n + 1) more before (with_message side m i) written → Below n (line ∷ more) before i written
+    → Below (n + 1) more before (with_written_message side m i) written → Below n (line ∷ more) before i written
 below_added n line more before i written true m at said it = record {
   requests = m ∷ it.requests;
   events = it.events;
@@ -145,7 +145,7 @@ below_line n line more says reads = λ before i written is. elim says [
       (interface_line_added n line name version said (before ++ i ∷ []))) ∙ is))
   | it_adds side m at said ↦
       below_added n line more before i written side m at said
-      (reads before (with_message side m i) written
+      (reads before (with_written_message side m i) written
       (sym (listed_on n line more (before ++ i ∷ []) _
       (message_line_added n line side m said at (before ++ i ∷ []) ∙ added_last side m before i)) ∙ is))
   | it_fails fails ↦ let no : Err n ≡ Ok written =
@@ -164,8 +164,8 @@ read_below n [] = λ before i written is. record {
 read_below n (line ∷ more) = below_line n line more (line_says n line) (read_below (n + 1) more)
 
 first_line : (n : ℕ) (line : List ℕ) (more : List (List ℕ)) (written : List WrittenInterface) → LineSays n line
-    → (listed (n + 1) more [] ≡ Ok written → Say (n + 1) more [] [] written)
-    → listed n (line ∷ more) [] ≡ Ok written → Say n (line ∷ more) [] [] written
+    → (interfaces_from (n + 1) more [] ≡ Ok written → Say (n + 1) more [] [] written)
+    → interfaces_from n (line ∷ more) [] ≡ Ok written → Say n (line ∷ more) [] [] written
 first_line n line more written says rest is = elim says [
   | it_skips skip ↦ skipped skip (rest (sym (listed_on n line more [] _ (skipped_added n line skip [])) ∙ is))
   | it_opens name version said ↦
@@ -177,7 +177,7 @@ first_line n line more written says rest is = elim says [
   | it_fails fails ↦ let no : Err n ≡ Ok written = sym (listed_on n line more [] _ (fails [])) ∙ is in cc no
 ]
 
-pub read_first : (n : ℕ) (all : List (List ℕ)) (written : List WrittenInterface) → listed n all [] ≡ Ok written
+pub read_first : (n : ℕ) (all : List (List ℕ)) (written : List WrittenInterface) → interfaces_from n all [] ≡ Ok written
     → Say n all [] [] written
 read_first n [] written is = let same : [] ≡ written = cc is
     in subst (λ (w : List WrittenInterface). Say n [] [] [] w) same nothing
@@ -185,7 +185,7 @@ read_first n (line ∷ more) written is = first_line n line more written (line_s
     (read_first (n + 1) more written) is
 
 pub text_lists : (text : List ℕ) (written : List WrittenInterface)
-    → (listed 1 (lines text) [] ≡ Ok written) ↔ TableText text written
+    → (interfaces_from 1 (lines text) [] ≡ Ok written) ↔ TableText text written
 text_lists text written = (read_first 1 (lines text) written, λ say. said_first say refl refl)
 
 pub one_list : (text : List ℕ) (written others : List WrittenInterface) → TableText text written → TableText text others
@@ -241,25 +241,26 @@ may_not_stand n line written bad = elim (line_says n line) [
 
 -- lines are read one after another
 read_before : (before rest : List (List ℕ)) (n : ℕ) (so_far written : List WrittenInterface)
-    → listed n before so_far ≡ Ok written
-    → listed n (before ++ rest) so_far ≡ listed (n + length before) rest written
+    → interfaces_from n before so_far ≡ Ok written
+    → interfaces_from n (before ++ rest) so_far ≡ interfaces_from (n + length before) rest written
 read_before [] rest n so_far written is =
     let same : so_far ≡ written = cc is in
     let at : n ≡ n + 0 = omega arith in
-    ap (λ (w : List WrittenInterface). listed n rest w) same ∙ ap (λ (k : ℕ). listed k rest written) at
+    ap (λ (w : List WrittenInterface). interfaces_from n rest w) same
+    ∙ ap (λ (k : ℕ). interfaces_from k rest written) at
 read_before (line ∷ before) rest n so_far written is =
     by (line_added n line so_far) refl (λ all e. read_before before rest (n + 1) all written e) is
   where
     by : (o : Option (List WrittenInterface)) → line_added n line so_far ≡ o
-        → ((all : List WrittenInterface) → listed (n + 1) before all ≡ Ok written
-        → listed (n + 1) (before ++ rest) all ≡ listed (n + 1 + length before) rest written)
-        → option_map_or (λ all. listed (n + 1) before all) o (Err n) ≡ Ok written
-        → listed n (line ∷ (before ++ rest)) so_far ≡ listed (n + length (line ∷ before)) rest written
+        → ((all : List WrittenInterface) → interfaces_from (n + 1) before all ≡ Ok written
+        → interfaces_from (n + 1) (before ++ rest) all ≡ interfaces_from (n + 1 + length before) rest written)
+        → option_map_or (λ all. interfaces_from (n + 1) before all) o (Err n) ≡ Ok written
+        → interfaces_from n (line ∷ (before ++ rest)) so_far ≡ interfaces_from (n + length (line ∷ before)) rest written
     by None here later e = cc e
     by (Some all) here later e =
         let at : n + 1 + length before ≡ n + length (line ∷ before) = omega arith in
         listed_on n line (before ++ rest) so_far (Some all) here ∙ later all e
-        ∙ ap (λ (k : ℕ). listed k rest written) at
+        ∙ ap (λ (k : ℕ). interfaces_from k rest written) at
 
 record Stops (n : ℕ) (all : List (List ℕ)) (so_far : List WrittenInterface) (number : ℕ) : Type 0 where
   before : List (List ℕ)
@@ -268,13 +269,14 @@ record Stops (n : ℕ) (all : List (List ℕ)) (so_far : List WrittenInterface) 
   written : List WrittenInterface
   whole : all ≡ before ++ line ∷ after
   place : number ≡ n + length before
-  read : listed n before so_far ≡ Ok written
+  read : interfaces_from n before so_far ≡ Ok written
   fails : line_added number line written ≡ None
 
 stops_on : (n : ℕ) (line : List ℕ) (more : List (List ℕ)) (so_far : List WrittenInterface) (number : ℕ)
     (o : Option (List WrittenInterface)) → line_added n line so_far ≡ o
-    → ((all : List WrittenInterface) → listed (n + 1) more all ≡ Err number → Stops (n + 1) more all number)
-    → option_map_or (λ all. listed (n + 1) more all) o (Err n) ≡ Err number → Stops n (line ∷ more) so_far number
+    → ((all : List WrittenInterface) → interfaces_from (n + 1) more all ≡ Err number → Stops (n + 1) more all number)
+    → option_map_or (λ all. interfaces_from (n + 1) more all) o (Err n) ≡ Err number
+    → Stops n (line ∷ more) so_far number
 stops_on n line more so_far number None here later e =
     let same : n ≡ number = cc e in
     record {
@@ -301,13 +303,14 @@ stops_on n line more so_far number (Some all) here later e =
       fails = it.fails;
     }
 
-stops : (n : ℕ) (all : List (List ℕ)) (so_far : List WrittenInterface) (number : ℕ) → listed n all so_far ≡ Err number
+stops : (n : ℕ) (all : List (List ℕ)) (so_far : List WrittenInterface) (number : ℕ)
+    → interfaces_from n all so_far ≡ Err number
     → Stops n all so_far number
 stops n [] so_far number is = cc is
 stops n (line ∷ more) so_far number is = stops_on n line more so_far number (line_added n line so_far) refl
     (λ all e. stops (n + 1) more all number e) is
 
-stop_is_bad : (text : List ℕ) (number : ℕ) → listed 1 (lines text) [] ≡ Err number → IsFirstBadLine text number
+stop_is_bad : (text : List ℕ) (number : ℕ) → interfaces_from 1 (lines text) [] ≡ Err number → IsFirstBadLine text number
 stop_is_bad text number is =
     let it = stops 1 (lines text) [] number is in
     let place = it.place in
@@ -322,15 +325,16 @@ stop_is_bad text number is =
       bad = none_stands number it.line it.written it.fails;
     }
 
-bad_stops : (text : List ℕ) (number : ℕ) → IsFirstBadLine text number → listed 1 (lines text) [] ≡ Err number
+bad_stops : (text : List ℕ) (number : ℕ) → IsFirstBadLine text number → interfaces_from 1 (lines text) [] ≡ Err number
 bad_stops text number bad =
     let place = bad.place in
     let at : 1 + length bad.before ≡ number = omega (arith, place) in
-    ap (λ (ls : List (List ℕ)). listed 1 ls []) bad.whole
+    ap (λ (ls : List (List ℕ)). interfaces_from 1 ls []) bad.whole
     ∙ read_before bad.before (bad.line ∷ bad.after) 1 [] bad.written (said_first bad.good refl refl)
     ∙ listed_on (1 + length bad.before) bad.line bad.after bad.written None
     (may_not_stand (1 + length bad.before) bad.line bad.written bad.bad)
     ∙ ap Err at
 
-pub first_bad : (text : List ℕ) (number : ℕ) → (listed 1 (lines text) [] ≡ Err number) ↔ IsFirstBadLine text number
+pub first_bad : (text : List ℕ) (number : ℕ) → (interfaces_from 1 (lines text) [] ≡ Err number)
+    ↔ IsFirstBadLine text number
 first_bad text number = (stop_is_bad text number, bad_stops text number)

@@ -4,7 +4,7 @@ use Rattle.std.specs.Prelude.{option_map}
 use Rattle.std.specs.List.{onto_first}
 use Rattle.wl_line_text.specs.Lines.{words}
 use Rattle.wl_interface_text.specs.Text.{WrittenMessage, WrittenInterface, since_of, interface_of}
-use Rattle.wl_interface_text.specs.Text.{with_message, message_added}
+use Rattle.wl_interface_text.specs.Text.{with_written_message, message_added}
 
 onto_first_some : (b : ℕ) (ps : List (List ℕ)) → (first : List ℕ) × (more : List (List ℕ))
     × (onto_first b ps ≡ first ∷ more)
@@ -30,7 +30,7 @@ version_alone n name digits line = let w = words_some line in rw w.2 refl
 
 -- a message goes to the last interface
 pub added_last : (is_request : Bool) (m : WrittenMessage) (xs : List WrittenInterface) (i : WrittenInterface)
-    → message_added is_request m (xs ++ i ∷ []) ≡ Some (xs ++ with_message is_request m i ∷ [])
+    → message_added is_request m (xs ++ i ∷ []) ≡ Some (xs ++ with_written_message is_request m i ∷ [])
 added_last side m [] i = refl
 added_last side m (x ∷ []) i = refl
 added_last side m (x ∷ y ∷ xs) i = ap (option_map (λ all. x ∷ all)) (added_last side m (y ∷ xs) i)

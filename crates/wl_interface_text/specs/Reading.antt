@@ -9,5 +9,5 @@ words_behind None = []
 words_behind (Some rest) = words rest
 
 -- the tail without arguments
-abbrev pub ended : Bool × ℕ → Tail
-ended end = record { kinds = []; destroys = end.0; since = end.1 }
+abbrev pub tail_of_ending : Bool × ℕ → Tail
+tail_of_ending end = record { kinds = []; destroys = end.0; since = end.1 }

@@ -11,7 +11,7 @@ use Rattle.wl_interface_text.specs.Text.{WrittenKind, WrittenMessage, WrittenInt
 use Rattle.wl_interface_text.specs.Text.{takes_interface, with_kinds}
 
 -- a name: one or more bytes other than space, ( and )
-pub record IsName (name : List ℕ) : Type 0 where
+pub record IsTextName (name : List ℕ) : Type 0 where
   pub some : 0 < length name
   pub no_space : All (λ byte. byte ≢ 32) name
   pub no_open : All (λ byte. byte ≢ 40) name
@@ -43,7 +43,7 @@ pub data SpellsKind (letters : List ℕ) (kind : Kind) : Type 0 where
 pub data SpellsArgument (word : List ℕ) (argument : WrittenKind) : Type 0 where
   alone : SpellsKind word argument.kind → argument.iface ≡ None → SpellsArgument word argument
   named : (letters name : List ℕ) → SpellsKind letters argument.kind
-      → takes_interface argument.kind ≡ true → IsName name → argument.iface ≡ Some name
+      → takes_interface argument.kind ≡ true → IsTextName name → argument.iface ≡ Some name
       → word ≡ letters ++ 40 ∷ (name ++ 41 ∷ []) → SpellsArgument word argument
 
 -- a tail without arguments
@@ -77,14 +77,14 @@ pub record IsMessageLine (line : List ℕ) (is_request : Bool) (message : Writte
     : Type 0 where
   pub rest : List ℕ
   pub whole : line ≡ side_word is_request ++ 32 ∷ (message.name ++ rest)
-  pub named : IsName message.name
+  pub named : IsTextName message.name
   pub tail : SpellsTail rest (tail_in message)
 
 -- The line says an interface of this name and version: "interface", each of the two behind a space.
 pub record IsInterfaceLine (line name : List ℕ) (version : ℕ) : Type 0 where
   pub digits : List ℕ
   pub whole : line ≡ codes "interface " ++ (name ++ 32 ∷ digits)
-  pub named : IsName name
+  pub named : IsTextName name
   pub number : SpellsNumber digits version
 
 -- Lines, the first of which has number n, say these requests and these events of the interface

@@ -77,8 +77,8 @@ bracketed kind (bracket ∷ tail) =
     else None
 
 -- the argument that a word spells: its letters go up to the first (, if it has one
-abbrev pub argument_of : List ℕ → Option WrittenKind
-argument_of word =
+abbrev pub written_kind_of : List ℕ → Option WrittenKind
+written_kind_of word =
     let letters = unwrap_or (position (λ b. b == 40) word) (length word) in
     option_and_then (λ kind. bracketed kind (drop letters word)) (kind_of (take letters word))
 
@@ -128,12 +128,12 @@ tail_from None more ending = ending
 -- the tail that words spell
 abbrev pub tail_of : List (List ℕ) → Option Tail
 tail_of [] = Some (record { kinds = []; destroys = false; since = 1 })
-tail_of (word ∷ more) = tail_from (argument_of word) (tail_of more) (ending_of word more)
+tail_of (word ∷ more) = tail_from (written_kind_of word) (tail_of more) (ending_of word more)
 
 -- the message of line n, from the words behind its side
-abbrev pub message_of : ℕ → List (List ℕ) → Option WrittenMessage
-message_of n [] = None
-message_of n (name ∷ more) =
+abbrev pub written_message_of : ℕ → List (List ℕ) → Option WrittenMessage
+written_message_of n [] = None
+written_message_of n (name ∷ more) =
     if is_text_name name
     then option_map (λ (tail : Tail). let it : WrittenMessage = record {
       line = n;
@@ -159,15 +159,15 @@ interface_of n (name ∷ digits ∷ []) =
 interface_of n _ = None
 
 -- the interface with one message more: a request or an event
-abbrev pub with_message : Bool → WrittenMessage → WrittenInterface → WrittenInterface
-with_message true m i = record i { requests = i.requests ++ m ∷ [] }
-with_message false m i = record i { events = i.events ++ m ∷ [] }
+abbrev pub with_written_message : Bool → WrittenMessage → WrittenInterface → WrittenInterface
+with_written_message true m i = record i { requests = i.requests ++ m ∷ [] }
+with_written_message false m i = record i { events = i.events ++ m ∷ [] }
 
 -- the interfaces with one message more in the last, if there is one
 abbrev pub message_added : Bool → WrittenMessage → List WrittenInterface
     → Option (List WrittenInterface)
 message_added is_request m [] = None
-message_added is_request m (i ∷ []) = Some (with_message is_request m i ∷ [])
+message_added is_request m (i ∷ []) = Some (with_written_message is_request m i ∷ [])
 message_added is_request m (i ∷ j ∷ more) =
     option_map (λ all. i ∷ all) (message_added is_request m (j ∷ more))
 
@@ -179,7 +179,7 @@ words_added n (word ∷ more) written =
     then option_map (λ i. written ++ i ∷ []) (interface_of n more)
     else (if bytes_eq word (codes "request") || bytes_eq word (codes "event")
     then option_and_then (λ m. message_added (bytes_eq word (codes "request")) m written)
-    (message_of n more)
+    (written_message_of n more)
     else None)
 
 -- the interfaces with what line n declares
@@ -189,7 +189,8 @@ line_added n line written =
 
 -- The interfaces that lines list in addition to those so far, in order, where the first is line n;
 -- or the first line that may not stand, as it has no form or is a message before any interface.
-abbrev pub listed : ℕ → List (List ℕ) → List WrittenInterface → Result (List WrittenInterface) ℕ
-listed n [] written = Ok written
-listed n (line ∷ more) written =
-    option_map_or (λ all. listed (n + 1) more all) (line_added n line written) (Err n)
+abbrev pub interfaces_from : ℕ → List (List ℕ) → List WrittenInterface
+    → Result (List WrittenInterface) ℕ
+interfaces_from n [] written = Ok written
+interfaces_from n (line ∷ more) written =
+    option_map_or (λ all. interfaces_from (n + 1) more all) (line_added n line written) (Err n)

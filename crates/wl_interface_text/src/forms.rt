@@ -3,10 +3,10 @@ ghost use Rattle.std.specs.Prelude.{◌≡◌, ◌==◌, ◌∷◌, IfOk, option
 ghost use Rattle.std.specs.List.{list_all};
 ghost use Rattle.wl_interface_text.specs.Text.{is_text_byte, is_text_name, kind_of};
 ghost use Rattle.wl_interface_text.specs.Text.{takes_interface};
-ghost use Rattle.wl_interface_text.specs.Text.{bracketed, argument_of, at_number, since_of};
+ghost use Rattle.wl_interface_text.specs.Text.{bracketed, written_kind_of, at_number, since_of};
 ghost use Rattle.wl_interface_text.specs.Text.{ending_of};
-ghost use Rattle.wl_interface_text.specs.Text.{tail_of, message_of, interface_of};
-ghost use Rattle.wl_interface_text.specs.Reading.{words_behind, ended};
+ghost use Rattle.wl_interface_text.specs.Text.{tail_of, written_message_of, interface_of};
+ghost use Rattle.wl_interface_text.specs.Reading.{words_behind, tail_of_ending};
 
 use crate::written::{WrittenInterface, WrittenKind, WrittenMessage};
 use std::alloc::{AllocError, Allocator};
@@ -93,7 +93,7 @@ fn bracketed(kind: Kind, behind: &[u8]) -> Option<WrittenKind<'_>>
 
 // The argument that a word spells.
 fn argument_of(word: &[u8]) -> Option<WrittenKind<'_>>
-    ensures { result ≡ argument_of word.now }
+    ensures { result ≡ written_kind_of word.now }
 {
     let open = place_of_bracket(word).unwrap_or(word.len());
     let (letters, behind) = word.split_at(open);
@@ -147,7 +147,7 @@ fn since_of(word: &[u8], behind: Option<&[u8]>) -> Option<u32>
 // What a message destroys, and its since number, from a word that spells no argument and the words
 // behind it.
 fn ending_of(word: &[u8], behind: Option<&[u8]>) -> Option<(bool, u32)>
-    ensures { option_map ended result
+    ensures { option_map tail_of_ending result
         ≡ ending_of word.now (words_behind (option_copied behind.entry)) }
 {
     if word != b"D".as_slice() {
@@ -198,7 +198,7 @@ pub(crate) fn message_of<'t, A: Allocator + Clone + Drop>(
     behind: Option<&'t [u8]>,
 ) -> Result<Option<WrittenMessage<'t, A>>, AllocError>
     ensures { IfOk result (λ message. message
-        ≡ message_of line (words_behind (option_copied behind.entry))) }
+        ≡ written_message_of line (words_behind (option_copied behind.entry))) }
 {
     let Some(rest) = behind else {
         return Ok(None);

@@ -2,18 +2,18 @@
 ghost use Rattle.std.specs.Prelude.{◌≡◌, ◌↔◌, ℕ, List, [], Ok, Err};
 ghost use Rattle.std.specs.Str.Lines.{lines};
 ghost use Rattle.wl_interface_text.specs.TableText.{TableText, IsFirstBadLine};
-ghost use Rattle.wl_interface_text.specs.Text.{WrittenInterface, listed};
+ghost use Rattle.wl_interface_text.specs.Text.{WrittenInterface, interfaces_from};
 
 /// A text lists exactly the interfaces that are read from it.
 pub fn what_a_text_lists_is_read()
     ensures { (text : List ℕ) (written : List WrittenInterface)
-        → (listed 1 (lines text) [] ≡ Ok written) ↔ TableText text written }
+        → (interfaces_from 1 (lines text) [] ≡ Ok written) ↔ TableText text written }
 {}
 
 /// The line at which the reading of a text ends is the first that may not stand in it.
 pub fn first_bad_line()
     ensures { (text : List ℕ) (n : ℕ)
-        → (listed 1 (lines text) [] ≡ Err n) ↔ IsFirstBadLine text n }
+        → (interfaces_from 1 (lines text) [] ≡ Err n) ↔ IsFirstBadLine text n }
 {}
 
 /// A text lists its interfaces in one way only.

@@ -4,7 +4,8 @@ ghost use Rattle.std.specs.Prelude.{if◌then◌else◌};
 ghost use Rattle.std.specs.Str.Lines.{lines};
 ghost use Rattle.wl_line_text.specs.Lines.{words};
 ghost use Rattle.wl_interface_text.specs.declared.fault.TableFault.TheVariants.{BadLine, Memory};
-ghost use Rattle.wl_interface_text.specs.Text.{with_message, message_added, words_added, listed};
+ghost use Rattle.wl_interface_text.specs.Text.{with_written_message, message_added, words_added};
+ghost use Rattle.wl_interface_text.specs.Text.{interfaces_from};
 
 use crate::fault::TableFault;
 use crate::forms::{interface_of, message_of};
@@ -17,9 +18,9 @@ pub fn read_interfaces<'t, A: Allocator + Clone + Drop>(
     alloc: &A,
     text: &'t [u8],
 ) -> Result<Vec<WrittenInterface<'t, A>, A>, TableFault>
-    ensures ok { IfOk result (λ written. listed 1 (lines text.now) [] ≡ Ok written.items) }
+    ensures ok { IfOk result (λ written. interfaces_from 1 (lines text.now) [] ≡ Ok written.items) }
     ensures bad { IfErr result (λ e. (e ≡ Memory)
-        ⊎ ((n : ℕ) × (e ≡ BadLine n) × (listed 1 (lines text.now) [] ≡ Err n))) }
+        ⊎ ((n : ℕ) × (e ≡ BadLine n) × (interfaces_from 1 (lines text.now) [] ≡ Err n))) }
 {
     let mut interfaces = Vec::new(alloc.clone()?);
     let mut rest = text;
@@ -87,7 +88,8 @@ fn with_message<'t, A: Allocator + Clone>(
     is_request: bool,
     message: WrittenMessage<'t, A>,
 ) -> Result<WrittenInterface<'t, A>, AllocError>
-    ensures { IfOk result (λ more. more ≡ with_message is_request message.entry interface.entry) }
+    ensures { IfOk result (λ more. more ≡ with_written_message is_request message.entry
+        interface.entry) }
 {
     let mut interface = interface;
     if is_request {

@@ -10,7 +10,7 @@ use Rattle.std.proofs.lemmas.List.Folds.{concat-append}
 use Rattle.wl_wire.specs.declared.header.Header.{Header}
 use Rattle.wl_wire.specs.Word.{header_bytes}
 use Rattle.wl_message.specs.Cut.{front, Front, More, Bad, Whole, told_size, is_size, IsSize}
-use Rattle.wl_message.specs.Cut.{IsMessage, IsCut, Cut, cut_within, messages_of, rest_of}
+use Rattle.wl_message.specs.Cut.{IsMessage, IsCut, Cut, cut_within, messages_in_stream, rest_of}
 use Rattle.wl_message.proofs.Fronts.{Seen, short, long, whole, bad, seen, front_stands, is_size-true}
 
 -- ---- what stands in front
@@ -224,11 +224,11 @@ cut_enough limit (suc count) bytes h =
     (omega (arith, length-drop n bytes, s.size.header)))
 
 -- each stream has a cut
-pub is_cut : (limit : ℕ) (stream : List ℕ) → IsCut limit stream (messages_of limit stream) (rest_of limit stream)
+pub is_cut : (limit : ℕ) (stream : List ℕ) → IsCut limit stream (messages_in_stream limit stream) (rest_of limit stream)
 is_cut limit stream = cut_enough limit (length stream) stream (omega arith)
 
 pub messages_one : (limit : ℕ) (stream : List ℕ) (ms : List (List ℕ)) (r : List ℕ) → IsCut limit stream ms r
-    → (messages_of limit stream ≡ ms) × (rest_of limit stream ≡ r)
+    → (messages_in_stream limit stream ≡ ms) × (rest_of limit stream ≡ r)
 messages_one limit stream ms r c = let e = one_cut limit stream ms r c
     in (ap (λ (k : Cut). k.messages) e, ap (λ (k : Cut). k.rest) e)
 
@@ -250,7 +250,8 @@ cut_append limit xs ys ms ns r t c d = record {
 }
 
 pub messages_append : (limit : ℕ) (xs ys : List ℕ)
-    → (messages_of limit (xs ++ ys) ≡ messages_of limit xs ++ messages_of limit (rest_of limit xs ++ ys))
+    → (messages_in_stream limit (xs ++ ys) ≡ messages_in_stream limit xs
+    ++ messages_in_stream limit (rest_of limit xs ++ ys))
     × (rest_of limit (xs ++ ys) ≡ rest_of limit (rest_of limit xs ++ ys))
 messages_append limit xs ys = messages_one limit (xs ++ ys) _ _
     (cut_append limit xs ys _ _ _ _ (is_cut limit xs) (is_cut limit (rest_of limit xs ++ ys)))
@@ -260,17 +261,17 @@ none_empty limit n h = let e = front_none limit in cc (e, h)
 
 -- messages joined are cut into these messages
 pub messages_joined : (limit : ℕ) (ms : List (List ℕ)) → AllByRecursion (IsMessage limit) ms
-    → (messages_of limit (concat ms) ≡ ms) × (rest_of limit (concat ms) ≡ [])
+    → (messages_in_stream limit (concat ms) ≡ ms) × (rest_of limit (concat ms) ≡ [])
 messages_joined limit ms w = messages_one limit (concat ms) ms []
     (record { joined = sym (append-nil (concat ms)); whole = w; last = none_empty limit })
 
 -- one message after another
 pub messages_whole : (limit : ℕ) (bytes : List ℕ) (n : ℕ) → front limit bytes ≡ Whole n
-    → (messages_of limit bytes ≡ take n bytes ∷ messages_of limit (drop n bytes))
+    → (messages_in_stream limit bytes ≡ take n bytes ∷ messages_in_stream limit (drop n bytes))
     × (rest_of limit bytes ≡ rest_of limit (drop n bytes))
 messages_whole limit bytes n h = messages_one limit bytes _ _
     (cut_step limit bytes n _ _ h (is_cut limit (drop n bytes)))
 
 pub messages_none : (limit : ℕ) (bytes : List ℕ) → ((n : ℕ) → front limit bytes ≢ Whole n)
-    → (messages_of limit bytes ≡ []) × (rest_of limit bytes ≡ bytes)
+    → (messages_in_stream limit bytes ≡ []) × (rest_of limit bytes ≡ bytes)
 messages_none limit bytes h = messages_one limit bytes [] bytes (record { joined = refl; whole = tt; last = h })

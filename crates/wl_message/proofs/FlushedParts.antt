@@ -7,11 +7,11 @@ use Rattle.std.specs.List.{AllByRecursion}
 use Rattle.std.proofs.lemmas.List.{length-take, append-nil, drop-append-le, drop-drop}
 use Rattle.std.proofs.Math.Seq.{take-add}
 use Rattle.wl_message.specs.declared.marks.Reach.{Reach}
-use Rattle.wl_message.specs.declared.amounts.Taken.{Taken}
+use Rattle.wl_message.specs.declared.amounts.Amounts.{Amounts}
 use Rattle.wl_message.specs.declared.streams.FlushError.TheVariants.{Io, NeedsTokens}
-use Rattle.wl_message.specs.Outgoing.{Message, Outgoing, all_bytes, all_tokens, begun, newly_begun}
+use Rattle.wl_message.specs.Outgoing.{QueuedMessage, Outgoing, all_bytes, all_tokens, begun, newly_begun}
 use Rattle.wl_message.specs.Outgoing.{going_bytes, MayGo, Goes, goes, waiting_bytes, after_taking}
-use Rattle.wl_message.specs.Marks.{Reaches, Kept, outgoing, IsKept}
+use Rattle.wl_message.specs.Marks.{ReachesRoom, Kept, outgoing, IsKept}
 use Rattle.wl_message.specs.Streams.{Flushes, FirstHasTokens, NextHasTokens}
 use Rattle.wl_message.proofs.WhatGoes.{begun_none, begun_some, goes_goes}
 use Rattle.wl_message.proofs.PartedQueue.{Leaves, leaves, some_messages}
@@ -20,7 +20,7 @@ use Rattle.wl_message.proofs.Steps.{side}
 
 -- ---- two parts, one after the other
 
-begun_step : (m : Message) (ms : List Message) (n b : ℕ)
+begun_step : (m : QueuedMessage) (ms : List QueuedMessage) (n b : ℕ)
     → begun (suc n - length m.bytes + b) ms ≡ begun (suc n - length m.bytes) ms
     ++ begun (b - (length (all_bytes (begun (suc n - length m.bytes) ms)) - (suc n - length m.bytes)))
     (drop (length (begun (suc n - length m.bytes) ms)) ms)
@@ -35,7 +35,7 @@ begun_step m ms n b h le =
     omega (arith, le, length-append m.bytes (all_bytes (begun k ms))) in
     ap (λ (i : ℕ). begun i ms) p ∙ h ∙ ap (λ (i : ℕ). begun k ms ++ begun (b - i) (drop (length (begun k ms)) ms)) q
 
-begun_within : (m : Message) (ms : List Message) (n b : ℕ) → suc n < length m.bytes
+begun_within : (m : QueuedMessage) (ms : List QueuedMessage) (n b : ℕ) → suc n < length m.bytes
     → begun (suc n + b - length m.bytes) ms ≡ begun (suc n - length m.bytes) ms
     ++ begun (b - (length (m.bytes ++ all_bytes (begun (suc n - length m.bytes) ms)) - suc n))
     (drop (length (begun (suc n - length m.bytes) ms)) ms)
@@ -47,13 +47,14 @@ begun_within m ms n b lt =
     rw none (ap (λ (i : ℕ). begun i ms) p)
 
 -- what a + b bytes begin is what a bytes begin, and then what b more do
-begun_more : (a b : ℕ) (ms : List Message) → begun (a + b) ms
+begun_more : (a b : ℕ) (ms : List QueuedMessage) → begun (a + b) ms
     ≡ begun a ms ++ begun (b - (length (all_bytes (begun a ms)) - a)) (drop (length (begun a ms)) ms)
 begun_more zero b [] = refl
 begun_more zero b (m ∷ ms) = let p : 0 + b ≡ b - (0 - 0) = omega arith in ap (λ (i : ℕ). begun i (m ∷ ms)) p
 begun_more (suc n) b [] = refl
 begun_more (suc n) b (m ∷ ms) =
-    begun_some m ms (suc n + b) (omega arith) ∙ ap (λ (l : List Message). m ∷ l) (elim (side (suc n) (length m.bytes)) [
+    begun_some m ms (suc n + b) (omega arith) ∙ ap (λ (l : List QueuedMessage). m ∷ l)
+    (elim (side (suc n) (length m.bytes)) [
       | inl h ↦ begun_within m ms n b h
       | inr h ↦ begun_step m ms n b (begun_more (suc n - length m.bytes) b ms) h
     ])
@@ -94,7 +95,7 @@ goes_all o n may =
 all_goes : (o : Outgoing) (n : ℕ) → MayGo o n 0 n → Goes o n 0 (record { bytes = n; tokens = 0 })
 all_goes o n may = record { may = may; longest = λ k m. m.within; with_tokens = omega (arith, may.tokens_within) }
 
-pub skip_leaves : (h : Kept) (n : ℕ) (r : Reach) → IsKept h → MayGo (outgoing h) n 0 n → Reaches (outgoing h) n 0 r
+pub skip_leaves : (h : Kept) (n : ℕ) (r : Reach) → IsKept h → MayGo (outgoing h) n 0 n → ReachesRoom (outgoing h) n 0 r
     → Leaves h n 0 r.begun r.left
 skip_leaves h n r i may g = leaves h n 0 n 0 r i g (omega (arith, g.bytes, goes_all (outgoing h) n may)) (omega arith)
 
@@ -105,7 +106,7 @@ waiting_after o n may =
     let begins = newly_begun o n in
     let after = after_taking o n in
     let bytes : waiting_bytes o ≡ (o.left ++ all_bytes begins) ++ all_bytes after.messages =
-    ap (λ (ms : List Message). o.left ++ all_bytes ms) p.rest
+    ap (λ (ms : List QueuedMessage). o.left ++ all_bytes ms) p.rest
     ∙ ap (λ (xs : List ℕ). o.left ++ xs) (bytes_append begins after.messages)
     ∙ sym (append_assoc o.left (all_bytes begins) (all_bytes after.messages)) in
     let len : length (take n (waiting_bytes o)) ≡ n = omega (arith, length-take n (waiting_bytes o), may.there) in
@@ -131,9 +132,9 @@ after_more o a b may =
     ∙ drop-drop b a ((o.left ++ all_bytes first) ++ all_bytes second)
     ∙ ap (drop (a + b)) (append_assoc o.left (all_bytes first) (all_bytes second)
     ∙ ap (λ (xs : List ℕ). o.left ++ xs) (sym (bytes_append first second))
-    ∙ ap (λ (ms : List Message). o.left ++ all_bytes ms) (sym both)) in
+    ∙ ap (λ (ms : List QueuedMessage). o.left ++ all_bytes ms) (sym both)) in
     let count : length first + length second ≡ length (newly_begun o (a + b)) =
-    sym (ap (λ (ms : List Message). length ms) both ∙ length-append first second) in
+    sym (ap (λ (ms : List QueuedMessage). length ms) both ∙ length-append first second) in
     let messages : drop (length second) (drop (length first) o.messages)
     ≡ drop (length (newly_begun o (a + b))) o.messages =
     drop-drop (length second) (length first) o.messages ∙ ap (λ (i : ℕ). drop i o.messages) count in
@@ -157,7 +158,7 @@ tokens_part : (o : Outgoing) (a b : ℕ) → length (all_tokens (newly_begun o (
 tokens_part o a b =
     let first = newly_begun o a in
     let second = newly_begun (after_taking o a) b in
-    ap (λ (ms : List Message). length (all_tokens ms)) (newly_more o a b)
+    ap (λ (ms : List QueuedMessage). length (all_tokens ms)) (newly_more o a b)
     ∙ ap (λ (xs : List ℕ). length xs) (tokens_append first second)
     ∙ length-append (all_tokens first) (all_tokens second)
 
@@ -194,7 +195,7 @@ may_more o total w n may h =
 
 -- ---- where it stops
 
-begins_tokens : (n : ℕ) (ms : List Message) → 0 < n → FirstHasTokens ms → length (all_tokens (begun n ms)) ≤ 0 → ⊥
+begins_tokens : (n : ℕ) (ms : List QueuedMessage) → 0 < n → FirstHasTokens ms → length (all_tokens (begun n ms)) ≤ 0 → ⊥
 begins_tokens n [] h f g = f
 begins_tokens zero (m ∷ ms) h f g = absurd (omega (arith, h))
 begins_tokens (suc n) (m ∷ ms) h f g = omega (
@@ -213,44 +214,44 @@ not_before o total w may h next =
     let z = ap (λ (xs : List ℕ). length xs) next.0 in
     begins_tokens (total - w - length after.left) after.messages (omega (arith, h, z)) next.1 m.tokens_within
 
-some_drop : (n : ℕ) (ms : List Message) → AllByRecursion (λ (m : Message). 0 < length m.bytes) ms
-    → AllByRecursion (λ (m : Message). 0 < length m.bytes) (drop n ms)
+some_drop : (n : ℕ) (ms : List QueuedMessage) → AllByRecursion (λ (m : QueuedMessage). 0 < length m.bytes) ms
+    → AllByRecursion (λ (m : QueuedMessage). 0 < length m.bytes) (drop n ms)
 some_drop zero ms h = h
 some_drop (suc n) [] h = tt
 some_drop (suc n) (m ∷ ms) h = some_drop n ms h.1
 
 -- one byte begins one message
-begun_one : (m : Message) (ms : List Message) → 0 < length m.bytes → begun 1 (m ∷ ms) ≡ m ∷ []
+begun_one : (m : QueuedMessage) (ms : List QueuedMessage) → 0 < length m.bytes → begun 1 (m ∷ ms) ≡ m ∷ []
 begun_one m ms h =
     let z : 1 - length m.bytes ≡ 0 = omega (arith, h) in
-    ap (λ (i : ℕ). m ∷ begun i ms) z ∙ ap (λ (l : List Message). m ∷ l) (begun_none ms)
+    ap (λ (i : ℕ). m ∷ begun i ms) z ∙ ap (λ (l : List QueuedMessage). m ∷ l) (begun_none ms)
 
 -- what waits where nothing more goes without a token
-rest_waits : (left : List ℕ) (ms : List Message) → AllByRecursion (λ (m : Message). 0 < length m.bytes) ms
+rest_waits : (left : List ℕ) (ms : List QueuedMessage) → AllByRecursion (λ (m : QueuedMessage). 0 < length m.bytes) ms
     → (0 < length (left ++ all_bytes ms) → 0 < length (all_tokens (begun (1 - length left) ms)))
     → (left ++ all_bytes ms ≡ []) ⊎ ((left ≡ []) × FirstHasTokens ms)
 rest_waits [] [] some more = inl refl
 rest_waits [] (m ∷ ms) some more =
     let t = more (omega (arith, some.0, length-append m.bytes (all_bytes ms))) in
-    let one = ap (λ (l : List Message). length (all_tokens l)) (begun_one m ms some.0)
+    let one = ap (λ (l : List QueuedMessage). length (all_tokens l)) (begun_one m ms some.0)
     ∙ ap (λ (xs : List ℕ). length xs) (append-nil m.tokens) in
     inr (refl, omega (arith, t, one))
 rest_waits (b ∷ left) ms some more =
     let t = more (omega arith) in
     let z : 1 - length (b ∷ left) ≡ 0 = omega arith in
     let none = ap (λ (i : ℕ). length (all_tokens (begun i ms))) z
-    ∙ ap (λ (l : List Message). length (all_tokens l)) (begun_none ms) in
+    ∙ ap (λ (l : List QueuedMessage). length (all_tokens l)) (begun_none ms) in
     absurd (omega (arith, t, none))
 
 -- once all goes that can, either nothing waits or the next message has tokens
-pub stops : (h : Kept) (o : Outgoing) (taken : Taken) → IsKept h → outgoing h ≡ o
+pub stops : (h : Kept) (o : Outgoing) (taken : Amounts) → IsKept h → outgoing h ≡ o
     → Goes o (length (waiting_bytes o)) 0 taken
     → (waiting_bytes (after_taking o taken.bytes) ≡ []) ⊎ NextHasTokens (after_taking o taken.bytes)
 stops h o taken i e g =
     let n : ℕ = taken.bytes in
     let after = after_taking o n in
-    let some : AllByRecursion (λ (m : Message). 0 < length m.bytes) o.messages =
-    subst (λ (p : Outgoing). AllByRecursion (λ (m : Message). 0 < length m.bytes) p.messages) e
+    let some : AllByRecursion (λ (m : QueuedMessage). 0 < length m.bytes) o.messages =
+    subst (λ (p : Outgoing). AllByRecursion (λ (m : QueuedMessage). 0 < length m.bytes) p.messages) e
     (some_messages h i) in
     let may : MayGo o n 0 n = record { there = g.may.there; within = omega arith; tokens_within = g.may.tokens_within }
     in
@@ -269,7 +270,7 @@ stops h o taken i e g =
           )
     ])
 
-pub is_may : (o : Outgoing) (taken : Taken) → Goes o (length (waiting_bytes o)) 0 taken
+pub is_may : (o : Outgoing) (taken : Amounts) → Goes o (length (waiting_bytes o)) 0 taken
     → MayGo o taken.bytes 0 taken.bytes
 is_may o taken g = record { there = g.may.there; within = omega arith; tokens_within = g.may.tokens_within }
 
@@ -319,7 +320,7 @@ ended o held w o' holds may written none = record {
   needs_tokens = (
     (λ (f : ⊥). absurd f),
     λ next. absurd
-        (subst (λ (ms : List Message). FirstHasTokens ms) none.1 next.1),
+        (subst (λ (ms : List QueuedMessage). FirstHasTokens ms) none.1 next.1),
   );
 }
 
@@ -377,9 +378,9 @@ after_none o =
     let none : newly_begun o 0 ≡ [] = let z : 0 - length o.left ≡ 0 = omega arith
     in ap (λ (i : ℕ). begun i o.messages) z ∙ begun_none o.messages in
     let left : o.left ≡ o.left ++ all_bytes (newly_begun o 0) =
-    sym (ap (λ (ms : List Message). o.left ++ all_bytes ms) none ∙ append-nil o.left) in
+    sym (ap (λ (ms : List QueuedMessage). o.left ++ all_bytes ms) none ∙ append-nil o.left) in
     let messages : o.messages ≡ drop (length (newly_begun o 0)) o.messages =
-    sym (ap (λ (ms : List Message). drop (length ms) o.messages) none) in
+    sym (ap (λ (ms : List QueuedMessage). drop (length ms) o.messages) none) in
     let from : o.error_from ≡ o.error_from - 0 = omega arith in
     let to : o.error_to ≡ o.error_to - 0 = omega arith in
     λ d. record {

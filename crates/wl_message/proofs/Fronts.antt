@@ -1,13 +1,13 @@
 -- What stands in front of bytes.
-use Rattle.std.proofs.Common.{◌≡◌, ℕ, ◌+◌, ◌-◌, ◌<◌, ◌≤◌, min, Bool, true, false, cond, List, ◌++◌}
-use Rattle.std.proofs.Common.{length, take, drop, length-take-le, refl, sym, ap, subst, ◌∙◌, arith}
+use Rattle.std.proofs.Common.{◌≡◌, ℕ, ◌+◌, ◌-◌, ◌<◌, ◌≤◌, Bool, true, false, cond, List, [], ◌++◌}
+use Rattle.std.proofs.Common.{length, take, drop, refl, sym, ap, subst, ◌∙◌, arith}
 use Rattle.std.proofs.Common.{ltb}
 use Rattle.std.proofs.lemmas.Bool.Decides.{nat_tests}
-use Rattle.std.proofs.lemmas.List.{length-take, take-append-le}
+use Rattle.std.proofs.lemmas.List.{take-append-le, length-take, drop_all}
 use Rattle.std.proofs.Math.Seq.{take-add, take-append-add}
 use Rattle.wl_wire.specs.Word.{header_bytes}
 use Rattle.wl_wire.specs.declared.header.Header.{Header}
-use Rattle.wl_message.specs.Arrived.{HasParts, IsCopy}
+use Rattle.wl_message.specs.Arrived.{HasParts}
 use Rattle.wl_message.specs.Cut.{front, Front, More, Bad, Whole, told_size, is_size, IsSize, HasMessage, message_size}
 
 -- the test tells the fact
@@ -80,22 +80,9 @@ parts_of bytes h low there e =
           ∙ ap (λ (l : List ℕ). l ++ take (h.size - 8) (drop 8 bytes)) e;
     }
 
--- ---- a copy of the message in front
-
-pub copy_is : (bytes copy : List ℕ) (n : ℕ) → n ≡ told_size bytes → n ≤ length bytes → copy ≡ take n bytes
-    → IsCopy bytes copy
-copy_is bytes copy n s there e =
-    let l : length copy ≡ n = ap length e ∙ length-take-le n bytes there in
-    record { told = l ∙ s; same = e ∙ ap (λ (k : ℕ). take k bytes) (sym l) }
-
--- where a whole message stands in front, the copy is of that
-pub copied_size : (limit : ℕ) (bytes copy : List ℕ) → HasMessage (front limit bytes) → IsCopy bytes copy
-    → message_size (front limit bytes) ≡ length copy
-copied_size limit bytes copy h c = (has_message limit bytes h).told ∙ sym c.told
-
-pub copy_there : (bytes copy : List ℕ) → IsCopy bytes copy → length copy ≤ length bytes
-copy_there bytes copy c = let e : length copy ≡ min (length copy) (length bytes) =
-    ap length c.same ∙ length-take (length copy) bytes in grind (arith, nat_tests, e)
+-- a header alone has no body
+pub header_alone : (xs : List ℕ) → drop 8 (take 8 xs) ≡ []
+header_alone xs = drop_all 8 (take 8 xs) (omega (arith, length-take 8 xs))
 
 -- the front of two lists, one after the other, ends in the first
 pub front_in_first : {X : Type 0} (a b c : List X) (n : ℕ) → a ++ b ≡ c → n ≤ length a → take n a ≡ take n c

@@ -8,10 +8,10 @@ use Rattle.std.proofs.lemmas.List.{drop-append-le, drop-drop, drop-take, take_al
 use Rattle.std.proofs.Math.Seq.{take-add}
 use Rattle.wl_message.specs.declared.marks.Mark.{Mark}
 use Rattle.wl_message.specs.declared.marks.Reach.{Reach}
-use Rattle.wl_message.specs.Outgoing.{Message, message, Outgoing, all_bytes, all_tokens, begun}
+use Rattle.wl_message.specs.Outgoing.{QueuedMessage, queued, Outgoing, all_bytes, all_tokens, begun}
 use Rattle.wl_message.specs.Outgoing.{newly_begun, going_bytes, goes, waiting_bytes, waiting_tokens}
 use Rattle.wl_message.specs.Outgoing.{with_message, with_error, after_taking}
-use Rattle.wl_message.specs.Marks.{reach, Reaches, parted, lens, token_counts, Kept, outgoing, IsKept}
+use Rattle.wl_message.specs.Marks.{reach, ReachesRoom, parted, lens, token_counts, Kept, outgoing, IsKept}
 use Rattle.wl_message.proofs.WhatGoes.{begun_front, marks_of, reaches}
 
 -- ---- marks
@@ -89,7 +89,7 @@ marks-parted (k ∷ ks) bs ts h =
     λ i. record { len = p i; tokens = q i } ∷ r i
 
 some-parted : (ks : List Mark) (bs ts : List ℕ) → Parts ks bs ts → AllByRecursion (λ (i : Mark). 8 ≤ i.len) ks
-    → AllByRecursion (λ (m : Message). 0 < length m.bytes) (parted ks bs ts)
+    → AllByRecursion (λ (m : QueuedMessage). 0 < length m.bytes) (parted ks bs ts)
 some-parted [] bs ts h e = tt
 some-parted (k ∷ ks) bs ts h e = (
   omega (arith, length-take k.len bs, h.bytes, e.0),
@@ -98,7 +98,8 @@ some-parted (k ∷ ks) bs ts h e = (
 )
 
 -- each message of an outbox has bytes
-pub some_messages : (h : Kept) → IsKept h → AllByRecursion (λ (m : Message). 0 < length m.bytes) (outgoing h).messages
+pub some_messages : (h : Kept) → IsKept h → AllByRecursion (λ (m : QueuedMessage). 0 < length m.bytes)
+    (outgoing h).messages
 some_messages h i = some-parted h.marks _ _ (record {
   bytes = omega (arith, i.bytes, length-drop h.left h.bytes);
   tokens = i.tokens;
@@ -111,9 +112,9 @@ length-parted (k ∷ ks) bs ts = ap suc (length-parted ks _ _)
 -- a message more at the end
 pub parted-append : (ks : List Mark) (bs ts m t : List ℕ) → Parts ks bs ts
     → parted (ks ++ record { len = length m; tokens = length t } ∷ []) (bs ++ m) (ts ++ t)
-    ≡ parted ks bs ts ++ message m t ∷ []
+    ≡ parted ks bs ts ++ queued m t ∷ []
 parted-append [] bs ts m t h =
-    rw (empty bs h.bytes, empty ts h.tokens) (λ i. message (take_all (length m) m (omega arith) i)
+    rw (empty bs h.bytes, empty ts h.tokens) (λ i. queued (take_all (length m) m (omega arith) i)
     (take_all (length t) t (omega arith) i) ∷ [])
 parted-append (k ∷ ks) bs ts m t h =
     let rest = parted-append ks (drop k.len bs) (drop k.tokens ts) m t (parts_tail k ks bs ts h) in
@@ -177,7 +178,7 @@ same_left h m i = let p : h.left ≤ length h.bytes = omega (arith, i.bytes) in 
 
 more_behind : (h : Kept) (m t : List ℕ) → IsKept h
     → parted (h.marks ++ record { len = length m; tokens = length t } ∷ []) (drop h.left (h.bytes ++ m)) (h.tokens ++ t)
-    ≡ parted h.marks (drop h.left h.bytes) h.tokens ++ message m t ∷ []
+    ≡ parted h.marks (drop h.left h.bytes) h.tokens ++ queued m t ∷ []
 more_behind h m t i =
     let p : h.left ≤ length h.bytes = omega (arith, i.bytes) in
     rw (drop-append-le h.left h.bytes m p) (parted-append h.marks (drop h.left h.bytes) h.tokens m t (kept_parts h i))
@@ -236,7 +237,7 @@ pushed_error h m i =
     let w : length h.bytes ≡ length (waiting_bytes (outgoing h)) =
     ap (λ (l : List ℕ). length l) (sym (bytes_wait h i)) in
     let e = subst (λ (l : List ℕ). parted (h.marks ++ record { len = length m; tokens = 0 } ∷ [])
-    (drop h.left (h.bytes ++ m)) l ≡ parted h.marks (drop h.left h.bytes) h.tokens ++ message m [] ∷ [])
+    (drop h.left (h.bytes ++ m)) l ≡ parted h.marks (drop h.left h.bytes) h.tokens ++ queued m [] ∷ [])
     (append-nil h.tokens) (more_behind h m [] i) in
     λ d. record {
       left = same_left h m i d;
@@ -275,7 +276,7 @@ error_kept h m i first low high =
 
 pub reaches_kept : (h : Kept) (b t first : ℕ) (r : Reach) → IsKept h → first ≡ min b h.left
     → r ≡ reach (b - first) t 0 h.marks
-    → Reaches (outgoing h) b t (record {
+    → ReachesRoom (outgoing h) b t (record {
       bytes = r.bytes;
       tokens = r.tokens;
       begun = r.begun;
@@ -290,7 +291,7 @@ reaches_kept h b t first r i f e =
     (marks_of (parted h.marks (drop h.left h.bytes) h.tokens)) =
     e ∙ (λ d. reach (b - f' d) t 0 (sym m d)) in
     let g = reaches (outgoing h) b t r (some-parted h.marks _ _ p i.each) e' in
-    subst (λ (n : ℕ). Reaches (outgoing h) b t (record {
+    subst (λ (n : ℕ). ReachesRoom (outgoing h) b t (record {
       bytes = r.bytes;
       tokens = r.tokens;
       begun = r.begun;
@@ -317,7 +318,7 @@ pub record Leaves (h : Kept) (n k begun left : ℕ) : Type 0 where
   pub after : outgoing (kept_after h n k begun left) ≡ after_taking (outgoing h) n
   pub kept : IsKept (kept_after h n k begun left)
 
-pub leaves : (h : Kept) (b t n k : ℕ) (r : Reach) → IsKept h → Reaches (outgoing h) b t r → n ≡ b - r.bytes
+pub leaves : (h : Kept) (b t n k : ℕ) (r : Reach) → IsKept h → ReachesRoom (outgoing h) b t r → n ≡ b - r.bytes
     → k ≡ t - r.tokens → Leaves h n k r.begun r.left
 leaves h b t n k r i g en ek =
     let p = kept_parts h i in
@@ -334,9 +335,9 @@ leaves h b t n k r i g en ek =
     ∙ ap (λ (q : ℕ). take q ms) (sym g.begun) in
     let begun_len : length (newly_begun o n) ≡ j = ap (λ (q : ℕ). length (newly_begun o q)) n_is ∙ sym g.begun in
     let bytes_are : all_bytes (newly_begun o n) ≡ take size (drop l h.bytes) =
-    ap (λ (m : List Message). all_bytes m) begun_is ∙ s.bytes in
+    ap (λ (m : List QueuedMessage). all_bytes m) begun_is ∙ s.bytes in
     let tokens_are : all_tokens (newly_begun o n) ≡ take count h.tokens =
-    ap (λ (m : List Message). all_tokens m) begun_is ∙ s.tokens in
+    ap (λ (m : List QueuedMessage). all_tokens m) begun_is ∙ s.tokens in
     let size_within : size + lens (drop j h.marks) ≡ lens h.marks = lens-parts j h.marks in
     let count_within : count + token_counts (drop j h.marks) ≡ token_counts h.marks = counts-parts j h.marks in
     let bytes_len : length (all_bytes (newly_begun o n)) ≡ size =
@@ -371,7 +372,7 @@ leaves h b t n k r i g en ek =
       marks = omega (
         arith,
         begun_len,
-        ap (λ (q : List Message). length q) begun_is,
+        ap (λ (q : List QueuedMessage). length q) begun_is,
         length-take j ms,
         length-parted
             h.marks (drop l h.bytes) h.tokens,
@@ -399,7 +400,7 @@ leaves h b t n k r i g en ek =
       };
     }
 
-pub is_taken : (o : Outgoing) (b t : ℕ) (r : Reach) → Reaches o b t r
+pub is_taken : (o : Outgoing) (b t : ℕ) (r : Reach) → ReachesRoom o b t r
     → record { bytes = b - r.bytes; tokens = t - r.tokens } ≡ goes o b t
 unfolding goes
 is_taken o b t r g =

@@ -1,12 +1,12 @@
 -- Bytes that go round in a block.
-use Rattle.std.proofs.Common.{◌≡◌, ℕ, ◌+◌, ◌-◌, ◌<◌, ◌≤◌, ◌⊎◌, List, [], ◌++◌, length, take, drop}
-use Rattle.std.proofs.Common.{min, refl, sym, ap, ◌∙◌, arith, inl, inr, append_assoc}
+use Rattle.std.proofs.Common.{◌≡◌, ℕ, ◌+◌, ◌-◌, ◌<◌, ◌≤◌, List, [], ◌++◌, length, take, drop}
+use Rattle.std.proofs.Common.{min, sym, ap, ◌∙◌, arith, inl, inr, append_assoc}
 use Rattle.std.proofs.lemmas.Bool.{cases_lt}
 use Rattle.std.proofs.lemmas.List.{append-nil, take-append-drop, take-append-le, drop-append-le}
 use Rattle.std.proofs.lemmas.List.{drop-drop, take-take, take_all, drop_all, length-drop}
-use Rattle.std.proofs.lemmas.List.{length-append, length-take-le, take_at, drop_at, drop-take}
+use Rattle.std.proofs.lemmas.List.{length-append, length-take-le, drop-take}
 use Rattle.std.proofs.lemmas.Slice.{take-put_mid, drop-put_mid}
-use Rattle.std.proofs.Math.Seq.{take-append-add, drop-append-add, take-add}
+use Rattle.std.proofs.Math.Seq.{take-append-add, drop-append-add}
 use borrow.Rule.Slice.PartMut.{put_mid}
 use Rattle.wl_message.specs.Around.{GoRound, StandsAt, around}
 
@@ -182,3 +182,24 @@ around-len s n b go =
     let start = go.start in
     length-take-le n (drop s b ++ take s b) (omega
     (arith, length-append (drop s b) (take s b), length-drop s b, length-take-le s b start))
+
+-- what lies behind bytes that go round, in two parts
+pub around-behind : (s n p f : ℕ) (b ys zs : List ℕ) → GoRound s n (length b) → StandsAt s n (length b) p
+    → f ≡ min (length b - n) (length b - p) → ys ≡ take f (drop p b) → zs ≡ take (length b - n - f) b
+    → around s n b ++ (ys ++ zs) ≡ around s (length b) b
+around-behind s n p f b ys zs go at first is_front is_rest =
+    let l : ℕ = length b in
+    let start = go.start in
+    let size = go.size in
+    let all : GoRound s l l = record { start = go.start; turns = go.turns; size = omega arith; small = go.small } in
+    let low : p ≤ l = elim at [ inl h ↦ omega (arith, h.0, h.1) | inr h ↦ omega arith ] in
+    let turns : 0 < l → p < l =
+    elim at [ inl h ↦ λ z. omega (arith, h.0, h.1) | inr h ↦ λ z. (let t = go.turns z in omega arith) ] in
+    let next : GoRound p (l - n) l = record { start = low; turns = turns; size = omega arith; small = go.small } in
+    let rest : ys ++ zs ≡ drop n (around s l b) =
+    around-parts p (l - n) (l - n) f b ys zs next (omega arith) first is_front is_rest
+    ∙ take-take (l - n) (l - n) (drop p b ++ take p b) (omega arith)
+    ∙ around-drop s l n p b all size at in
+    ap (λ k. around s n b ++ k) rest
+    ∙ ap (λ k. k ++ drop n (around s l b)) (sym (take-take n l (drop s b ++ take s b) size))
+    ∙ take-append-drop n (around s l b)

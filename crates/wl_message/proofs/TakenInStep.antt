@@ -3,26 +3,26 @@ use Rattle.std.proofs.Common.{◌≡◌, ℕ, zero, suc, ◌+◌, ◌-◌, ◌<�
 use Rattle.std.proofs.Common.{◌++◌, length, take, drop, map, refl, sym, ap, subst, ◌∙◌, arith}
 use Rattle.std.proofs.Common.{length-append}
 use Rattle.std.proofs.lemmas.List.{append_assoc, append-nil, take-append-drop, take-append-le, take_all, map-append}
-use Rattle.wl_message.specs.declared.amounts.Taken.{Taken}
-use Rattle.wl_message.specs.Outgoing.{Message, Outgoing, all_bytes, all_tokens, begun, newly_begun}
+use Rattle.wl_message.specs.declared.amounts.Amounts.{Amounts}
+use Rattle.wl_message.specs.Outgoing.{QueuedMessage, Outgoing, all_bytes, all_tokens, begun, newly_begun}
 use Rattle.wl_message.specs.Outgoing.{Goes, goes, waiting_bytes, waiting_tokens, after_taking}
 use Rattle.wl_message.specs.InStep.{Part, part_bytes, part_tokens, Need, need, total_size}
-use Rattle.wl_message.specs.InStep.{total_need, InStep, Passes, Carried, part_taken, Gave, starts}
+use Rattle.wl_message.specs.InStep.{total_need, InStep, TakesFromFront, HaveCarried, part_taken, Gave, starts}
 use Rattle.wl_message.specs.InStep.{adds, adds_error, takes}
 use Rattle.wl_message.proofs.WhatGoes.{begun_front}
 
-pub bytes_append : (xs ys : List Message) → all_bytes (xs ++ ys) ≡ all_bytes xs ++ all_bytes ys
+pub bytes_append : (xs ys : List QueuedMessage) → all_bytes (xs ++ ys) ≡ all_bytes xs ++ all_bytes ys
 bytes_append [] ys = refl
 bytes_append (x ∷ xs) ys = ap (λ (l : List ℕ). x.bytes ++ l) (bytes_append xs ys)
     ∙ sym (append_assoc x.bytes (all_bytes xs) (all_bytes ys))
 
-pub tokens_append : (xs ys : List Message) → all_tokens (xs ++ ys) ≡ all_tokens xs ++ all_tokens ys
+pub tokens_append : (xs ys : List QueuedMessage) → all_tokens (xs ++ ys) ≡ all_tokens xs ++ all_tokens ys
 tokens_append [] ys = refl
 tokens_append (x ∷ xs) ys = ap (λ (l : List ℕ). x.tokens ++ l) (tokens_append xs ys)
     ∙ sym (append_assoc x.tokens (all_tokens xs) (all_tokens ys))
 
 -- the messages that n bytes begin have at least n bytes, if there are so many
-begun_enough : (n : ℕ) (ms : List Message) → n ≤ length (all_bytes ms) → n ≤ length (all_bytes (begun n ms))
+begun_enough : (n : ℕ) (ms : List QueuedMessage) → n ≤ length (all_bytes ms) → n ≤ length (all_bytes (begun n ms))
 begun_enough n [] h = h
 begun_enough zero (m ∷ ms) h = omega arith
 begun_enough (suc n) (m ∷ ms) h =
@@ -32,23 +32,24 @@ begun_enough (suc n) (m ∷ ms) h =
 take_front : (xs ys : List ℕ) → take (length xs) (xs ++ ys) ≡ xs
 take_front xs ys = take-append-le (length xs) xs ys (omega arith) ∙ take_all (length xs) xs (omega arith)
 
-pub passes : (o : Outgoing) (b t : ℕ) (taken : Taken) → Goes o b t taken → Passes o taken
+pub passes : (o : Outgoing) (b t : ℕ) (taken : Amounts) → Goes o b t taken → TakesFromFront o taken
 passes o b t taken g =
     let n : ℕ = taken.bytes in
     let begins = newly_begun o n in
     let after = drop (length begins) o.messages in
     let front : begins ≡ take (length begins) o.messages = begun_front (n - length o.left) o.messages in
     let all : o.messages ≡ begins ++ after =
-    sym (take-append-drop (length begins) o.messages) ∙ ap (λ (l : List Message). l ++ after) (sym front) in
+    sym (take-append-drop (length begins) o.messages) ∙ ap (λ (l : List QueuedMessage). l ++ after) (sym front) in
     let bytes : waiting_bytes o ≡ (o.left ++ all_bytes begins) ++ all_bytes after =
-    ap (λ (l : List Message). o.left ++ all_bytes l) all ∙ ap (λ (l : List ℕ). o.left ++ l) (bytes_append begins after)
+    ap (λ (l : List QueuedMessage). o.left ++ all_bytes l) all
+    ∙ ap (λ (l : List ℕ). o.left ++ l) (bytes_append begins after)
     ∙ sym (append_assoc o.left (all_bytes begins) (all_bytes after)) in
     let enough : n ≤ length (o.left ++ all_bytes begins) =
     let e = begun_enough (n - length o.left) o.messages
     (omega (arith, g.may.there, length-append o.left (all_bytes o.messages))) in
     omega (arith, e, length-append o.left (all_bytes begins)) in
     let tokens : waiting_tokens o ≡ all_tokens begins ++ all_tokens after =
-    ap (λ (l : List Message). all_tokens l) all ∙ tokens_append begins after in
+    ap (λ (l : List QueuedMessage). all_tokens l) all ∙ tokens_append begins after in
     record {
       rest = all;
       gone = sym (take-append-drop n (o.left ++ all_bytes begins))
@@ -70,9 +71,11 @@ part_tokens_append [] ys = refl
 part_tokens_append (x ∷ xs) ys = ap (λ (l : List ℕ). x.tokens ++ l) (part_tokens_append xs ys)
     ∙ sym (append_assoc x.tokens (part_tokens xs) (part_tokens ys))
 
-pub carried : (sent : List Message) (o : Outgoing) (parts : List Part) (b t : ℕ) (taken : Taken) → Goes o b t taken
-    → Carried sent o.left parts
-    → Carried (sent ++ newly_begun o taken.bytes) (after_taking o taken.bytes).left (parts ++ part_taken o taken ∷ [])
+pub carried : (sent : List QueuedMessage) (o : Outgoing) (parts : List Part) (b t : ℕ) (taken : Amounts)
+    → Goes o b t taken
+    → HaveCarried sent o.left parts
+    → HaveCarried (sent ++ newly_begun o taken.bytes) (after_taking o taken.bytes).left
+    (parts ++ part_taken o taken ∷ [])
 carried sent o parts b t taken g c =
     let p = passes o b t taken g in
     let begins = newly_begun o taken.bytes in
@@ -133,11 +136,11 @@ ends_with (p ∷ parts) more (y ∷ earlier) here later e =
     subst (λ (q : Part). EndsWith (p ∷ parts) more (q ∷ earlier) here later) f
     (longer parts earlier more here later p (ends_with parts more earlier here later d))
 
-need_size : (ms : List Message) → total_size (map need ms) ≡ length (all_bytes ms)
+need_size : (ms : List QueuedMessage) → total_size (map need ms) ≡ length (all_bytes ms)
 need_size [] = refl
 need_size (m ∷ ms) = omega (arith, need_size ms, length-append m.bytes (all_bytes ms))
 
-need_tokens : (ms : List Message) → total_need (map need ms) ≡ length (all_tokens ms)
+need_tokens : (ms : List QueuedMessage) → total_need (map need ms) ≡ length (all_tokens ms)
 need_tokens [] = refl
 need_tokens (m ∷ ms) = omega (arith, need_tokens ms, length-append m.tokens (all_tokens ms))
 
@@ -146,7 +149,7 @@ abbrev pub Enough : List Need → Need → List Part → Part → List Part → 
 Enough before this earlier here later =
     (total_need before + this.tokens ≤ length (part_tokens earlier) + length here.tokens) ⊎ (part_tokens later ≡ [])
 
-came_before : (sent waiting : List Message) (left : List ℕ) (parts : List Part) → Carried sent left parts
+came_before : (sent waiting : List QueuedMessage) (left : List ℕ) (parts : List Part) → HaveCarried sent left parts
     → (before : List Need) (this : Need) (after : List Need) → map need (sent ++ waiting) ≡ before ++ this ∷ after
     → (earlier : List Part) (here : Part) (fewer later : List Part) → parts ≡ earlier ++ here ∷ fewer
     → total_size before < length (part_bytes earlier) + length here.bytes
@@ -185,7 +188,8 @@ came_before sent waiting left parts c before this after e earlier here fewer lat
           (λ (l : List ℕ). length l) none,
     ))
 
-keeps_at : (sent waiting : List Message) (left : List ℕ) (parts : List Part) (more : Part) → Carried sent left parts
+keeps_at : (sent waiting : List QueuedMessage) (left : List ℕ) (parts : List Part) (more : Part)
+    → HaveCarried sent left parts
     → InStep (map need (sent ++ waiting)) parts
     → (before : List Need) (this : Need) (after : List Need) → map need (sent ++ waiting) ≡ before ++ this ∷ after
     → (earlier : List Part) (here : Part) (later : List Part)
@@ -198,18 +202,19 @@ keeps_at sent waiting left parts more c s before this after e earlier here later
     came_before sent waiting left parts c before this after e earlier here split.0 later split.2 high
     (s before this after e earlier here split.0 split.2 low high)
 
-pub keeps_step : (sent waiting : List Message) (left : List ℕ) (parts : List Part) (more : Part)
-    → Carried sent left parts
+pub keeps_step : (sent waiting : List QueuedMessage) (left : List ℕ) (parts : List Part) (more : Part)
+    → HaveCarried sent left parts
     → InStep (map need (sent ++ waiting)) parts → InStep (map need (sent ++ waiting)) (parts ++ more ∷ [])
 keeps_step sent waiting left parts more c s before this after e earlier here later f low high =
     keeps_at sent waiting left parts more c s before this after e earlier here later low high
     (ends_with parts more earlier here later f)
 
 -- what an outbox gave is in step, whatever messages follow
-abbrev pub Tidy : List Message → List Part → Outgoing → Type 0
-Tidy sent parts o = Carried sent o.left parts × ((waiting : List Message) → InStep (map need (sent ++ waiting)) parts)
+abbrev pub Tidy : List QueuedMessage → List Part → Outgoing → Type 0
+Tidy sent parts o = HaveCarried sent o.left parts × ((waiting : List QueuedMessage)
+    → InStep (map need (sent ++ waiting)) parts)
 
-tidy : (sent : List Message) (parts : List Part) (o : Outgoing) → Gave sent parts o → Tidy sent parts o
+tidy : (sent : List QueuedMessage) (parts : List Part) (o : Outgoing) → Gave sent parts o → Tidy sent parts o
 tidy sent parts o starts = (
   record { bytes = refl; tokens = refl },
   λ waiting before this after e earlier here later f low high. absurd (no_more earlier here later f),
@@ -219,15 +224,16 @@ tidy sent parts o (adds_error bytes g) = tidy sent parts _ g
 tidy sent parts o (takes {sent = ms} {parts = ps} {o = p} {b = b} {t = t} {taken = taken} goes g) =
     let h = tidy ms ps p g in (
       carried ms p ps b t taken goes h.0,
-      λ waiting. subst (λ (l : List Message). InStep (map need l) (ps ++ part_taken p taken ∷ []))
+      λ waiting. subst (λ (l : List QueuedMessage). InStep (map need l) (ps ++ part_taken p taken ∷ []))
           (sym (append_assoc ms (newly_begun p taken.bytes) waiting))
           (keeps_step ms (newly_begun p taken.bytes ++ waiting) p.left ps (part_taken p taken) h.0
           (h.1 (newly_begun p taken.bytes ++ waiting))),
     )
 
-pub gave_in_step : (sent : List Message) (parts : List Part) (o : Outgoing) → Gave sent parts o
+pub gave_in_step : (sent : List QueuedMessage) (parts : List Part) (o : Outgoing) → Gave sent parts o
     → InStep (map need (sent ++ o.messages)) parts
 gave_in_step sent parts o g = (tidy sent parts o g).1 o.messages
 
-pub gave_all : (sent : List Message) (parts : List Part) (o : Outgoing) → Gave sent parts o → Carried sent o.left parts
+pub gave_all : (sent : List QueuedMessage) (parts : List Part) (o : Outgoing) → Gave sent parts o
+    → HaveCarried sent o.left parts
 gave_all sent parts o g = (tidy sent parts o g).0

@@ -1,10 +1,10 @@
 -- Tokens that are taken out without their messages.
-use Rattle.std.proofs.Common.{◌≡◌, ℕ, zero, suc, ◌-◌, ◌≤◌, List, [], ◌∷◌, ◌++◌, length, take, drop}
+use Rattle.std.proofs.Common.{◌≡◌, ℕ, zero, suc, ◌-◌, ◌≤◌, min, List, [], ◌∷◌, ◌++◌, length, take, drop}
 use Rattle.std.proofs.Common.{refl, sym, ap, ◌∙◌, arith, length-append, append_assoc}
 use Rattle.std.proofs.lemmas.List.{take-append-drop}
-use Rattle.wl_message.specs.declared.amounts.Taken.{Taken}
+use Rattle.wl_message.specs.declared.amounts.Amounts.{Amounts}
 use Rattle.wl_message.specs.Arrived.{Arrived, Gives, starts, feeds, passes, takes}
-use Rattle.wl_message.specs.Outgoing.{Message, Outgoing, all_tokens, begun, Goes, waiting_bytes, waiting_tokens}
+use Rattle.wl_message.specs.Outgoing.{QueuedMessage, Outgoing, all_tokens, begun, Goes, waiting_bytes, waiting_tokens}
 
 -- ---- an inbox
 
@@ -23,7 +23,7 @@ gives_all fed given a (takes {fed = f} {given = g} {a = b} n h) = gives_all f g 
 
 -- ---- an outbox
 
-tokens_begun : (n : ℕ) (ms : List Message) → length (all_tokens (begun n ms)) ≤ length (all_tokens ms)
+tokens_begun : (n : ℕ) (ms : List QueuedMessage) → length (all_tokens (begun n ms)) ≤ length (all_tokens ms)
 tokens_begun n [] = omega arith
 tokens_begun zero (m ∷ ms) = omega arith
 tokens_begun (suc n) (m ∷ ms) =
@@ -36,7 +36,7 @@ tokens_begun (suc n) (m ∷ ms) =
     )
 
 -- where all tokens find room, all goes
-pub all_go : (o : Outgoing) (t : ℕ) (taken : Taken) → Goes o (length (waiting_bytes o)) t taken
+pub all_go : (o : Outgoing) (t : ℕ) (taken : Amounts) → Goes o (length (waiting_bytes o)) t taken
     → length (waiting_tokens o) ≤ t → length (waiting_bytes o) ≤ taken.bytes
 all_go o t taken g h =
     g.longest (length (waiting_bytes o)) (record {
@@ -44,3 +44,17 @@ all_go o t taken g h =
       within = omega arith;
       tokens_within = omega (arith, h, tokens_begun (length (waiting_bytes o) - length o.left) o.messages);
     })
+
+-- and as much goes as there is room for bytes
+pub as_many : (o : Outgoing) (b t : ℕ) (taken : Amounts) → Goes o b t taken → length (waiting_tokens o) ≤ t
+    → taken.bytes ≡ min b (length (waiting_bytes o))
+as_many o b t taken g h =
+    let n : ℕ = min b (length (waiting_bytes o)) in
+    let there = g.may.there in
+    let within = g.may.within in
+    let most = g.longest n (record {
+      there = omega arith;
+      within = omega arith;
+      tokens_within = omega (arith, h, tokens_begun (n - length o.left) o.messages);
+    }) in
+    omega (arith, most, there, within)

@@ -6,37 +6,37 @@ use Rattle.std.specs.List.{AllByRecursion}
 use Rattle.std.proofs.lemmas.Bool.Decides.{nat_tests}
 use Rattle.wl_message.specs.declared.marks.Mark.{Mark}
 use Rattle.wl_message.specs.declared.marks.Reach.{Reach}
-use Rattle.wl_message.specs.declared.amounts.Taken.{Taken}
-use Rattle.wl_message.specs.Outgoing.{Message, Outgoing, all_bytes, all_tokens, begun, going}
+use Rattle.wl_message.specs.declared.amounts.Amounts.{Amounts}
+use Rattle.wl_message.specs.Outgoing.{QueuedMessage, Outgoing, all_bytes, all_tokens, begun, going}
 use Rattle.wl_message.specs.Outgoing.{newly_begun, going_bytes, Goes, goes}
-use Rattle.wl_message.specs.Marks.{reach, Reaches}
+use Rattle.wl_message.specs.Marks.{reach, ReachesRoom}
 
 -- ---- the messages begun
 
-pub begun_none : (ms : List Message) → begun 0 ms ≡ []
+pub begun_none : (ms : List QueuedMessage) → begun 0 ms ≡ []
 begun_none [] = refl
 begun_none (m ∷ ms) = refl
 
-pub begun_some : (m : Message) (ms : List Message) (n : ℕ) → 0 < n
+pub begun_some : (m : QueuedMessage) (ms : List QueuedMessage) (n : ℕ) → 0 < n
     → begun n (m ∷ ms) ≡ m ∷ begun (n - length m.bytes) ms
 begun_some m ms zero h = absurd (omega arith)
 begun_some m ms (suc n) h = refl
 
-pub begun_front : (n : ℕ) (ms : List Message) → begun n ms ≡ take (length (begun n ms)) ms
+pub begun_front : (n : ℕ) (ms : List QueuedMessage) → begun n ms ≡ take (length (begun n ms)) ms
 begun_front n [] = refl
 begun_front zero (m ∷ ms) = refl
-begun_front (suc n) (m ∷ ms) = ap (λ (r : List Message). m ∷ r) (begun_front (suc n - length m.bytes) ms)
+begun_front (suc n) (m ∷ ms) = ap (λ (r : List QueuedMessage). m ∷ r) (begun_front (suc n - length m.bytes) ms)
 
 -- ---- what goes is the most that may go
 
-pub going_none : (t : ℕ) (ms : List Message) → going 0 t ms ≡ 0
+pub going_none : (t : ℕ) (ms : List QueuedMessage) → going 0 t ms ≡ 0
 going_none t [] = refl
 going_none t (m ∷ ms) = refl
 
 within_step : (b t l k g : ℕ) → g ≤ b - l → cond (eqb b 0 || ltb t k) 0 (cond (ltb b l) b (l + g)) ≤ b
 within_step b t l k g h = grind (arith, nat_tests)
 
-pub going_within : (b t : ℕ) (ms : List Message) → going b t ms ≤ b
+pub going_within : (b t : ℕ) (ms : List QueuedMessage) → going b t ms ≤ b
 going_within b t [] = omega arith
 going_within b t (m ∷ ms) = within_step b t (length m.bytes) (length m.tokens) _
     (going_within (b - length m.bytes) (t - length m.tokens) ms)
@@ -44,7 +44,7 @@ going_within b t (m ∷ ms) = within_step b t (length m.bytes) (length m.tokens)
 there_step : (b t l k g r : ℕ) → g ≤ r → cond (eqb b 0 || ltb t k) 0 (cond (ltb b l) b (l + g)) ≤ l + r
 there_step b t l k g r h = grind (arith, nat_tests)
 
-pub going_there : (b t : ℕ) (ms : List Message) → going b t ms ≤ length (all_bytes ms)
+pub going_there : (b t : ℕ) (ms : List QueuedMessage) → going b t ms ≤ length (all_bytes ms)
 going_there b t [] = omega arith
 going_there b t (m ∷ ms) =
     let e : length (m.bytes ++ all_bytes ms) ≡ length m.bytes + length (all_bytes ms) =
@@ -53,22 +53,22 @@ going_there b t (m ∷ ms) =
     (going_there (b - length m.bytes) (t - length m.tokens) ms))
 
 -- the tokens of the messages that n bytes begin
-abbrev pub tokens_by : ℕ → List Message → ℕ
+abbrev pub tokens_by : ℕ → List QueuedMessage → ℕ
 tokens_by n ms = length (all_tokens (begun n ms))
 
-tokens_some : (m : Message) (ms : List Message) (n : ℕ) → 0 < n
+tokens_some : (m : QueuedMessage) (ms : List QueuedMessage) (n : ℕ) → 0 < n
     → tokens_by n (m ∷ ms) ≡ length m.tokens + tokens_by (n - length m.bytes) ms
-tokens_some m ms n h = ap (λ (l : List Message). length (all_tokens l)) (begun_some m ms n h)
+tokens_some m ms n h = ap (λ (l : List QueuedMessage). length (all_tokens l)) (begun_some m ms n h)
     ∙ length-append m.tokens (all_tokens (begun (n - length m.bytes) ms))
 
-tokens_none : (ms : List Message) → tokens_by 0 ms ≡ 0
-tokens_none ms = ap (λ (l : List Message). length (all_tokens l)) (begun_none ms)
+tokens_none : (ms : List QueuedMessage) → tokens_by 0 ms ≡ 0
+tokens_none ms = ap (λ (l : List QueuedMessage). length (all_tokens l)) (begun_none ms)
 
 begins_at : (b t l k g n : ℕ) → suc n ≡ cond (eqb b 0 || ltb t k) 0 (cond (ltb b l) b (l + g))
     → (k ≤ t) × ((suc n - l ≡ 0) ⊎ (suc n - l ≡ g))
 begins_at b t l k g n e = grind (arith, nat_tests)
 
-tokens_at : (m : Message) (ms : List Message) (b t g n : ℕ)
+tokens_at : (m : QueuedMessage) (ms : List QueuedMessage) (b t g n : ℕ)
     → n ≡ cond (eqb b 0 || ltb t (length m.tokens)) 0 (cond (ltb b (length m.bytes)) b (length m.bytes + g))
     → tokens_by g ms ≤ t - length m.tokens → tokens_by n (m ∷ ms) ≤ t
 tokens_at m ms b t g zero e h = omega (arith, tokens_none (m ∷ ms))
@@ -80,7 +80,7 @@ tokens_at m ms b t g (suc n) e h =
       | inr z ↦ (let y = ap (λ (i : ℕ). tokens_by i ms) z in omega (arith, s, c.0, y, h))
     ]
 
-pub going_tokens : (b t : ℕ) (ms : List Message) → tokens_by (going b t ms) ms ≤ t
+pub going_tokens : (b t : ℕ) (ms : List QueuedMessage) → tokens_by (going b t ms) ms ≤ t
 going_tokens b t [] = omega arith
 going_tokens b t (m ∷ ms) = tokens_at m ms b t (going (b - length m.bytes) (t - length m.tokens) ms) _ refl
     (going_tokens (b - length m.bytes) (t - length m.tokens) ms)
@@ -90,7 +90,7 @@ longest_step : (b t l k g n j : ℕ) → 0 < n → n ≤ b → k + j ≤ t → (
 longest_step b t l k g n j p q r h =
     let h2 : n - l ≤ g = h (omega arith) (omega arith) in grind (arith, nat_tests)
 
-pub going_longest : (b t n : ℕ) (ms : List Message) → n ≤ b → n ≤ length (all_bytes ms) → tokens_by n ms ≤ t
+pub going_longest : (b t n : ℕ) (ms : List QueuedMessage) → n ≤ b → n ≤ length (all_bytes ms) → tokens_by n ms ≤ t
     → n ≤ going b t ms
 going_longest b t n [] p q r = omega arith
 going_longest b t zero (m ∷ ms) p q r = omega arith
@@ -132,7 +132,7 @@ goes_goes o b t =
     }
 
 -- what goes is one amount
-pub goes_one : (o : Outgoing) (b t : ℕ) (taken : Taken) → Goes o b t taken → taken ≡ goes o b t
+pub goes_one : (o : Outgoing) (b t : ℕ) (taken : Amounts) → Goes o b t taken → taken ≡ goes o b t
 unfolding goes
 goes_one o b t taken g =
     let h = goes_goes o b t in
@@ -144,30 +144,30 @@ goes_one o b t taken g =
 
 -- ---- how far messages go, told by what is left of the room
 
-pub record Agrees (ms : List Message) (b t n g : ℕ) (r : Reach) : Type 0 where
+pub record Agrees (ms : List QueuedMessage) (b t n g : ℕ) (r : Reach) : Type 0 where
   pub bytes : r.bytes + g ≡ b
   pub tokens : r.tokens + tokens_by g ms ≡ t
   pub count : r.begun ≡ n + length (begun g ms)
   pub left : r.left + g ≡ length (all_bytes (begun g ms))
 
-abbrev pub marks_of : List Message → List Mark
+abbrev pub marks_of : List QueuedMessage → List Mark
 marks_of [] = []
 marks_of (m ∷ ms) = record { len = length m.bytes; tokens = length m.tokens } ∷ marks_of ms
 
 abbrev pub stop : ℕ → ℕ → ℕ → Reach
 stop b t n = record { bytes = b; tokens = t; begun = n; left = 0 }
 
-agrees_none : (ms : List Message) (b t n : ℕ) → Agrees ms b t n 0 (stop b t n)
+agrees_none : (ms : List QueuedMessage) (b t n : ℕ) → Agrees ms b t n 0 (stop b t n)
 agrees_none ms b t n =
     let e = begun_none ms in
     record {
       bytes = omega arith;
       tokens = omega (arith, tokens_none ms);
-      count = omega (arith, ap (λ (l : List Message). length l) e);
-      left = omega (arith, ap (λ (l : List Message). length (all_bytes l)) e);
+      count = omega (arith, ap (λ (l : List QueuedMessage). length l) e);
+      left = omega (arith, ap (λ (l : List QueuedMessage). length (all_bytes l)) e);
     }
 
-agrees_at : (m : Message) (ms : List Message) (b t n g : ℕ) (r : Reach) (x y z : Bool) → eqb b 0 ≡ x
+agrees_at : (m : QueuedMessage) (ms : List QueuedMessage) (b t n g : ℕ) (r : Reach) (x y z : Bool) → eqb b 0 ≡ x
     → ltb t (length m.tokens) ≡ y → ltb b (length m.bytes) ≡ z → 0 < length m.bytes
     → Agrees ms (b - length m.bytes) (t - length m.tokens) (n + 1) g r
     → Agrees (m ∷ ms) b t n (cond (x || y) 0 (cond z b (length m.bytes + g)))
@@ -181,12 +181,17 @@ agrees_at m ms b t n g r false false true p q s h a =
     let enough : length m.tokens ≤ t = grind (arith, nat_tests) in
     let none : b - length m.bytes ≡ 0 = omega arith in
     let e : begun b (m ∷ ms) ≡ m ∷ [] = begun_some m ms b some ∙ ap (λ (i : ℕ). m ∷ begun i ms) none
-    ∙ ap (λ (l : List Message). m ∷ l) (begun_none ms) in
+    ∙ ap (λ (l : List QueuedMessage). m ∷ l) (begun_none ms) in
     record {
       bytes = omega arith;
-      tokens = omega (arith, ap (λ (l : List Message). length (all_tokens l)) e, length-append m.tokens [], enough);
-      count = omega (arith, ap (λ (l : List Message). length l) e);
-      left = omega (arith, ap (λ (l : List Message). length (all_bytes l)) e, length-append m.bytes [], few);
+      tokens = omega (
+        arith,
+        ap (λ (l : List QueuedMessage). length (all_tokens l)) e,
+        length-append m.tokens [],
+        enough,
+      );
+      count = omega (arith, ap (λ (l : List QueuedMessage). length l) e);
+      left = omega (arith, ap (λ (l : List QueuedMessage). length (all_bytes l)) e, length-append m.bytes [], few);
     }
 agrees_at m ms b t n g r false false false p q s h a =
     let all : length m.bytes ≤ b = grind (arith, nat_tests) in
@@ -198,23 +203,23 @@ agrees_at m ms b t n g r false false false p q s h a =
       bytes = omega (arith, a.bytes, all);
       tokens = omega (
         arith,
-        ap (λ (l : List Message). length (all_tokens l)) e,
+        ap (λ (l : List QueuedMessage). length (all_tokens l)) e,
         length-append m.tokens
             (all_tokens (begun g ms)),
         enough,
         a.tokens,
       );
-      count = omega (arith, ap (λ (l : List Message). length l) e, a.count);
+      count = omega (arith, ap (λ (l : List QueuedMessage). length l) e, a.count);
       left = omega (
         arith,
-        ap (λ (l : List Message). length (all_bytes l)) e,
+        ap (λ (l : List QueuedMessage). length (all_bytes l)) e,
         length-append m.bytes
             (all_bytes (begun g ms)),
         a.left,
       );
     }
 
-pub agrees : (ms : List Message) (b t n : ℕ) → AllByRecursion (λ m. 0 < length m.bytes) ms
+pub agrees : (ms : List QueuedMessage) (b t n : ℕ) → AllByRecursion (λ m. 0 < length m.bytes) ms
     → Agrees ms b t n (going b t ms) (reach b t n (marks_of ms))
 agrees [] b t n h = agrees_none [] b t n
 agrees (m ∷ ms) b t n h =
@@ -223,7 +228,7 @@ agrees (m ∷ ms) b t n h =
 -- with what is left of the message begun last
 pub reaches : (o : Outgoing) (b t : ℕ) (r : Reach) → AllByRecursion (λ m. 0 < length m.bytes) o.messages
     → r ≡ reach (b - min b (length o.left)) t 0 (marks_of o.messages)
-    → Reaches o b t (record {
+    → ReachesRoom o b t (record {
       bytes = r.bytes;
       tokens = r.tokens;
       begun = r.begun;
@@ -239,12 +244,12 @@ reaches o b t r h e =
     ap (λ (k : ℕ). begun k o.messages) (after_left o b t) in
     record {
       bytes = omega (arith, a.bytes);
-      tokens = omega (arith, a.tokens, ap (λ (m : List Message). length (all_tokens m)) n);
-      begun = omega (arith, a.count, ap (λ (m : List Message). length m) n);
+      tokens = omega (arith, a.tokens, ap (λ (m : List QueuedMessage). length (all_tokens m)) n);
+      begun = omega (arith, a.count, ap (λ (m : List QueuedMessage). length m) n);
       left = omega (
         arith,
         a.left,
-        ap (λ (m : List Message). length (all_bytes m)) n,
+        ap (λ (m : List QueuedMessage). length (all_bytes m)) n,
         length-append o.left
             (all_bytes (newly_begun o (going_bytes o b t))),
       );

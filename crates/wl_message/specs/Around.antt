@@ -1,5 +1,6 @@
 -- Bytes that go round in a block: from a place on, and on at the front where they reach the end.
-use Rattle.std.specs.Prelude.{◌≡◌, ℕ, ◌+◌, ◌<◌, ◌≤◌, ◌^◌, ◌⊎◌, List, ◌++◌, take, drop}
+use Rattle.std.specs.Prelude.{◌≡◌, ℕ, ◌+◌, ◌<◌, ◌≤◌, ◌^◌, ◌⊎◌, List, ◌++◌, length, take, drop}
+use Rattle.circular_buffer.specs.Buffer.{Buffer, buffer}
 
 -- the n bytes from the place on
 abbrev pub around : (start n : ℕ) → List ℕ → List ℕ
@@ -17,3 +18,9 @@ pub record GoRound (from n len : ℕ) : Type 0 where
   pub turns : 0 < len → from < len
   pub size : n ≤ len
   pub small : len < 2 ^ 63
+
+-- n bytes more wait behind the others, whichever these are
+pub record TakesUp (ring : Buffer ℕ) (n : ℕ) (ring' : Buffer ℕ) : Type 0 where
+  pub bytes : List ℕ
+  pub count : length bytes ≡ n
+  pub behind : ring' ≡ buffer (ring.items ++ bytes) ring.capacity

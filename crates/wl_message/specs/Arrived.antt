@@ -3,7 +3,7 @@ use Rattle.std.specs.Prelude.{◌≡◌, ℕ, ◌-◌, ◌≤◌, nat_le, min, i
 use Rattle.std.specs.Prelude.{take, drop, Result, Ok, Err, Option, Some, None}
 use Rattle.wl_wire.specs.Word.{header_bytes}
 use Rattle.wl_wire.specs.declared.header.Header.{Header}
-use Rattle.wl_message.specs.declared.amounts.Fed.{Fed}
+use Rattle.wl_message.specs.declared.amounts.Amounts.{Amounts}
 use Rattle.wl_message.specs.declared.amounts.Sizes.{Sizes}
 use Rattle.wl_message.specs.declared.inbox.BadSize.{BadSize}
 use Rattle.wl_message.specs.declared.inbox.Frame.{Frame}
@@ -47,15 +47,28 @@ free_tokens a = a.token_capacity - length a.tokens
 
 -- How much is taken in of these bytes and tokens: as many tokens as fit, and where these are all,
 -- as many bytes as fit.
-abbrev pub fed : Arrived → List ℕ → List ℕ → Fed
+abbrev pub fed : Arrived → List ℕ → List ℕ → Amounts
 fed a bytes tokens = record {
   bytes = if nat_le (length tokens) (free_tokens a) then min (length bytes) (free_bytes a) else 0;
+  tokens = min (length tokens) (free_tokens a);
+}
+
+-- how much is taken in of n bytes and of these tokens, by the same rule
+abbrev pub fed_of_len : Arrived → ℕ → List ℕ → Amounts
+fed_of_len a n tokens = record {
+  bytes = if nat_le (length tokens) (free_tokens a) then min n (free_bytes a) else 0;
   tokens = min (length tokens) (free_tokens a);
 }
 
 -- with these bytes and tokens behind the others
 abbrev pub with_more : Arrived → List ℕ → List ℕ → Arrived
 with_more a bytes tokens = record a { bytes = a.bytes ++ bytes; tokens = a.tokens ++ tokens }
+
+-- n bytes and some tokens were taken in, whichever bytes these are
+pub record HasReceived (a : Arrived) (n : ℕ) (tokens : List ℕ) (a' : Arrived) : Type 0 where
+  pub bytes : List ℕ
+  pub count : length bytes ≡ n
+  pub behind : a' ≡ with_more a bytes tokens
 
 -- without the message in front, of these numbers of bytes and tokens
 abbrev pub without_first : Arrived → ℕ → ℕ → Arrived
@@ -70,10 +83,10 @@ without_first a bytes tokens = record a {
 abbrev pub without_tokens : Arrived → ℕ → Arrived
 without_tokens a tokens = record a { tokens = drop tokens a.tokens }
 
--- a copy of the bytes in front, as many as the header there tells
-pub record IsCopy (bytes copy : List ℕ) : Type 0 where
-  pub told : length copy ≡ told_size bytes
-  pub same : copy ≡ take (length copy) bytes
+-- The store begins with a copy of the message in front, of this length.
+pub record IsCopy (n : ℕ) (bytes store : List ℕ) : Type 0 where
+  pub told : n ≡ told_size bytes
+  pub same : take n store ≡ take n bytes
 
 -- The header of the message in front, a bad size there, or nothing as long as more bytes are
 -- needed.
@@ -91,13 +104,13 @@ pub record HasParts (bytes : List ℕ) (h : Header) : Type 0 where
 
 -- What is told of the message in front: its header, the bytes behind that, and how many tokens
 -- wait; a bad size; or nothing, as long as more bytes are needed.
-abbrev pub Tells : Arrived → Result (Option Frame) BadSize → Type 0
-Tells a (Ok None) = in_front a ≡ More
-Tells a (Ok (Some f)) =
+abbrev pub TellsFront : Arrived → Result (Option Frame) BadSize → Type 0
+TellsFront a (Ok None) = in_front a ≡ More
+TellsFront a (Ok (Some f)) =
     (in_front a ≡ Whole f.header.size)
     × (take f.header.size a.bytes ≡ header_bytes f.header ++ f.body.now)
     × (f.tokens ≡ length a.tokens)
-Tells a (Err e) = in_front a ≡ Bad e.size
+TellsFront a (Err e) = in_front a ≡ Bad e.size
 
 -- how large the two boxes of an end may be; its inbox can hold the longest message
 pub record AreSizes (sizes : Sizes) : Type 0 where

@@ -89,8 +89,8 @@ cut_within (suc count) limit bytes = elim (front limit bytes) [
 ]
 
 -- the messages of a stream, which has no more of them than bytes
-abbrev pub messages_of : ℕ → List ℕ → List (List ℕ)
-messages_of limit stream = (cut_within (length stream) limit stream).messages
+abbrev pub messages_in_stream : ℕ → List ℕ → List (List ℕ)
+messages_in_stream limit stream = (cut_within (length stream) limit stream).messages
 
 -- what is left behind them: no whole message, or bytes that begin with a bad size
 abbrev pub rest_of : ℕ → List ℕ → List ℕ

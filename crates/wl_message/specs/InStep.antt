@@ -1,9 +1,9 @@
 -- Pieces of a stream whose tokens come in time.
 use Rattle.std.specs.Prelude.{◌≡◌, ℕ, ◌+◌, ◌<◌, ◌≤◌, ◌⊎◌, List, [], ◌∷◌, ◌++◌, length, take}
 use Rattle.wl_message.specs.declared.amounts.Piece.{Piece}
-use Rattle.wl_message.specs.declared.amounts.Taken.{Taken}
+use Rattle.wl_message.specs.declared.amounts.Amounts.{Amounts}
 use Rattle.wl_message.specs.declared.limit.Limit.{Limit}
-use Rattle.wl_message.specs.Outgoing.{Message, Outgoing, all_bytes, all_tokens, waiting_bytes}
+use Rattle.wl_message.specs.Outgoing.{QueuedMessage, Outgoing, all_bytes, all_tokens, waiting_bytes}
 use Rattle.wl_message.specs.Outgoing.{waiting_tokens, newly_begun, Goes, after_taking, no_messages}
 use Rattle.wl_message.specs.Outgoing.{with_message, with_error}
 
@@ -28,7 +28,7 @@ pub record Need : Type 0 where
   pub size : ℕ
   pub tokens : ℕ
 
-abbrev pub need : Message → Need
+abbrev pub need : QueuedMessage → Need
 need m = record { size = length m.bytes; tokens = length m.tokens }
 
 -- the bytes of all these messages
@@ -54,7 +54,7 @@ InStep needs parts =
     ⊎ (part_tokens later ≡ [])
 
 -- what was taken out of an outbox
-abbrev pub part_taken : Outgoing → Taken → Part
+abbrev pub part_taken : Outgoing → Amounts → Part
 part_taken o taken = record {
   bytes = take taken.bytes (waiting_bytes o);
   tokens = take taken.tokens (waiting_tokens o);
@@ -62,7 +62,7 @@ part_taken o taken = record {
 
 -- What goes takes the messages newly begun out of those not begun, their tokens, and as many bytes
 -- of what was left and of these.
-pub record Passes (o : Outgoing) (taken : Taken) : Type 0 where
+pub record TakesFromFront (o : Outgoing) (taken : Amounts) : Type 0 where
   pub rest : o.messages ≡ newly_begun o taken.bytes ++ (after_taking o taken.bytes).messages
   pub gone : o.left ++ all_bytes (newly_begun o taken.bytes)
       ≡ (part_taken o taken).bytes ++ (after_taking o taken.bytes).left
@@ -70,19 +70,20 @@ pub record Passes (o : Outgoing) (taken : Taken) : Type 0 where
 
 -- The pieces so far have all of the messages that were begun, but for what is left of the last, and
 -- their tokens.
-pub record Carried (sent : List Message) (left : List ℕ) (parts : List Part) : Type 0 where
-  pub bytes : part_bytes parts ++ left ≡ all_bytes sent
-  pub tokens : part_tokens parts ≡ all_tokens sent
+pub record HaveCarried (sent : List QueuedMessage) (left : List ℕ) (parts : List Part) : Type 0
+  where
+    pub bytes : part_bytes parts ++ left ≡ all_bytes sent
+    pub tokens : part_tokens parts ≡ all_tokens sent
 
 -- What an outbox gave since it was new: the messages that were begun, and the pieces that were
 -- taken, one after another, while messages were added in between.
-pub data Gave : List Message → List Part → Outgoing → Type 0 where
+pub data Gave : List QueuedMessage → List Part → Outgoing → Type 0 where
   starts : {bytes tokens : ℕ} {limit : Limit} → Gave [] [] (no_messages bytes tokens limit)
-  adds : {sent : List Message} {parts : List Part} {o : Outgoing} (bytes tokens : List ℕ)
+  adds : {sent : List QueuedMessage} {parts : List Part} {o : Outgoing} (bytes tokens : List ℕ)
       → Gave sent parts o → Gave sent parts (with_message o bytes tokens)
-  adds_error : {sent : List Message} {parts : List Part} {o : Outgoing} (bytes : List ℕ)
+  adds_error : {sent : List QueuedMessage} {parts : List Part} {o : Outgoing} (bytes : List ℕ)
       → Gave sent parts o → Gave sent parts (with_error o bytes)
-  takes : {sent : List Message} {parts : List Part} {o : Outgoing} {b t : ℕ} {taken : Taken}
+  takes : {sent : List QueuedMessage} {parts : List Part} {o : Outgoing} {b t : ℕ} {taken : Amounts}
       → Goes o b t taken → Gave sent parts o
       → Gave (sent ++ newly_begun o taken.bytes) (parts ++ part_taken o taken ∷ [])
       (after_taking o taken.bytes)

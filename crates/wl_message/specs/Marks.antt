@@ -6,14 +6,14 @@ use Rattle.std.specs.List.{AllByRecursion}
 use Rattle.wl_message.specs.declared.limit.Limit.{Limit}
 use Rattle.wl_message.specs.declared.marks.Mark.{Mark}
 use Rattle.wl_message.specs.declared.marks.Reach.{Reach}
-use Rattle.wl_message.specs.Outgoing.{Message, message, Outgoing, all_bytes, all_tokens}
+use Rattle.wl_message.specs.Outgoing.{QueuedMessage, queued, Outgoing, all_bytes, all_tokens}
 use Rattle.wl_message.specs.Outgoing.{newly_begun, going_bytes}
 
 -- bytes and tokens, parted into the messages that the marks tell
-abbrev pub parted : List Mark → List ℕ → List ℕ → List Message
+abbrev pub parted : List Mark → List ℕ → List ℕ → List QueuedMessage
 parted [] bytes tokens = []
 parted (k ∷ ks) bytes tokens =
-    message (take k.len bytes) (take k.tokens tokens)
+    queued (take k.len bytes) (take k.tokens tokens)
     ∷ parted ks (drop k.len bytes) (drop k.tokens tokens)
 
 abbrev pub lens : List Mark → ℕ
@@ -74,7 +74,7 @@ reach b t n (k ∷ ks) =
     else reach (b - k.len) (t - k.tokens) (n + 1) ks))
 
 -- what goes into a room for b bytes and t tokens, told by what is left of it
-pub record Reaches (o : Outgoing) (b t : ℕ) (r : Reach) : Type 0 where
+pub record ReachesRoom (o : Outgoing) (b t : ℕ) (r : Reach) : Type 0 where
   pub bytes : r.bytes + going_bytes o b t ≡ b
   pub tokens : r.tokens + length (all_tokens (newly_begun o (going_bytes o b t))) ≡ t
   pub begun : r.begun ≡ length (newly_begun o (going_bytes o b t))

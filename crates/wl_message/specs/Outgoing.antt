@@ -1,22 +1,23 @@
 -- Messages that wait to go out, with their tokens.
-use Rattle.std.specs.Prelude.{◌≡◌, ℕ, zero, suc, ◌+◌, ◌-◌, ◌≤◌, Bool, true, false, ◌||◌, ◌==◌}
-use Rattle.std.specs.Prelude.{nat_lt, if◌then◌else◌, min, List, [], ◌∷◌, ◌++◌, length, drop}
-use Rattle.wl_message.specs.declared.amounts.Taken.{Taken}
+use Rattle.std.specs.Prelude.{◌≡◌, ℕ, zero, suc, ◌+◌, ◌-◌, ◌<◌, ◌≤◌, Bool, true, false, ◌||◌}
+use Rattle.std.specs.Prelude.{◌==◌, nat_lt, if◌then◌else◌, min, List, [], ◌∷◌, ◌++◌, length, take}
+use Rattle.std.specs.Prelude.{drop}
+use Rattle.wl_message.specs.declared.amounts.Amounts.{Amounts}
 use Rattle.wl_message.specs.declared.limit.Limit.{Limit}
 
 -- a message: its bytes, and the tokens that go with the first of them
-pub record Message : Type 0 where
+pub record QueuedMessage : Type 0 where
   pub bytes : List ℕ
   pub tokens : List ℕ
 
-abbrev pub message : List ℕ → List ℕ → Message
-message bytes tokens = record { bytes = bytes; tokens = tokens }
+abbrev pub queued : List ℕ → List ℕ → QueuedMessage
+queued bytes tokens = record { bytes = bytes; tokens = tokens }
 
-abbrev pub all_bytes : List Message → List ℕ
+abbrev pub all_bytes : List QueuedMessage → List ℕ
 all_bytes [] = []
 all_bytes (m ∷ ms) = m.bytes ++ all_bytes ms
 
-abbrev pub all_tokens : List Message → List ℕ
+abbrev pub all_tokens : List QueuedMessage → List ℕ
 all_tokens [] = []
 all_tokens (m ∷ ms) = m.tokens ++ all_tokens ms
 
@@ -27,7 +28,7 @@ all_tokens (m ∷ ms) = m.tokens ++ all_tokens ms
 -- error_to, counted from 0; where both are 0 none of it waits.
 pub record Outgoing : Type 0 where
   pub left : List ℕ
-  pub messages : List Message
+  pub messages : List QueuedMessage
   pub capacity : ℕ
   pub token_capacity : ℕ
   pub limit : Limit
@@ -70,25 +71,25 @@ token_room_of o = o.token_capacity - length (waiting_tokens o)
 
 -- one message more at the end
 abbrev pub with_message : Outgoing → List ℕ → List ℕ → Outgoing
-with_message o bytes tokens = record o { messages = o.messages ++ message bytes tokens ∷ [] }
+with_message o bytes tokens = record o { messages = o.messages ++ queued bytes tokens ∷ [] }
 
 -- the error event at the end; it has no tokens
 abbrev pub with_error : Outgoing → List ℕ → Outgoing
 with_error o bytes = record o {
-  messages = o.messages ++ message bytes [] ∷ [];
+  messages = o.messages ++ queued bytes [] ∷ [];
   has_error = true;
   error_from = length (waiting_bytes o);
   error_to = length (waiting_bytes o) + length bytes;
 }
 
 -- the messages of which a byte is among their first n
-abbrev pub begun : ℕ → List Message → List Message
+abbrev pub begun : ℕ → List QueuedMessage → List QueuedMessage
 begun n [] = []
 begun zero (m ∷ ms) = []
 begun (suc n) (m ∷ ms) = m ∷ begun (suc n - length m.bytes) ms
 
 -- the messages that the first n of the waiting bytes newly begin
-abbrev pub newly_begun : Outgoing → ℕ → List Message
+abbrev pub newly_begun : Outgoing → ℕ → List QueuedMessage
 newly_begun o n = begun (n - length o.left) o.messages
 
 -- The first n of the waiting bytes may go where there is room for b bytes and t tokens.
@@ -101,13 +102,13 @@ pub record MayGo (o : Outgoing) (b t n : ℕ) : Type 0 where
 -- What goes where there is room for b bytes and t tokens: the longest beginning of the waiting
 -- bytes that may go, and with it exactly the tokens of the messages which it newly begins. These
 -- are the first of the waiting tokens.
-pub record Goes (o : Outgoing) (b t : ℕ) (taken : Taken) : Type 0 where
+pub record Goes (o : Outgoing) (b t : ℕ) (taken : Amounts) : Type 0 where
   pub may : MayGo o b t taken.bytes
   pub longest : (n : ℕ) → MayGo o b t n → n ≤ taken.bytes
   pub with_tokens : taken.tokens ≡ length (all_tokens (newly_begun o taken.bytes))
 
 -- how many bytes of these messages, of which none is begun, go into a room for b bytes and t tokens
-abbrev pub going : ℕ → ℕ → List Message → ℕ
+abbrev pub going : ℕ → ℕ → List QueuedMessage → ℕ
 going b t [] = 0
 going b t (m ∷ ms) =
     if b == 0 || nat_lt t (length m.tokens) then 0 else
@@ -119,7 +120,7 @@ abbrev pub going_bytes : Outgoing → ℕ → ℕ → ℕ
 going_bytes o b t = min b (length o.left) + going (b - length o.left) t o.messages
 
 -- what goes, computed
-unfoldable pub goes : Outgoing → ℕ → ℕ → Taken
+unfoldable pub goes : Outgoing → ℕ → ℕ → Amounts
 goes o b t = record {
   bytes = going_bytes o b t;
   tokens = length (all_tokens (newly_begun o (going_bytes o b t)));
@@ -134,3 +135,13 @@ after_taking o n = record o {
   error_from = o.error_from - n;
   error_to = o.error_to - n;
 }
+
+-- What can go at one time, so that no token goes with a later byte than the first, however many of
+-- the bytes go: as many as can, and how many tokens go with them.
+pub record Peeks (o : Outgoing) (bytes : List ℕ) (tokens : ℕ) : Type 0 where
+  pub front : bytes ≡ take (length bytes) (waiting_bytes o)
+  pub with_first : tokens ≡ length (all_tokens (newly_begun o 1))
+  pub with_any : (n : ℕ) → 0 < n → n ≤ length bytes
+      → length (all_tokens (newly_begun o n)) ≡ tokens
+  pub longest : (n : ℕ) → n ≤ length (waiting_bytes o)
+      → length (all_tokens (newly_begun o n)) ≤ tokens → n ≤ length bytes

@@ -8,11 +8,11 @@ use Rattle.wl_message.specs.declared.streams.FlushError.TheVariants as flush_err
 use Rattle.wl_message.specs.declared.streams.FillError.{FillError}
 use Rattle.wl_message.specs.declared.streams.FillError.TheVariants as fill_error
 use Rattle.wl_message.specs.Arrived.{Arrived, free_bytes, with_more}
-use Rattle.wl_message.specs.Outgoing.{Message, Outgoing, waiting_bytes, all_tokens, newly_begun}
-use Rattle.wl_message.specs.Outgoing.{after_taking}
+use Rattle.wl_message.specs.Outgoing.{QueuedMessage, Outgoing, waiting_bytes, all_tokens}
+use Rattle.wl_message.specs.Outgoing.{newly_begun, after_taking}
 
 -- the first of these messages has tokens
-abbrev pub FirstHasTokens : List Message → Type 0
+abbrev pub FirstHasTokens : List QueuedMessage → Type 0
 FirstHasTokens [] = ⊥
 FirstHasTokens (m ∷ ms) = 0 < length m.tokens
 
@@ -21,10 +21,10 @@ abbrev pub NextHasTokens : Outgoing → Type 0
 NextHasTokens o = (o.left ≡ []) × FirstHasTokens o.messages
 
 -- how many bytes a flush wrote
-abbrev pub written_of : Result ℕ FlushError → ℕ
-written_of (Ok n) = n
-written_of (Err (flush_error.Io n)) = n
-written_of (Err (flush_error.NeedsTokens n)) = n
+abbrev pub bytes_written : Result ℕ FlushError → ℕ
+bytes_written (Ok n) = n
+bytes_written (Err (flush_error.Io n)) = n
+bytes_written (Err (flush_error.NeedsTokens n)) = n
 
 -- it stopped before a message for its tokens
 abbrev pub IsNeedsTokens : Result ℕ FlushError → Type 0
@@ -36,11 +36,11 @@ IsNeedsTokens _ = ⊥
 pub record Flushes (o : Outgoing) (held : Option (List ℕ)) (result : Result ℕ FlushError)
     (o' : Outgoing) (holds : Option (List ℕ)) : Type 0 where
   -- the bytes written are the first of those that waited, and these alone are gone
-  pub there : written_of result ≤ length (waiting_bytes o)
-  pub written : Appends held holds (take (written_of result) (waiting_bytes o))
-  pub gone : o' ≡ after_taking o (written_of result)
+  pub there : bytes_written result ≤ length (waiting_bytes o)
+  pub written : Appends held holds (take (bytes_written result) (waiting_bytes o))
+  pub gone : o' ≡ after_taking o (bytes_written result)
   -- no token went with them
-  pub without_tokens : all_tokens (newly_begun o (written_of result)) ≡ []
+  pub without_tokens : all_tokens (newly_begun o (bytes_written result)) ≡ []
   -- it is Ok exactly where no byte is left
   pub all : IsOk result ↔ (waiting_bytes o' ≡ [])
   -- it needs tokens exactly where the next message is not begun and has tokens

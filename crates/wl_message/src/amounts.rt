@@ -43,19 +43,18 @@ impl Sizes {
     }
 }
 
-/// How many bytes and tokens were taken in.
+/// How many bytes and tokens.
 #[derive(Clone, Copy, Debug, PartialEq, Eq)]
-pub struct Fed {
+pub struct Amounts {
     pub bytes: usize,
     pub tokens: usize,
 }
 
+/// How many bytes and tokens were taken in.
+pub type Fed = Amounts;
+
 /// How many bytes and tokens were taken out.
-#[derive(Clone, Copy, Debug, PartialEq, Eq)]
-pub struct Taken {
-    pub bytes: usize,
-    pub tokens: usize,
-}
+pub type Taken = Amounts;
 
 /// The bytes or the tokens of a message do not fit.
 #[derive(Clone, Copy, Debug, PartialEq, Eq)]
@@ -66,6 +65,15 @@ pub struct Full;
 pub struct Piece<'a> {
     pub bytes: &'a [u8],
     pub tokens: &'a [u32],
+}
+
+/// What can go at one time, and need not go whole: bytes in two parts, one after the other, and how
+/// many of the waiting tokens go with the first of them.
+#[derive(Clone, Copy, Debug)]
+pub struct Peek<'a> {
+    pub front: &'a [u8],
+    pub back: &'a [u8],
+    pub tokens: usize,
 }
 
 impl Display for Full {

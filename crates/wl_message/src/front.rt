@@ -1,6 +1,6 @@
 //! The front and the back of rings.
-ghost use Rattle.std.specs.Prelude.{◌≡◌, ◌≤◌, ◌<◌, ◌+◌, ◌++◌, length, take, drop, vec_capacity};
-ghost use Rattle.std.specs.Prelude.{vec_len};
+ghost use Rattle.std.specs.Prelude.{◌≡◌, ◌≤◌, ◌<◌, ◌+◌, ◌-◌, ◌++◌, length, take, drop, min};
+ghost use Rattle.std.specs.Prelude.{vec_len, vec_capacity};
 ghost use Rattle.circular_buffer.specs.Buffer.{buffer};
 
 use circular_buffer::HeapCircularBuffer;
@@ -13,6 +13,20 @@ pub(crate) fn append<T: Copy + Drop, A: Allocator>(ring: &mut HeapCircularBuffer
     ensures { ring.new ≡ buffer (ring.old.items ++ more.now) ring.old.capacity }
 {
     ring.fill_from_slice(more);
+}
+
+/// Appends as many of these items as there is room for, from the first on, and returns how many.
+pub(crate) fn fill<T: Copy + Drop, A: Allocator>(
+    ring: &mut HeapCircularBuffer<T, A>,
+    more: &[T],
+) -> usize
+    ensures count { result ≡ min (length more.now) (ring.old.capacity - length ring.old.items) }
+    ensures ring { ring.new ≡ buffer (ring.old.items ++ take result more.now) ring.old.capacity }
+{
+    if more.is_empty() {
+        return 0;
+    }
+    ring.fill_from_slice(more)
 }
 
 /// Takes the first n items out.
@@ -55,6 +69,10 @@ pub(crate) fn move_to_store<T: Copy + Drop, A: Allocator>(
     ensures items { to.new.items ≡ take n ring.old.items }
     ensures capacity { vec_capacity to.old ≤ vec_capacity to.new }
 {
+    if n == 0 {
+        to.clear();
+        return;
+    }
     let left = ring.len() - n;
     copy_front(ring, to, n);
     ring.truncate_front(left);
@@ -62,7 +80,7 @@ pub(crate) fn move_to_store<T: Copy + Drop, A: Allocator>(
 
 /// Copies the first n items into a store, in place of what is there. They stay in the ring.
 #[tactic(auto, using(crate::proofs::Fronts::front_in_first, crate::proofs::Fronts::front_past_first))]
-pub(crate) fn copy_front<T: Copy + Drop, A: Allocator>(
+fn copy_front<T: Copy + Drop, A: Allocator>(
     ring: &HeapCircularBuffer<T, A>,
     to: &mut Vec<T, A>,
     n: usize,

@@ -1,13 +1,12 @@
 //! The header in front of bytes.
-ghost use Rattle.std.specs.Prelude.{◌≡◌, ◌≤◌, true, IfOk, IfSome, length, take, vec_capacity};
+ghost use Rattle.std.specs.Prelude.{◌≡◌, ◌<◌, ◌≤◌, IfOk, IfSome, length, take};
 ghost use Rattle.wl_wire.specs.Word.{header_at, header_bytes};
 ghost use Rattle.wl_message.specs.Cut.{told_size};
 ghost use Rattle.wl_message.specs.Arrived.{TellsHeader, HasParts, IsCopy};
 
-use crate::front::copy_front;
 use crate::inbox::BadSize;
 use crate::limit::Limit;
-use circular_buffer::HeapCircularBuffer;
+use crate::ring::Ring;
 use std::alloc::Allocator;
 use wl_wire::Header;
 
@@ -26,35 +25,26 @@ pub(crate) fn header_of(bytes: &[u8]) -> Header
     Header::from_bytes(first)
 }
 
-/// The header in front of a ring. Where it stands in two parts it is copied into the store.
-#[tactic(auto, using(crate::proofs::Fronts::front_in_first))]
-pub(crate) fn header_in<A: Allocator>(
-    bytes: &HeapCircularBuffer<u8, A>,
-    store: &mut Vec<u8, A>,
-) -> Header
-    requires there { 8 ≤ length bytes.now.items }
-    requires room { 8 ≤ vec_capacity store.old }
-    ensures room { vec_capacity store.old ≤ vec_capacity store.new }
+/// The header in front of a ring.
+pub(crate) fn header_in<A: Allocator>(bytes: &Ring<A>) -> Header
+    requires { 8 ≤ length bytes.now.items }
     ensures bytes { take 8 bytes.now.items ≡ header_bytes result }
     ensures size { result.size ≡ told_size bytes.now.items }
 {
-    let (first, _) = bytes.as_slices();
-    if first.len() >= HEADER_LEN {
-        return header_of(first);
+    if let Some(front) = bytes.in_one_part(HEADER_LEN) {
+        return header_of(front);
     }
-    copy_front(bytes, store, HEADER_LEN);
-    header_of(store)
+    let mut front = [0; HEADER_LEN];
+    bytes.copy_first(&mut front);
+    header_of(&front)
 }
 
 /// The header of the whole message in front, if one is there.
 #[tactic(auto, using(crate::proofs::Fronts::size_is, crate::proofs::Fronts::parts_of), unfolding(crate::specs::Cut::front))]
 pub(crate) fn header_in_front<A: Allocator>(
-    bytes: &HeapCircularBuffer<u8, A>,
-    store: &mut Vec<u8, A>,
+    bytes: &Ring<A>,
     limit: Limit,
 ) -> Result<Option<Header>, BadSize>
-    requires room { limit.bytes ≤ vec_capacity store.old }
-    ensures room { vec_capacity store.old ≤ vec_capacity store.new }
     ensures tells { TellsHeader limit.bytes bytes.now.items result }
     ensures whole { IfOk result (λ o. IfSome o (λ h. HasParts bytes.now.items h)) }
     ensures told { IfOk result (λ o. IfSome o (λ h. h.size ≡ told_size bytes.now.items)) }
@@ -63,7 +53,7 @@ pub(crate) fn header_in_front<A: Allocator>(
     if bytes.len() < HEADER_LEN {
         return Ok(None);
     }
-    let header = header_in(bytes, store);
+    let header = header_in(bytes);
     if !limit.allows(header.size) {
         return Err(BadSize { size: header.size });
     }
@@ -73,23 +63,36 @@ pub(crate) fn header_in_front<A: Allocator>(
     Ok(Some(header))
 }
 
-/// Copies the whole message in front into the store, unless it stands there.
-#[tactic(auto, using(crate::proofs::Fronts::copy_is))]
+/// Copies the first n bytes into the front of the store.
+#[tactic(auto, using(std::proofs::lemmas::List::take_at))]
+pub(crate) fn copy_into<A: Allocator>(bytes: &Ring<A>, store: &mut [u8], n: usize)
+    requires there { n ≤ length bytes.now.items }
+    requires room { n ≤ length store.old }
+    ensures copy { take n store.new ≡ take n bytes.now.items }
+    ensures room { length store.new ≡ length store.old }
+{
+    bytes.copy_first(&mut store[..n]);
+}
+
+/// Copies the whole message in front into the front of the store, unless it stands there, and
+/// returns its length.
 pub(crate) fn copy_message<A: Allocator>(
-    bytes: &HeapCircularBuffer<u8, A>,
-    store: &mut Vec<u8, A>,
-    is_copied: bool,
-)
+    bytes: &Ring<A>,
+    store: &mut [u8],
+    copied_len: usize,
+) -> usize
     requires header { 8 ≤ length bytes.now.items }
     requires whole { told_size bytes.now.items ≤ length bytes.now.items }
-    requires store { 8 ≤ vec_capacity store.old }
-    requires room { told_size bytes.now.items ≤ vec_capacity store.old }
-    requires copied { is_copied ≡ true → IsCopy bytes.now.items store.old.items }
-    ensures room { vec_capacity store.old ≤ vec_capacity store.new }
-    ensures copy { IsCopy bytes.now.items store.new.items }
+    requires room { told_size bytes.now.items ≤ length store.old }
+    requires copied { 0 < copied_len → IsCopy copied_len bytes.now.items store.old }
+    ensures size { result ≡ told_size bytes.now.items }
+    ensures copy { take result store.new ≡ take result bytes.now.items }
+    ensures room { length store.new ≡ length store.old }
 {
-    if !is_copied {
-        let size = header_in(bytes, store).size as usize;
-        copy_front(bytes, store, size);
+    if copied_len > 0 {
+        return copied_len;
     }
+    let size = header_in(bytes).size as usize;
+    copy_into(bytes, store, size);
+    size
 }

@@ -1,19 +1,21 @@
 //! Bytes and tokens that came in.
-ghost use Rattle.std.specs.Prelude.{◌≡◌, ◌≤◌, ◌<◌, ◌↔◌, ◌++◌, [], length, take, drop, min};
+ghost use Rattle.std.specs.Prelude.{◌≡◌, ◌≤◌, ◌<◌, ◌↔◌, ◌+◌, ◌++◌, [], length, take, drop, min};
 ghost use Rattle.std.specs.Prelude.{slice_get, IfOk, OnErr, IsTrue};
 ghost use Rattle.std.specs.Borrow.{sem};
 ghost use Rattle.std.specs.Io.BufRead.{Rests};
 ghost use Rattle.std.specs.Io.KnownBytes.{Keeps};
 ghost use Rattle.wl_message.specs.Cut.{HasMessage, message_size};
 ghost use Rattle.wl_message.specs.Arrived.{nothing_arrived, free_bytes, free_tokens, fed};
-ghost use Rattle.wl_message.specs.Arrived.{with_more, without_first, without_tokens, in_front, Tells};
+ghost use Rattle.wl_message.specs.Arrived.{fed_of_len, with_more, HasReceived, without_first};
+ghost use Rattle.wl_message.specs.Arrived.{without_tokens, in_front, TellsFront};
 ghost use Rattle.wl_message.specs.Streams.{TakesIn};
 ghost use Rattle.wl_message.specs.contracts.inbox.Inbox.{the_row};
 
 use crate::amounts::Fed;
-use crate::front::{append, copy_front, move_first, move_to_store, remove_first};
-use crate::header::{copy_message, header_in_front};
+use crate::front::{fill, move_first, move_to_store};
+use crate::header::{HEADER_LEN, copy_into, copy_message, header_in_front};
 use crate::limit::Limit;
+use crate::ring::Ring;
 use circular_buffer::HeapCircularBuffer;
 use std::alloc::{AllocError, Allocator, Global};
 use std::error::Error;
@@ -62,20 +64,22 @@ impl Error for BadSize {}
 /// All memory is taken by `new`.
 #[derive(Drop)]
 pub struct Inbox<A: Allocator = Global> {
-    bytes: HeapCircularBuffer<u8, A>,
+    bytes: Ring<A>,
     tokens: HeapCircularBuffer<u32, A>,
     limit: Limit,
     // Room for one whole message, which is lent from here: in the ring it may stand in two parts.
     message: Vec<u8, A>,
-    // Whether `message` is a copy of the whole message in front.
-    is_copied: bool,
-    // The message that was taken out last, with its header, and its tokens.
+    // The length of the message in front once `message` begins with a copy of it; before, 0.
+    copied_len: usize,
+    // Begins with the message that was taken out last, of this length with its header, and its
+    // tokens; before the first one, with a header alone.
     last: Vec<u8, A>,
+    last_len: usize,
     last_tokens: Vec<u32, A>,
 }
 
 impl<A: Allocator> Model for Inbox<A> {
-    ghost use Rattle.std.specs.Prelude.{◌≡◌, ◌≤◌, true, drop, vec_capacity};
+    ghost use Rattle.std.specs.Prelude.{◌<◌, ◌≤◌, length, take, drop, vec_capacity};
     ghost use Rattle.wl_message.specs.Arrived.{Arrived, IsCopy};
 
     ghost Value = { Arrived };
@@ -86,21 +90,24 @@ impl<A: Allocator> Model for Inbox<A> {
       capacity = i.bytes.capacity;
       token_capacity = i.tokens.capacity;
       limit = i.limit;
-      last = drop 8 i.last.items;
+      last = drop 8 (take i.last_len i.last.items);
       last_tokens = i.last_tokens.items;
     } };
 
     ghost invariant = { λ i. record {
-      room : i.limit.bytes ≤ vec_capacity i.message;
-      last_room : i.limit.bytes ≤ vec_capacity i.last;
+      room : i.limit.bytes ≤ length i.message.items;
+      last_room : i.limit.bytes ≤ length i.last.items;
+      last_low : 8 ≤ i.last_len;
+      last_there : i.last_len ≤ length i.last.items;
+      copied : 0 < i.copied_len → IsCopy i.copied_len i.bytes.items i.message.items;
       token_room : i.tokens.capacity ≤ vec_capacity i.last_tokens;
-      copied : i.is_copied ≡ true → IsCopy i.bytes.items i.message.items;
     } };
 }
 
 impl<A: Allocator + Clone + Drop> Inbox<A> {
     /// An inbox with room for this number of bytes and tokens, in which nothing waits, for messages
     /// within this limit.
+    #[tactic(auto, using(crate::proofs::Fronts::header_alone))]
     pub fn new(alloc: A, bytes: usize, tokens: usize, limit: Limit) -> Result<Inbox<A>, AllocError>
         requires bytes { (limit.bytes ≤ bytes) × (bytes ≤ 16777216) }
         requires tokens { (20 ≤ tokens) × (tokens ≤ 65536) }
@@ -108,12 +115,13 @@ impl<A: Allocator + Clone + Drop> Inbox<A> {
     {
         let len = limit.bytes as usize;
         Ok(Inbox {
-            bytes: HeapCircularBuffer::with_capacity(alloc.clone()?, bytes)?,
+            bytes: Ring::with_capacity(alloc.clone()?, bytes)?,
             tokens: HeapCircularBuffer::with_capacity(alloc.clone()?, tokens)?,
             limit,
-            message: Vec::with_capacity(alloc.clone()?, len)?,
-            is_copied: false,
-            last: Vec::with_capacity(alloc.clone()?, len)?,
+            message: Vec::from_elem(alloc.clone()?, 0, len)?,
+            copied_len: 0,
+            last: Vec::from_elem(alloc.clone()?, 0, len)?,
+            last_len: HEADER_LEN,
             last_tokens: Vec::with_capacity(alloc, tokens)?,
         })
     }
@@ -148,14 +156,39 @@ impl<A: Allocator> Inbox<A> {
         ensures waits { self.new
             ≡ with_more self.old (take result.bytes bytes.now) (take result.tokens tokens.now) }
     {
-        let token_count = self.tokens.fill_from_slice(tokens);
+        let token_count = fill(&mut self.tokens, tokens);
         let bytes = if token_count < tokens.len() {
             &bytes[..0]
         } else {
             bytes
         };
-        self.is_copied = false;
-        let byte_count = self.bytes.fill_from_slice(bytes);
+        self.copied_len = 0;
+        let byte_count = self.bytes.fill(bytes);
+        Fed {
+            bytes: byte_count,
+            tokens: token_count,
+        }
+    }
+
+    /// Where the free bytes lie, in two parts, for one who writes there by means of another
+    /// language: `received` takes in what was written, from the first part on.
+    pub fn space(&self) -> (&[u8], &[u8])
+        ensures { length result.0.now + length result.1.now ≡ free_bytes self.now }
+    {
+        self.bytes.free_parts()
+    }
+
+    /// Takes in tokens, and bytes that were written where `space` says, so many of them from the
+    /// first place on, as `feed` does. Returns how many of each. Where it took no byte for want of
+    /// room for tokens, the bytes stay where they are as long as no other bytes are taken in.
+    pub fn received(&mut self, bytes: usize, tokens: &[u32]) -> Fed
+        ensures amount { result ≡ fed_of_len self.old bytes tokens.now }
+        ensures waits { HasReceived self.old result.bytes (take result.tokens tokens.now) self.new }
+    {
+        let token_count = fill(&mut self.tokens, tokens);
+        let bytes = if token_count < tokens.len() { 0 } else { bytes };
+        self.copied_len = 0;
+        let byte_count = self.bytes.fill_free(bytes);
         Fed {
             bytes: byte_count,
             tokens: token_count,
@@ -171,11 +204,10 @@ impl<A: Allocator> Inbox<A> {
             ((self.new ≡ self.old) × Keeps (R.remaining reader.old) (R.remaining reader.new)) }
     {
         let most = self.room().min(MAX_READ_LEN);
-        self.is_copied = false;
-        self.message.clear();
-        let _ = self.message.resize(most, 0);
-        let n = reader.read(&mut self.message)?;
-        append(&mut self.bytes, &self.message[..n]);
+        self.copied_len = 0;
+        let mut read = [0; MAX_READ_LEN];
+        let n = reader.read(&mut read[..most])?;
+        self.bytes.append(&read[..n]);
         Ok(n)
     }
 
@@ -184,19 +216,20 @@ impl<A: Allocator> Inbox<A> {
     /// `BadSize` is answered as soon as the 8 bytes of its header are there.
     pub fn frame(&mut self) -> Result<Option<Frame<'_>>, BadSize>
         ensures* stays { sem 𝓛 (Rests (the_row A.row A.Allocator) self.entry (λ i. i ≡ self.old)) }
-        ensures tells { Tells self.old result }
+        ensures tells { TellsFront self.old result }
     {
         let tokens = self.tokens.len();
-        self.is_copied = false;
-        let header = match header_in_front(&self.bytes, &mut self.message, self.limit)? {
+        self.copied_len = 0;
+        let header = match header_in_front(&self.bytes, self.limit)? {
             Some(header) => header,
             None => return Ok(None),
         };
-        copy_front(&self.bytes, &mut self.message, header.size as usize);
-        self.is_copied = true;
+        let size = header.size as usize;
+        copy_into(&self.bytes, &mut self.message, size);
+        self.copied_len = size;
         Ok(Some(Frame {
             header,
-            body: &self.message[8..],
+            body: &self.message[..size][HEADER_LEN..],
             tokens,
         }))
     }
@@ -224,17 +257,18 @@ impl<A: Allocator> Inbox<A> {
 
     /// Takes the first message out, and this many of the first tokens, as `pop` does, for `last`
     /// and `last_tokens` to lend.
-    #[tactic(auto, using(crate::proofs::Fronts::has_message, crate::proofs::Fronts::copied_size, crate::proofs::Fronts::copy_there))]
+    #[tactic(auto, using(crate::proofs::Fronts::has_message))]
     pub fn pass(&mut self, tokens: usize)
         requires message { HasMessage (in_front self.old) }
         requires tokens { tokens ≤ length self.old.tokens }
         ensures { self.new
             ≡ without_first self.old (message_size (in_front self.old)) tokens }
     {
-        copy_message(&self.bytes, &mut self.message, self.is_copied);
-        self.is_copied = false;
+        let size = copy_message(&self.bytes, &mut self.message, self.copied_len);
+        self.copied_len = 0;
         move_to_store(&mut self.tokens, &mut self.last_tokens, tokens);
-        remove_first(&mut self.bytes, self.message.len());
+        self.bytes.remove_first(size);
+        self.last_len = size;
         mem::swap(&mut self.message, &mut self.last);
     }
 
@@ -253,7 +287,7 @@ impl<A: Allocator> Inbox<A> {
     pub fn last(&self) -> &[u8]
         ensures { result.now ≡ self.now.last }
     {
-        &self.last[self.last.len().min(8)..]
+        &self.last[..self.last_len][HEADER_LEN..]
     }
 
     /// The tokens that were taken out with the message that was taken out last.

@@ -5,14 +5,14 @@ ghost use Rattle.std.specs.Prelude.{map, take, drop};
 ghost use Rattle.std.specs.List.{concat, AllByRecursion};
 ghost use Rattle.wl_wire.specs.declared.header.Header.{Header};
 ghost use Rattle.wl_wire.specs.Word.{header_bytes};
-ghost use Rattle.wl_message.specs.declared.amounts.Taken.{Taken};
-ghost use Rattle.wl_message.specs.Cut.{front, Bad, Whole, IsSize, IsMessage, IsCut, messages_of};
-ghost use Rattle.wl_message.specs.Cut.{rest_of};
+ghost use Rattle.wl_message.specs.declared.amounts.Amounts.{Amounts};
+ghost use Rattle.wl_message.specs.Cut.{front, Bad, Whole, IsSize, IsMessage, IsCut};
+ghost use Rattle.wl_message.specs.Cut.{messages_in_stream, rest_of};
 ghost use Rattle.wl_message.specs.Arrived.{Arrived, Gives};
-ghost use Rattle.wl_message.specs.Outgoing.{Message, Outgoing, Goes, goes, newly_begun};
+ghost use Rattle.wl_message.specs.Outgoing.{QueuedMessage, Outgoing, Goes, goes, newly_begun};
 ghost use Rattle.wl_message.specs.Outgoing.{after_taking};
-ghost use Rattle.wl_message.specs.InStep.{Part, Need, need, part_tokens, InStep, Passes, Carried};
-ghost use Rattle.wl_message.specs.InStep.{part_taken, Gave};
+ghost use Rattle.wl_message.specs.InStep.{Part, Need, need, part_tokens, InStep, TakesFromFront};
+ghost use Rattle.wl_message.specs.InStep.{HaveCarried, part_taken, Gave};
 
 /// A header whose size is the number of bytes makes a whole message, if a message may have that
 /// size.
@@ -39,18 +39,18 @@ pub fn front_stays()
 /// Each stream has one cut into messages and a rest.
 pub fn one_cut()
     ensures exists { (limit : ℕ) (stream : List ℕ)
-        → IsCut limit stream (messages_of limit stream) (rest_of limit stream) }
+        → IsCut limit stream (messages_in_stream limit stream) (rest_of limit stream) }
     ensures unique { (limit : ℕ) (stream : List ℕ) (messages : List (List ℕ)) (rest : List ℕ)
         → IsCut limit stream messages rest
-        → (messages_of limit stream ≡ messages) × (rest_of limit stream ≡ rest) }
+        → (messages_in_stream limit stream ≡ messages) × (rest_of limit stream ≡ rest) }
 {}
 
 /// The messages of a stream in two parts are those of the first part, and then those of its rest
 /// joined with the second part. So it does not matter where a stream is cut.
 pub fn any_cut()
     ensures messages { (limit : ℕ) (first second : List ℕ)
-        → messages_of limit (first ++ second) ≡ messages_of limit first
-        ++ messages_of limit (rest_of limit first ++ second) }
+        → messages_in_stream limit (first ++ second) ≡ messages_in_stream limit first
+        ++ messages_in_stream limit (rest_of limit first ++ second) }
     ensures rest { (limit : ℕ) (first second : List ℕ)
         → rest_of limit (first ++ second) ≡ rest_of limit (rest_of limit first ++ second) }
 {}
@@ -59,7 +59,7 @@ pub fn any_cut()
 pub fn joined_messages()
     ensures messages { (limit : ℕ) (messages : List (List ℕ))
         → AllByRecursion (IsMessage limit) messages
-        → messages_of limit (concat messages) ≡ messages }
+        → messages_in_stream limit (concat messages) ≡ messages }
     ensures rest { (limit : ℕ) (messages : List (List ℕ))
         → AllByRecursion (IsMessage limit) messages → rest_of limit (concat messages) ≡ [] }
 {}
@@ -67,40 +67,43 @@ pub fn joined_messages()
 /// The messages of a stream one after another.
 pub fn next_message()
     ensures whole { (limit : ℕ) (bytes : List ℕ) (n : ℕ) → front limit bytes ≡ Whole n
-        → (messages_of limit bytes ≡ take n bytes ∷ messages_of limit (drop n bytes))
+        → (messages_in_stream limit bytes ≡ take n bytes ∷ messages_in_stream limit (drop n bytes))
         × (rest_of limit bytes ≡ rest_of limit (drop n bytes)) }
     ensures none { (limit : ℕ) (bytes : List ℕ) → ((n : ℕ) → front limit bytes ≢ Whole n)
-        → (messages_of limit bytes ≡ []) × (rest_of limit bytes ≡ bytes) }
+        → (messages_in_stream limit bytes ≡ []) × (rest_of limit bytes ≡ bytes) }
 {}
 
 /// Just one amount goes out of an outbox into a room, and it takes whole messages out of those not
 /// begun, with all of their tokens.
 pub fn one_amount()
     ensures exists { (o : Outgoing) (b t : ℕ) → Goes o b t (goes o b t) }
-    ensures unique { (o : Outgoing) (b t : ℕ) (taken : Taken) → Goes o b t taken
+    ensures unique { (o : Outgoing) (b t : ℕ) (taken : Amounts) → Goes o b t taken
         → taken ≡ goes o b t }
-    ensures passes { (o : Outgoing) (b t : ℕ) (taken : Taken) → Goes o b t taken → Passes o taken }
+    ensures passes { (o : Outgoing) (b t : ℕ) (taken : Amounts) → Goes o b t taken
+        → TakesFromFront o taken }
 {}
 
 /// Pieces that bring messages in step still do so with the piece that is taken next.
 pub fn take_keeps_step()
-    ensures step { (sent : List Message) (o : Outgoing) (parts : List Part) (b t : ℕ)
-        (taken : Taken) → Goes o b t taken → Carried sent o.left parts
+    ensures step { (sent : List QueuedMessage) (o : Outgoing) (parts : List Part) (b t : ℕ)
+        (taken : Amounts) → Goes o b t taken → HaveCarried sent o.left parts
         → InStep (map need (sent ++ o.messages)) parts
         → InStep (map need (sent ++ o.messages)) (parts ++ part_taken o taken ∷ []) }
-    ensures carried { (sent : List Message) (o : Outgoing) (parts : List Part) (b t : ℕ)
-        (taken : Taken) → Goes o b t taken → Carried sent o.left parts
-        → Carried (sent ++ newly_begun o taken.bytes) (after_taking o taken.bytes).left
+    ensures carried { (sent : List QueuedMessage) (o : Outgoing) (parts : List Part) (b t : ℕ)
+        (taken : Amounts) → Goes o b t taken → HaveCarried sent o.left parts
+        → HaveCarried (sent ++ newly_begun o taken.bytes) (after_taking o taken.bytes).left
         (parts ++ part_taken o taken ∷ []) }
 {}
 
 /// All pieces that are ever taken out of an outbox bring its messages in step, and no byte and no
 /// token is lost or changed.
 pub fn pieces_in_step()
-    ensures step { (sent : List Message) (parts : List Part) (o : Outgoing) → Gave sent parts o
+    ensures step { (sent : List QueuedMessage) (parts : List Part) (o : Outgoing)
+        → Gave sent parts o
         → InStep (map need (sent ++ o.messages)) parts }
-    ensures carried { (sent : List Message) (parts : List Part) (o : Outgoing) → Gave sent parts o
-        → Carried sent o.left parts }
+    ensures carried { (sent : List QueuedMessage) (parts : List Part) (o : Outgoing)
+        → Gave sent parts o
+        → HaveCarried sent o.left parts }
 {}
 
 /// Each token that an inbox was fed it gave once, in order, or it still waits.

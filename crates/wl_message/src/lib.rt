@@ -18,7 +18,7 @@ mod ring;
 mod script;
 mod streams;
 
-pub use amounts::{Fed, Full, MAX_BOX_BYTES, MAX_BOX_TOKENS, Piece, Sizes, Taken};
+pub use amounts::{Amounts, Fed, Full, MAX_BOX_BYTES, MAX_BOX_TOKENS, Peek, Piece, Sizes, Taken};
 pub use inbox::{BadSize, Frame, Inbox};
 pub use laws::{
     any_cut, front_stays, headed_message, joined_messages, next_message, no_token_is_lost,

@@ -1,14 +1,15 @@
 //! Messages that wait to go out.
 ghost use Rattle.std.specs.Prelude.{◌≡◌, ◌≤◌, ◌<◌, ◌+◌, ◌↔◌, ◌⊎◌, ◌++◌, false, [], length, take};
-ghost use Rattle.std.specs.Prelude.{drop, vec_capacity, IfOk, OnOk, OnErr, IsErr, IsTrue};
+ghost use Rattle.std.specs.Prelude.{drop, min, slice_get, vec_capacity, IfOk, OnOk, OnErr, IsErr};
+ghost use Rattle.std.specs.Prelude.{IsTrue};
 ghost use Rattle.wl_message.specs.Cut.{IsMessage};
 ghost use Rattle.wl_message.specs.Outgoing.{no_messages, waiting_bytes, waiting_tokens};
 ghost use Rattle.wl_message.specs.Outgoing.{ordinary_len, room_of, token_room_of, with_message};
-ghost use Rattle.wl_message.specs.Outgoing.{with_error, MayGo, Goes, goes, after_taking};
-ghost use Rattle.wl_message.specs.Marks.{Reaches};
+ghost use Rattle.wl_message.specs.Outgoing.{with_error, MayGo, Goes, goes, Peeks, after_taking};
+ghost use Rattle.wl_message.specs.Marks.{ReachesRoom};
 ghost use Rattle.wl_message.specs.Streams.{NextHasTokens};
 
-use crate::amounts::{Full, Taken};
+use crate::amounts::{Full, Peek, Taken};
 use crate::front::{append, move_first, remove_first};
 use crate::header::HEADER_LEN;
 use crate::limit::Limit;
@@ -243,7 +244,7 @@ impl<A: Allocator> Outbox<A> {
 
     /// How far the messages go into a room.
     fn reach(&self, bytes: usize, tokens: usize) -> Reach
-        ensures { Reaches self.now bytes tokens result }
+        ensures { ReachesRoom self.now bytes tokens result }
     {
         let first = bytes.min(self.left);
         let Reach {
@@ -322,6 +323,51 @@ impl<A: Allocator> Outbox<A> {
         };
         self.bytes.remove_first(gone.bytes);
         move_first(&mut self.tokens, tokens, gone.tokens);
+        remove_first(&mut self.marks, reach.begun);
+        self.left = reach.left;
+        self.error_from = self.error_from.saturating_sub(gone.bytes);
+        self.error_to = self.error_to.saturating_sub(gone.bytes);
+        gone
+    }
+
+    /// The most bytes that can go at one time so that each token goes with the first of them, as
+    /// `take` has it, however many of them go; and how many of the waiting tokens these are.
+    pub fn peek(&self) -> Peek<'_>
+        ensures { Peeks self.now (result.front.now ++ result.back.now) result.tokens }
+    {
+        let tokens = self.goes(1, self.tokens.len()).tokens;
+        let len = self.goes(self.bytes.len(), tokens).bytes;
+        let (front, back) = self.bytes.first_in_parts(len);
+        Peek {
+            front,
+            back,
+            tokens,
+        }
+    }
+
+    /// The waiting token at this place, counted from 0.
+    pub fn token(&self, place: usize) -> Option<u32>
+        ensures { result ≡ slice_get (waiting_tokens self.now) place }
+    {
+        self.tokens.get(place).copied()
+    }
+
+    /// Takes out what went by other means: the first bytes, so many of them or all that wait, and
+    /// the tokens that go with them. Returns how many of each.
+    pub fn sent(&mut self, bytes: usize) -> Taken
+        ensures longest { Goes self.old bytes (length (waiting_tokens self.old)) result }
+        ensures computed { result ≡ goes self.old bytes (length (waiting_tokens self.old)) }
+        ensures bytes { result.bytes ≡ min bytes (length (waiting_bytes self.old)) }
+        ensures rest { self.new ≡ after_taking self.old result.bytes }
+    {
+        let waiting = self.tokens.len();
+        let reach = self.reach(bytes, waiting);
+        let gone = Taken {
+            bytes: bytes - reach.bytes,
+            tokens: waiting - reach.tokens,
+        };
+        self.bytes.remove_first(gone.bytes);
+        remove_first(&mut self.tokens, gone.tokens);
         remove_first(&mut self.marks, reach.begun);
         self.left = reach.left;
         self.error_from = self.error_from.saturating_sub(gone.bytes);

@@ -1,8 +1,8 @@
 //! Bytes that wait, in one block of memory that they go round in.
-ghost use Rattle.std.specs.Prelude.{◌≡◌, ◌≤◌, ◌<◌, ◌+◌, ◌^◌, ◌==◌, ◌++◌, [], length, take, drop};
-ghost use Rattle.std.specs.Prelude.{IfOk, vec_capacity};
+ghost use Rattle.std.specs.Prelude.{◌≡◌, ◌≤◌, ◌<◌, ◌+◌, ◌-◌, ◌^◌, ◌==◌, ◌++◌, [], length, take};
+ghost use Rattle.std.specs.Prelude.{drop, min, IfOk, IfSome, vec_capacity};
 ghost use Rattle.circular_buffer.specs.Buffer.{buffer};
-ghost use Rattle.wl_message.specs.Around.{GoRound, StandsAt, around};
+ghost use Rattle.wl_message.specs.Around.{GoRound, StandsAt, TakesUp, around};
 
 use std::alloc::{AllocError, Allocator, Global};
 use std::marker::Model;
@@ -54,10 +54,15 @@ fn put(block: &mut [u8], start: usize, len: usize, more: &[u8])
         ≡ around start len block.old ++ more.now }
     ensures len { length block.new ≡ length block.old }
 {
+    let size = more.len();
     let place = place(start, len, block.len());
-    let first = more.len().min(block.len() - place);
+    if size <= block.len() - place {
+        block[place..place + size].copy_from_slice(more);
+        return;
+    }
+    let first = block.len() - place;
     block[place..place + first].copy_from_slice(&more[..first]);
-    block[..more.len() - first].copy_from_slice(&more[first..]);
+    block[..size - first].copy_from_slice(&more[first..]);
 }
 
 /// Writes a message behind those bytes: where it is to lie, or by way of the store, which has room
@@ -96,7 +101,11 @@ fn copy_first(block: &[u8], start: usize, len: usize, to: &mut [u8])
     ensures { to.new ≡ take (length to.old) (around start len block.now) }
 {
     let n = to.len();
-    let first = n.min(block.len() - start);
+    if n <= block.len() - start {
+        to.copy_from_slice(&block[start..start + n]);
+        return;
+    }
+    let first = block.len() - start;
     to[..first].copy_from_slice(&block[start..start + first]);
     to[first..].copy_from_slice(&block[..n - first]);
 }
@@ -110,6 +119,41 @@ fn first_part(block: &[u8], start: usize, len: usize, most: usize) -> &[u8]
 {
     let len = len.min(most).min(block.len() - start);
     &block[start..start + len]
+}
+
+/// The first n of these bytes, where they lie in one part.
+fn in_one_part(block: &[u8], start: usize, len: usize, n: usize) -> Option<&[u8]>
+    requires round { GoRound start len (length block.now) }
+    requires there { n ≤ len }
+    ensures { IfSome result (λ part. part.now ≡ take n (around start len block.now)) }
+{
+    if n > block.len() - start {
+        return None;
+    }
+    Some(&block[start..start + n])
+}
+
+/// The first n of these bytes, in two parts.
+fn first_in_parts(block: &[u8], start: usize, len: usize, n: usize) -> (&[u8], &[u8])
+    requires round { GoRound start len (length block.now) }
+    requires there { n ≤ len }
+    ensures { result.0.now ++ result.1.now ≡ take n (around start len block.now) }
+{
+    let first = n.min(block.len() - start);
+    (&block[start..start + first], &block[..n - first])
+}
+
+/// What lies behind those bytes, in two parts.
+fn free_parts(block: &[u8], start: usize, len: usize) -> (&[u8], &[u8])
+    requires { GoRound start len (length block.now) }
+    ensures behind { around start len block.now ++ (result.0.now ++ result.1.now)
+        ≡ around start (length block.now) block.now }
+    ensures len { length result.0.now + length result.1.now + len ≡ length block.now }
+{
+    let place = place(start, len, block.len());
+    let free = block.len() - len;
+    let first = free.min(block.len() - place);
+    (&block[place..place + first], &block[..free - first])
 }
 
 impl<A: Allocator> Ring<A> {
@@ -131,6 +175,14 @@ impl<A: Allocator> Ring<A> {
         ensures within { (result ≤ self.now.capacity) × (self.now.capacity < 2 ^ 63) }
     {
         self.len
+    }
+
+    /// How many bytes may wait.
+    pub(crate) fn capacity(&self) -> usize
+        ensures capacity { result ≡ self.now.capacity }
+        ensures within { (length self.now.items ≤ result) × (result < 2 ^ 63) }
+    {
+        self.block.len()
     }
 
     /// Whether no byte waits.
@@ -164,6 +216,43 @@ impl<A: Allocator> Ring<A> {
         self.len += more.len();
     }
 
+    /// Appends as many of these bytes as there is room for, from the first on, and returns how many.
+    pub(crate) fn fill(&mut self, more: &[u8]) -> usize
+        ensures count { result ≡ min (length more.now) (self.old.capacity - length self.old.items) }
+        ensures ring { self.new
+            ≡ buffer (self.old.items ++ take result more.now) self.old.capacity }
+    {
+        let count = more.len().min(self.capacity() - self.len());
+        self.append(&more[..count]);
+        count
+    }
+
+    /// Where the free places lie, in two parts.
+    pub(crate) fn free_parts(&self) -> (&[u8], &[u8])
+        ensures { length result.0.now + length result.1.now + length self.now.items
+            ≡ self.now.capacity }
+    {
+        free_parts(&self.block, self.start, self.len)
+    }
+
+    /// Appends what lies in the first of the free places, n of them or all, and returns how many.
+    pub(crate) fn fill_free(&mut self, n: usize) -> usize
+        ensures count { result ≡ min n (self.old.capacity - length self.old.items) }
+        ensures ring { TakesUp self.old result self.new }
+    {
+        let count = n.min(self.capacity() - self.len());
+        self.append_free(count);
+        count
+    }
+
+    /// Appends what lies in the first n of the free places.
+    fn append_free(&mut self, n: usize)
+        requires { length self.old.items + n ≤ self.old.capacity }
+        ensures { TakesUp self.old n self.new }
+    {
+        self.len += n;
+    }
+
     /// Takes the first n bytes out.
     pub(crate) fn remove_first(&mut self, n: usize)
         requires { n ≤ length self.old.items }
@@ -182,6 +271,30 @@ impl<A: Allocator> Ring<A> {
     {
         copy_first(&self.block, self.start, self.len, &mut to[..n]);
         self.remove_first(n);
+    }
+
+    /// Copies the first bytes, as many as the slice has places. They stay in the ring.
+    pub(crate) fn copy_first(&self, to: &mut [u8])
+        requires { length to.old ≤ length self.now.items }
+        ensures { to.new ≡ take (length to.old) self.now.items }
+    {
+        copy_first(&self.block, self.start, self.len, to);
+    }
+
+    /// The first n bytes, where they lie in one part.
+    pub(crate) fn in_one_part(&self, n: usize) -> Option<&[u8]>
+        requires { n ≤ length self.now.items }
+        ensures { IfSome result (λ part. part.now ≡ take n self.now.items) }
+    {
+        in_one_part(&self.block, self.start, self.len, n)
+    }
+
+    /// The first n bytes, in two parts.
+    pub(crate) fn first_in_parts(&self, n: usize) -> (&[u8], &[u8])
+        requires { n ≤ length self.now.items }
+        ensures { result.0.now ++ result.1.now ≡ take n self.now.items }
+    {
+        first_in_parts(&self.block, self.start, self.len, n)
     }
 
     /// Some of the first bytes, at most `most`; none only where there are none.

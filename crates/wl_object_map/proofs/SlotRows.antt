@@ -15,7 +15,7 @@ use Rattle.wl_object_map.specs.declared.object.Entry.{Entry}
 use Rattle.wl_object_map.specs.declared.slot_table.Slot.{Slot}
 use Rattle.wl_object_map.specs.declared.slot_table.Slot.TheVariants.{Row, Free}
 use Rattle.wl_object_map.specs.Views.{get_put, get_gone, some_is}
-use Rattle.wl_object_map.specs.Slots.{slot_at, row, row_at, row_in, rows_from}
+use Rattle.wl_object_map.specs.Slots.{slot_at, slot_of_entry, row_at, row_in, rows_from}
 
 -- Tests of numbers.
 
@@ -121,10 +121,10 @@ some_used : (slots : List Slot) (n : ℕ) (s : Slot) → slice_get slots n ≡ S
 some_used slots n s h = slice_get_within slots n s h
 
 -- where an id has a row, its slot holds it
-pub row_slot : (o : Option Slot) (e : Entry) → row_in o ≡ Some e → o ≡ Some (row e)
+pub row_slot : (o : Option Slot) (e : Entry) → row_in o ≡ Some e → o ≡ Some (slot_of_entry e)
 row_slot None e h = cc
 row_slot (Some (Row birth version iface state)) e h =
-    ap (λ (x : Entry). Some (row x)) (some_is (record {
+    ap (λ (x : Entry). Some (slot_of_entry x)) (some_is (record {
       birth = birth;
       iface = iface;
       version = version;

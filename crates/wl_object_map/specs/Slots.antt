@@ -11,8 +11,8 @@ use Rattle.wl_object_map.specs.declared.slot_table.Slot.TheVariants.{Row, Free}
 use Rattle.wl_object_map.specs.View.{View, Sound, times, without, first_or}
 
 -- the slot that holds a row
-abbrev pub row : Entry → Slot
-row e = Row e.birth e.version e.iface e.state
+abbrev pub slot_of_entry : Entry → Slot
+slot_of_entry e = Row e.birth e.version e.iface e.state
 
 -- the row of a new object
 abbrev pub new_row : ℕ → Iface → ℕ → Entry
@@ -139,6 +139,6 @@ view_of slots first free births = record {
 }
 
 -- what always holds of one: the view is sound, and the chain spells all its freed ids
-pub record Holds (slots : List Slot) (first free births : ℕ) : Type 0 where
+pub record IsSoundChain (slots : List Slot) (first free births : ℕ) : Type 0 where
   pub sound : Sound (view_of slots first free births)
   pub chain : IsChain slots first (followed free slots first)

@@ -15,14 +15,15 @@ use Rattle.std.specs.declared.option.Option.TheVariants.{None, Some}
 use Rattle.wl_wire.specs.declared.kind.Iface.{Iface}
 use Rattle.wl_object_map.specs.declared.object.Entry.{Entry}
 use Rattle.wl_object_map.specs.declared.object.State.TheVariants.{Live}
-use Rattle.wl_object_map.specs.View.{View, Sound, IdsOfBirths, look, is_held, is_live, lives_in, times}
-use Rattle.wl_object_map.specs.View.{without, first_or, next_id, free_or_next, has_room, can_open}
-use Rattle.wl_object_map.specs.View.{opening, opened_at, opened, closed, zombie, with_zombie, zombied}
+use Rattle.wl_object_map.specs.View.{View, Sound, IdsOfBirths, look, is_held, is_live, lives_in}
+use Rattle.wl_object_map.specs.View.{times, without, first_or, next_id, free_or_next, has_room}
+use Rattle.wl_object_map.specs.View.{can_open, opening, opened_at, opened, closed, zombie}
+use Rattle.wl_object_map.specs.View.{with_zombie, zombied}
 use Rattle.wl_object_map.specs.Views
 use Rattle.wl_object_map.specs.Views.{in_row, in_list, at_null, unused}
 
-abbrev birth_of : Entry → ℕ
-birth_of e = e.birth
+abbrev entry_birth : Entry → ℕ
+entry_birth e = e.birth
 
 -- an opening
 
@@ -36,7 +37,7 @@ used-opened_at view id iface version s h =
 
 -- a freed id is one of those used
 pub used_of_freed : (view : View) (id : ℕ) → Sound view → 0 < times id view.freed → id ≤ view.used
-used_of_freed view id s h = elim (Views.place_of view s id) [
+used_of_freed view id s h = elim (Views.place_of_id view s id) [
   | in_row e l t a b ↦ b
   | in_list l t a b ↦ b
   | at_null l t e ↦ omega arith
@@ -47,7 +48,7 @@ fresh : (x : ℕ) (xs : List ℕ) → times x (x ∷ xs) ≤ 1 → times x xs �
 fresh x xs h = grind (arith, common_steps, nat_tests, h)
 
 pub at_most_once : (view : View) (id : ℕ) → Sound view → times id view.freed ≤ 1
-at_most_once view id s = elim (Views.place_of view s id) [
+at_most_once view id s = elim (Views.place_of_id view s id) [
   | in_row e l t a b ↦ omega arith
   | in_list l t a b ↦ omega arith
   | at_null l t e ↦ omega arith
@@ -117,7 +118,7 @@ ids-opened_at view id iface version s free =
             (g.0, (omega (arith, m), old g.0 g.1.0 ∙ g.1.1)))
       ];
       rows = λ q e at. ⊎_elim
-          (λ n. new e.birth (ap birth_of n.1) ∙ sym n.0)
+          (λ n. new e.birth (ap entry_birth n.1) ∙ sym n.0)
           (λ o. old e.birth (s.born q e o.1) ∙ ids.rows q e o.1)
           (Views.row-opened_at view id iface version q e at);
     }
@@ -153,18 +154,18 @@ Sound-opened_at view id iface version s free room =
           (λ new_p. ⊎_elim
           (λ new_q. new_p.0 ∙ sym new_q.0)
           (λ old_q.
-          let b = s.born q d old_q.1 in let n = ap birth_of new_p.1 in
+          let b = s.born q d old_q.1 in let n = ap entry_birth new_p.1 in
           absurd (omega (arith, same)))
           (Views.row-opened_at view id iface version q d at_q))
           (λ old_p. ⊎_elim
           (λ new_q.
-          let b = s.born p e old_p.1 in let n = ap birth_of new_q.1 in
+          let b = s.born p e old_p.1 in let n = ap entry_birth new_q.1 in
           absurd (omega (arith, same)))
           (λ old_q. s.one_birth p q e d old_p.1 old_q.1 same)
           (Views.row-opened_at view id iface version q d at_q))
           (Views.row-opened_at view id iface version p e at_p);
       born = λ q e at. ⊎_elim
-          (λ new. let n = ap birth_of new.1 in omega arith)
+          (λ new. let n = ap entry_birth new.1 in omega arith)
           (λ old. let b = s.born q e old.1 in omega arith)
           (Views.row-opened_at view id iface version q e at);
       ids = ids-opened_at view id iface version s free;
@@ -216,7 +217,7 @@ Sound-opening display =
       count = ap (λ n. n + 0) (len-opening display);
       one_birth = λ p q e d at_p at_q same.
           (row-opening display p e at_p).0 ∙ sym (row-opening display q d at_q).0;
-      born = λ q e at. let b = ap birth_of (row-opening display q e at).1 in omega arith;
+      born = λ q e at. let b = ap entry_birth (row-opening display q e at).1 in omega arith;
       ids = record {
         id_of = λ birth. 1;
         used = λ b h. (lit≤ tt, lit≤ tt);
@@ -284,7 +285,7 @@ len-with_zombie rows id (Some d) e =
 pub len-zombied : (view : View) (id : ℕ) → len (zombied view id).rows ≡ len view.rows
 len-zombied view id = len-with_zombie view.rows id (look view id) refl
 
-same_birth : (b : Bool) (d : Entry) → birth_of (cond b (zombie d) d) ≡ birth_of d
+same_birth : (b : Bool) (d : Entry) → entry_birth (cond b (zombie d) d) ≡ entry_birth d
 same_birth true d = refl
 same_birth false d = refl
 
@@ -309,12 +310,13 @@ Sound-zombied view id s other =
           let z = Views.row-zombied view id p e at_p in
           let w = Views.row-zombied view id q d at_q in
           s.one_birth p q z.0 w.0 z.1.0 w.1.0
-          (sym (ap birth_of z.1.1 ∙ same_birth (eqb p id) z.0)
-          ∙ same ∙ (ap birth_of w.1.1 ∙ same_birth (eqb q id) w.0));
+          (sym (ap entry_birth z.1.1 ∙ same_birth (eqb p id) z.0)
+          ∙ same ∙ (ap entry_birth w.1.1 ∙ same_birth (eqb q id) w.0));
       born = λ q e at.
           let z = Views.row-zombied view id q e at in
           let b = s.born q z.0 z.1.0 in
-          let n : birth_of e ≡ birth_of z.0 = ap birth_of z.1.1 ∙ same_birth (eqb q id) z.0 in
+          let n : entry_birth e ≡ entry_birth z.0 = ap entry_birth z.1.1
+          ∙ same_birth (eqb q id) z.0 in
           omega arith;
       ids = let i = s.ids in record {
         id_of = i.id_of;
@@ -322,7 +324,7 @@ Sound-zombied view id s other =
         given = i.given;
         rows = λ q e at.
             let z = Views.row-zombied view id q e at in
-            ap i.id_of (ap birth_of z.1.1 ∙ same_birth (eqb q id) z.0) ∙ i.rows q z.0 z.1.0;
+            ap i.id_of (ap entry_birth z.1.1 ∙ same_birth (eqb q id) z.0) ∙ i.rows q z.0 z.1.0;
       };
       display = (
         s.display.0,

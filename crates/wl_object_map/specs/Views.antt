@@ -106,8 +106,8 @@ other_place : (o : Option Entry) (t : ℕ) → cond (is_some o) 1 0 + t ≡ 0 �
 other_place None t e = (refl, omega arith)
 other_place (Some d) t e = absurd (omega arith)
 
-pub place_of : (view : View) → Sound view → (id : ℕ) → Place view id
-place_of view s id = ⊎_elim
+pub place_of_id : (view : View) → Sound view → (id : ℕ) → Place view id
+place_of_id view s id = ⊎_elim
     (λ null.
     let o = other_place (look view id) (times id view.freed) (ap (places view) null ∙ s.no_other) in
     at_null o.0 o.1 null)
@@ -132,7 +132,7 @@ pub record IsFree (view : View) (id : ℕ) : Type 0 where
 -- an id is freed or next exactly where it has no row and is from 1 to one past the ids used
 pub free_or_next-rows : (view : View) (id : ℕ) → Sound view
     → free_or_next view id ≡ (not (is_held view id) && (ltb 0 id && leb id (view.used + 1)))
-free_or_next-rows view id s = elim (place_of view s id) [
+free_or_next-rows view id s = elim (place_of_id view s id) [
   | in_row e l t a b ↦ let h = ap is_some l in grind (arith, common_steps, nat_tests, h, t, a, b)
   | in_list l t a b ↦ let h = ap is_some l in grind (arith, common_steps, nat_tests, h, t, a, b)
   | at_null l t e ↦ let h = ap is_some l in grind (arith, common_steps, nat_tests, h, t, e)
@@ -140,7 +140,7 @@ free_or_next-rows view id s = elim (place_of view s id) [
 ]
 
 pub free_is : (view : View) (id : ℕ) → Sound view → free_or_next view id ≡ true → IsFree view id
-free_is view id s h = elim (place_of view s id) [
+free_is view id s h = elim (place_of_id view s id) [
   | in_row e l t a b ↦ let no : false ≡ true = grind (arith, common_steps, nat_tests, h, t, b) in cc
   | in_list l t a b ↦ record {
     no_row = l;
@@ -160,9 +160,9 @@ free_is view id s h = elim (place_of view s id) [
 ]
 
 -- so an id without a row, from 1 to one past the ids used, is freed or next
-pub is_free : (view : View) (id : ℕ) → Sound view → look view id ≡ None → 0 < id
+pub unheld_is_free : (view : View) (id : ℕ) → Sound view → look view id ≡ None → 0 < id
     → id ≤ view.used + 1 → free_or_next view id ≡ true
-is_free view id s l a b =
+unheld_is_free view id s l a b =
     let h = ap is_some l in
     free_or_next-rows view id s ∙ grind (arith, common_steps, nat_tests, h, a, b)
 

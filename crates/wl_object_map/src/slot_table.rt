@@ -2,8 +2,9 @@
 ghost use Rattle.std.specs.Prelude.{◌≡◌, ◌≤◌, ◌<◌, ◌+◌, OnOk, OnErr, IfOk, IfErr, IsTrue, length};
 ghost use Rattle.std.specs.Prelude.{eqb, if◌then◌else◌};
 ghost use Rattle.wl_object_map.specs.View.{View, free_or_next, has_room, next_id, opened_at, times};
-ghost use Rattle.wl_object_map.specs.Slots.{row, new_row, slot_at, IsPut, IsOlderSet, IsNewerSet};
-ghost use Rattle.wl_object_map.specs.Slots.{IsTakenOut, IsPutFirst, HasSameRows, HasNoRowAt};
+ghost use Rattle.wl_object_map.specs.Slots.{slot_of_entry, new_row, slot_at, IsPut, IsOlderSet};
+ghost use Rattle.wl_object_map.specs.Slots.{IsNewerSet, IsTakenOut, IsPutFirst, HasSameRows};
+ghost use Rattle.wl_object_map.specs.Slots.{HasNoRowAt};
 
 use super::table::MAX_IDS;
 use super::{Entry, Object, State, Table, TableError};
@@ -36,7 +37,7 @@ const _: () = prove!(size_of::<Slot>() == 24);
 impl Slot {
     /// The row of a new object.
     fn live(birth: u64, iface: Iface, version: u32) -> Slot
-        ensures { result ≡ row (new_row birth iface version) }
+        ensures { result ≡ slot_of_entry (new_row birth iface version) }
     {
         Slot::Row {
             birth,
@@ -65,7 +66,7 @@ pub struct SlotTable<A: Allocator = Global> {
 
 impl<A: Allocator> Model for SlotTable<A> {
     ghost use Rattle.wl_object_map.specs.View.{View, view_code};
-    ghost use Rattle.wl_object_map.specs.Slots.{view_of, Holds};
+    ghost use Rattle.wl_object_map.specs.Slots.{view_of, IsSoundChain};
 
     ghost Value = { View };
 
@@ -73,7 +74,7 @@ impl<A: Allocator> Model for SlotTable<A> {
 
     ghost view = { λ t. view_of t.slots.items t.first_free t.free t.births };
 
-    ghost invariant = { λ t. Holds t.slots.items t.first_free t.free t.births };
+    ghost invariant = { λ t. IsSoundChain t.slots.items t.first_free t.free t.births };
 }
 
 /// The slot of an id, if it was used.

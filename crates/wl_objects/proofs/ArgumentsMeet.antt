@@ -16,21 +16,22 @@ use Rattle.wl_wire.proofs.Fronts.{reading-spelled}
 use Rattle.wl_wire.proofs.Taken.{reading-found}
 use Rattle.wl_wire.proofs.Refused.{fault-reading, reading-fault}
 use Rattle.wl_objects.specs.declared.error.Fault.{Fault}
-use Rattle.wl_objects.specs.Reading.{Reader, kind_at, value_fault, unless, judged, before, and_those, arguments_at}
+use Rattle.wl_objects.specs.Reading.{Reader, forgiving_kind, value_fault, unless, value_or_fault, before, and_those}
+use Rattle.wl_objects.specs.Reading.{arguments_at}
 use Rattle.wl_objects.specs.Spelling as spelling
-use Rattle.wl_objects.specs.Spelling.{Meets, FirstFault}
+use Rattle.wl_objects.specs.Spelling.{MeetsKinds, FirstFault}
 
 abbrev Bytewise : List ℕ → Type 0
 Bytewise bytes = All (λ b. b < 256) bytes
 
 -- what an answer says, as a relation
 abbrev Says : Reader → ℕ → List Kind → List ℕ → Result (List Argument × List ℕ) Fault → Type 0
-Says r place ks bytes (Ok found) = Meets r place ks bytes found.0 found.1
+Says r place ks bytes (Ok found) = MeetsKinds r place ks bytes found.0 found.1
 Says r place ks bytes (Err fault) = FirstFault r place ks bytes fault
 
 says-before : (r : Reader) (place : ℕ) (kind : Kind) (ks : List Kind) (bytes : List ℕ) (v : Argument) (n : ℕ)
     (x : Result (List Argument × List ℕ) Fault)
-    → bytes ≡ take n bytes ++ drop n bytes → Spells (kind_at r.forgives kind) v (take n bytes)
+    → bytes ≡ take n bytes ++ drop n bytes → Spells (forgiving_kind r.forgives kind) v (take n bytes)
     → value_fault r place kind v ≡ None
     → Says r (suc place) ks (drop n bytes) x → Says r place (kind ∷ ks) bytes (before v x)
 says-before r place kind ks bytes v n (Ok found) e s f h = spelling.more s f h e
@@ -38,7 +39,7 @@ says-before r place kind ks bytes v n (Err fault) e s f h = spelling.later s f h
 
 says-unless : (r : Reader) (place : ℕ) (kind : Kind) (ks : List Kind) (bytes : List ℕ) (v : Argument) (n : ℕ)
     (f : Option Fault)
-    → bytes ≡ take n bytes ++ drop n bytes → Spells (kind_at r.forgives kind) v (take n bytes)
+    → bytes ≡ take n bytes ++ drop n bytes → Spells (forgiving_kind r.forgives kind) v (take n bytes)
     → value_fault r place kind v ≡ f
     → Says r (suc place) ks (drop n bytes) (arguments_at r (suc place) ks (drop n bytes))
     → Says r place (kind ∷ ks) bytes (and_those (arguments_at r (suc place) ks) bytes (unless f (v, n)))
@@ -48,26 +49,26 @@ says-unless r place kind ks bytes v n (Some fault) e s f h = spelling.meaning (d
 
 says-judged : (r : Reader) (place : ℕ) (kind : Kind) (ks : List Kind) (bytes : List ℕ)
     (x : Result (Argument × ℕ) ArgFault) → Bytewise bytes
-    → reading (kind_at r.forgives kind) bytes ≡ x
+    → reading (forgiving_kind r.forgives kind) bytes ≡ x
     → ((n : ℕ) → Says r (suc place) ks (drop n bytes) (arguments_at r (suc place) ks (drop n bytes)))
-    → Says r place (kind ∷ ks) bytes (and_those (arguments_at r (suc place) ks) bytes (judged r place kind x))
+    → Says r place (kind ∷ ks) bytes (and_those (arguments_at r (suc place) ks) bytes (value_or_fault r place kind x))
 says-judged r place kind ks bytes (Ok found) w e h =
-    let spelled = reading-found (kind_at r.forgives kind) found.0 found.1 bytes w e in
+    let spelled = reading-found (forgiving_kind r.forgives kind) found.0 found.1 bytes w e in
     says-unless r place kind ks bytes found.0 found.1 (value_fault r place kind found.0)
     (sym (take-append-drop found.1 bytes)) spelled.1 refl (h found.1)
 says-judged r place kind ks bytes (Err fault) w e h =
-    spelling.spelling ((reading-fault (kind_at r.forgives kind) fault bytes w).0 e)
+    spelling.spelling ((reading-fault (forgiving_kind r.forgives kind) fault bytes w).0 e)
 
 pub says : (r : Reader) (place : ℕ) (ks : List Kind) (bytes : List ℕ) → Bytewise bytes
     → Says r place ks bytes (arguments_at r place ks bytes)
 says r place [] bytes w = spelling.none
 says r place (kind ∷ ks) bytes w =
-    says-judged r place kind ks bytes (reading (kind_at r.forgives kind) bytes) w refl
+    says-judged r place kind ks bytes (reading (forgiving_kind r.forgives kind) bytes) w refl
     (λ n. says r (suc place) ks (drop n bytes) (All-drop (λ (b : ℕ). b < 256) n bytes w))
 
 pub met : (r : Reader) (place : ℕ) (ks : List Kind) (bytes : List ℕ) (values : List Argument) (rest : List ℕ)
     → Bytewise bytes
-    → arguments_at r place ks bytes ≡ Ok (values, rest) → Meets r place ks bytes values rest
+    → arguments_at r place ks bytes ≡ Ok (values, rest) → MeetsKinds r place ks bytes values rest
 met r place ks bytes values rest w e = subst (λ (x : Result (List Argument × List ℕ) Fault). Says r place ks bytes x) e
     (says r place ks bytes w)
 
@@ -78,7 +79,7 @@ faulty r place ks bytes fault w e = subst (λ (x : Result (List Argument × List
 
 -- an argument that is spelled at the front, and rightly, leaves what lies behind it
 one-right : (r : Reader) (place : ℕ) (kind : Kind) (ks : List Kind) (bytes front behind : List ℕ) (v : Argument)
-    → Spells (kind_at r.forgives kind) v front → value_fault r place kind v ≡ None → bytes ≡ front ++ behind
+    → Spells (forgiving_kind r.forgives kind) v front → value_fault r place kind v ≡ None → bytes ≡ front ++ behind
     → arguments_at r place (kind ∷ ks) bytes ≡ before v (arguments_at r (suc place) ks behind)
 one-right r place kind ks bytes front behind v s f e =
     let one = reading-spelled behind s in
@@ -86,14 +87,14 @@ one-right r place kind ks bytes front behind v s f e =
     rw (e, one, f, rest) refl
 
 pub meets-read : {r : Reader} {place : ℕ} {ks : List Kind} {bytes : List ℕ} {values : List Argument} {rest : List ℕ}
-    → Meets r place ks bytes values rest → arguments_at r place ks bytes ≡ Ok (values, rest)
+    → MeetsKinds r place ks bytes values rest → arguments_at r place ks bytes ≡ Ok (values, rest)
 meets-read {r} spelling.none = refl
 meets-read {r} (spelling.more s f m e) = one-right r _ _ _ _ _ _ _ s f e ∙ ap (before _) (meets-read m)
 
 pub fault-read : {r : Reader} {place : ℕ} {ks : List Kind} {bytes : List ℕ} {fault : Fault}
     → FirstFault r place ks bytes fault → arguments_at r place ks bytes ≡ Err fault
 fault-read {r} (spelling.spelling {kind = kind} {bytes = bytes} {fault = fault} f) = let one =
-    fault-reading (kind_at r.forgives kind) fault bytes f in rw one refl
+    fault-reading (forgiving_kind r.forgives kind) fault bytes f in rw one refl
 fault-read {r} (spelling.meaning {place = place} {kind = kind} {value = value} {front = front} behind s f e) =
     let one = reading-spelled behind s in rw (e, one, f) refl
 fault-read {r} (spelling.later s f m e) = one-right r _ _ _ _ _ _ _ s f e ∙ ap (before _) (fault-read m)

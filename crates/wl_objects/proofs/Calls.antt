@@ -7,7 +7,7 @@ use Rattle.std.specs.Option.{option_or}
 use Rattle.std.specs.List.{All}
 use Rattle.std.proofs.Common.{Err}
 use Rattle.std.proofs.lemmas.List.Elements.{All-cons, All-same}
-use Rattle.wl_sigs.specs.Tables.{Message}
+use Rattle.wl_sigs.specs.Tables.{MessageSignature}
 use Rattle.wl_objects.specs.declared.error.SendError.TheVariants.{WrongArgs}
 use Rattle.wl_objects.specs.Messages.{unless_wrong}
 use Rattle.wl_objects.specs.Carried.{InRange}
@@ -56,7 +56,7 @@ pub wrong-next : (i : ℕ) (ks : List Kind) (list : List Arg) (k : Kind) (a : Ar
 wrong-next i ks list k a p q e t = rw (add-one, drop-cons ks i k p, drop-cons list i a q, ← e, t) refl
 
 -- a call is refused for an argument of the wrong kind, whatever else stands against it
-pub refused-wrong : (limit place : ℕ) (wrong lost : Option ℕ) (len : ℕ) (m : Message) → wrong ≡ Some place
+pub refused-wrong : (limit place : ℕ) (wrong lost : Option ℕ) (len : ℕ) (m : MessageSignature) → wrong ≡ Some place
     → Err (WrongArgs place) ≡ unless_wrong limit wrong lost len m
 refused-wrong limit place wrong lost len m e = rw e refl
 

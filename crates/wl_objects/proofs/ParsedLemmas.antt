@@ -12,11 +12,11 @@ use Rattle.wl_wire.specs.Reading.{reading}
 use Rattle.wl_objects.specs.declared.error.Fault.{Fault}
 use Rattle.wl_objects.specs.declared.parsed.ParsedArg.{ParsedArg}
 use Rattle.wl_objects.specs.declared.parsed.ParsedArg.TheVariants as parsed_as
-use Rattle.wl_objects.specs.Reading.{Reader, Reported, kind_at, unless, judged, before}
-use Rattle.wl_objects.specs.Reading.{arguments_at, is_descriptor, first_or, report_of, reports_of}
+use Rattle.wl_objects.specs.Reading.{Reader, Reported, forgiving_kind, unless, value_or_fault, before}
+use Rattle.wl_objects.specs.Reading.{arguments_at, is_descriptor, head_or, reported_argument, reports_of}
 use Rattle.wl_objects.specs.declared.argument.Got.{Got}
 use Rattle.wl_objects.specs.Seen.{got, got_values}
-use Rattle.wl_objects.specs.Parsed.{AreParsed, Both, all_of, all_parsed, argument_of, behind_those}
+use Rattle.wl_objects.specs.Parsed.{AreParsed, Both, all_of, all_parsed, parsed_argument, behind_those}
 use Rattle.wl_objects.specs.Parsed.{both, both_of, is_fd, made_of, made_of_one, made_unless}
 use Rattle.wl_objects.specs.Parsed.{place_after, place_behind, reported_in, reported_of, spelled_in}
 use Rattle.wl_objects.specs.Parsed.{token_at, with_token}
@@ -33,7 +33,7 @@ one-err r place n v (Some other) fault e = let same : fault ≡ other = cc in λ
 
 -- ---- descriptors
 
-fd-is : (body : List ℕ) (p : ParsedArg) → is_fd p ≡ is_descriptor (argument_of body p)
+fd-is : (body : List ℕ) (p : ParsedArg) → is_fd p ≡ is_descriptor (parsed_argument body p)
 fd-is body parsed_as.Null = refl
 fd-is body (parsed_as.Int z) = refl
 fd-is body (parsed_as.Uint n) = refl
@@ -46,7 +46,7 @@ fd-is body (parsed_as.Bound len start version id) = refl
 fd-is body (parsed_as.Array len start) = refl
 fd-is body (parsed_as.Fd place) = refl
 
-same-place : (body : List ℕ) (p : ParsedArg) (v : Argument) (place : ℕ) → argument_of body p ≡ v
+same-place : (body : List ℕ) (p : ParsedArg) (v : Argument) (place : ℕ) → parsed_argument body p ≡ v
     → place_behind p place ≡ place_after v place
 same-place body p v place e = ap (λ (b : Bool). if b then place + 1 else place)
     (fd-is body p ∙ ap (λ (x : Argument). is_descriptor x) e)
@@ -93,7 +93,8 @@ behind-both xs ys (Ok found) = rw append_assoc refl
 more : (r q : Reader) (i end n place birth : ℕ) (ks : List Kind) (k : Kind) (body : List ℕ) (items : List ParsedArg)
     (p : ParsedArg) (v : Argument)
     → i < length ks → i < length items
-    → judged q i (get_or ks i k) (reading (kind_at q.forgives (get_or ks i k)) (drop end body)) ≡ Ok (v, n)
+    → value_or_fault q i (get_or ks i k) (reading (forgiving_kind q.forgives (get_or ks i k)) (drop end body))
+    ≡ Ok (v, n)
     → both_of body birth p ≡ both r place v
     → behind_those (all_parsed body birth (take (i + 1) (set items i p)))
     (made_of r (place_behind p place) (arguments_at q (i + 1) (drop (i + 1) ks) (drop (end + n) body)))
@@ -111,26 +112,26 @@ pub parsed-next : (r q : Reader) (i end n place birth : ℕ) (ks : List Kind) (k
     (items : List ParsedArg) (p : ParsedArg)
     → i < length ks → i < length items
     → Ok (both_of body birth p, n) ≡ made_of_one r place
-    (judged q i (get_or ks i k) (reading (kind_at q.forgives (get_or ks i k)) (drop end body)))
+    (value_or_fault q i (get_or ks i k) (reading (forgiving_kind q.forgives (get_or ks i k)) (drop end body)))
     → behind_those (all_parsed body birth (take (i + 1) (set items i p)))
     (made_of r (place_behind p place) (arguments_at q (i + 1) (drop (i + 1) ks) (drop (end + n) body)))
     ≡ behind_those (all_parsed body birth (take i items))
     (made_of r place (arguments_at q i (drop i ks) (drop end body)))
 parsed-next r q i end n place birth ks k body items p b s e =
     let j = judged-ok r place (both_of body birth p) n
-    (judged q i (get_or ks i k) (reading (kind_at q.forgives (get_or ks i k)) (drop end body))) e in
+    (value_or_fault q i (get_or ks i k) (reading (forgiving_kind q.forgives (get_or ks i k)) (drop end body))) e in
     more r q i end n place birth ks k body items p j.0 b s j.1 j.2
 
 pub parsed-fault : (r q : Reader) (i end place birth : ℕ) (ks : List Kind) (k : Kind) (body : List ℕ)
     (items : List ParsedArg) (fault : Fault)
     → i < length ks
-    → Err fault ≡ made_of_one r place (judged q i (get_or ks i k)
-    (reading (kind_at q.forgives (get_or ks i k)) (drop end body)))
+    → Err fault ≡ made_of_one r place (value_or_fault q i (get_or ks i k)
+    (reading (forgiving_kind q.forgives (get_or ks i k)) (drop end body)))
     → Err fault ≡ behind_those (all_parsed body birth (take i items))
     (made_of r place (arguments_at q i (drop i ks) (drop end body)))
 parsed-fault r q i end place birth ks k body items fault b e =
-    let j = judged-err r place fault (judged q i (get_or ks i k)
-    (reading (kind_at q.forgives (get_or ks i k)) (drop end body))) e in
+    let j = judged-err r place fault (value_or_fault q i (get_or ks i k)
+    (reading (forgiving_kind q.forgives (get_or ks i k)) (drop end body))) e in
     rw (drop-cons ks i k b, j) refl
 
 pub parsed-end : (r q : Reader) (i end place birth : ℕ) (ks : List Kind) (body : List ℕ) (items : List ParsedArg)
@@ -158,7 +159,7 @@ reports_in tokens list = map (λ x. with_token tokens x.1) list
 values-parsed : (body : List ℕ) (birth : ℕ) (parsed : List ParsedArg)
     → values_in (all_parsed body birth parsed) ≡ spelled_in body parsed
 values-parsed body birth [] = refl
-values-parsed body birth (p ∷ parsed) = ap (λ (l : List Argument). argument_of body p ∷ l)
+values-parsed body birth (p ∷ parsed) = ap (λ (l : List Argument). parsed_argument body p ∷ l)
     (values-parsed body birth parsed)
 
 reports-parsed : (body : List ℕ) (birth : ℕ) (tokens : List ℕ) (parsed : List ParsedArg)
@@ -171,7 +172,7 @@ values-of : (r : Reader) (place : ℕ) (values : List Argument) → values_in (a
 values-of r place [] = refl
 values-of r place (v ∷ values) = ap (λ (l : List Argument). v ∷ l) (values-of r (place_after v place) values)
 
-first-at : (tokens : List ℕ) (place : ℕ) → token_at tokens place ≡ first_or (drop place tokens) 0
+first-at : (tokens : List ℕ) (place : ℕ) → token_at tokens place ≡ head_or (drop place tokens) 0
 first-at [] zero = refl
 first-at [] (suc place) = refl
 first-at (t ∷ tokens) zero = refl
@@ -180,25 +181,25 @@ first-at (t ∷ tokens) (suc place) = first-at tokens place
 reports-of : (r : Reader) (place : ℕ) (tokens : List ℕ) (values : List Argument)
     → reports_in tokens (all_of r place values) ≡ reports_of r (drop place tokens) values
 reports-of r place tokens [] = refl
-reports-of r place tokens (Int x ∷ values) = ap (λ (l : List Reported). report_of r 0 (Int x) ∷ l)
+reports-of r place tokens (Int x ∷ values) = ap (λ (l : List Reported). reported_argument r 0 (Int x) ∷ l)
     (reports-of r place tokens values)
-reports-of r place tokens (Uint x ∷ values) = ap (λ (l : List Reported). report_of r 0 (Uint x) ∷ l)
+reports-of r place tokens (Uint x ∷ values) = ap (λ (l : List Reported). reported_argument r 0 (Uint x) ∷ l)
     (reports-of r place tokens values)
-reports-of r place tokens (Fixed x ∷ values) = ap (λ (l : List Reported). report_of r 0 (Fixed x) ∷ l)
+reports-of r place tokens (Fixed x ∷ values) = ap (λ (l : List Reported). reported_argument r 0 (Fixed x) ∷ l)
     (reports-of r place tokens values)
-reports-of r place tokens (Str x ∷ values) = ap (λ (l : List Reported). report_of r 0 (Str x) ∷ l)
+reports-of r place tokens (Str x ∷ values) = ap (λ (l : List Reported). reported_argument r 0 (Str x) ∷ l)
     (reports-of r place tokens values)
-reports-of r place tokens (Obj x ∷ values) = ap (λ (l : List Reported). report_of r 0 (Obj x) ∷ l)
+reports-of r place tokens (Obj x ∷ values) = ap (λ (l : List Reported). reported_argument r 0 (Obj x) ∷ l)
     (reports-of r place tokens values)
-reports-of r place tokens (New x ∷ values) = ap (λ (l : List Reported). report_of r 0 (New x) ∷ l)
+reports-of r place tokens (New x ∷ values) = ap (λ (l : List Reported). reported_argument r 0 (New x) ∷ l)
     (reports-of r place tokens values)
 reports-of r place tokens (NewNamed a b x ∷ values) =
-    ap (λ (l : List Reported). report_of r 0 (NewNamed a b x) ∷ l) (reports-of r place tokens values)
-reports-of r place tokens (Array x ∷ values) = ap (λ (l : List Reported). report_of r 0 (Array x) ∷ l)
+    ap (λ (l : List Reported). reported_argument r 0 (NewNamed a b x) ∷ l) (reports-of r place tokens values)
+reports-of r place tokens (Array x ∷ values) = ap (λ (l : List Reported). reported_argument r 0 (Array x) ∷ l)
     (reports-of r place tokens values)
 reports-of r place tokens (Fd x ∷ values) =
     let behind : drop 1 (drop place tokens) ≡ drop (place + 1) tokens = drop-drop 1 place tokens in
-    rw (first-at tokens place, behind) (ap (λ (l : List Reported). Fd (first_or (drop place tokens) 0) ∷ l)
+    rw (first-at tokens place, behind) (ap (λ (l : List Reported). Fd (head_or (drop place tokens) 0) ∷ l)
     (reports-of r (place + 1) tokens values))
 
 are_parsed : (r : Reader) (body : List ℕ) (parsed : List ParsedArg) (values : List Argument)

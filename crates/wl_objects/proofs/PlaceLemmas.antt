@@ -8,7 +8,7 @@ use Rattle.std.proofs.lemmas.Bool.{ltb-false, le-ltb}
 use Rattle.wl_wire.specs.declared.kind.Kind.{Kind}
 use Rattle.wl_wire.specs.Argument.{Int, Uint, Fixed, Str, Obj, New, NewNamed, Array, Fd}
 use Rattle.wl_sigs.specs.declared.signature.Side.{Side}
-use Rattle.wl_sigs.specs.Tables.{Message, Interface, signature_at}
+use Rattle.wl_sigs.specs.Tables.{MessageSignature, Interface, signature_at}
 use Rattle.wl_object_map.specs.declared.object.Object.{Object}
 use Rattle.wl_object_map.specs.declared.object.Entry.{Entry}
 use Rattle.wl_object_map.specs.View.{View, look}
@@ -18,7 +18,7 @@ use Rattle.wl_objects.specs.Writing.{Given, wired, suits, can_name, wrong_place,
 use Rattle.wl_objects.specs.Messages.{is_hidden, checked, checked_as, checked_by, live_row}
 use Rattle.wl_objects.specs.Messages.{unless_hidden, unless_wrong, unless_lost}
 use Rattle.wl_objects.specs.Places.{SuitsAt, IsWrongAt, IsFirstWrong, NamesAt, IsLostAt}
-use Rattle.wl_objects.specs.Places.{IsFirstLost, Reaches, unsuited, missing, one_too_many}
+use Rattle.wl_objects.specs.Places.{IsFirstLost, ReachesArguments, unsuited, missing, one_too_many}
 use Rattle.wl_objects.proofs.Wholes.{live-target, live-row, shown-signature}
 
 -- ---- one argument on
@@ -278,37 +278,38 @@ first-lost rows ks list found f = lost_ahead rows 0 ks list found f ∙ ap (λ (
 -- ---- a call that comes to its arguments
 
 -- an answer that comes behind S2, S3 and S4
-abbrev IsLate : Result Message SendError → Type 0
+abbrev IsLate : Result MessageSignature SendError → Type 0
 IsLate (Err refusals.Stale) = ⊥
 IsLate (Err refusals.NoSuchMessage) = ⊥
 IsLate (Err refusals.TooOld) = ⊥
 IsLate _ = Unit {0}
 
 -- what the arguments come to
-abbrev judged_list : ℕ → View → List Given → Message → Result Message SendError
+abbrev judged_list : ℕ → View → List Given → MessageSignature → Result MessageSignature SendError
 judged_list limit view list m = unless_wrong limit (wrong_place 0 m.kinds list) (lost_place (look view) 0 m.kinds list)
     (message_len (map (wired 0) list)) m
 
-late_signature : (limit : ℕ) (view : View) (list : List Given) (entry : Entry) (at : Option Message)
-    (x : Result Message SendError) → IsLate x → checked_as limit view list entry at ≡ x
-    → (m : Message) × (at ≡ Some m) × (m.since ≤ entry.version) × (judged_list limit view list m ≡ x)
+late_signature : (limit : ℕ) (view : View) (list : List Given) (entry : Entry) (at : Option MessageSignature)
+    (x : Result MessageSignature SendError) → IsLate x → checked_as limit view list entry at ≡ x
+    → (m : MessageSignature) × (at ≡ Some m) × (m.since ≤ entry.version) × (judged_list limit view list m ≡ x)
 late_signature limit view list entry None x late e = absurd (subst IsLate (sym e) late)
 late_signature limit view list entry (Some m) x late e = by_version (nat_lt entry.version m.since) refl e
   where
     by_version : (b : Bool) → nat_lt entry.version m.since ≡ b
         → (if b then Err refusals.TooOld else judged_list limit view list m) ≡ x
-        → (n : Message) × (Some m ≡ Some n) × (n.since ≤ entry.version) × (judged_list limit view list n ≡ x)
+        → (n : MessageSignature) × (Some m ≡ Some n) × (n.since ≤ entry.version) × (judged_list limit view list n ≡ x)
     by_version true t e = absurd (subst IsLate (sym e) late)
     by_version false t e = (m, refl, ltb-false entry.version m.since t, e)
 
 late : (limit : ℕ) (tables : List Interface) (side : Side) (view : View) (target : Object) (opcode : ℕ)
-    (list : List Given) (x : Result Message SendError) → IsLate x
+    (list : List Given) (x : Result MessageSignature SendError) → IsLate x
     → checked limit tables side view target opcode list ≡ x
-    → (m : Message) × Reaches tables side view target opcode m × (judged_list limit view list m ≡ x)
+    → (m : MessageSignature) × ReachesArguments tables side view target opcode m × (judged_list limit view list m ≡ x)
 late limit tables side view target opcode list x h e = by_row (live_row view target) refl e
   where
     by_row : (row : Option Entry) → live_row view target ≡ row → checked_by limit tables side view opcode list row ≡ x
-        → (m : Message) × Reaches tables side view target opcode m × (judged_list limit view list m ≡ x)
+        → (m : MessageSignature) × ReachesArguments tables side view target opcode m
+        × (judged_list limit view list m ≡ x)
     by_row None l e = absurd (subst IsLate (sym e) h)
     by_row (Some entry) l e =
         let t = live-target view target entry l in
@@ -331,15 +332,15 @@ late limit tables side view target opcode list x h e = by_row (live_row view tar
         )
 
 reached : (limit : ℕ) (tables : List Interface) (side : Side) (view : View) (target : Object) (opcode : ℕ)
-    (list : List Given) (m : Message)
-    → Reaches tables side view target opcode m → checked limit tables side view target opcode list
+    (list : List Given) (m : MessageSignature)
+    → ReachesArguments tables side view target opcode m → checked limit tables side view target opcode list
     ≡ judged_list limit view list m
 reached limit tables side view target opcode list m r =
     let row = live-row view target r.entry r.row r.birth r.live in
     let since : nat_lt r.entry.version m.since ≡ false = le-ltb r.entry.version m.since r.since in
     rw (row, r.shown, r.exists, since) refl
 
-wrong_of : (limit : ℕ) (wrong lost : Option ℕ) (len place : ℕ) (m : Message)
+wrong_of : (limit : ℕ) (wrong lost : Option ℕ) (len place : ℕ) (m : MessageSignature)
     → unless_wrong limit wrong lost len m ≡ Err (refusals.WrongArgs place) → wrong ≡ Some place
 wrong_of limit (Some p) lost len place m e = let same : p ≡ place = cc in ap (λ (n : ℕ). Some n) same
 wrong_of limit None (Some p) len place m e = absurd (cc)
@@ -349,7 +350,7 @@ wrong_of limit None None len place m e = absurd (by_len (nat_lt limit len) e)
     by_len true e = cc
     by_len false e = cc
 
-lost_of : (limit : ℕ) (wrong lost : Option ℕ) (len place : ℕ) (m : Message)
+lost_of : (limit : ℕ) (wrong lost : Option ℕ) (len place : ℕ) (m : MessageSignature)
     → unless_wrong limit wrong lost len m ≡ Err (refusals.BadObject place) → (wrong ≡ None) × (lost ≡ Some place)
 lost_of limit (Some p) lost len place m e = absurd (cc)
 lost_of limit None (Some p) len place m e = let same : p ≡ place = cc in (refl, ap (λ (n : ℕ). Some n) same)
@@ -362,7 +363,7 @@ lost_of limit None None len place m e = absurd (by_len (nat_lt limit len) e)
 pub wrong-refused : (limit : ℕ) (tables : List Interface) (side : Side) (view : View) (target : Object) (opcode : ℕ)
     (list : List Given) (place : ℕ)
     → (checked limit tables side view target opcode list ≡ Err (refusals.WrongArgs place)) ↔
-    ((m : Message) × Reaches tables side view target opcode m × IsFirstWrong m.kinds list place)
+    ((m : MessageSignature) × ReachesArguments tables side view target opcode m × IsFirstWrong m.kinds list place)
 wrong-refused limit tables side view target opcode list place = (
   λ e.
       let l = late limit tables side view target opcode list (Err (refusals.WrongArgs place)) tt e in (
@@ -380,7 +381,7 @@ wrong-refused limit tables side view target opcode list place = (
 pub lost-refused : (limit : ℕ) (tables : List Interface) (side : Side) (view : View) (target : Object) (opcode : ℕ)
     (list : List Given) (place : ℕ)
     → (checked limit tables side view target opcode list ≡ Err (refusals.BadObject place))
-    ↔ ((m : Message) × Reaches tables side view target opcode m × (length list ≡ length m.kinds)
+    ↔ ((m : MessageSignature) × ReachesArguments tables side view target opcode m × (length list ≡ length m.kinds)
     × ((k : ℕ) → k < length m.kinds → SuitsAt m.kinds list k) × IsFirstLost (look view) m.kinds list place)
 lost-refused limit tables side view target opcode list place = (
   λ e.

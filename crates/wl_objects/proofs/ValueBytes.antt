@@ -8,7 +8,7 @@ use Rattle.wl_wire.specs.declared.kind.Kind.{Kind}
 use Rattle.wl_wire.specs.Word.{word}
 use Rattle.wl_wire.specs.Spelling.{Spells, SpellsText, is_int, is_uint, is_fixed, is_null, is_text}
 use Rattle.wl_wire.specs.Spelling.{is_object, is_new, is_named, is_array, is_descriptor}
-use Rattle.wl_objects.specs.Parsed.{part, Lies, LiesBehind}
+use Rattle.wl_objects.specs.Parsed.{body_part, Lies, LiesBehind}
 
 -- what begins with the text, before more
 behind : (text rest padding more : List ℕ) → rest ≡ (text ++ 0 ∷ []) ++ padding
@@ -45,5 +45,5 @@ read-lies k v n bytes s = subst (λ (b : List ℕ). Lies b v) (take-append-drop 
 
 -- what lies behind a first word is the part that starts there
 pub part-lies : (body text : List ℕ) (start : ℕ) → LiesBehind (drop start body) text
-    → part body (start + 4) (length text) ≡ text
+    → body_part body (start + 4) (length text) ≡ text
 part-lies body text start e = sym (subst (λ (b : List ℕ). text ≡ take (length text) b) (drop-drop 4 start body) e.same)

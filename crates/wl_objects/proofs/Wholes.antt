@@ -18,20 +18,21 @@ use Rattle.wl_wire.proofs.Canonicals.{canonical-spells, canonical-len}
 use Rattle.wl_sigs.specs.declared.signature.Side.{Side}
 use Rattle.wl_sigs.specs.declared.signature.Side.TheVariants.{Request, Event}
 use Rattle.wl_sigs.specs.Fixed.{display, registry}
-use Rattle.wl_sigs.specs.Tables.{Message, Interface, signature_at}
+use Rattle.wl_sigs.specs.Tables.{MessageSignature, Interface, signature_at}
 use Rattle.wl_object_map.specs.declared.object.Object.{Object}
 use Rattle.wl_object_map.specs.declared.object.Entry.{Entry}
 use Rattle.wl_objects.specs.declared.error.SendError.TheVariants as refusals
 use Rattle.wl_object_map.specs.View.{View, look}
-use Rattle.wl_objects.specs.Reading.{Reader, kind_at, forgiving, arguments_at, descriptors}
-use Rattle.wl_objects.specs.Spelling.{SpellsAll, Meets}
+use Rattle.wl_objects.specs.Reading.{Reader, forgiving_kind, forgiving, arguments_at, descriptors}
+use Rattle.wl_objects.specs.Spelling.{SpellsAll, MeetsKinds}
 use Rattle.wl_objects.specs.Spelling as spelling
-use Rattle.wl_objects.specs.Writing.{Given, wired, spelled, suits, wrong_place, lost_place, is_live}
+use Rattle.wl_objects.specs.Writing.{Given, wired, spelled, suits, wrong_place, lost_place}
 use Rattle.wl_objects.specs.Writing.{is_live_as, message_len, message_bytes, tokens_of}
 use Rattle.wl_objects.specs.Messages.{received, is_error, is_hidden, same_iface, checked}
 use Rattle.wl_objects.specs.Messages.{checked_as, checked_by, live_row, unless_hidden, unless_wrong}
 use Rattle.wl_objects.specs.Messages.{of_length}
-use Rattle.wl_objects.specs.Carried.{InRange, IsExpected, IsTarget, Passes, received_by}
+use Rattle.wl_objects.specs.Carried.{InRange, IsExpected, IsTarget, CallPasses, received_as_meant}
+use Rattle.wl_object_map.specs.View.{lives}
 use Rattle.wl_objects.proofs.WrittenArrives.{if-none, suits-wired, All-first, arrive-read, arrive-taken}
 
 -- ---- lengths
@@ -81,7 +82,7 @@ message-words (value ∷ values) =
 
 -- what meets a reader with nothing left is spelled whole
 pub meets-spelled : {r : Reader} {place : ℕ} {ks : List Kind} {bytes : List ℕ} {values : List Argument} {rest : List ℕ}
-    → Meets r place ks bytes values rest → rest ≡ [] → SpellsAll (map (kind_at r.forgives) ks) values bytes
+    → MeetsKinds r place ks bytes values rest → rest ≡ [] → SpellsAll (map (forgiving_kind r.forgives) ks) values bytes
 meets-spelled {r} spelling.none e = spelling.none e
 meets-spelled {r} (spelling.more s f m b) e = spelling.more s (meets-spelled m e) b
 
@@ -103,7 +104,7 @@ written-spelled n place (kind ∷ ks) (x ∷ list) b w i o =
 
 -- ---- calls
 
-checked-of : (limit : ℕ) (list : List Given) (len : ℕ) (signature found : Message)
+checked-of : (limit : ℕ) (list : List Given) (len : ℕ) (signature found : MessageSignature)
     → of_length limit len signature ≡ Ok found → (found ≡ signature) × (len ≤ limit)
 checked-of limit list len signature found e = by_length (nat_lt limit len) refl e
   where
@@ -112,7 +113,7 @@ checked-of limit list len signature found e = by_length (nat_lt limit len) refl 
     by_length true t e = absurd (cc)
     by_length false t e = (cc, ltb-false limit len t)
 
-checked-places : (limit : ℕ) (wrong lost : Option ℕ) (len : ℕ) (signature found : Message)
+checked-places : (limit : ℕ) (wrong lost : Option ℕ) (len : ℕ) (signature found : MessageSignature)
     → unless_wrong limit wrong lost len signature ≡ Ok found
     → (wrong ≡ None) × (lost ≡ None) × (found ≡ signature) × (len ≤ limit)
 checked-places limit (Some place) lost len signature found e = absurd (cc)
@@ -121,8 +122,8 @@ checked-places limit None None len signature found e = let o = checked-of limit 
     in (refl, refl, o.0, o.1)
 
 -- what a signature and a row give
-checked-signature : (limit : ℕ) (view : View) (list : List Given) (entry : Entry) (at : Option Message)
-    (found : Message) → checked_as limit view list entry at ≡ Ok found
+checked-signature : (limit : ℕ) (view : View) (list : List Given) (entry : Entry) (at : Option MessageSignature)
+    (found : MessageSignature) → checked_as limit view list entry at ≡ Ok found
     → (at ≡ Some found) × (found.since ≤ entry.version) × (wrong_place 0 found.kinds list ≡ None)
     × (lost_place (look view) 0 found.kinds list ≡ None) × (message_len (map (wired 0) list) ≤ limit)
 checked-signature limit view list entry None found e = absurd (cc)
@@ -138,41 +139,42 @@ checked-signature limit view list entry (Some signature) found e =
     by_version false t e =
         let p = checked-places limit (wrong_place 0 signature.kinds list)
         (lost_place (look view) 0 signature.kinds list) (message_len (map (wired 0) list)) signature found e in
-        let Want : Message → Type 0 = λ m. (Some signature ≡ Some m) × (m.since ≤ entry.version)
+        let Want : MessageSignature → Type 0 = λ m. (Some signature ≡ Some m) × (m.since ≤ entry.version)
         × (wrong_place 0 m.kinds list ≡ None) × (lost_place (look view) 0 m.kinds list ≡ None)
         × (message_len (map (wired 0) list) ≤ limit) in
         subst Want (sym p.2) (refl, ltb-false entry.version signature.since t, p.0, p.1, p.3)
 
-pub shown-signature : (b : Bool) (at : Option Message) (found : Message) → unless_hidden b at ≡ Some found
+pub shown-signature : (b : Bool) (at : Option MessageSignature) (found : MessageSignature)
+    → unless_hidden b at ≡ Some found
     → (b ≡ false) × (at ≡ Some found)
 shown-signature true at found e = absurd (cc)
 shown-signature false at found e = (refl, e)
 
 pub live-target : (view : View) (target : Object) (entry : Entry) → live_row view target ≡ Some entry
-    → (look view target.id ≡ Some entry) × (entry.birth ≡ target.birth) × (is_live entry.state ≡ true)
+    → (look view target.id ≡ Some entry) × (entry.birth ≡ target.birth) × (lives entry.state ≡ true)
 live-target view target entry e = by_row (look view target.id) refl e
   where
     by_row : (row : Option Entry) → look view target.id ≡ row
         → (if is_live_as target.birth row then row else None) ≡ Some entry
-        → (look view target.id ≡ Some entry) × (entry.birth ≡ target.birth) × (is_live entry.state ≡ true)
+        → (look view target.id ≡ Some entry) × (entry.birth ≡ target.birth) × (lives entry.state ≡ true)
     by_row None l e = absurd (cc)
-    by_row (Some row) l e = by_test (nat_eq row.birth target.birth && is_live row.state) refl e
+    by_row (Some row) l e = by_test (nat_eq row.birth target.birth && lives row.state) refl e
       where
-        by_test : (b : Bool) → (nat_eq row.birth target.birth && is_live row.state) ≡ b
+        by_test : (b : Bool) → (nat_eq row.birth target.birth && lives row.state) ≡ b
             → (if b then Some row else None) ≡ Some entry
-            → (look view target.id ≡ Some entry) × (entry.birth ≡ target.birth) × (is_live entry.state ≡ true)
+            → (look view target.id ≡ Some entry) × (entry.birth ≡ target.birth) × (lives entry.state ≡ true)
         by_test false t e = absurd (cc)
         by_test true t e =
             let same : row ≡ entry = cc in
-            let parts = and_parts (nat_eq row.birth target.birth) (is_live row.state) t in
-            let Want : Entry → Type 0 = λ r. (r.birth ≡ target.birth) × (is_live r.state ≡ true) in
+            let parts = and_parts (nat_eq row.birth target.birth) (lives row.state) t in
+            let Want : Entry → Type 0 = λ r. (r.birth ≡ target.birth) × (lives r.state ≡ true) in
             let want = subst Want same (eqb-true row.birth target.birth parts.0, parts.1) in
             (l ∙ ap (λ (r : Entry). Some r) same, want.0, want.1)
 
 checked-found : (limit : ℕ) (tables : List Interface) (side : Side) (view : View) (target : Object) (opcode : ℕ)
-    (list : List Given) (found : Message) (at : Option Entry) → live_row view target ≡ at
+    (list : List Given) (found : MessageSignature) (at : Option Entry) → live_row view target ≡ at
     → checked_by limit tables side view opcode list at ≡ Ok found
-    → Passes limit tables side view target opcode list found
+    → CallPasses limit tables side view target opcode list found
 checked-found limit tables side view target opcode list found None l e = absurd (cc)
 checked-found limit tables side view target opcode list found (Some entry) l e =
     let s = checked-signature limit view list entry
@@ -195,20 +197,20 @@ checked-found limit tables side view target opcode list found (Some entry) l e =
     }
 
 pub passes : (limit : ℕ) (tables : List Interface) (side : Side) (view : View) (target : Object) (opcode : ℕ)
-    (list : List Given) (found : Message)
+    (list : List Given) (found : MessageSignature)
     → checked limit tables side view target opcode list ≡ Ok found
-    → Passes limit tables side view target opcode list found
+    → CallPasses limit tables side view target opcode list found
 passes limit tables side view target opcode list found e =
     checked-found limit tables side view target opcode list found (live_row view target) refl e
 
 pub live-row : (view : View) (target : Object) (entry : Entry) → look view target.id ≡ Some entry
-    → entry.birth ≡ target.birth → is_live entry.state ≡ true → live_row view target ≡ Some entry
+    → entry.birth ≡ target.birth → lives entry.state ≡ true → live_row view target ≡ Some entry
 live-row view target entry row birth live = let same : nat_eq entry.birth target.birth ≡ true =
     eq-eqb entry.birth target.birth birth in rw (row, same, live) refl
 
 pub passed : (limit : ℕ) (tables : List Interface) (side : Side) (view : View) (target : Object) (opcode : ℕ)
-    (list : List Given) (found : Message)
-    → Passes limit tables side view target opcode list found
+    (list : List Given) (found : MessageSignature)
+    → CallPasses limit tables side view target opcode list found
     → checked limit tables side view target opcode list ≡ Ok found
 passed limit tables side view target opcode list found p =
     let row = live-row view target p.entry p.row p.birth p.live in
@@ -233,12 +235,12 @@ forgiving-not : (r : Reader) → r.forgives ≡ false → forgiving false r ≡ 
 forgiving-not r f = let g : false ≡ r.forgives = sym f in λ i. record r { forgives = g i }
 
 pub message-arrives : (limit : ℕ) (tables : List Interface) (side : Side) (view : View) (r : Reader) (target : Object)
-    (opcode size n waiting : ℕ) (list : List Given) (signature : Message)
-    (p : Passes limit tables side view target opcode list signature) (t : IsTarget p.entry r target)
+    (opcode size n waiting : ℕ) (list : List Given) (signature : MessageSignature)
+    (p : CallPasses limit tables side view target opcode list signature) (t : IsTarget p.entry r target)
     → r.forgives ≡ false → n < 2 ^ 32 → All InRange list → All (IsExpected (look view) r n) list
     → length (tokens_of list) ≤ waiting
     → received tables side r (record { object = target.id; size = size; opcode = opcode })
-    (spelled (map (wired n) list)) waiting ≡ Ok (received_by target t.row signature (map (wired n) list))
+    (spelled (map (wired n) list)) waiting ≡ Ok (received_as_meant target t.row signature (map (wired n) list))
 message-arrives limit tables side view r target opcode size n waiting list signature p t f b i h w =
     let exists : signature_at tables t.row.iface.0 side opcode ≡ Some signature =
     subst (λ (iface : Iface). signature_at tables iface.0 side opcode ≡ Some signature)

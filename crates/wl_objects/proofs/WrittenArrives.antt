@@ -18,12 +18,12 @@ use Rattle.wl_wire.specs.Spelling.{Suits, canonical, spelled_len, IsText}
 use Rattle.wl_wire.proofs.Canonicals.{canonical-spells, spelled-len, reading-canonical}
 use Rattle.wl_object_map.specs.declared.object.Object.{Object}
 use Rattle.wl_object_map.specs.declared.object.Entry.{Entry}
-use Rattle.wl_objects.specs.Reading.{Reader, kind_at, is_of, iface_of, value_fault, arguments_at}
-use Rattle.wl_objects.specs.Reading.{report_of, reports_of, first_or, tokens_after, descriptors}
+use Rattle.wl_objects.specs.Reading.{Reader, forgiving_kind, is_of, iface_of, value_fault, arguments_at}
+use Rattle.wl_objects.specs.Reading.{reported_argument, reports_of, head_or, tokens_after, descriptors}
 use Rattle.wl_objects.specs.Reading.{is_descriptor_kind}
 use Rattle.wl_objects.specs.Writing.{Given, wired, spelled, suits, has_no_nul, can_name, names_one}
 use Rattle.wl_objects.specs.Writing.{wrong_place, lost_place, tokens_of}
-use Rattle.wl_objects.specs.Carried.{InRange, IsHeld, IsExpected, arrived, Arrive}
+use Rattle.wl_objects.specs.Carried.{InRange, ReaderHolds, IsExpected, arrived_value, Arrive}
 
 no_nul : (text : List ℕ) → has_no_nul text ≡ true → All (λ b. b ≢ 0) text
 no_nul text e k d h z =
@@ -69,7 +69,7 @@ named-row None iface object e = absurd (cc)
 named-row (Some entry) iface object e = (entry, refl, (and_parts _ _ e).1)
 
 object-right : (writer : ℕ → Option Entry) (r : Reader) (place : ℕ) (kind : Kind) (object : Object) → r.forgives ≡ false
-    → IsHeld writer r object → names_one (iface_of kind) object (writer object.id) ≡ true
+    → ReaderHolds writer r object → names_one (iface_of kind) object (writer object.id) ≡ true
     → value_fault r place kind (Obj object.id) ≡ None
 object-right writer r place kind object f held e =
     let w = named-row (writer object.id) (iface_of kind) object e in
@@ -94,10 +94,10 @@ value-right writer r n place kind (Fd token) f c h = refl
 
 pub not_null : (writer : ℕ → Option Entry) (r : Reader) (n : ℕ) (x : Given) → IsExpected writer r n x
     → (object : Object) → x ≡ Obj (Some object) → object.id ≢ 0
-not_null writer r n x h object e = let held : IsHeld writer r object =
+not_null writer r n x h object e = let held : ReaderHolds writer r object =
     subst (λ (y : Given). IsExpected writer r n y) e h in held.not_null
 
-kind-same : (r : Reader) (kind : Kind) → r.forgives ≡ false → kind_at r.forgives kind ≡ kind
+kind-same : (r : Reader) (kind : Kind) → r.forgives ≡ false → forgiving_kind r.forgives kind ≡ kind
 kind-same r kind f = rw f refl
 
 pub All-first : {X : Type 0} (P : X → Type 0) (x : X) (xs : List X) → All P (x ∷ xs) → P x
@@ -129,8 +129,8 @@ arrive-read writer r n place (kind ∷ ks) (x ∷ list) rest b f w l i h =
     (All-tail (IsExpected writer r n) x list h) in
     rw (append_assoc, kind-same r kind f, one, right, front, more) refl
 
-object-reported : (writer : ℕ → Option Entry) (r : Reader) (n token : ℕ) (object : Object) → IsHeld writer r object
-    → report_of r token (Obj object.id) ≡ arrived r n (Obj (Some object))
+object-reported : (writer : ℕ → Option Entry) (r : Reader) (n token : ℕ) (object : Object) → ReaderHolds writer r object
+    → reported_argument r token (Obj object.id) ≡ arrived_value r n (Obj (Some object))
 object-reported writer r n token object held =
     let some : nat_eq object.id 0 ≡ false = ne_eqb object.id 0 held.not_null in
     rw (some, held.held, held.birth) refl
@@ -138,14 +138,14 @@ object-reported writer r n token object held =
 -- one argument is reported as the writer meant it, where the token is its own
 report-one : (writer : ℕ → Option Entry) (r : Reader) (n : ℕ) (x : Given) (list : List Given) (more : List ℕ)
     → IsExpected writer r n x
-    → report_of r (first_or (tokens_of (x ∷ list) ++ more) 0) (wired n x) ≡ arrived r n x
+    → reported_argument r (head_or (tokens_of (x ∷ list) ++ more) 0) (wired n x) ≡ arrived_value r n x
 report-one writer r n (Int z) list more h = refl
 report-one writer r n (Uint m) list more h = refl
 report-one writer r n (Fixed z) list more h = refl
 report-one writer r n (Str text) list more h = refl
 report-one writer r n (Obj None) list more h = refl
 report-one writer r n (Obj (Some object)) list more h =
-    object-reported writer r n (first_or (tokens_of list ++ more) 0) object h
+    object-reported writer r n (head_or (tokens_of list ++ more) 0) object h
 report-one writer r n (New x) list more h = refl
 report-one writer r n (NewNamed iface version x) list more h = refl
 report-one writer r n (Array bytes) list more h = refl
@@ -165,7 +165,7 @@ tokens-left n (Fd token) list more = refl
 
 pub arrive-reported : (writer : ℕ → Option Entry) (r : Reader) (n : ℕ) (list : List Given) (more : List ℕ)
     → All (IsExpected writer r n) list
-    → reports_of r (tokens_of list ++ more) (map (wired n) list) ≡ map (arrived r n) list
+    → reports_of r (tokens_of list ++ more) (map (wired n) list) ≡ map (arrived_value r n) list
 arrive-reported writer r n [] more h = refl
 arrive-reported writer r n (x ∷ list) more h =
     rw (

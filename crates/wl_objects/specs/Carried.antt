@@ -8,7 +8,7 @@ use Rattle.wl_wire.specs.declared.kind.Kind.{Kind}
 use Rattle.wl_wire.specs.Argument.{Argument, reshaped, Int, Uint, Fixed, Str, Obj, New, NewNamed}
 use Rattle.wl_wire.specs.Argument.{Array, Fd}
 use Rattle.wl_sigs.specs.declared.signature.Side.{Side}
-use Rattle.wl_sigs.specs.Tables.{Message, Interface, signature_at}
+use Rattle.wl_sigs.specs.Tables.{MessageSignature, Interface, signature_at}
 use Rattle.wl_object_map.specs.declared.object.Object.{Object}
 use Rattle.wl_object_map.specs.declared.object.Entry.{Entry}
 use Rattle.wl_objects.specs.declared.argument.Named.{Named}
@@ -18,8 +18,9 @@ use Rattle.wl_objects.specs.Reading.{Reader, Reported, in_state, arguments_at, r
 use Rattle.wl_objects.specs.Reading.{descriptors}
 use Rattle.wl_object_map.specs.View.{View, look}
 use Rattle.wl_objects.specs.Writing.{Given, wired, spelled, message_len, tokens_of, wrong_place}
-use Rattle.wl_objects.specs.Writing.{lost_place, is_live}
+use Rattle.wl_objects.specs.Writing.{lost_place}
 use Rattle.wl_objects.specs.Messages.{Received, is_hidden}
+use Rattle.wl_object_map.specs.View.{lives}
 
 -- The numbers of an argument, and its lengths, are in the range of a word.
 abbrev pub InRange : Given → Type 0
@@ -37,34 +38,35 @@ InRange (Fd token) = Unit {0}
 
 -- The reader holds a writer's object: under the same id, with the same birth and of the same
 -- interface, live or a zombie.
-pub record IsHeld (writer : ℕ → Option Entry) (reader : Reader) (object : Object) : Type 0 where
-  pub row : Entry
-  pub held : reader.object object.id ≡ Some row
-  pub birth : row.birth ≡ object.birth
-  pub iface : (entry : Entry) → writer object.id ≡ Some entry → row.iface ≡ entry.iface
-  pub not_null : object.id ≢ 0
+pub record ReaderHolds (writer : ℕ → Option Entry) (reader : Reader) (object : Object) : Type 0
+  where
+    pub row : Entry
+    pub held : reader.object object.id ≡ Some row
+    pub birth : row.birth ≡ object.birth
+    pub iface : (entry : Entry) → writer object.id ≡ Some entry → row.iface ≡ entry.iface
+    pub not_null : object.id ≢ 0
 
 -- The reader expects an argument, where a new object gets the id n: it holds an object that is
 -- named, and the new id is free.
 abbrev pub IsExpected : (ℕ → Option Entry) → Reader → ℕ → Given → Type 0
-IsExpected writer reader n (Obj (Some object)) = IsHeld writer reader object
+IsExpected writer reader n (Obj (Some object)) = ReaderHolds writer reader object
 IsExpected writer reader n (New x) = reader.new_id n ≡ Free
 IsExpected writer reader n (NewNamed iface version x) = reader.new_id n ≡ Free
 IsExpected writer reader n _ = Unit {0}
 
 -- an object as the writer meant it, live or dead as the reader's row is
-abbrev pub as_row : Object → Option Entry → Named
-as_row object None = named_as.Null
-as_row object (Some row) = in_state row.state object
+abbrev pub named_by_row : Object → Option Entry → Named
+named_by_row object None = named_as.Null
+named_by_row object (Some row) = in_state row.state object
 
 abbrev pub arrived_object : Reader → Option Object → Named
 arrived_object reader None = named_as.Null
-arrived_object reader (Some object) = as_row object (reader.object object.id)
+arrived_object reader (Some object) = named_by_row object (reader.object object.id)
 
 -- What an argument arrives as: the same value, the object that the writer meant, the new object
 -- with the reader's next birth, the same token.
-abbrev pub arrived : Reader → ℕ → Given → Reported
-arrived reader n x =
+abbrev pub arrived_value : Reader → ℕ → Given → Reported
+arrived_value reader n x =
     reshaped (arrived_object reader) (λ _. record { id = n; birth = reader.birth }) (λ token. token)
     x
 
@@ -77,7 +79,7 @@ pub record Arrive (reader : Reader) (ks : List Kind) (n : ℕ) (list : List Give
       ≡ Ok (map (wired n) list, rest)
   pub reported : (more : List ℕ)
       → reports_of reader (tokens_of list ++ more) (map (wired n) list)
-      ≡ map (arrived reader n) list
+      ≡ map (arrived_value reader n) list
   pub taken : descriptors ks ≡ length (tokens_of list)
 
 -- The arguments of a call that suit the message's kinds and name live objects of the writer.
@@ -96,8 +98,8 @@ pub record IsTarget (entry : Entry) (reader : Reader) (object : Object) : Type 0
   pub version : row.version ≡ entry.version
 
 -- a message as its reader has it, where the target has this row
-abbrev pub received_by : Object → Entry → Message → List Argument → Received
-received_by target row signature values = record {
+abbrev pub received_as_meant : Object → Entry → MessageSignature → List Argument → Received
+received_as_meant target row signature values = record {
   target = target;
   entry = row;
   signature = signature;
@@ -107,12 +109,12 @@ received_by target row signature values = record {
 -- Nothing stands against a call: its target is live with this birth, the message is one that `send`
 -- writes and exists at the target's version, its arguments suit and name live objects of the right
 -- interfaces, and it is not longer than the limit.
-pub record Passes (limit : ℕ) (tables : List Interface) (side : Side) (view : View)
-    (target : Object) (opcode : ℕ) (list : List Given) (signature : Message) : Type 0 where
+pub record CallPasses (limit : ℕ) (tables : List Interface) (side : Side) (view : View)
+    (target : Object) (opcode : ℕ) (list : List Given) (signature : MessageSignature) : Type 0 where
   pub entry : Entry
   pub row : look view target.id ≡ Some entry
   pub birth : entry.birth ≡ target.birth
-  pub live : is_live entry.state ≡ true
+  pub live : lives entry.state ≡ true
   pub shown : is_hidden side entry.iface opcode ≡ false
   pub exists : signature_at tables entry.iface.0 side opcode ≡ Some signature
   pub since : signature.since ≤ entry.version

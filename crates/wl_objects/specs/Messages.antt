@@ -13,7 +13,7 @@ use Rattle.wl_sigs.specs.declared.signature.Side.{Side}
 use Rattle.wl_sigs.specs.declared.signature.Side.TheVariants.{Request, Event}
 use Rattle.wl_sigs.specs.declared.signature.Destroys.{Destroys}
 use Rattle.wl_sigs.specs.declared.signature.Destroys.TheVariants.{Nothing, Target, Arg}
-use Rattle.wl_sigs.specs.Tables.{Message, Interface, signature_at, place_of}
+use Rattle.wl_sigs.specs.Tables.{MessageSignature, Interface, signature_at, place_of}
 use Rattle.wl_sigs.specs.Fixed.{display, registry}
 use Rattle.wl_object_map.specs.declared.object.Object.{Object}
 use Rattle.wl_object_map.specs.declared.object.Entry.{Entry}
@@ -28,6 +28,7 @@ use Rattle.wl_objects.specs.declared.lookup.NewId.TheVariants.{Free, Wrong, TooM
 use Rattle.wl_objects.specs.Reading.{Reader, forgiving, arguments_at, descriptors}
 use Rattle.wl_objects.specs.Writing.{Given, wrong_place, lost_place, is_live_as, wired, message_len}
 use Rattle.wl_objects.specs.declared.new_object.NewObject.{NewObject as Declared}
+use Rattle.wl_sigs.specs.Rules.{is_empty}
 
 -- ---- reading
 
@@ -67,14 +68,11 @@ is_bind Event iface opcode = false
 pub record Received : Type 0 where
   pub target : Object
   pub entry : Entry
-  pub signature : Message
+  pub signature : MessageSignature
   pub values : List Argument
 
-abbrev pub is_empty : List ℕ → Bool
-is_empty [] = true
-is_empty (b ∷ bytes) = false
-
-abbrev pub received_whole : Header → Entry → Message → ℕ → Result (List Argument × List ℕ) Fault
+abbrev pub received_whole : Header → Entry → MessageSignature → ℕ
+    → Result (List Argument × List ℕ) Fault
     → Result Received Fault
 received_whole header entry signature waiting (Err fault) = Err fault
 received_whole header entry signature waiting (Ok found) =
@@ -87,7 +85,7 @@ received_whole header entry signature waiting (Ok found) =
       values = found.0;
     })
 
-abbrev pub received_as : Side → Reader → Header → List ℕ → ℕ → Entry → Option Message
+abbrev pub received_as : Side → Reader → Header → List ℕ → ℕ → Entry → Option MessageSignature
     → Result Received Fault
 received_as side reader header body waiting entry None = Err faults.UnknownMessage
 received_as side reader header body waiting entry (Some signature) =
@@ -124,9 +122,9 @@ made_by tables version (kinds.New None) (NewNamed name own id) =
     option_map (λ iface. record { id = id; iface = iface; version = own }) (place_of tables name)
 made_by tables version _ _ = None
 
-abbrev pub or_else : Option NewObject → Option NewObject → Option NewObject
+abbrev pub or_else : {X : Type 0} → Option X → Option X → Option X
 or_else None other = other
-or_else (Some made) other = Some made
+or_else (Some x) other = Some x
 
 -- the object that a message makes, where its target has this version
 abbrev pub made : List Interface → ℕ → List Kind → List Argument → Option NewObject
@@ -135,13 +133,13 @@ made tables version (kind ∷ ks) (value ∷ values) =
 made tables version _ _ = None
 
 -- the two ends
-pub data End : Type 0 where
-  Client : End
-  Server : End
+pub data Role : Type 0 where
+  Client : Role
+  Server : Role
 
 -- an object destroyed: at the client a zombie, until its delete_id comes; at the server gone, and
 -- its id free
-abbrev pub destroyed : End → View → ℕ → View
+abbrev pub destroyed : Role → View → ℕ → View
 destroyed Client view id = zombied view id
 destroyed Server view id = closed view id
 
@@ -149,7 +147,7 @@ abbrev pub opens : View → Option NewObject → View
 opens view None = view
 opens view (Some m) = opened_at view m.id m.iface m.version
 
-abbrev pub destroys : End → Destroys → ℕ → View → View
+abbrev pub destroys : Role → Destroys → ℕ → View → View
 destroys end Nothing target view = view
 destroys end Target target view = destroyed end view target
 destroys end (Arg place) target view = destroyed end view target
@@ -170,7 +168,7 @@ ended_id (Arg place) target values = id_at values place
 
 -- The objects of an end after it has written or read a message, other than delete_id: the making
 -- comes first.
-abbrev pub after : End → View → Option NewObject → Destroys → ℕ → View
+abbrev pub after : Role → View → Option NewObject → Destroys → ℕ → View
 after end view new what target = destroys end what target (opens view new)
 
 -- The client's objects after delete_id: the row of a held id other than 1 is closed.
@@ -184,30 +182,32 @@ abbrev pub is_hidden : Side → Iface → ℕ → Bool
 is_hidden Request iface opcode = same_iface iface registry && nat_eq opcode 0
 is_hidden Event iface opcode = same_iface iface display || same_iface iface registry
 
-abbrev pub of_length : (limit len : ℕ) → Message → Result Message SendError
+abbrev pub of_length : (limit len : ℕ) → MessageSignature → Result MessageSignature SendError
 of_length limit len signature = if nat_lt limit len then Err refusals.TooLong else Ok signature
 
-abbrev pub unless_lost : ℕ → Option ℕ → ℕ → Message → Result Message SendError
+abbrev pub unless_lost : ℕ → Option ℕ → ℕ → MessageSignature → Result MessageSignature SendError
 unless_lost limit None len signature = of_length limit len signature
 unless_lost limit (Some place) len signature = Err (refusals.BadObject place)
 
-abbrev pub unless_wrong : ℕ → Option ℕ → Option ℕ → ℕ → Message → Result Message SendError
+abbrev pub unless_wrong : ℕ → Option ℕ → Option ℕ → ℕ → MessageSignature
+    → Result MessageSignature SendError
 unless_wrong limit None lost len signature = unless_lost limit lost len signature
 unless_wrong limit (Some place) lost len signature = Err (refusals.WrongArgs place)
 
-abbrev pub checked_as : ℕ → View → List Given → Entry → Option Message → Result Message SendError
+abbrev pub checked_as : ℕ → View → List Given → Entry → Option MessageSignature
+    → Result MessageSignature SendError
 checked_as limit view given entry None = Err refusals.NoSuchMessage
 checked_as limit view given entry (Some signature) =
     if nat_lt entry.version signature.since then Err refusals.TooOld
     else unless_wrong limit (wrong_place 0 signature.kinds given)
     (lost_place (look view) 0 signature.kinds given) (message_len (map (wired 0) given)) signature
 
-abbrev pub unless_hidden : Bool → Option Message → Option Message
+abbrev pub unless_hidden : Bool → Option MessageSignature → Option MessageSignature
 unless_hidden true signature = None
 unless_hidden false signature = signature
 
 abbrev pub checked_by : ℕ → List Interface → Side → View → ℕ → List Given → Option Entry
-    → Result Message SendError
+    → Result MessageSignature SendError
 checked_by limit tables side view opcode given None = Err refusals.Stale
 checked_by limit tables side view opcode given (Some entry) =
     checked_as limit view given entry
@@ -222,6 +222,6 @@ live_row view object =
 -- What stands against a write, before its room is looked at: the first of S2, S3, S4, S5, S6 and
 -- S8; else the message's signature. The first argument is the limit of S8.
 abbrev pub checked : ℕ → List Interface → Side → View → Object → ℕ → List Given
-    → Result Message SendError
+    → Result MessageSignature SendError
 checked limit tables side view target opcode given =
     checked_by limit tables side view opcode given (live_row view target)

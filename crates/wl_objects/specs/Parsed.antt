@@ -16,26 +16,27 @@ use Rattle.wl_objects.specs.declared.argument.GotRef.TheVariants as refs
 use Rattle.wl_objects.specs.declared.parsed.ParsedArg.{ParsedArg}
 use Rattle.wl_objects.specs.declared.parsed.ParsedArg.TheVariants as parsed_as
 use Rattle.wl_objects.specs.declared.args.Args.{Args}
-use Rattle.wl_objects.specs.Reading.{Reader, Reported, in_state, is_descriptor, report_of}
+use Rattle.wl_objects.specs.Reading.{Reader, Reported, in_state, is_descriptor, reported_argument}
 use Rattle.wl_objects.specs.Reading.{reports_of}
 
 -- `len` bytes from a place on, as far as there are such
-abbrev pub part : List ℕ → ℕ → ℕ → List ℕ
-part bytes start len = take len (drop start bytes)
+abbrev pub body_part : List ℕ → ℕ → ℕ → List ℕ
+body_part bytes start len = take len (drop start bytes)
 
 -- an argument as it is spelled
-abbrev pub argument_of : List ℕ → ParsedArg → Argument
-argument_of body parsed_as.Null = Str None
-argument_of body (parsed_as.Int z) = Int z
-argument_of body (parsed_as.Uint n) = Uint n
-argument_of body (parsed_as.Fixed z) = Fixed (units z)
-argument_of body (parsed_as.Str len start) = Str (Some (part body start len))
-argument_of body (parsed_as.NoObject id) = Obj id
-argument_of body (parsed_as.Object id birth state) = Obj id
-argument_of body (parsed_as.New id) = New id
-argument_of body (parsed_as.Bound len start version id) = NewNamed (part body start len) version id
-argument_of body (parsed_as.Array len start) = Array (part body start len)
-argument_of body (parsed_as.Fd place) = Fd tt
+abbrev pub parsed_argument : List ℕ → ParsedArg → Argument
+parsed_argument body parsed_as.Null = Str None
+parsed_argument body (parsed_as.Int z) = Int z
+parsed_argument body (parsed_as.Uint n) = Uint n
+parsed_argument body (parsed_as.Fixed z) = Fixed (units z)
+parsed_argument body (parsed_as.Str len start) = Str (Some (body_part body start len))
+parsed_argument body (parsed_as.NoObject id) = Obj id
+parsed_argument body (parsed_as.Object id birth state) = Obj id
+parsed_argument body (parsed_as.New id) = New id
+parsed_argument body (parsed_as.Bound len start version id) = NewNamed (body_part body start len)
+    version id
+parsed_argument body (parsed_as.Array len start) = Array (body_part body start len)
+parsed_argument body (parsed_as.Fd place) = Fd tt
 
 -- An argument as it is reported, where a new object gets this birth; of a descriptor the place of
 -- its token among the message's.
@@ -44,21 +45,21 @@ placed_of body birth parsed_as.Null = Str None
 placed_of body birth (parsed_as.Int z) = Int z
 placed_of body birth (parsed_as.Uint n) = Uint n
 placed_of body birth (parsed_as.Fixed z) = Fixed (units z)
-placed_of body birth (parsed_as.Str len start) = Str (Some (part body start len))
+placed_of body birth (parsed_as.Str len start) = Str (Some (body_part body start len))
 placed_of body birth (parsed_as.NoObject id) = Obj named_as.Null
 placed_of body birth (parsed_as.Object id held state) =
     Obj (in_state state (record { id = id; birth = held }))
 placed_of body birth (parsed_as.New id) = New (record { id = id; birth = birth })
 placed_of body birth (parsed_as.Bound len start version id) =
-    NewNamed (part body start len) version (record { id = id; birth = birth })
-placed_of body birth (parsed_as.Array len start) = Array (part body start len)
+    NewNamed (body_part body start len) version (record { id = id; birth = birth })
+placed_of body birth (parsed_as.Array len start) = Array (body_part body start len)
 placed_of body birth (parsed_as.Fd place) = Fd place
 
 -- the object that an argument names; null where it names none
-abbrev pub object_in : Option ParsedArg → Named
-object_in (Some (parsed_as.Object id birth state)) =
+abbrev pub parsed_object : Option ParsedArg → Named
+parsed_object (Some (parsed_as.Object id birth state)) =
     in_state state (record { id = id; birth = birth })
-object_in _ = named_as.Null
+parsed_object _ = named_as.Null
 
 -- the token at a place; 0 where there is none
 abbrev pub token_at : List ℕ → ℕ → ℕ
@@ -73,7 +74,7 @@ reported_of body birth tokens parsed = with_token tokens (placed_of body birth p
 
 -- the arguments of a message as they are spelled
 abbrev pub spelled_in : List ℕ → List ParsedArg → List Argument
-spelled_in body parsed = map (argument_of body) parsed
+spelled_in body parsed = map (parsed_argument body) parsed
 
 -- the arguments of a message as they are reported, where these are its tokens
 abbrev pub reported_in : List ℕ → ℕ → List ℕ → List ParsedArg → List Reported
@@ -94,14 +95,14 @@ abbrev pub Both : Type 0
 Both = Argument × Reported
 
 abbrev pub both_of : List ℕ → ℕ → ParsedArg → Both
-both_of body birth parsed = (argument_of body parsed, placed_of body birth parsed)
+both_of body birth parsed = (parsed_argument body parsed, placed_of body birth parsed)
 
 abbrev pub all_parsed : List ℕ → ℕ → List ParsedArg → List Both
 all_parsed body birth parsed = map (both_of body birth) parsed
 
 -- what the reader makes of an argument that has `place` descriptors before it
 abbrev pub both : Reader → ℕ → Argument → Both
-both r place value = (value, report_of r place value)
+both r place value = (value, reported_argument r place value)
 
 -- how many descriptors stand before what follows an argument
 abbrev pub place_after : Argument → ℕ → ℕ

@@ -3,13 +3,14 @@ use Rattle.std.specs.Prelude.{◌≡◌, ℕ, ◌<◌, ◌≤◌, true, false, L
 use Rattle.wl_wire.specs.declared.kind.Kind.{Kind}
 use Rattle.wl_wire.specs.Argument.{Obj}
 use Rattle.wl_sigs.specs.declared.signature.Side.{Side}
-use Rattle.wl_sigs.specs.Tables.{Message, Interface, signature_at}
+use Rattle.wl_sigs.specs.Tables.{MessageSignature, Interface, signature_at}
 use Rattle.wl_object_map.specs.declared.object.Object.{Object}
 use Rattle.wl_object_map.specs.declared.object.Entry.{Entry}
 use Rattle.wl_object_map.specs.View.{View, look}
 use Rattle.wl_objects.specs.Reading.{iface_of}
-use Rattle.wl_objects.specs.Writing.{Given, suits, can_name, names_one, is_live}
+use Rattle.wl_objects.specs.Writing.{Given, suits, can_name, names_one}
 use Rattle.wl_objects.specs.Messages.{is_hidden}
+use Rattle.wl_object_map.specs.View.{lives}
 
 -- An argument stands at the place, and it is of the kind that the message has there.
 pub record SuitsAt (ks : List Kind) (list : List Given) (place : ℕ) : Type 0 where
@@ -61,12 +62,12 @@ pub record IsFirstLost (rows : ℕ → Option Entry) (ks : List Kind) (list : Li
 
 -- A call comes to its arguments: its target is live with this birth, and the message is one that
 -- `send` writes and exists at the target's version.
-pub record Reaches (tables : List Interface) (side : Side) (view : View) (target : Object)
-    (opcode : ℕ) (signature : Message) : Type 0 where
+pub record ReachesArguments (tables : List Interface) (side : Side) (view : View) (target : Object)
+    (opcode : ℕ) (signature : MessageSignature) : Type 0 where
   pub entry : Entry
   pub row : look view target.id ≡ Some entry
   pub birth : entry.birth ≡ target.birth
-  pub live : is_live entry.state ≡ true
+  pub live : lives entry.state ≡ true
   pub shown : is_hidden side entry.iface opcode ≡ false
   pub exists : signature_at tables entry.iface.0 side opcode ≡ Some signature
   pub since : signature.since ≤ entry.version

@@ -30,9 +30,9 @@ pub record Reader : Type 0 where
   pub forgives : Bool
 
 -- the kind as the reader takes it
-abbrev pub kind_at : Bool → Kind → Kind
-kind_at true (kinds.Obj null iface) = kinds.Obj true iface
-kind_at _ kind = kind
+abbrev pub forgiving_kind : Bool → Kind → Kind
+forgiving_kind true (kinds.Obj null iface) = kinds.Obj true iface
+forgiving_kind _ kind = kind
 
 -- the interface that a kind asks of an object; none asks for no particular one
 abbrev pub iface_of : Kind → Option Iface
@@ -69,9 +69,10 @@ abbrev pub unless : Option Fault → Argument × ℕ → Result (Argument × ℕ
 unless None value = Ok value
 unless (Some fault) value = Err fault
 
-abbrev pub judged : Reader → ℕ → Kind → Result (Argument × ℕ) ArgFault → Result (Argument × ℕ) Fault
-judged r place kind (Err fault) = Err (faults.BadArgument place fault)
-judged r place kind (Ok value) = unless (value_fault r place kind value.0) value
+abbrev pub value_or_fault : Reader → ℕ → Kind → Result (Argument × ℕ) ArgFault
+    → Result (Argument × ℕ) Fault
+value_or_fault r place kind (Err fault) = Err (faults.BadArgument place fault)
+value_or_fault r place kind (Ok value) = unless (value_fault r place kind value.0) value
 
 -- a value before those that were read behind it
 abbrev pub before : Argument → Result (List Argument × List ℕ) Fault
@@ -90,7 +91,7 @@ abbrev pub arguments_at : Reader → ℕ → List Kind → List ℕ → Result (
 arguments_at r place [] bytes = Ok ([], bytes)
 arguments_at r place (kind ∷ ks) bytes =
     and_those (arguments_at r (suc place) ks) bytes
-    (judged r place kind (reading (kind_at r.forgives kind) bytes))
+    (value_or_fault r place kind (reading (forgiving_kind r.forgives kind) bytes))
 
 -- a reader that forgives, or does not
 abbrev pub forgiving : Bool → Reader → Reader
@@ -127,13 +128,13 @@ is_descriptor_kind _ = false
 abbrev pub descriptors : List Kind → ℕ
 descriptors ks = count_by is_descriptor_kind ks
 
-abbrev pub first_or : List ℕ → ℕ → ℕ
-first_or [] d = d
-first_or (x ∷ xs) d = x
+abbrev pub head_or : List ℕ → ℕ → ℕ
+head_or [] d = d
+head_or (x ∷ xs) d = x
 
 -- One argument as it is reported, where the token is the next that waits.
-abbrev pub report_of : Reader → ℕ → Argument → Reported
-report_of r token value =
+abbrev pub reported_argument : Reader → ℕ → Argument → Reported
+reported_argument r token value =
     reshaped (named_at r) (λ id. record { id = id; birth = r.birth }) (λ _. token) value
 
 -- the tokens behind those that an argument takes
@@ -144,4 +145,4 @@ tokens_after value tokens = if is_descriptor value then drop 1 tokens else token
 abbrev pub reports_of : Reader → List ℕ → List Argument → List Reported
 reports_of r tokens [] = []
 reports_of r tokens (value ∷ values) =
-    report_of r (first_or tokens 0) value ∷ reports_of r (tokens_after value tokens) values
+    reported_argument r (head_or tokens 0) value ∷ reports_of r (tokens_after value tokens) values

@@ -21,16 +21,16 @@ values_in (Err fault) = Err fault
 
 -- the row of an id, where objects of these interfaces were made one after another, and none has
 -- ended
-abbrev pub row_at : List Iface → ℕ → Option Entry
-row_at ifaces zero = None
-row_at ifaces (suc n) =
+abbrev pub sample_row : List Iface → ℕ → Option Entry
+sample_row ifaces zero = None
+sample_row ifaces (suc n) =
     option_map (λ iface. record { birth = n; iface = iface; version = 1; state = Live })
     (slice_get ifaces n)
 
 -- a reader that holds these
 abbrev pub holding : List Iface → Reader
 holding ifaces = record {
-  object = row_at ifaces;
+  object = sample_row ifaces;
   new_id = λ id. new_id_of (nat_eq id (length ifaces + 1)) true;
   birth = length ifaces;
   forgives = false;
@@ -49,16 +49,16 @@ request_to reader object opcode body =
     (record { object = object; size = 8; opcode = opcode }) body 0)
 
 -- a request in front of a server that holds these
-abbrev pub request : List Iface → ℕ → ℕ → List ℕ → Result (List Argument) Fault
-request ifaces = request_to (holding ifaces)
+abbrev pub sample_request : List Iface → ℕ → ℕ → List ℕ → Result (List Argument) Fault
+sample_request ifaces = request_to (holding ifaces)
 
 -- wl_display alone
 abbrev pub fresh : List Iface
 fresh = display ∷ []
 
 -- and a registry at id 2, and a callback at id 3
-abbrev pub with_registry : List Iface
-with_registry = display ∷ registry ∷ []
+abbrev pub sample_registry : List Iface
+sample_registry = display ∷ registry ∷ []
 
 abbrev pub with_callback : List Iface
 with_callback = display ∷ registry ∷ callback ∷ []

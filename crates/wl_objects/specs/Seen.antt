@@ -3,7 +3,7 @@ use Rattle.std.specs.Prelude.{List, map}
 use Rattle.std.specs.declared.result.Result.{Result}
 use Rattle.std.specs.declared.result.Result.TheVariants.{Ok, Err}
 use Rattle.wl_wire.specs.Argument.{units, Int, Uint, Fixed, Str, Obj, New, NewNamed, Array, Fd}
-use Rattle.wl_sigs.specs.Tables.{Message}
+use Rattle.wl_sigs.specs.Tables.{MessageSignature}
 use Rattle.wl_objects.specs.declared.argument.Got.{Got}
 use Rattle.wl_objects.specs.declared.argument.Got.TheVariants as values
 use Rattle.wl_objects.specs.declared.calling.CheckedCall.{CheckedCall}
@@ -31,8 +31,8 @@ abbrev pub got_values : {A : Type 0} → List (Got A) → List Reported
 got_values list = map got list
 
 -- a message that was read, without where it lies in memory
-abbrev pub message_of : Read → Received
-message_of read = record {
+abbrev pub received_of : Read → Received
+received_of read = record {
   target = read.target;
   entry = read.entry;
   signature = read.signature.now;
@@ -41,14 +41,15 @@ message_of read = record {
 
 abbrev pub received_in : Result Read Fault → Result Received Fault
 received_in (Err fault) = Err fault
-received_in (Ok read) = Ok (message_of read)
+received_in (Ok read) = Ok (received_of read)
 
 -- a signature that was found
-abbrev pub signature_in : Result CheckedCall SendError → Result Message SendError
+abbrev pub signature_in : Result CheckedCall SendError → Result MessageSignature SendError
 signature_in (Err refusal) = Err refusal
 signature_in (Ok call) = Ok call.signature.now
 
 -- the same signature, where the arguments were measured
-abbrev pub signature_of : Message → Result Measured SendError → Result Message SendError
+abbrev pub signature_of : MessageSignature → Result Measured SendError
+    → Result MessageSignature SendError
 signature_of signature (Err refusal) = Err refusal
 signature_of signature (Ok measured) = Ok signature

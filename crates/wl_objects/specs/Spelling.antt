@@ -7,7 +7,7 @@ use Rattle.wl_wire.specs.Spelling.{Spells}
 use Rattle.wl_wire.specs.Faults.{IsFirstFault}
 use Rattle.wl_objects.specs.declared.error.Fault.{Fault}
 use Rattle.wl_objects.specs.declared.error.Fault.TheVariants as faults
-use Rattle.wl_objects.specs.Reading.{Reader, kind_at, value_fault}
+use Rattle.wl_objects.specs.Reading.{Reader, forgiving_kind, value_fault}
 
 -- The bytes are a joining of spellings of these kinds, in order, with nothing left.
 pub data SpellsAll : List Kind → List Argument → List ℕ → Type 0 where
@@ -19,26 +19,27 @@ pub data SpellsAll : List Kind → List Argument → List ℕ → Type 0 where
 
 -- The bytes begin with arguments of these kinds, and nothing is wrong with any of them; the rest
 -- lies behind them.
-pub data Meets (r : Reader) : ℕ → List Kind → List ℕ → List Argument → List ℕ → Type 0 where
-  none : {place : ℕ} {bytes : List ℕ} → Meets r place [] bytes [] bytes
+pub data MeetsKinds (r : Reader) : ℕ → List Kind → List ℕ → List Argument → List ℕ → Type 0 where
+  none : {place : ℕ} {bytes : List ℕ} → MeetsKinds r place [] bytes [] bytes
   more : {place : ℕ} {kind : Kind} {ks : List Kind} {value : Argument} {values : List Argument}
       {front behind bytes rest : List ℕ}
-      → Spells (kind_at r.forgives kind) value front → value_fault r place kind value ≡ None
-      → Meets r (suc place) ks behind values rest
-      → bytes ≡ front ++ behind → Meets r place (kind ∷ ks) bytes (value ∷ values) rest
+      → Spells (forgiving_kind r.forgives kind) value front → value_fault r place kind value ≡ None
+      → MeetsKinds r (suc place) ks behind values rest
+      → bytes ≡ front ++ behind → MeetsKinds r place (kind ∷ ks) bytes (value ∷ values) rest
 
 -- The first argument at fault: it is no spelling of its kind, or its value is at fault; and all
 -- before it are right.
 pub data FirstFault (r : Reader) : ℕ → List Kind → List ℕ → Fault → Type 0 where
   spelling : {place : ℕ} {kind : Kind} {ks : List Kind} {bytes : List ℕ} {fault : ArgFault}
-      → IsFirstFault (kind_at r.forgives kind) bytes fault
+      → IsFirstFault (forgiving_kind r.forgives kind) bytes fault
       → FirstFault r place (kind ∷ ks) bytes (faults.BadArgument place fault)
   meaning : {place : ℕ} {kind : Kind} {ks : List Kind} {value : Argument} {front bytes : List ℕ}
       {fault : Fault} (behind : List ℕ)
-      → Spells (kind_at r.forgives kind) value front → value_fault r place kind value ≡ Some fault
+      → Spells (forgiving_kind r.forgives kind) value front
+      → value_fault r place kind value ≡ Some fault
       → bytes ≡ front ++ behind → FirstFault r place (kind ∷ ks) bytes fault
   later : {place : ℕ} {kind : Kind} {ks : List Kind} {value : Argument}
       {front behind bytes : List ℕ} {fault : Fault}
-      → Spells (kind_at r.forgives kind) value front → value_fault r place kind value ≡ None
+      → Spells (forgiving_kind r.forgives kind) value front → value_fault r place kind value ≡ None
       → FirstFault r (suc place) ks behind fault
       → bytes ≡ front ++ behind → FirstFault r place (kind ∷ ks) bytes fault

@@ -18,6 +18,7 @@ use Rattle.wl_object_map.specs.declared.object.Entry.{Entry}
 use Rattle.wl_object_map.specs.declared.object.State.{State}
 use Rattle.wl_object_map.specs.declared.object.State.TheVariants as states
 use Rattle.wl_objects.specs.Reading.{is_of, iface_of}
+use Rattle.wl_object_map.specs.View.{lives}
 
 -- an argument of a call: an object or none, a new object that the call makes, a descriptor's token
 abbrev pub Given : Type 0
@@ -57,14 +58,10 @@ wrong_place place (kind ∷ ks) [] = Some place
 wrong_place place (kind ∷ ks) (given ∷ others) =
     if suits kind given then wrong_place (suc place) ks others else Some place
 
-abbrev pub is_live : State → Bool
-is_live states.Live = true
-is_live states.Zombie = false
-
 -- whether the row is the live one of that birth
 abbrev pub is_live_as : ℕ → Option Entry → Bool
 is_live_as birth None = false
-is_live_as birth (Some entry) = nat_eq entry.birth birth && is_live entry.state
+is_live_as birth (Some entry) = nat_eq entry.birth birth && lives entry.state
 
 abbrev pub row_is_of : Option Iface → Option Entry → Bool
 row_is_of iface None = false

@@ -2,7 +2,7 @@
 ghost use Rattle.std.specs.Prelude.{◌≡◌, [], ◌∷◌, ◌≤◌, ◌+◌, ℕ, IfOk, IfSome, length, Some};
 ghost use Rattle.std.specs.List.{All};
 ghost use Rattle.wl_wire.specs.Spelling.{padded, spelled_len};
-ghost use Rattle.wl_sigs.specs.Tables.{Message};
+ghost use Rattle.wl_sigs.specs.Tables.{MessageSignature};
 ghost use Rattle.wl_sigs.specs.Valid.{Valid};
 ghost use Rattle.wl_object_map.specs.View.{look, Sound};
 ghost use Rattle.wl_objects.specs.Reading.{is_of, iface_of};
@@ -106,7 +106,7 @@ fn measure<T: Table>(
     limit: u16,
 ) -> Result<Measured, SendError>
     requires few { length kinds.now ≤ 20 }
-    ensures answer { (signature : Message) → signature_of signature result
+    ensures answer { (signature : MessageSignature) → signature_of signature result
         ≡ unless_wrong limit (wrong_place 0 kinds.now (given args.now))
         (lost_place (look (T.view table.now)) 0 kinds.now (given args.now))
         (message_len (on_wire 0 args.now)) signature }

@@ -5,22 +5,22 @@ ghost use Rattle.std.specs.List.{All};
 ghost use Rattle.wl_wire.specs.declared.kind.Kind.{Kind as SpecKind};
 ghost use Rattle.wl_wire.specs.Argument.{Argument, Obj};
 ghost use Rattle.wl_sigs.specs.declared.signature.Side.{Side as SpecSide};
-ghost use Rattle.wl_sigs.specs.Tables.{Interface, Message};
+ghost use Rattle.wl_sigs.specs.Tables.{Interface, MessageSignature};
 ghost use Rattle.wl_objects.specs.declared.argument.Arg.{Arg as SpecArg};
 ghost use Rattle.wl_objects.specs.declared.error.Fault.{Fault as SpecFault};
 ghost use Rattle.wl_objects.specs.declared.error.SendError.TheVariants.{BadObject, WrongArgs};
 ghost use Rattle.wl_object_map.specs.declared.object.Entry.{Entry as SpecEntry};
 ghost use Rattle.wl_object_map.specs.declared.object.Object.{Object as SpecObject};
 ghost use Rattle.wl_object_map.specs.View.{View, look};
-ghost use Rattle.wl_objects.specs.Reading.{Reader, arguments_at, kind_at};
-ghost use Rattle.wl_objects.specs.Spelling.{Meets, FirstFault, SpellsAll};
+ghost use Rattle.wl_objects.specs.Reading.{Reader, arguments_at, forgiving_kind};
+ghost use Rattle.wl_objects.specs.Spelling.{MeetsKinds, FirstFault, SpellsAll};
 ghost use Rattle.wl_objects.specs.Writing.{Given, call_makes, given, message_bytes, message_len};
 ghost use Rattle.wl_objects.specs.Writing.{lost_place, on_wire, spelled, tokens_of, wired};
 ghost use Rattle.wl_objects.specs.Writing.{wrong_place};
 ghost use Rattle.wl_objects.specs.Messages.{checked, made, received};
 ghost use Rattle.wl_objects.specs.Carried.{AreWritten, Arrive, InRange, IsExpected, IsTarget};
-ghost use Rattle.wl_objects.specs.Carried.{Passes, received_by};
-ghost use Rattle.wl_objects.specs.Places.{IsFirstLost, IsFirstWrong, Reaches, SuitsAt};
+ghost use Rattle.wl_objects.specs.Carried.{CallPasses, received_as_meant};
+ghost use Rattle.wl_objects.specs.Places.{IsFirstLost, IsFirstWrong, ReachesArguments, SuitsAt};
 
 /// What one end writes arrives at the other: arguments that suit the message and name live objects
 /// of the writer, spelled with the new id n, are read by any reader that holds each named object
@@ -39,7 +39,7 @@ pub fn what_meets_is_read()
         (values : List Argument) (rest : List ℕ)
         → All (λ b. b < 256) bytes
         → (arguments_at reader place kinds bytes ≡ Ok (values, rest))
-        ↔ Meets reader place kinds bytes values rest }
+        ↔ MeetsKinds reader place kinds bytes values rest }
 {}
 
 /// The fault of a message's arguments is the first that stands.
@@ -64,9 +64,9 @@ pub fn call_makes_its_object()
 /// A call passes its checks exactly where nothing stands against it.
 pub fn a_call_passes()
     ensures { (limit : ℕ) (tables : List Interface) (side : SpecSide) (view : View)
-        (target : SpecObject) (opcode : ℕ) (list : List Given) (signature : Message)
+        (target : SpecObject) (opcode : ℕ) (list : List Given) (signature : MessageSignature)
         → (checked limit tables side view target opcode list ≡ Ok signature)
-        ↔ Passes limit tables side view target opcode list signature }
+        ↔ CallPasses limit tables side view target opcode list signature }
 {}
 
 /// Of arguments that do not suit, a call names the first: all before it suit, and it does not, or
@@ -94,12 +94,14 @@ pub fn a_call_is_refused_for_an_argument()
     ensures wrong { (limit : ℕ) (tables : List Interface) (side : SpecSide) (view : View)
         (target : SpecObject) (opcode : ℕ) (list : List Given) (place : ℕ)
         → (checked limit tables side view target opcode list ≡ Err (WrongArgs place))
-        ↔ ((signature : Message) × Reaches tables side view target opcode signature
+        ↔ ((signature : MessageSignature) × ReachesArguments tables side view target opcode
+        signature
         × IsFirstWrong signature.kinds list place) }
     ensures lost { (limit : ℕ) (tables : List Interface) (side : SpecSide) (view : View)
         (target : SpecObject) (opcode : ℕ) (list : List Given) (place : ℕ)
         → (checked limit tables side view target opcode list ≡ Err (BadObject place))
-        ↔ ((signature : Message) × Reaches tables side view target opcode signature
+        ↔ ((signature : MessageSignature) × ReachesArguments tables side view target opcode
+        signature
         × (length list ≡ length signature.kinds)
         × ((k : ℕ) → k < length signature.kinds → SuitsAt signature.kinds list k)
         × IsFirstLost (look view) signature.kinds list place) }
@@ -110,13 +112,14 @@ pub fn a_call_is_refused_for_an_argument()
 pub fn a_message_arrives()
     ensures { (limit : ℕ) (tables : List Interface) (side : SpecSide) (view : View)
         (reader : Reader) (target : SpecObject) (opcode size n waiting : ℕ) (list : List Given)
-        (signature : Message) → (passes : Passes limit tables side view target opcode list signature)
+        (signature : MessageSignature) → (passes : CallPasses limit tables side view target opcode
+        list signature)
         → (held : IsTarget passes.entry reader target)
         → reader.forgives ≡ false → n < 2 ^ 32 → All InRange list
         → All (IsExpected (look view) reader n) list → length (tokens_of list) ≤ waiting
         → received tables side reader (record { object = target.id; size = size; opcode = opcode })
         (spelled (map (wired n) list)) waiting
-        ≡ Ok (received_by target held.row signature (map (wired n) list)) }
+        ≡ Ok (received_as_meant target held.row signature (map (wired n) list)) }
 {}
 
 /// A message is a row of whole words, as many bytes as its header says.
@@ -133,7 +136,7 @@ pub fn what_is_read_is_spelled()
     ensures { (reader : Reader) (kinds : List SpecKind) (bytes : List ℕ) (values : List Argument)
         → All (λ b. b < 256) bytes
         → arguments_at reader 0 kinds bytes ≡ Ok (values, [])
-        → SpellsAll (map (kind_at reader.forgives) kinds) values bytes }
+        → SpellsAll (map (forgiving_kind reader.forgives) kinds) values bytes }
 {}
 
 /// What is written spells its values, where no object has the id 0.

@@ -3,11 +3,11 @@ ghost use Rattle.std.specs.Prelude.{◌≡◌, ◌≤◌, ◌+◌, ℕ, List, []
 ghost use Rattle.std.specs.Prelude.{slice_get, take};
 ghost use Rattle.wl_wire.specs.Argument.{Obj, lent};
 ghost use Rattle.wl_wire.specs.Reading.{reading};
-ghost use Rattle.wl_objects.specs.Reading.{arguments_at, forgiving, judged, kind_at, named};
-ghost use Rattle.wl_objects.specs.Reading.{object_fault, value_fault};
-ghost use Rattle.wl_objects.specs.Parsed.{AreParsed, Lies, argument_of, made_of, made_of_one};
-ghost use Rattle.wl_objects.specs.Parsed.{made_unless, object_in, one_in, parsed_in, parsed_one};
-ghost use Rattle.wl_objects.specs.Parsed.{part};
+ghost use Rattle.wl_objects.specs.Reading.{arguments_at, forgiving, value_or_fault, forgiving_kind};
+ghost use Rattle.wl_objects.specs.Reading.{named, object_fault, value_fault};
+ghost use Rattle.wl_objects.specs.Parsed.{AreParsed, Lies, parsed_argument, made_of, made_of_one};
+ghost use Rattle.wl_objects.specs.Parsed.{made_unless, parsed_object, one_in, parsed_in};
+ghost use Rattle.wl_objects.specs.Parsed.{parsed_one, body_part};
 ghost use Rattle.wl_objects.specs.Parsed.{place_behind, placed_of, spelled_in, whole_in};
 
 use crate::args::in_state;
@@ -124,7 +124,7 @@ impl ParsedArgs {
     /// The object that the argument at a place names, counted from 0, as it was when the message
     /// was read; null where it names none.
     pub fn object(&self, place: usize) -> Named
-        ensures { result ≡ object_in (slice_get self.now place) }
+        ensures { result ≡ parsed_object (slice_get self.now place) }
     {
         match self.as_slice().get(place) {
             Some(ParsedArg::Object { id, birth, state }) => in_state(
@@ -147,7 +147,7 @@ impl Debug for ParsedArgs {
 
 /// An argument as it is spelled.
 pub(crate) fn value_of(body: &[u8], parsed: ParsedArg) -> ValueRef<'_>
-    ensures { lent result ≡ argument_of body.now parsed }
+    ensures { lent result ≡ parsed_argument body.now parsed }
 {
     match parsed {
         ParsedArg::Null => ValueRef::Str(None),
@@ -174,7 +174,7 @@ pub(crate) fn value_of(body: &[u8], parsed: ParsedArg) -> ValueRef<'_>
 
 /// `len` bytes from a place on, as far as there are such.
 pub(crate) fn part(bytes: &[u8], start: usize, len: usize) -> &[u8]
-    ensures { result.now ≡ part bytes.now start len }
+    ensures { result.now ≡ body_part bytes.now start len }
 {
     let rest = &bytes[start.min(bytes.len())..];
     &rest[..len.min(rest.len())]
@@ -268,8 +268,8 @@ fn parse_at<L: Lookup>(
     requires start { start ≤ length body.now }
     ensures one { one_in body.now (L.reader lookup.now).birth result
         ≡ made_of_one (L.reader lookup.now) descriptors
-        (judged (forgiving forgives (L.reader lookup.now)) place kind
-        (reading (kind_at forgives kind) (drop start body.now))) }
+        (value_or_fault (forgiving forgives (L.reader lookup.now)) place kind
+        (reading (forgiving_kind forgives kind) (drop start body.now))) }
     ensures end { IfOk result (λ found. start + found.1 ≤ length body.now) }
 {
     match read_ref(kind_at(forgives, kind), bytes_from(body, start)) {
@@ -294,7 +294,7 @@ fn parse_at<L: Lookup>(
 
 /// The kind as a reader takes it: one that forgives lets an object be null.
 fn kind_at(forgives: bool, kind: Kind) -> Kind
-    ensures { result ≡ kind_at forgives kind }
+    ensures { result ≡ forgiving_kind forgives kind }
 {
     match kind {
         Kind::Obj { iface, .. } if forgives => Kind::Obj { null: true, iface },
@@ -369,7 +369,7 @@ fn resolve<L: Lookup>(
 
 /// An object argument by its entry.
 fn object_of(id: u32, entry: Option<Entry>) -> ParsedArg
-    ensures spelled { (body : List ℕ) → argument_of body result ≡ Obj id }
+    ensures spelled { (body : List ℕ) → parsed_argument body result ≡ Obj id }
     ensures reported { (body : List ℕ) (birth : ℕ)
         → placed_of body birth result ≡ Obj (named id entry) }
 {

@@ -6,7 +6,7 @@ ghost use Rattle.wl_wire.specs.Word.{IsHeader};
 ghost use Rattle.wl_sigs.specs.Valid.{Valid};
 ghost use Rattle.wl_objects.specs.Reading.{descriptors, object_fault, new_fault, iface_of};
 ghost use Rattle.wl_objects.specs.Messages.{is_error, received};
-ghost use Rattle.wl_objects.specs.Seen.{message_of, received_in};
+ghost use Rattle.wl_objects.specs.Seen.{received_of, received_in};
 ghost use Rattle.wl_objects.specs.Parsed.{AreParsed};
 ghost use Rattle.wl_objects.specs.contracts.parsed.ParsedArgs.{the_row};
 
@@ -41,7 +41,7 @@ pub struct Received<'t, 'a> {
 impl<'t, 'a> Received<'t, 'a> {
     /// The arguments as they are spelled.
     pub fn values(&self) -> Values<'_>
-        ensures { result ≡ (message_of self.now).values }
+        ensures { result ≡ (received_of self.now).values }
     {
         Values::new(self.args.as_slice(), self.body)
     }
@@ -68,7 +68,7 @@ pub fn receive<'t: 'a, 'a, L: Lookup>(
     ensures answer { received_in result
         ≡ received tables.now side (L.reader lookup.now) header body.now waiting }
     ensures args { IfOk result
-        (λ m. AreParsed (L.reader lookup.now) body.now m.args.now (message_of m).values) }
+        (λ m. AreParsed (L.reader lookup.now) body.now m.args.now (received_of m).values) }
     ensures body { IfOk result (λ m. m.body.now ≡ body.now) }
     ensures tokens { IfOk result (λ m. m.tokens ≡ descriptors m.signature.now.kinds) }
     ensures error { IfOk result (λ m. m.is_error ≡ is_error side m.entry.iface header.opcode) }

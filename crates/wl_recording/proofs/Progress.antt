@@ -6,16 +6,16 @@ use Rattle.std.proofs.lemmas.List.{length_push}
 use Rattle.wl_recording.specs.Piece.{Piece}
 use Rattle.wl_line_text.specs.Lines.{IsSkipped}
 use Rattle.wl_recording.specs.Line.{IsPiece}
-use Rattle.wl_recording.specs.Text.{Tell, ends, skips, tells, Recorded, IsFirstBad, IsRead, IsReached}
+use Rattle.wl_recording.specs.Text.{LinesTell, ends, skips, tells, TextRecords, IsFirstBad, IsReadUpTo, IsReached}
 use Rattle.wl_recording.proofs.TextLemmas.{tell_append, tell_good}
 
-pub started : (text : List ℕ) → IsRead text text 0 []
+pub started : (text : List ℕ) → IsReadUpTo text text 0 []
 started text = record { done = []; whole = refl; count = refl; told = ends; room = omega arith }
 
 -- one more line
 one_more : (text rest after : List ℕ) (number : ℕ) (line : List ℕ) (pieces more : List Piece)
-    → (p : IsRead text rest number pieces) → lines rest ≡ line ∷ lines after
-    → length after < length rest → Tell (line ∷ []) more → IsRead text after (number + 1) (pieces ++ more)
+    → (p : IsReadUpTo text rest number pieces) → lines rest ≡ line ∷ lines after
+    → length after < length rest → LinesTell (line ∷ []) more → IsReadUpTo text after (number + 1) (pieces ++ more)
 one_more text rest after number line pieces more p first shorter told =
     let count = p.count in
     let room = p.room in
@@ -29,20 +29,20 @@ one_more text rest after number line pieces more p first shorter told =
     }
 
 pub skipped_line : (text rest after : List ℕ) (number : ℕ) (line : List ℕ) (pieces : List Piece)
-    → IsRead text rest number pieces → lines rest ≡ line ∷ lines after
-    → length after < length rest → IsSkipped line → IsRead text after (number + 1) pieces
+    → IsReadUpTo text rest number pieces → lines rest ≡ line ∷ lines after
+    → length after < length rest → IsSkipped line → IsReadUpTo text after (number + 1) pieces
 skipped_line text rest after number line pieces p first shorter skipped =
     rw append-nil at (one_more text rest after number line pieces [] p first shorter (skips skipped ends))
 
 pub told_line : (text rest after : List ℕ) (number : ℕ) (line : List ℕ) (pieces : List Piece) (piece : Piece)
-    → IsRead text rest number pieces → lines rest ≡ line ∷ lines after
-    → length after < length rest → IsPiece line piece → IsRead text after (number + 1) (pieces ++ piece ∷ [])
+    → IsReadUpTo text rest number pieces → lines rest ≡ line ∷ lines after
+    → length after < length rest → IsPiece line piece → IsReadUpTo text after (number + 1) (pieces ++ piece ∷ [])
 told_line text rest after number line pieces piece p first shorter told =
     one_more text rest after number line pieces (piece ∷ []) p first shorter (tells told ends)
 
 -- the line is bad
 pub bad_line : (text rest after : List ℕ) (number : ℕ) (line : List ℕ) (pieces : List Piece)
-    → IsRead text rest number pieces → lines rest ≡ line ∷ lines after
+    → IsReadUpTo text rest number pieces → lines rest ≡ line ∷ lines after
     → (IsSkipped line → ⊥) → ((piece : Piece) → IsPiece line piece → ⊥) → IsFirstBad text (number + 1)
 bad_line text rest after number line pieces p first not_skipped not_piece = record {
   before = p.done;
@@ -58,17 +58,17 @@ bad_line text rest after number line pieces p first not_skipped not_piece = reco
 }
 
 -- nothing is left
-pub all_read : (text rest : List ℕ) (number : ℕ) (pieces : List Piece) → IsRead text rest number pieces
-    → length rest ≡ 0 → Recorded text pieces
+pub all_read : (text rest : List ℕ) (number : ℕ) (pieces : List Piece) → IsReadUpTo text rest number pieces
+    → length rest ≡ 0 → TextRecords text pieces
 all_read text [] number pieces p none = rw (p.whole, append-nil) p.told
 all_read text (byte ∷ rest) number pieces p none = absurd (omega arith)
 
 -- a line that was reached tells a piece
 pub reached_piece : (text rest : List ℕ) (number : ℕ) (line : List ℕ) (pieces : List Piece) (piece : Piece)
     → IsReached text rest number line pieces → IsPiece line piece
-    → IsRead text rest number (pieces ++ piece ∷ [])
+    → IsReadUpTo text rest number (pieces ++ piece ∷ [])
 reached_piece text rest number line pieces piece r told =
-    subst (λ (n : ℕ). IsRead text rest n (pieces ++ piece ∷ [])) (sym r.next)
+    subst (λ (n : ℕ). IsReadUpTo text rest n (pieces ++ piece ∷ [])) (sym r.next)
     (told_line text r.front rest r.before line pieces piece r.read r.first r.shorter told)
 
 -- or it is bad

@@ -12,18 +12,19 @@ use Rattle.wl_recording.specs.declared.recording.RecordingError.{RecordingError}
 use Rattle.wl_recording.specs.declared.recording.RecordingError.TheVariants.{BadLine, Memory}
 use Rattle.wl_recording.specs.Piece.{Piece, IsTellable}
 use Rattle.wl_recording.specs.Line.{SpellsBytes, no_bytes, some_bytes, SpellsTokens, no_tokens, some_tokens}
-use Rattle.wl_recording.specs.Text.{Tell, ends, skips, tells, Recorded, IsGood, IsFirstBad}
+use Rattle.wl_recording.specs.Text.{LinesTell, ends, skips, tells, TextRecords, IsGood, IsFirstBad}
 use Rattle.wl_recording.proofs.PieceLemmas.{one_piece, skipped_tells_none}
 
 -- the pieces of lines, one after another
-pub tell_append : {front back : List (List ℕ)} {first rest : List Piece} → Tell front first → Tell back rest
-    → Tell (front ++ back) (first ++ rest)
+pub tell_append : {front back : List (List ℕ)} {first rest : List Piece} → LinesTell front first → LinesTell back rest
+    → LinesTell (front ++ back) (first ++ rest)
 tell_append ends later = later
 tell_append (skips skipped more) later = skips skipped (tell_append more later)
 tell_append (tells told more) later = tells told (tell_append more later)
 
 -- lines tell one list of pieces at most
-pub tell_once : {all : List (List ℕ)} {pieces others : List Piece} → Tell all pieces → Tell all others → pieces ≡ others
+pub tell_once : {all : List (List ℕ)} {pieces others : List Piece} → LinesTell all pieces → LinesTell all others
+    → pieces ≡ others
 tell_once ends ends = refl
 tell_once (skips skipped more) (skips skipped' more') = tell_once more more'
 tell_once (skips skipped more) (tells told' more') = absurd (skipped_tells_none _ _ skipped told')
@@ -32,7 +33,7 @@ tell_once (tells told more) (tells told' more') =
     rw (one_piece _ _ _ told told', tell_once more more') refl
 
 -- none of them is bad
-pub tell_good : {all : List (List ℕ)} {pieces : List Piece} → Tell all pieces → All IsGood all
+pub tell_good : {all : List (List ℕ)} {pieces : List Piece} → LinesTell all pieces → All IsGood all
 tell_good ends = All-nil IsGood
 tell_good (skips skipped more) = All-cons IsGood _ _ (inl skipped) (tell_good more)
 tell_good (tells told more) = All-cons IsGood _ _ (inr (_, told)) (tell_good more)
@@ -50,7 +51,7 @@ tokens_small count tokens spelled = elim spelled [
 ]
 
 -- and a line can tell each of them
-pub tell_tellable : {all : List (List ℕ)} {pieces : List Piece} → Tell all pieces → All IsTellable pieces
+pub tell_tellable : {all : List (List ℕ)} {pieces : List Piece} → LinesTell all pieces → All IsTellable pieces
 tell_tellable ends = All-nil IsTellable
 tell_tellable (skips skipped more) = tell_tellable more
 tell_tellable (tells told more) =
@@ -58,7 +59,7 @@ tell_tellable (tells told more) =
     (tell_tellable more)
 
 -- a text that tells pieces has no bad line
-pub told_not_bad : (text : List ℕ) (pieces : List Piece) (n : ℕ) → Recorded text pieces → IsFirstBad text n → ⊥
+pub told_not_bad : (text : List ℕ) (pieces : List Piece) (n : ℕ) → TextRecords text pieces → IsFirstBad text n → ⊥
 told_not_bad text pieces n told bad =
     let good : All IsGood (bad.before ++ bad.line ∷ bad.after) = rw bad.whole at (tell_good told) in
     let here = All-get_or IsGood (bad.before ++ bad.line ∷ bad.after) (length bad.before) []
@@ -91,16 +92,16 @@ one_first_bad text n m x y =
 abbrev pub IsRefused : List ℕ → RecordingError → Type 0
 IsRefused text e = (e ≡ Memory) ⊎ ((n : ℕ) × (e ≡ BadLine n) × IsFirstBad text n)
 
-pub only_told : (text : List ℕ) (r : Result (List Piece) RecordingError) → IfOk r (Recorded text)
+pub only_told : (text : List ℕ) (r : Result (List Piece) RecordingError) → IfOk r (TextRecords text)
     → IfErr r (IsRefused text)
-    → (pieces : List Piece) → Recorded text pieces → (r ≡ Ok pieces) ⊎ (r ≡ Err Memory)
+    → (pieces : List Piece) → TextRecords text pieces → (r ≡ Ok pieces) ⊎ (r ≡ Err Memory)
 only_told text (Ok found) ok err pieces told = inl (ap Ok (tell_once ok told))
 only_told text (Err e) ok err pieces told = elim err [
   | inl memory ↦ inr (ap Err memory)
   | inr bad ↦ absurd (told_not_bad text pieces bad.0 told bad.2)
 ]
 
-pub first_refused : (text : List ℕ) (r : Result (List Piece) RecordingError) → IfOk r (Recorded text)
+pub first_refused : (text : List ℕ) (r : Result (List Piece) RecordingError) → IfOk r (TextRecords text)
     → IfErr r (IsRefused text)
     → (n : ℕ) → IsFirstBad text n → (r ≡ Err (BadLine n)) ⊎ (r ≡ Err Memory)
 first_refused text (Ok found) ok err n bad = absurd (told_not_bad text found n ok bad)

@@ -19,7 +19,7 @@ use Rattle.wl_recording.specs.declared.piece.Direction.TheVariants.{ToServer, To
 use Rattle.wl_recording.specs.Piece.{Piece, IsTellable}
 use Rattle.wl_recording.specs.Line.{sign, IsPiece, SpellsBytes, no_bytes, some_bytes, SpellsTokens}
 use Rattle.wl_recording.specs.Line.{no_tokens, some_tokens, bytes_text, tokens_text, line_of}
-use Rattle.wl_recording.specs.Text.{ends, tells, Recorded, text_of}
+use Rattle.wl_recording.specs.Text.{ends, tells, TextRecords, recording_text}
 use Rattle.wl_line_text.proofs.Cuts.{lines_ended}
 
 -- a byte that is no line feed and no carriage return
@@ -93,28 +93,29 @@ strip_ink line some ink =
     rw other refl
 
 -- the text of pieces tells them
-pub text_told : (pieces : List Piece) → All IsTellable pieces → Recorded (text_of pieces) pieces
+pub text_told : (pieces : List Piece) → All IsTellable pieces → TextRecords (recording_text pieces) pieces
 text_told [] fit = ends
 text_told (piece ∷ pieces) fit =
     let this = All-head IsTellable piece pieces fit in
     let ink = line_ink piece this in
     let clean : All (λ b. b ≢ 10) (line_of piece) =
     All-weaker IsInk (λ b. b ≢ 10) (λ b dark. omega arith) (line_of piece) ink in
-    let first = lines_ended (line_of piece) (text_of pieces) clean in
+    let first = lines_ended (line_of piece) (recording_text pieces) clean in
     let whole : strip_carriage_return (line_of piece) ≡ line_of piece = strip_ink (line_of piece) (omega arith) ink in
     rw (first, whole) (tells (line_told piece this) (text_told pieces (All-tail IsTellable piece pieces fit)))
 
 -- the text of one more piece
 pub text_of_push : (pieces : List Piece) (piece : Piece)
-    → text_of (pieces ++ piece ∷ []) ≡ text_of pieces ++ (line_of piece ++ 10 ∷ [])
+    → recording_text (pieces ++ piece ∷ []) ≡ recording_text pieces ++ (line_of piece ++ 10 ∷ [])
 text_of_push [] piece = refl
 text_of_push (first ∷ pieces) piece =
     let more = text_of_push pieces piece in
-    rw more (sym (append_assoc (line_of first) (10 ∷ text_of pieces) (line_of piece ++ 10 ∷ [])))
+    rw more (sym (append_assoc (line_of first) (10 ∷ recording_text pieces) (line_of piece ++ 10 ∷ [])))
 
 -- the same for a loop over what is kept
 pub text_more : {A : Type 0} (seen : A → Piece) (all : List A) (i : ℕ) (x : A) → i < length all → x ≡ get_or all i x
-    → text_of (map seen (take (i + 1) all)) ≡ text_of (map seen (take i all)) ++ (line_of (seen x) ++ 10 ∷ [])
+    → recording_text (map seen (take (i + 1) all)) ≡ recording_text (map seen (take i all))
+    ++ (line_of (seen x) ++ 10 ∷ [])
 text_more seen all i x lt is =
     rw (map_more seen all i x lt, ← is) (text_of_push (map seen (take i all)) (seen x))
 

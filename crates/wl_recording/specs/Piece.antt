@@ -1,5 +1,6 @@
 -- What passes between two ends, one piece at a time.
-use Rattle.std.specs.Prelude.{◌≡◌, ℕ, ◌-◌, ◌≤◌, ◌==◌, ◌&&◌, nat_lt, if◌then◌else◌, List, [], ◌∷◌, ◌++◌, length}
+use Rattle.std.specs.Prelude.{◌≡◌, ℕ, ◌-◌, ◌≤◌, ◌==◌, ◌&&◌, nat_lt, if◌then◌else◌, List, [], ◌∷◌}
+use Rattle.std.specs.Prelude.{◌++◌, length}
 use Rattle.hex.specs.Hex.{IsBytes}
 use Rattle.wl_recording.specs.declared.piece.Direction.{Direction}
 use Rattle.wl_recording.specs.declared.piece.Direction.TheVariants.{ToServer, ToClient}
@@ -13,8 +14,12 @@ pub record Piece : Type 0 where
   pub tokens : ℕ
 
 -- a kept piece, without where its bytes lie
-abbrev pub plain : {A : Type 0} → Passed A → Piece
-plain kept = record { direction = kept.direction; bytes = kept.bytes; tokens = kept.tokens }
+abbrev pub recorded_piece : {A : Type 0} → Passed A → Piece
+recorded_piece kept = record {
+  direction = kept.direction;
+  bytes = kept.bytes;
+  tokens = kept.tokens;
+}
 
 -- of these bytes those that go a way, where they all go another or this one
 abbrev pub own : Direction → Direction → List ℕ → List ℕ

@@ -7,17 +7,17 @@ use Rattle.wl_line_text.specs.Lines.{IsSkipped}
 use Rattle.wl_recording.specs.Line.{IsPiece, line_of}
 
 -- Those of the lines that are not skipped tell these pieces, one each, in their order.
-pub data Tell : List (List ℕ) → List Piece → Type 0 where
-  ends : Tell [] []
+pub data LinesTell : List (List ℕ) → List Piece → Type 0 where
+  ends : LinesTell [] []
   skips : {line : List ℕ} {more : List (List ℕ)} {pieces : List Piece}
-      → IsSkipped line → Tell more pieces → Tell (line ∷ more) pieces
+      → IsSkipped line → LinesTell more pieces → LinesTell (line ∷ more) pieces
   tells : {line : List ℕ} {more : List (List ℕ)} {piece : Piece} {pieces : List Piece}
-      → IsPiece line piece → Tell more pieces → Tell (line ∷ more) (piece ∷ pieces)
+      → IsPiece line piece → LinesTell more pieces → LinesTell (line ∷ more) (piece ∷ pieces)
 
 -- The text records these pieces. Its lines are each ended by a line feed, which the last may lack;
 -- one carriage return before a line feed is no part of its line.
-abbrev pub Recorded : List ℕ → List Piece → Type 0
-Recorded text pieces = Tell (lines text) pieces
+abbrev pub TextRecords : List ℕ → List Piece → Type 0
+TextRecords text pieces = LinesTell (lines text) pieces
 
 -- a line that may stand in a recording
 abbrev pub IsGood : List ℕ → Type 0
@@ -36,11 +36,11 @@ pub record IsFirstBad (text : List ℕ) (n : ℕ) : Type 0 where
 
 -- A text was read up to this rest: this number of lines stand before it, and they tell these
 -- pieces.
-pub record IsRead (text rest : List ℕ) (number : ℕ) (pieces : List Piece) : Type 0 where
+pub record IsReadUpTo (text rest : List ℕ) (number : ℕ) (pieces : List Piece) : Type 0 where
   pub done : List (List ℕ)
   pub whole : lines text ≡ done ++ lines rest
   pub count : number ≡ length done
-  pub told : Tell done pieces
+  pub told : LinesTell done pieces
   pub room : number + length rest ≤ length text
 
 -- A text was read up to this rest, whose last line is this one, the one of this number. It is not
@@ -49,13 +49,13 @@ pub record IsReached (text rest : List ℕ) (number : ℕ) (line : List ℕ) (pi
     : Type 0 where
   pub before : ℕ
   pub front : List ℕ
-  pub read : IsRead text front before pieces
+  pub read : IsReadUpTo text front before pieces
   pub next : number ≡ before + 1
   pub first : lines front ≡ line ∷ lines rest
   pub shorter : length rest < length front
   pub inked : ¬ IsSkipped line
 
 -- the one text that a writer gives: each piece's line, ended by a line feed
-abbrev pub text_of : List Piece → List ℕ
-text_of [] = []
-text_of (piece ∷ pieces) = line_of piece ++ 10 ∷ text_of pieces
+abbrev pub recording_text : List Piece → List ℕ
+recording_text [] = []
+recording_text (piece ∷ pieces) = line_of piece ++ 10 ∷ recording_text pieces

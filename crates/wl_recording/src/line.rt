@@ -1,7 +1,7 @@
 //! Reading the lines of a recording.
 ghost use Rattle.std.specs.Prelude.{◌≡◌, ◌≢◌, ℕ, List, ◌∷◌, ◌++◌, length, IfOk, IfSome};
 ghost use Rattle.std.specs.Prelude.{MatchOption};
-ghost use Rattle.wl_recording.specs.Piece.{IsAppended, Piece, own, plain};
+ghost use Rattle.wl_recording.specs.Piece.{IsAppended, Piece, own, recorded_piece};
 ghost use Rattle.wl_recording.specs.declared.piece.Direction.{Direction as Way};
 ghost use Rattle.wl_recording.specs.declared.piece.Direction.TheVariants.{ToServer, ToClient};
 ghost use Rattle.wl_recording.specs.Line.{IsPiece, SpellsBytes, SpellsTokens, sign};
@@ -27,7 +27,7 @@ struct Parts<'a> {
 /// The piece of a line, if the line is one.
 pub fn read_piece<A: Allocator>(alloc: A, line: &[u8]) -> Result<Option<Passed<A>>, AllocError>
     ensures { IfOk result (λ found. MatchOption found ((piece : Piece) → IsPiece line.now piece → ⊥)
-        (λ kept. IsPiece line.now (plain kept))) }
+        (λ kept. IsPiece line.now (recorded_piece kept))) }
 {
     let Some(parts) = parts_of(line) else {
         return Ok(None);

@@ -1,7 +1,7 @@
 //! What passes between two ends.
 ghost use Rattle.std.specs.Prelude.{◌≡◌, ◌++◌, OnOk, IfOk};
 ghost use Rattle.wl_recording.specs.declared.piece.Direction.TheVariants.{ToServer, ToClient};
-ghost use Rattle.wl_recording.specs.Piece.{IsAppended, own, plain};
+ghost use Rattle.wl_recording.specs.Piece.{IsAppended, own, recorded_piece};
 
 use std::alloc::{AllocError, Allocator, Global};
 use wl_wire::Bytes;
@@ -44,7 +44,7 @@ impl<A: Allocator> Passed<A> {
         to_server: &mut Vec<u8, A>,
         to_client: &mut Vec<u8, A>,
     ) -> Result<Appended, AllocError>
-        ensures { IfOk result (λ appended. IsAppended (plain self.now) appended
+        ensures { IfOk result (λ appended. IsAppended (recorded_piece self.now) appended
             to_server.old.items to_server.new.items to_client.old.items to_client.new.items) }
     {
         let bytes = self.bytes.as_slice();

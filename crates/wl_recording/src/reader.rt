@@ -2,8 +2,8 @@
 ghost use Rattle.std.specs.Prelude.{◌≡◌, ℕ, ◌+◌, ◌^◌, ◌<◌, List, [], ◌∷◌, ◌++◌, ◌⊎◌, length};
 ghost use Rattle.std.specs.Prelude.{IfOk, IfErr, IfSome, IfNone, MatchOption};
 ghost use Rattle.wl_recording.specs.declared.recording.RecordingError.TheVariants.{BadLine, Memory};
-ghost use Rattle.wl_recording.specs.Piece.{IsAppended, Piece, plain};
-ghost use Rattle.wl_recording.specs.Text.{IsFirstBad, IsReached, IsRead, Recorded};
+ghost use Rattle.wl_recording.specs.Piece.{IsAppended, Piece, recorded_piece};
+ghost use Rattle.wl_recording.specs.Text.{IsFirstBad, IsReached, IsReadUpTo, TextRecords};
 
 use crate::line::{append_piece, read_piece};
 use crate::piece::{Appended, Passed};
@@ -23,7 +23,7 @@ pub struct PieceReader<'a> {
 impl<'a> PieceReader<'a> {
     /// Before the first line of a text.
     pub fn new(text: &'a [u8]) -> Self
-        ensures { IsRead text.now result.rest.now result.number [] }
+        ensures { IsReadUpTo text.now result.rest.now result.number [] }
     {
         PieceReader {
             rest: text,
@@ -40,11 +40,12 @@ impl<'a> PieceReader<'a> {
     ) -> Result<Option<Passed<A>>, RecordingError>
         requires { self.old.number + length self.old.rest.now < 2 ^ 64 }
         ensures read { IfOk result (λ found. (text : List ℕ) (pieces : List Piece)
-            → IsRead text self.old.rest.now self.old.number pieces
-            → MatchOption found (Recorded text pieces)
-            (λ kept. IsRead text self.new.rest.now self.new.number (pieces ++ plain kept ∷ []))) }
+            → IsReadUpTo text self.old.rest.now self.old.number pieces
+            → MatchOption found (TextRecords text pieces)
+            (λ kept. IsReadUpTo text self.new.rest.now self.new.number
+            (pieces ++ recorded_piece kept ∷ []))) }
         ensures bad { IfErr result (λ e. (text : List ℕ) (pieces : List Piece)
-            → IsRead text self.old.rest.now self.old.number pieces
+            → IsReadUpTo text self.old.rest.now self.old.number pieces
             → (e ≡ Memory) ⊎ ((n : ℕ) × (e ≡ BadLine n) × IsFirstBad text n)) }
         ensures shorter { IfOk result (λ found. IfSome found
             (λ kept. length self.new.rest.now < length self.old.rest.now)) }
@@ -69,17 +70,17 @@ impl<'a> PieceReader<'a> {
     ) -> Result<Option<Appended>, RecordingError>
         requires { self.old.number + length self.old.rest.now < 2 ^ 64 }
         ensures read { IfOk result (λ found. (text : List ℕ) (pieces : List Piece)
-            → IsRead text self.old.rest.now self.old.number pieces
-            → MatchOption found (Recorded text pieces)
+            → IsReadUpTo text self.old.rest.now self.old.number pieces
+            → MatchOption found (TextRecords text pieces)
             (λ appended. (piece : Piece)
-            × IsRead text self.new.rest.now self.new.number (pieces ++ piece ∷ [])
+            × IsReadUpTo text self.new.rest.now self.new.number (pieces ++ piece ∷ [])
             × IsAppended piece appended to_server.old.items to_server.new.items
             to_client.old.items to_client.new.items)) }
         ensures none { IfOk result (λ found. IfNone found
             ((to_server.new.items ≡ to_server.old.items)
             × (to_client.new.items ≡ to_client.old.items))) }
         ensures bad { IfErr result (λ e. (text : List ℕ) (pieces : List Piece)
-            → IsRead text self.old.rest.now self.old.number pieces
+            → IsReadUpTo text self.old.rest.now self.old.number pieces
             → (e ≡ Memory) ⊎ ((n : ℕ) × (e ≡ BadLine n) × IsFirstBad text n)) }
         ensures shorter { IfOk result (λ found. IfSome found
             (λ appended. length self.new.rest.now < length self.old.rest.now)) }
@@ -97,8 +98,8 @@ impl<'a> PieceReader<'a> {
     fn next_line(&mut self) -> Option<&'a [u8]>
         requires { self.old.number + length self.old.rest.now < 2 ^ 64 }
         ensures reached { (text : List ℕ) (pieces : List Piece)
-            → IsRead text self.old.rest.now self.old.number pieces
-            → MatchOption result (Recorded text pieces)
+            → IsReadUpTo text self.old.rest.now self.old.number pieces
+            → MatchOption result (TextRecords text pieces)
             (λ line. IsReached text self.new.rest.now self.new.number line.now pieces) }
         ensures shorter { IfSome result
             (λ line. length self.new.rest.now < length self.old.rest.now) }

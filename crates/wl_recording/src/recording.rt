@@ -3,9 +3,9 @@ ghost use Rattle.std.specs.Prelude.{◌≡◌, ℕ, ◌≤◌, List, [], ◌++�
 ghost use Rattle.std.specs.Prelude.{Ok, Err, IfOk, IfErr, OnOk, OnErr};
 ghost use Rattle.std.specs.List.{All};
 ghost use Rattle.wl_recording.specs.declared.recording.RecordingError.TheVariants.{BadLine, Memory};
-ghost use Rattle.wl_recording.specs.Piece.{Piece, plain, passed, last_len, with_last_bytes};
-ghost use Rattle.wl_recording.specs.Piece.{IsTellable};
-ghost use Rattle.wl_recording.specs.Text.{Recorded, IsFirstBad, text_of};
+ghost use Rattle.wl_recording.specs.Piece.{Piece, recorded_piece, passed, last_len};
+ghost use Rattle.wl_recording.specs.Piece.{with_last_bytes, IsTellable};
+ghost use Rattle.wl_recording.specs.Text.{TextRecords, IsFirstBad, recording_text};
 
 use crate::line::MOST_TOKENS;
 use crate::piece::{Direction, Passed};
@@ -68,13 +68,13 @@ pub struct Recording<A: Allocator = Global> {
 impl<A: Allocator> Model for Recording<A> {
     ghost use Rattle.std.specs.Prelude.{List, map};
     ghost use Rattle.std.specs.List.{All};
-    ghost use Rattle.wl_recording.specs.Piece.{Piece, plain, IsTellable};
+    ghost use Rattle.wl_recording.specs.Piece.{Piece, recorded_piece, IsTellable};
 
     ghost Value = { List Piece };
 
-    ghost view = { λ r. map plain r.pieces.items };
+    ghost view = { λ r. map recorded_piece r.pieces.items };
 
-    ghost invariant = { λ r. All IsTellable (map plain r.pieces.items) };
+    ghost invariant = { λ r. All IsTellable (map recorded_piece r.pieces.items) };
 }
 
 impl<A: Allocator> Recording<A> {
@@ -89,7 +89,7 @@ impl<A: Allocator> Recording<A> {
 
     /// The pieces, in the order in which they passed.
     pub fn pieces(&self) -> &[Passed<A>]
-        ensures all { map plain result.now ≡ self.now }
+        ensures all { map recorded_piece result.now ≡ self.now }
         ensures tellable { All IsTellable self.now }
     {
         self.pieces.as_slice()
@@ -109,12 +109,12 @@ impl<A: Allocator + Clone> Recording<A> {
     /// `BadLine` (RP1) comes exactly where some line is none of these, with the number of the first
     /// such line. `Memory` (RP2) may come in place of any result.
     pub fn parse(alloc: A, text: &[u8]) -> Result<Self, RecordingError>
-        ensures told { IfOk result (λ pieces. Recorded text.now pieces) }
+        ensures told { IfOk result (λ pieces. TextRecords text.now pieces) }
         ensures bad { IfErr result
             (λ e. (e ≡ Memory) ⊎ ((n : ℕ) × (e ≡ BadLine n) × IsFirstBad text.now n)) }
 
         // and the result is the recording of the text, or its bad line
-        ensures only { (pieces : List Piece) → Recorded text.now pieces → (result ≡ Ok pieces)
+        ensures only { (pieces : List Piece) → TextRecords text.now pieces → (result ≡ Ok pieces)
             ⊎ (result ≡ Err Memory) }
         ensures first { (n : ℕ) → IsFirstBad text.now n → (result ≡ Err (BadLine n))
             ⊎ (result ≡ Err Memory) }
@@ -124,7 +124,7 @@ impl<A: Allocator + Clone> Recording<A> {
 
     // The recording of a text, or its first bad line.
     fn read(alloc: A, text: &[u8]) -> Result<Self, RecordingError>
-        ensures told { IfOk result (λ pieces. Recorded text.now pieces) }
+        ensures told { IfOk result (λ pieces. TextRecords text.now pieces) }
         ensures bad { IfErr result
             (λ e. (e ≡ Memory) ⊎ ((n : ℕ) × (e ≡ BadLine n) × IsFirstBad text.now n)) }
     {
@@ -139,8 +139,8 @@ impl<A: Allocator + Clone> Recording<A> {
     /// The text of the recording: a line for each piece, ended by a line feed. Digits are of lower
     /// case, and there are no comments.
     pub fn to_text(&self) -> Result<Vec<u8, A>, AllocError>
-        ensures text { IfOk result (λ text. text.items ≡ text_of self.now) }
-        ensures told { IfOk result (λ text. Recorded text.items self.now) }
+        ensures text { IfOk result (λ text. text.items ≡ recording_text self.now) }
+        ensures told { IfOk result (λ text. TextRecords text.items self.now) }
     {
         let mut text = Vec::new(self.pieces.allocator().clone()?);
         for piece in &self.pieces {

@@ -1,6 +1,6 @@
 //! Writing the lines of a recording.
 ghost use Rattle.std.specs.Prelude.{◌≡◌, [], ◌∷◌, ◌++◌, OnOk};
-ghost use Rattle.wl_recording.specs.Piece.{plain};
+ghost use Rattle.wl_recording.specs.Piece.{recorded_piece};
 ghost use Rattle.wl_recording.specs.Line.{bytes_text, tokens_text, line_of, sign};
 
 use crate::piece::{Direction, Passed};
@@ -12,7 +12,7 @@ pub fn write_piece<A: Allocator + Clone>(
     piece: &Passed<A>,
 ) -> Result<(), AllocError>
     ensures { OnOk result (text.new.items ≡ text.old.items
-        ++ (line_of (plain piece.now) ++ 10 ∷ [])) }
+        ++ (line_of (recorded_piece piece.now) ++ 10 ∷ [])) }
 {
     text.push(sign_of(piece.direction))?;
     text.push(b' ')?;

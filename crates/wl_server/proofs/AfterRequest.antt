@@ -20,24 +20,24 @@ use Rattle.wl_object_map.specs.Views.{look-opened_at}
 use Rattle.wl_objects.specs.declared.parsed.ParsedArg.{ParsedArg}
 use Rattle.wl_objects.specs.Messages.{NewObject, made, opens, same_iface, reader_of}
 use Rattle.wl_sigs.specs.Fixed.{registry}
-use Rattle.wl_message.specs.Arrived.{Arrived, Tells, without_first}
+use Rattle.wl_message.specs.Arrived.{Arrived, TellsFront, without_first}
 use Rattle.wl_message.specs.declared.inbox.Frame.{Frame}
 use Rattle.wl_connection.specs.Core.{Core, past, with_view}
 use Rattle.wl_connection.specs.Receiving.{Found, is_none}
-use Rattle.wl_connection.specs.Outcomes.{answers_with, left}
+use Rattle.wl_connection.specs.Outcomes.{answers_with, unless_memory}
 use Rattle.wl_connection.proofs.Frames.{body-front}
 use Rattle.wl_connection.proofs.ReceivedMessage.{first-tokens, some_reported}
 use Rattle.wl_server.specs.State.{State, Global, Registry, RiseFrom, with_core, untold}
-use Rattle.wl_server.specs.Requests.{Report, report, request, made_in, is_out_full, next_answer}
+use Rattle.wl_server.specs.Requests.{Report, report, request, made_by_request, is_out_full, next_answer}
 use Rattle.wl_server.specs.Requests.{after_next, answer_found, state_found, state_past}
-use Rattle.wl_server.specs.Requests.{registries_after, needs_memory, opens_object, IsNext}
+use Rattle.wl_server.specs.Requests.{registries_after, needs_memory, request_opens, IsServerNext}
 use Rattle.wl_server.specs.Requests.{IsLentNext}
 use Rattle.wl_server.specs.Registries.{without_registry, registry_birth}
 use Rattle.wl_server.specs.declared.pending.PendingRequest.{PendingRequest}
-use Rattle.wl_server.specs.Steps.{CanTake, Step, ended_by, pending_in, outlined, taken_report}
+use Rattle.wl_server.specs.Steps.{CanTake, Step, ended_by_request, pending_in, outlined, taken_report}
 use Rattle.wl_server.specs.Steps.{step_of, step_found, front_step, checked_front, after_front}
-use Rattle.wl_server.specs.Steps.{after_step, report_by, core_by, core_told, core_without}
-use Rattle.wl_server.specs.Steps.{registries_by, state_of, whole_state}
+use Rattle.wl_server.specs.Steps.{after_step, report_of_step, core_by, core_told, core_without}
+use Rattle.wl_server.specs.Steps.{registries_by, server_state, whole_state}
 use Rattle.wl_server.proofs.RisingBirths.{rise-below, rise-new}
 
 -- ---- the registries
@@ -84,20 +84,21 @@ held-opened view (Some m) id h = ap is_some (look-opened_at view m.id m.iface m.
 -- ---- what is answered and left, by the step in front
 
 answer-by : (core : Core) (f : Found) (b : Bool) → is_out_full core f ≡ b
-    → report_by (step_found core (Ok (Some f))) ≡ answer_found core (Ok (Some f))
+    → report_of_step (step_found core (Ok (Some f))) ≡ answer_found core (Ok (Some f))
 answer-by core f true e = rw (e) refl
 answer-by core f false e = rw (e) refl
 
-answer-found : (core : Core) (x : Result (Option Found) Fault) → report_by (step_found core x) ≡ answer_found core x
+answer-found : (core : Core) (x : Result (Option Found) Fault)
+    → report_of_step (step_found core x) ≡ answer_found core x
 answer-found core (Err fault) = refl
 answer-found core (Ok None) = refl
 answer-found core (Ok (Some f)) = answer-by core f (is_out_full core f) refl
 
-pub answer-checked : (state : State) → next_answer state ≡ report_by (checked_front state)
+pub answer-checked : (state : State) → next_answer state ≡ report_of_step (checked_front state)
 answer-checked state = by_failed state.core.failed
   where
     by_failed : (b : Bool) → (if b then Err errors.Failed else answer_found state.core (request state))
-        ≡ report_by (if b then Err errors.Failed else front_step state)
+        ≡ report_of_step (if b then Err errors.Failed else front_step state)
     by_failed true = refl
     by_failed false = sym (answer-found state.core (request state))
 
@@ -110,7 +111,7 @@ left-by state f false e = rw (e) (after-past state f)
     after-past state f = by_case f.message.signature.destroys
       where
         by_case : (d : Destroys) → after_step state
-            (record (step_of state.core f) { ended = ended_by d (report state.core f) })
+            (record (step_of state.core f) { ended = ended_by_request d (report state.core f) })
             ≡ state_past state (record f {
               message =
                   record f.message { signature = record f.message.signature { destroys = d } };
@@ -140,8 +141,8 @@ pub after-is : (state : State) (x : Result (Option Step) NextError) → x ≡ ch
 after-is state x e = ap (after_front state) e ∙ sym (left-checked state)
 
 pub answer-is : (state : State) (x : Result (Option Step) NextError) → x ≡ checked_front state
-    → report_by x ≡ next_answer state
-answer-is state x e = ap report_by e ∙ sym (answer-checked state)
+    → report_of_step x ≡ next_answer state
+answer-is state x e = ap report_of_step e ∙ sym (answer-checked state)
 
 -- what stands in front is never a lack of memory
 no-memory-found : (core : Core) (x : Result (Option Found) Fault) → step_found core x ≢ Err errors.Memory
@@ -162,7 +163,7 @@ no-memory state = by_failed state.core.failed
 
 -- so what is left after an error is what the error leaves
 pub leaves-err : (state : State) (why : NextError) → Err why ≡ checked_front state
-    → with_core state (core_told state.core why) ≡ left state (after_next state)
+    → with_core state (core_told state.core why) ≡ unless_memory state (after_next state)
     (let it : Result (Option Report) NextError = Err why in it)
 leaves-err state errors.Memory e = absurd (no-memory state (sym e))
 leaves-err state errors.Failed e = after-is state (Err errors.Failed) e
@@ -171,9 +172,9 @@ leaves-err state (errors.Fault fault offset) e = after-is state (Err (errors.Fau
 
 -- what stands in front does not depend on the registries
 pub seen-by : (state : State) (globals : List Global) (x : Result (Option Step) NextError) → state.core.failed ≡ false
-    → globals ≡ state.globals → x ≡ front_step (state_of state.core globals) → x ≡ checked_front state
+    → globals ≡ state.globals → x ≡ front_step (server_state state.core globals) → x ≡ checked_front state
 seen-by state globals x h e g =
-    subst (λ (l : List Global). x ≡ front_step (state_of state.core l)) e g
+    subst (λ (l : List Global). x ≡ front_step (server_state state.core l)) e g
     ∙ sym (ap (λ (b : Bool). if b then Err errors.Failed else front_step state) h)
 
 -- ---- where memory can be refused
@@ -211,7 +212,7 @@ opens-one state step e m =
     let answer : next_answer state ≡ Ok (Some step.report) = sym (answer-is state (Ok (Some step)) e) in
     inr (
       refl,
-      ap (opens_object state.core) f.1 ∙
+      ap (request_opens state.core) f.1 ∙
           (sym (ap (λ (s : Step). is_some s.made) f.2) ∙ is_made step.made m),
       subst IsOk (sym answer) (search rules),
     )
@@ -221,18 +222,18 @@ made-nothing : (tables : List Interface) (version : ℕ) (ks : List Kind) → ma
 made-nothing tables version [] = refl
 made-nothing tables version (k ∷ ks) = refl
 
-made-some : (core : Core) (f : Found) → made_in core f.message ≢ None → f.message.values ≢ []
+made-some : (core : Core) (f : Found) → made_by_request core f.message ≢ None → f.message.values ≢ []
 made-some core f m none = m (ap (made core.tables f.message.entry.version f.message.signature.kinds) none
     ∙ made-nothing core.tables f.message.entry.version f.message.signature.kinds)
 
 pub needs-some : (state : State) (step : Step) → Ok (Some step) ≡ checked_front state → needs_memory step.report ≡ true
-    → IsNext state (let it : Result (Option Report) NextError = Err errors.Memory in it)
+    → IsServerNext state (let it : Result (Option Report) NextError = Err errors.Memory in it)
 needs-some state step e n =
     let answer : next_answer state ≡ Ok (Some step.report) = sym (answer-is state (Ok (Some step)) e) in
     inr (refl, ap (answers_with needs_memory) answer ∙ n, subst IsOk (sym answer) (search rules))
 
 pub memory-wanted : (state : State) (step : Step) → Ok (Some step) ≡ checked_front state → step.made ≢ None
-    → IsNext state (let it : Result (Option Report) NextError = Err errors.Memory in it)
+    → IsServerNext state (let it : Result (Option Report) NextError = Err errors.Memory in it)
 memory-wanted state step e m =
     let f = found-by state step e in
     let some : f.0.message.values ≢ [] = made-some state.core f.0 (λ none. m (ap (λ (s : Step). s.made) f.2 ∙ none)) in
@@ -266,12 +267,12 @@ taken-is core now args p e = ap (λ (k : Core). taken_report k args p) e
 -- the body and the tokens of a request in front, as they were told
 pub front-told : (core inner : Core) (args held : List ParsedArg) (p : PendingRequest) (o : Option Frame) (f : Frame)
     (tokens : List ℕ) → inner ≡ core → held ≡ args → CanTake core (pending_in core args p) → o ≡ Some f
-    → Tells inner.inbox (Ok o) → length tokens ≡ 20
+    → TellsFront inner.inbox (Ok o) → length tokens ≡ 20
     → ((place : ℕ) → place < p.tokens → place < 20 → get_or tokens place 0 ≡ get_or inner.inbox.tokens place 0)
     → outlined f.body.now held (take p.tokens tokens) p.outline ≡ (pending_in core args p).report
 front-told core inner args held p o f tokens same kept can e t all first =
-    let told = subst (λ (x : Option Frame). Tells core.inbox (Ok x)) e
-    (subst (λ (k : Core). Tells k.inbox (Ok o)) same t) in
+    let told = subst (λ (x : Option Frame). TellsFront core.inbox (Ok x)) e
+    (subst (λ (k : Core). TellsFront k.inbox (Ok o)) same t) in
     let body = body-front core.inbox.limit.bytes core.inbox.bytes f.body.now p.size f.header can.whole told.0 told.1 in
     let few = can.few in
     let own = first-tokens p.tokens tokens core.inbox.tokens (omega (arith, few, all)) can.tokens
@@ -283,7 +284,8 @@ front-told core inner args held p o f tokens same kept can e t all first =
 -- after an error
 pub err-left : (core now : Core) (globals : List Global) (rs : List Registry) (why : NextError)
     → Err why ≡ checked_front (whole_state core globals rs) → now ≡ core_told core why
-    → whole_state now globals rs ≡ left (whole_state core globals rs) (after_next (whole_state core globals rs))
+    → whole_state now globals rs ≡ unless_memory (whole_state core globals rs)
+    (after_next (whole_state core globals rs))
     (let it : Result (Option Report) NextError = Err why in it)
 err-left core now globals rs why e n = ap (λ (k : Core). whole_state k globals rs) n
     ∙ leaves-err (whole_state core globals rs) why e

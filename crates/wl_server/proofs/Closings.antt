@@ -12,7 +12,7 @@ use Rattle.wl_object_map.specs.View.{View, look}
 use Rattle.wl_objects.specs.Messages.{NewObject, opens, same_iface}
 use Rattle.wl_connection.specs.Core.{Core}
 use Rattle.wl_server.specs.State.{Registry}
-use Rattle.wl_server.specs.Registries.{IsAmong, IsFresh, IsSound, without_registry, registry_birth}
+use Rattle.wl_server.specs.Registries.{IsAmong, IsFreshId, IsSound, without_registry, registry_birth}
 use Rattle.wl_server.specs.Requests.{registries_after}
 use Rattle.wl_server.specs.Steps.{HasRow}
 use Rattle.wl_server.proofs.Registries.{births_opened, has_opened, row_kept}
@@ -48,13 +48,13 @@ not_same v id d b e f row is =
 
 -- ---- once an object was opened
 
-pub row_opened : (v w : View) (m : Option NewObject) (o : Object) → w ≡ opens v m → IsFresh v m → HasRow v o
+pub row_opened : (v w : View) (m : Option NewObject) (o : Object) → w ≡ opens v m → IsFreshId v m → HasRow v o
     → HasRow w o
 row_opened v w m o e f h = subst (λ (x : View). HasRow x o) (sym e)
     (record { entry = h.entry; row = row_kept v m o.id h.entry f h.row; birth = h.birth })
 
 pub sound_opened : (core now : Core) (rs ms : List Registry) (m : Option NewObject) → now.view ≡ opens core.view m
-    → ms ≡ registries_after core rs m → IsFresh core.view m
+    → ms ≡ registries_after core rs m → IsFreshId core.view m
     → IsSound core.view rs → IsSound now.view ms
 sound_opened core now rs ms m e r f s =
     subst (λ (v : View). IsSound v ms) (sym e)

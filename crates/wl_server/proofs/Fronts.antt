@@ -13,12 +13,12 @@ use Rattle.wl_wire.specs.declared.kind.Iface.{Iface}
 use Rattle.wl_sigs.specs.declared.signature.Side.TheVariants.{Request as request_side}
 use Rattle.wl_sigs.specs.declared.signature.Destroys.{Destroys}
 use Rattle.wl_sigs.specs.declared.signature.Destroys.TheVariants.{Nothing, Target, Arg}
-use Rattle.wl_sigs.specs.Tables.{Interface, Message, signature_at, message_of, destroys_one}
+use Rattle.wl_sigs.specs.Tables.{Interface, MessageSignature, signature_at, message_of, destroys_one}
 use Rattle.wl_sigs.specs.Fixed.{wl_display, display}
 use Rattle.wl_sigs.specs.Valid.{Valid}
 use Rattle.wl_wire.specs.Word.{IsHeader}
 use Rattle.wl_message.specs.declared.inbox.Frame.{Frame}
-use Rattle.wl_message.specs.Arrived.{Tells}
+use Rattle.wl_message.specs.Arrived.{TellsFront}
 use Rattle.wl_message.specs.Outgoing.{room_of}
 use Rattle.wl_server.specs.declared.pending.PendingRequest.{PendingRequest}
 use Rattle.wl_objects.specs.declared.error.Fault.{Fault}
@@ -44,9 +44,9 @@ use Rattle.wl_connection.proofs.Frames.{IsFrame, descriptors-le, found_frame, fr
 use Rattle.wl_connection.proofs.Ends.{argument_received}
 use Rattle.wl_connection.proofs.Descriptors.{fds, reports_stay}
 use Rattle.wl_server.specs.State.{Global}
-use Rattle.wl_server.specs.Requests.{Report, report, request, judged, object_in}
-use Rattle.wl_server.specs.Steps.{Step, step_of, step_found, front_step, state_of, pending_in}
-use Rattle.wl_server.specs.Steps.{pending_of, ended_by, report_with, HasRow, CanTake, IsEndedBy}
+use Rattle.wl_server.specs.Requests.{Report, report, request, unless_bad_bind, reported_object}
+use Rattle.wl_server.specs.Steps.{Step, step_of, step_found, front_step, server_state, pending_in}
+use Rattle.wl_server.specs.Steps.{pending_of, ended_by_request, report_with, HasRow, CanTake, IsEndedBy}
 use Rattle.wl_server.specs.Steps.{IsPendingOf, is_bad}
 
 abbrev pub read_by : Core → Header → List ℕ → ℕ → Result Received Fault
@@ -65,14 +65,15 @@ the_found h m = record { size = h.size; opcode = h.opcode; message = m }
 
 request_is : (core : Core) (globals : List Global) (h : Header) (body : List ℕ) (waiting : ℕ)
     → IsFrame core h body waiting → (r : Result Received Fault) → r ≡ read_by core h body waiting
-    → request (state_of core globals) ≡ judged (state_of core globals) (found_in h.size h.opcode r)
-request_is core globals h body waiting s r e = ap (judged (state_of core globals)) (found_is core h body waiting s r e)
+    → request (server_state core globals) ≡ unless_bad_bind (server_state core globals) (found_in h.size h.opcode r)
+request_is core globals h body waiting s r e = ap (unless_bad_bind (server_state core globals))
+    (found_is core h body waiting s r e)
 
 abbrev pub Answers : Core → List Global → Result (Option Step) NextError → Type 0
-Answers core globals result = result ≡ front_step (state_of core globals)
+Answers core globals result = result ≡ front_step (server_state core globals)
 
 answers_as : (core : Core) (globals : List Global) (x : Result (Option Found) Fault)
-    (result : Result (Option Step) NextError) → request (state_of core globals) ≡ x → result ≡ step_found core x
+    (result : Result (Option Step) NextError) → request (server_state core globals) ≡ x → result ≡ step_found core x
     → Answers core globals result
 answers_as core globals x result e h = h ∙ sym (ap (step_found core) e)
 
@@ -90,7 +91,7 @@ answers_bad core globals h body waiting m s e b =
 
 request_some : (core : Core) (globals : List Global) (h : Header) (body : List ℕ) (waiting : ℕ) (m : Received)
     → IsFrame core h body waiting → Ok m ≡ read_by core h body waiting
-    → is_bad core.tables globals h.opcode m ≡ false → request (state_of core globals) ≡ Ok (Some (the_found h m))
+    → is_bad core.tables globals h.opcode m ≡ false → request (server_state core globals) ≡ Ok (Some (the_found h m))
 request_some core globals h body waiting m s e b = request_is core globals h body waiting s (Ok m) e ∙ rw b refl
 
 pub answers_full : (core : Core) (globals : List Global) (h : Header) (body : List ℕ) (waiting : ℕ) (m : Received)
@@ -105,24 +106,24 @@ front_ok : (core : Core) (globals : List Global) (h : Header) (body : List ℕ) 
     → IsFrame core h body waiting → Ok m ≡ read_by core h body waiting
     → is_bad core.tables globals h.opcode m ≡ false
     → (destroys_one m.signature.destroys && nat_lt (room_of core.outbox) delete_id_len) ≡ false
-    → front_step (state_of core globals) ≡ Ok (Some (step_of core (the_found h m)))
+    → front_step (server_state core globals) ≡ Ok (Some (step_of core (the_found h m)))
 front_ok core globals h body waiting m s e b f = ap (step_found core) (request_some core globals h body waiting m s e b)
     ∙ rw f refl
 
 -- ---- what is known of a request that was read
 
-pub few_kinds : (tables : List Interface) → Valid tables → (place opcode : ℕ) (m : Message)
+pub few_kinds : (tables : List Interface) → Valid tables → (place opcode : ℕ) (m : MessageSignature)
     → signature_at tables place request_side opcode ≡ Some m → length m.kinds ≤ 20
 few_kinds tables v place opcode m s = v.small.arguments request_side place opcode m s
 
 -- no request destroys wl_display
-nothing_of : (opcode : ℕ) (m : Message) → slice_get wl_display.requests opcode ≡ Some m → m.destroys ≢ Target
+nothing_of : (opcode : ℕ) (m : MessageSignature) → slice_get wl_display.requests opcode ≡ Some m → m.destroys ≢ Target
 nothing_of zero m h t = cc (h, t)
 nothing_of (suc zero) m h t = cc (h, t)
 nothing_of (suc (suc n)) m h t = cc h
 
 display_lasts : (tables : List Interface) → Valid tables → (view : View) → HasDisplay view
-    → (id opcode : ℕ) (entry : Entry) (m : Message) → look view id ≡ Some entry
+    → (id opcode : ℕ) (entry : Entry) (m : MessageSignature) → look view id ≡ Some entry
     → signature_at tables entry.iface.0 request_side opcode ≡ Some m → m.destroys ≡ Target → id ≢ 1
 display_lasts tables v view d id opcode entry m r s t e =
     let row : Some entry ≡ look view 1 = sym r ∙ ap (look view) e in
@@ -139,14 +140,14 @@ room_for core Target f t = grind (arith, common_steps, nat_tests, f)
 room_for core (Arg place) f t = grind (arith, common_steps, nat_tests, f)
 
 -- the reported object of a row that is there
-in_either : (s : State) (object : Object) → object_in (Some (Obj (in_state s object))) ≡ object
+in_either : (s : State) (object : Object) → reported_object (Some (Obj (in_state s object))) ≡ object
 in_either Live object = refl
 in_either Zombie object = refl
 
 -- the object that a request's argument names, as it is reported
 pub named_object : (r : Reader) (tokens : List ℕ) (id : ℕ) (entry : Entry) → nat_eq id 0 ≡ false
     → r.object id ≡ Some entry
-    → object_in (slice_get (reports_of r tokens (Obj id ∷ [])) 0) ≡ record { id = id; birth = entry.birth }
+    → reported_object (slice_get (reports_of r tokens (Obj id ∷ [])) 0) ≡ record { id = id; birth = entry.birth }
 named_object r tokens id entry z e = rw (z, e) (in_either entry.state (record { id = id; birth = entry.birth }))
 
 -- what is known of the object that a request destroys
@@ -175,13 +176,13 @@ registry_lasts view id entry d row is e =
 
 ended_argument : (core : Core) (h : Header) (body : List ℕ) (waiting : ℕ) (m : Received) (k : ℕ) → Valid core.tables
     → HasDisplay core.view → Ok m ≡ read_by core h body waiting → m.signature.destroys ≡ Arg k
-    → IsEnded core (object_in (slice_get (reports_of (reader_of core.view) core.inbox.tokens m.values) k))
+    → IsEnded core (reported_object (slice_get (reports_of (reader_of core.view) core.inbox.tokens m.values) k))
 ended_argument core h body waiting m k v d e t =
     let a = argument_received core.tables (reader_of core.view) h body waiting m k v (sym e) t in
     let n = a.1 in
     let object : Object = record { id = n.id; birth = n.entry.birth } in
-    let same : object_in (slice_get (reports_of (reader_of core.view) core.inbox.tokens m.values) k) ≡ object =
-    (λ i. object_in (slice_get (reports_of (reader_of core.view) core.inbox.tokens (n.are i)) (a.0 i)))
+    let same : reported_object (slice_get (reports_of (reader_of core.view) core.inbox.tokens m.values) k) ≡ object =
+    (λ i. reported_object (slice_get (reports_of (reader_of core.view) core.inbox.tokens (n.are i)) (a.0 i)))
     ∙ named_object (reader_of core.view) core.inbox.tokens n.id n.entry n.some n.there in
     subst (IsEnded core) (sym same) (record {
       row = record { entry = n.entry; row = n.there; birth = refl };
@@ -193,32 +194,32 @@ inside e = cc e
 
 ended_there : (core : Core) (h : Header) (body : List ℕ) (waiting : ℕ) (m : Received) → Valid core.tables
     → HasDisplay core.view → Ok m ≡ read_by core h body waiting
-    → (object : Object) → ended_by m.signature.destroys (report core (the_found h m)) ≡ Some object
+    → (object : Object) → ended_by_request m.signature.destroys (report core (the_found h m)) ≡ Some object
     → IsEnded core object
 ended_there core h body waiting m v d e object is = by_what m.signature.destroys refl is
   where
     by_what : (what : Destroys) → m.signature.destroys ≡ what
-        → ended_by what (report core (the_found h m)) ≡ Some object → IsEnded core object
+        → ended_by_request what (report core (the_found h m)) ≡ Some object → IsEnded core object
     by_what Nothing t k = absurd (cc k)
     by_what Target t k = subst (IsEnded core) (inside k) (ended_target core h body waiting m v d e t)
     by_what (Arg place) t k = subst (IsEnded core) (inside k) (ended_argument core h body waiting m place v d e t)
 
 -- whether a request destroys anything
-is_some_ended : (what : Destroys) (report : Report) → is_some (ended_by what report) ≡ destroys_one what
+is_some_ended : (what : Destroys) (report : Report) → is_some (ended_by_request what report) ≡ destroys_one what
 is_some_ended Nothing report = refl
 is_some_ended Target report = refl
 is_some_ended (Arg place) report = refl
 
-destroys_some : (what : Destroys) (report : Report) (object : Object) → ended_by what report ≡ Some object
+destroys_some : (what : Destroys) (report : Report) (object : Object) → ended_by_request what report ≡ Some object
     → destroys_one what ≡ true
 destroys_some what report object is = sym (is_some_ended what report) ∙ ap is_some is
 
 ended_is : (core : Core) (h : Header) (body : List ℕ) (m : Received) (args : List ParsedArg) (ended : Option Object)
     → AreParsed (reader_of core.view) body args m.values → IsEndedBy m args ended
-    → ended ≡ ended_by m.signature.destroys (report core (the_found h m))
+    → ended ≡ ended_by_request m.signature.destroys (report core (the_found h m))
 ended_is core h body m args ended a k =
     k h.opcode core.view.births body core.inbox.tokens
-    ∙ ap (λ (l : List Reported). ended_by m.signature.destroys (report_with m.target h.opcode l))
+    ∙ ap (λ (l : List Reported). ended_by_request m.signature.destroys (report_with m.target h.opcode l))
     (a.reported core.inbox.tokens)
 
 -- whether there is room for its delete_id
@@ -311,7 +312,7 @@ answers_ok core globals h body waiting m args ended s e b f a k =
 
 -- a fault of the message in front
 pub fault_told : (core before : Core) (globals : List Global) (args : List ParsedArg) (o : Option Frame) (f : Frame)
-    (fault : Fault) → core ≡ before → o ≡ Some f → Tells core.inbox (Ok o) → IsHeader f.header
+    (fault : Fault) → core ≡ before → o ≡ Some f → TellsFront core.inbox (Ok o) → IsHeader f.header
     → IsPendingOf core.tables core.view globals f.header f.body.now args (read_by core f.header f.body.now f.tokens)
     (Err fault)
     → Answers before globals (Err (errors.Fault fault core.read))
@@ -325,7 +326,7 @@ fault_told core before globals args o f fault same e t h (inr r) =
 
 -- a request that destroys an object, where there is no room for its delete_id
 pub full_told : (core before : Core) (globals : List Global) (args : List ParsedArg) (o : Option Frame) (f : Frame)
-    (p : PendingRequest) → core ≡ before → o ≡ Some f → Tells core.inbox (Ok o) → IsHeader f.header
+    (p : PendingRequest) → core ≡ before → o ≡ Some f → TellsFront core.inbox (Ok o) → IsHeader f.header
     → IsPendingOf core.tables core.view globals f.header f.body.now args (read_by core f.header f.body.now f.tokens)
     (Ok p)
     → (is_some p.change.ended && nat_lt (room_of core.outbox) delete_id_len) ≡ true
@@ -337,7 +338,7 @@ full_told core before globals args o f p same e t h s full =
 
 -- a request that can be taken
 pub request_told : (core before : Core) (globals : List Global) (args : List ParsedArg) (o : Option Frame) (f : Frame)
-    (p : PendingRequest) → core ≡ before → o ≡ Some f → Tells core.inbox (Ok o) → IsHeader f.header
+    (p : PendingRequest) → core ≡ before → o ≡ Some f → TellsFront core.inbox (Ok o) → IsHeader f.header
     → IsPendingOf core.tables core.view globals f.header f.body.now args (read_by core f.header f.body.now f.tokens)
     (Ok p)
     → (is_some p.change.ended && nat_lt (room_of core.outbox) delete_id_len) ≡ false
@@ -349,7 +350,8 @@ request_told core before globals args o f p same e t h s fits =
     (sym s.1) s.2 fits s.3.parsed s.3.ended))
 
 pub can_take_told : (core before : Core) (globals : List Global) (args : List ParsedArg) (o : Option Frame) (f : Frame)
-    (p : PendingRequest) → core ≡ before → o ≡ Some f → Tells core.inbox (Ok o) → IsHeader f.header → Valid core.tables
+    (p : PendingRequest) → core ≡ before → o ≡ Some f → TellsFront core.inbox (Ok o) → IsHeader f.header
+    → Valid core.tables
     → HasDisplay core.view
     → IsPendingOf core.tables core.view globals f.header f.body.now args (read_by core f.header f.body.now f.tokens)
     (Ok p)

@@ -8,7 +8,7 @@ use Rattle.std.proofs.lemmas.Bool.{eq-eqb}
 use Rattle.std.proofs.lemmas.Bool.Decides.{nat_tests}
 use Rattle.std.proofs.lemmas.List.{get_or-set_same, length-set, set-get_or, set-set}
 use Rattle.wl_sigs.specs.Tables.{Interface}
-use Rattle.wl_message.specs.Outgoing.{Outgoing, all_bytes, message, room_of, with_message}
+use Rattle.wl_message.specs.Outgoing.{Outgoing, all_bytes, queued, room_of, with_message}
 use Rattle.wl_message.proofs.TakenInStep.{bytes_append}
 use Rattle.wl_object_map.specs.declared.object.Object.{Object}
 use Rattle.wl_objects.specs.Writing.{message_len, message_bytes}
@@ -18,13 +18,13 @@ use Rattle.wl_connection.specs.Core.{Core, IsOrdinary}
 use Rattle.wl_connection.specs.Sending.{with_sent}
 use Rattle.wl_server.specs.State.{Registry, RiseFrom}
 use Rattle.wl_server.specs.Tellings.{dues_for}
-use Rattle.wl_server.specs.Announcing.{Due, Owing, Removal, Telling, due_len, opcode_of, values_of}
+use Rattle.wl_server.specs.Announcing.{Due, Owing, Removal, Telling, due_len, owed_opcode, values_of}
 use Rattle.wl_server.specs.Announcing.{with_dues, marked, marked_in, all_marked}
 
 -- ---- an end with events written
 
 abbrev pub with_due : Core → Due → Core
-with_due core d = with_sent core d.object.id (opcode_of d.owing) (values_of core.tables d.owing) []
+with_due core d = with_sent core d.object.id (owed_opcode d.owing) (values_of core.tables d.owing) []
 
 pub with_dues-append : (core : Core) (xs ys : List Due) → with_dues core (xs ++ ys) ≡ with_dues (with_dues core xs) ys
 with_dues-append core [] ys = refl
@@ -47,11 +47,11 @@ room-sent : (o : Outgoing) (bytes : List ℕ) → o.error_to ≡ 0
 room-sent o bytes e =
     omega (
       arith,
-      ap length (bytes_append o.messages (message bytes [] ∷ [])),
-      length-append (all_bytes o.messages) (all_bytes (message bytes [] ∷ [])),
+      ap length (bytes_append o.messages (queued bytes [] ∷ [])),
+      length-append (all_bytes o.messages) (all_bytes (queued bytes [] ∷ [])),
       length-append bytes [],
       length-append o.left (all_bytes o.messages),
-      length-append o.left (all_bytes (o.messages ++ message bytes [] ∷ [])),
+      length-append o.left (all_bytes (o.messages ++ queued bytes [] ∷ [])),
     )
 
 -- each event takes its length of the room
@@ -62,9 +62,9 @@ room-dues core (x ∷ xs) o =
     let more : room_of (with_dues (with_due core x) xs).outbox
     ≡ room_of (with_due core x).outbox - due_len core.tables xs = room-dues (with_due core x) xs o in
     let one : room_of (with_due core x).outbox ≡ room_of core.outbox - length
-    (message_bytes x.object.id (opcode_of x.owing) (values_of core.tables x.owing)) =
-    room-sent core.outbox (message_bytes x.object.id (opcode_of x.owing) (values_of core.tables x.owing)) o.1 in
-    omega (arith, more, one, length-message x.object.id (opcode_of x.owing) (values_of core.tables x.owing))
+    (message_bytes x.object.id (owed_opcode x.owing) (values_of core.tables x.owing)) =
+    room-sent core.outbox (message_bytes x.object.id (owed_opcode x.owing) (values_of core.tables x.owing)) o.1 in
+    omega (arith, more, one, length-message x.object.id (owed_opcode x.owing) (values_of core.tables x.owing))
 
 pub due_len-append : (tables : List Interface) (xs ys : List Due)
     → due_len tables (xs ++ ys) ≡ due_len tables xs + due_len tables ys

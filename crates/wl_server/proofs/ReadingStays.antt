@@ -16,16 +16,16 @@ use Rattle.wl_objects.specs.Messages.{Server as server, after, is_bind}
 use Rattle.wl_connection.specs.Core.{Core, with_arrived, with_view}
 use Rattle.wl_connection.specs.Receiving.{Found, found, past_found}
 use Rattle.wl_connection.specs.Sending.{with_following}
-use Rattle.wl_connection.specs.Streams.{waiting}
+use Rattle.wl_connection.specs.Streams.{waiting_part}
 use Rattle.wl_connection.proofs.AnyCut.{IsOfMessage, IsFaultAgain, IsFault, stays, comes as found_first, IsReading}
 use Rattle.wl_connection.proofs.FoundStays.{IsFound, is_found, reported_stays, past_stays}
 use Rattle.wl_server.specs.State.{State}
-use Rattle.wl_server.specs.Requests.{Report, report, judged, request, is_good_bind, made_in}
+use Rattle.wl_server.specs.Requests.{Report, report, unless_bad_bind, request, is_good_bind, made_by_request}
 use Rattle.wl_server.specs.Requests.{destroys_it, ended, ended_object, registries_after, core_after}
 use Rattle.wl_server.specs.Requests.{state_past, is_out_full, answer_found, next_answer}
 use Rattle.wl_server.specs.Requests.{state_found, after_next}
-use Rattle.wl_connection.specs.Reads.{arrived}
-use Rattle.wl_server.specs.Streams.{reading}
+use Rattle.wl_connection.specs.Reads.{with_arrivals}
+use Rattle.wl_server.specs.Streams.{server_reading}
 use Rattle.wl_server.specs.Registries.{without_registry, registry_birth}
 
 -- ---- one message
@@ -48,7 +48,7 @@ core_arrived : (core : Core) (f : Found) (bytes tokens : List ℕ) → IsFound c
     → core_after (with_arrived core bytes tokens) f ≡ with_arrived (core_after core f) bytes tokens
 core_arrived core f bytes tokens h =
     let id = (ended core f).id in
-    let view : ℕ → View = λ n. after server core.view (made_in core f.message) f.message.signature.destroys n in
+    let view : ℕ → View = λ n. after server core.view (made_by_request core f.message) f.message.signature.destroys n in
     ap (λ (o : Object). with_following (destroys_it f.message) o.id
     (with_view (past_found (with_arrived core bytes tokens) f) (view o.id))) (ended_stays core f bytes tokens h)
     ∙ (ap (λ (c : Core). with_following (destroys_it f.message) id (with_view c (view id)))
@@ -56,11 +56,12 @@ core_arrived core f bytes tokens h =
     ∙ following_arrived (destroys_it f.message) id (with_view (past_found core f) (view id)) bytes tokens)
 
 past_arrived : (state : State) (f : Found) (bytes tokens : List ℕ) → IsFound state.core request_side f
-    → state_past (arrived reading state bytes tokens) f ≡ arrived reading (state_past state f) bytes tokens
+    → state_past (with_arrivals server_reading state bytes tokens) f
+    ≡ with_arrivals server_reading (state_past state f) bytes tokens
 past_arrived state f bytes tokens h = λ i. record (state_past state f) {
   core = core_arrived state.core f bytes tokens h i;
   registries = without_registry registry_birth (destroys_it f.message) (ended_stays state.core f bytes tokens h i).birth
-      (registries_after state.core state.registries (made_in state.core f.message));
+      (registries_after state.core state.registries (made_by_request state.core f.message));
 }
 
 -- the request that is read next: it is found, and what is answered and left
@@ -68,7 +69,7 @@ pub record Read (state : State) (r : Report) : Type 0 where
   pub sound : state.core.failed ≡ false
   pub message : Found
   pub there : found state.core request_side ≡ Ok (Some message)
-  pub good : judged state (Ok (Some message)) ≡ Ok (Some message)
+  pub good : unless_bad_bind state (Ok (Some message)) ≡ Ok (Some message)
   pub room : is_out_full state.core message ≡ false
   pub is : report state.core message ≡ r
   pub leaves : after_next state ≡ state_past state message
@@ -87,7 +88,7 @@ left_by : State → Found → Bool → State
 left_by state f b = cond b state (state_past state f)
 
 room_read : (state : State) (r : Report) (f : Found) (b : Bool) → state.core.failed ≡ false
-    → found state.core request_side ≡ Ok (Some f) → judged state (Ok (Some f)) ≡ Ok (Some f)
+    → found state.core request_side ≡ Ok (Some f) → unless_bad_bind state (Ok (Some f)) ≡ Ok (Some f)
     → is_out_full state.core f ≡ b → cond b (Err errors.OutFull) (Ok (Some (report state.core f))) ≡ Ok (Some r)
     → Read state r
 room_read state r f true s e j h a = absurd (cc a)
@@ -99,7 +100,7 @@ room_read state r f false s e j h a =
       good = j;
       room = h;
       is = cc a;
-      leaves = leaves state s ∙ ap (λ x. state_found state (judged state x)) e ∙ ap (state_found state) j
+      leaves = leaves state s ∙ ap (λ x. state_found state (unless_bad_bind state x)) e ∙ ap (state_found state) j
           ∙ ap (λ (b : Bool). cond b state (state_past state f)) h;
     }
 
@@ -112,7 +113,7 @@ good_read state r f false s e h a = room_read state r f (is_out_full state.core 
     (ap (λ (b : Bool). cond b (Err faults.BadBind) (Ok (Some f))) h) refl a
 
 read_found : (state : State) (r : Report) (x : Result (Option Found) Fault) → state.core.failed ≡ false
-    → found state.core request_side ≡ x → answer_found state.core (judged state x) ≡ Ok (Some r) → Read state r
+    → found state.core request_side ≡ x → answer_found state.core (unless_bad_bind state x) ≡ Ok (Some r) → Read state r
 read_found state r (Err what) s e a = absurd (cc a)
 read_found state r (Ok None) s e a = absurd (cc a)
 read_found state r (Ok (Some f)) s e a = good_read state r f
@@ -131,31 +132,35 @@ read state r e = read_at state r state.core.failed refl e
 
 -- the next request is read in the same way with more behind it, and leaves that behind
 request_stays : (state : State) (f : Found) (bytes tokens : List ℕ) → IsFound state.core request_side f
-    → judged state (Ok (Some f)) ≡ Ok (Some f) → request (arrived reading state bytes tokens) ≡ Ok (Some f)
-request_stays state f bytes tokens h j = ap (judged (arrived reading state bytes tokens)) (h.stays bytes tokens) ∙ j
+    → unless_bad_bind state (Ok (Some f)) ≡ Ok (Some f)
+    → request (with_arrivals server_reading state bytes tokens) ≡ Ok (Some f)
+request_stays state f bytes tokens h j = ap (unless_bad_bind (with_arrivals server_reading state bytes tokens))
+    (h.stays bytes tokens) ∙ j
 
 pub answer_stays : (state : State) (r : Report) (bytes tokens : List ℕ) → next_answer state ≡ Ok (Some r)
-    → next_answer (arrived reading state bytes tokens) ≡ Ok (Some r)
+    → next_answer (with_arrivals server_reading state bytes tokens) ≡ Ok (Some r)
 answer_stays state r bytes tokens e =
     let m = read state r e in
     let h = is_found state.core request_side m.message m.there in
-    answers (arrived reading state bytes tokens) m.sound
+    answers (with_arrivals server_reading state bytes tokens) m.sound
     ∙ ap (answer_found (with_arrived state.core bytes tokens)) (request_stays state m.message bytes tokens h m.good)
     ∙ ap (λ (b : Bool). cond b (Err errors.OutFull)
     (Ok (Some (report (with_arrived state.core bytes tokens) m.message)))) m.room
     ∙ ap (λ (x : Report). Ok (Some x)) (report_stays state.core m.message bytes tokens h ∙ m.is)
 
 pub after_stays : (state : State) (r : Report) (bytes tokens : List ℕ) → next_answer state ≡ Ok (Some r)
-    → after_next (arrived reading state bytes tokens) ≡ arrived reading (after_next state) bytes tokens
+    → after_next (with_arrivals server_reading state bytes tokens)
+    ≡ with_arrivals server_reading (after_next state) bytes tokens
 after_stays state r bytes tokens e =
     let m = read state r e in
     let h = is_found state.core request_side m.message m.there in
-    leaves (arrived reading state bytes tokens) m.sound
-    ∙ ap (state_found (arrived reading state bytes tokens)) (request_stays state m.message bytes tokens h m.good)
-    ∙ ap (λ (b : Bool). cond b (arrived reading state bytes tokens)
-    (state_past (arrived reading state bytes tokens) m.message)) m.room
+    leaves (with_arrivals server_reading state bytes tokens) m.sound
+    ∙ ap (state_found (with_arrivals server_reading state bytes tokens))
+    (request_stays state m.message bytes tokens h m.good)
+    ∙ ap (λ (b : Bool). cond b (with_arrivals server_reading state bytes tokens)
+    (state_past (with_arrivals server_reading state bytes tokens) m.message)) m.room
     ∙ past_arrived state m.message bytes tokens h
-    ∙ ap (λ (s : State). arrived reading s bytes tokens) (sym m.leaves)
+    ∙ ap (λ (s : State). with_arrivals server_reading s bytes tokens) (sym m.leaves)
 
 -- reading changes no limit
 limit_less : (b : Bool) (id : ℕ) (core : Core) → (with_following b id core).inbox.limit ≡ core.inbox.limit
@@ -165,17 +170,18 @@ limit_less false id core = refl
 limit_past : (state : State) (f : Found) → (state_past state f).core.inbox.limit ≡ state.core.inbox.limit
 limit_past state f = limit_less (destroys_it f.message) (ended state.core f).id
     (with_view (past_found state.core f) (after server state.core.view
-    (made_in state.core f.message) f.message.signature.destroys (ended state.core f).id))
+    (made_by_request state.core f.message) f.message.signature.destroys (ended state.core f).id))
 
 -- what waits after a request was read
-waits_less : (b : Bool) (id : ℕ) (core : Core) → waiting (with_following b id core) ≡ waiting core
+waits_less : (b : Bool) (id : ℕ) (core : Core) → waiting_part (with_following b id core) ≡ waiting_part core
 waits_less true id core = refl
 waits_less false id core = refl
 
-pub waits_past : (state : State) (f : Found) → waiting (state_past state f).core ≡ waiting (past_found state.core f)
+pub waits_past : (state : State) (f : Found) → waiting_part (state_past state f).core
+    ≡ waiting_part (past_found state.core f)
 waits_past state f = waits_less (destroys_it f.message) (ended state.core f).id
     (with_view (past_found state.core f) (after server state.core.view
-    (made_in state.core f.message) f.message.signature.destroys (ended state.core f).id))
+    (made_by_request state.core f.message) f.message.signature.destroys (ended state.core f).id))
 
 -- ---- where all that is read is left
 
@@ -191,7 +197,7 @@ not_failed state false h n = h
 -- a fault of what stands in front: it is found, or it is a bind of what was never advertised
 pub data Comes (state : State) (what : Fault) : Type 0 where
   comes : found state.core request_side ≡ Err what → Comes state what
-  binds : (f : Found) → found state.core request_side ≡ Ok (Some f) → judged state (Ok (Some f)) ≡ Err what
+  binds : (f : Found) → found state.core request_side ≡ Ok (Some f) → unless_bad_bind state (Ok (Some f)) ≡ Err what
       → Comes state what
 
 pub record Fails (state : State) (what : Fault) (offset : ℕ) : Type 0 where
@@ -201,7 +207,7 @@ pub record Fails (state : State) (what : Fault) (offset : ℕ) : Type 0 where
   pub how : Comes state what
 
 comes_by : (state : State) (what : Fault) (x : Result (Option Found) Fault) → found state.core request_side ≡ x
-    → judged state x ≡ Err what → Comes state what
+    → unless_bad_bind state x ≡ Err what → Comes state what
 comes_by state what (Err other) e j = comes (e ∙ j)
 comes_by state what (Ok None) e j = absurd (cc j)
 comes_by state what (Ok (Some f)) e j = binds f e j
@@ -234,12 +240,15 @@ fails state what offset e =
 
 -- the same fault with more behind it
 fault_again : (state : State) (what : Fault) (offset : ℕ) (bytes tokens : List ℕ) → Fails state what offset
-    → request (arrived reading state bytes tokens) ≡ Err what → IsFaultAgain reading state what offset bytes tokens
+    → request (with_arrivals server_reading state bytes tokens) ≡ Err what
+    → IsFaultAgain server_reading state what offset bytes tokens
 fault_again state what offset bytes tokens f h = record {
-  is = answers (arrived reading state bytes tokens) f.sound ∙ ap (answer_found (with_arrived state.core bytes tokens)) h
+  is = answers (with_arrivals server_reading state bytes tokens) f.sound
+      ∙ ap (answer_found (with_arrived state.core bytes tokens)) h
       ∙ ap (λ (n : ℕ). Err (errors.Fault what n)) f.offset_is;
-  leaves = leaves (arrived reading state bytes tokens) f.sound ∙ ap (state_found (arrived reading state bytes tokens)) h
-      ∙ ap (λ (s : State). arrived reading s bytes tokens)
+  leaves = leaves (with_arrivals server_reading state bytes tokens) f.sound
+      ∙ ap (state_found (with_arrivals server_reading state bytes tokens)) h
+      ∙ ap (λ (s : State). with_arrivals server_reading s bytes tokens)
       (sym (leaves state f.sound ∙ ap (state_found state) f.there));
 }
 
@@ -250,29 +259,30 @@ fault_leaves state what offset f = ap (λ (s : State). s.core.inbox.bytes)
 
 -- ---- so a server reads as an end does
 
-message_of : (state : State) (r : Report) → Read state r → IsOfMessage reading request_side state
+message_of : (state : State) (r : Report) → Read state r → IsOfMessage server_reading request_side state
 message_of state r m = record {
   message = m.message;
   there = m.there;
-  left = ap (λ (s : State). waiting s.core) m.leaves ∙ waits_past state m.message;
+  left = ap (λ (s : State). waiting_part s.core) m.leaves ∙ waits_past state m.message;
   kept =
       ap (λ (s : State). s.core.inbox.limit) m.leaves ∙ limit_past state m.message;
 }
 
 fault_of : (state : State) (what : Fault) (offset : ℕ) → Fails state what offset → Comes state what
-    → IsFault reading request_side state what offset
+    → IsFault server_reading request_side state what offset
 fault_of state what offset f (comes e) =
     found_first e (λ bytes tokens h. fault_again state what offset bytes tokens f
-    (ap (judged (arrived reading state bytes tokens)) h))
+    (ap (unless_bad_bind (with_arrivals server_reading state bytes tokens)) h))
 fault_of state what offset f (binds g e j) =
     stays (λ bytes tokens. fault_again state what offset bytes tokens f
-    (ap (judged (arrived reading state bytes tokens)) ((is_found state.core request_side g e).stays bytes tokens) ∙ j))
+    (ap (unless_bad_bind (with_arrivals server_reading state bytes tokens))
+    ((is_found state.core request_side g e).stays bytes tokens) ∙ j))
 
 fault_by : (state : State) (what : Fault) (offset : ℕ) → Fails state what offset
-    → IsFault reading request_side state what offset
+    → IsFault server_reading request_side state what offset
 fault_by state what offset f = fault_of state what offset f f.how
 
-pub is_reading : IsReading reading request_side
+pub is_reading : IsReading server_reading request_side
 is_reading = record {
   laws = record { kept = λ state. refl; new = λ state c. refl; again = λ state c d. refl };
   failed = failed_answer;

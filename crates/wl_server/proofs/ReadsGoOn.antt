@@ -15,19 +15,19 @@ use Rattle.wl_objects.specs.Messages.{Server as server, after}
 use Rattle.wl_connection.specs.Core.{Core, with_view}
 use Rattle.wl_connection.specs.Receiving.{Found, found, past_found}
 use Rattle.wl_connection.specs.Sending.{with_following}
-use Rattle.wl_connection.specs.Streams.{waiting}
-use Rattle.wl_connection.specs.Outcomes.{AnswersOrMemory, left}
+use Rattle.wl_connection.specs.Streams.{waiting_part}
+use Rattle.wl_connection.specs.Outcomes.{AnswersOrMemory, unless_memory}
 use Rattle.wl_connection.proofs.FoundStays.{is_found, past_shorter, none_short}
 use Rattle.wl_connection.proofs.ReceivedMessage.{some_report}
 use Rattle.wl_server.specs.declared.report.OwnedRequest.{OwnedRequest}
 use Rattle.wl_server.specs.Seen.{report_of, report_in}
 use Rattle.wl_server.specs.State.{State}
-use Rattle.wl_server.specs.Requests.{Report, IsNext, needs_memory, report, judged, request}
-use Rattle.wl_server.specs.Requests.{destroys_it, ended, made_in, is_out_full, state_past}
+use Rattle.wl_server.specs.Requests.{Report, IsServerNext, needs_memory, report, unless_bad_bind, request}
+use Rattle.wl_server.specs.Requests.{destroys_it, ended, made_by_request, is_out_full, state_past}
 use Rattle.wl_server.specs.Requests.{answer_found, next_answer, state_found, after_next}
-use Rattle.wl_connection.specs.Reads.{arrived, Reads, none, fault, full, last, next, nothing}
+use Rattle.wl_connection.specs.Reads.{with_arrivals, Reads, none, fault, full, last, next, nothing}
 use Rattle.wl_connection.specs.Reads.{ReadsUntil, ReadsReport, ReadsNothing, ReadsNext}
-use Rattle.wl_server.specs.Streams.{reading}
+use Rattle.wl_server.specs.Streams.{server_reading}
 use Rattle.wl_server.proofs.ReadingStays.{read, answers, leaves, not_failed, waits_past, answer_stays, after_stays}
 
 -- ---- what is read next
@@ -41,7 +41,8 @@ pub sound_after : (state : State) (r : Report) → next_answer state ≡ Ok (Som
     → (after_next state).core.failed ≡ false
 sound_after state r e =
     let m = read state r e in
-    let view = after server state.core.view (made_in state.core m.message.message) m.message.message.signature.destroys
+    let view = after server state.core.view (made_by_request state.core m.message.message)
+    m.message.message.signature.destroys
     (ended state.core m.message).id in
     ap (λ (s : State). s.core.failed) m.leaves ∙ open_after (destroys_it m.message.message)
     (ended state.core m.message).id (with_view (past_found state.core m.message) view) ∙ m.sound
@@ -67,7 +68,7 @@ good_none f true h = cc h
 good_none f false h = cc h
 
 unjudged : (state : State) (x : Result (Option Found) Fault) → found state.core request_side ≡ x
-    → judged state x ≡ Ok None → found state.core request_side ≡ Ok None
+    → unless_bad_bind state x ≡ Ok None → found state.core request_side ≡ Ok None
 unjudged state (Err what) e j = absurd (cc j)
 unjudged state (Ok None) e j = e
 unjudged state (Ok (Some f)) e j = absurd (good_none f _ j)
@@ -86,8 +87,8 @@ pub fewer_wait : (state : State) (r : Report) → next_answer state ≡ Ok (Some
     → length (after_next state).core.inbox.bytes < length state.core.inbox.bytes
 fewer_wait state r e =
     let m = read state r e in
-    let waits : waiting (after_next state).core ≡ waiting (past_found state.core m.message) =
-    ap (λ (s : State). waiting s.core) m.leaves ∙ waits_past state m.message in
+    let waits : waiting_part (after_next state).core ≡ waiting_part (past_found state.core m.message) =
+    ap (λ (s : State). waiting_part s.core) m.leaves ∙ waits_past state m.message in
     subst (λ (p : Part). length p.bytes < length state.core.inbox.bytes) (sym waits)
     (past_shorter state.core request_side m.message (is_found state.core request_side m.message m.there))
 
@@ -139,10 +140,11 @@ never : (state : State) (why : NextError) → state.core.failed ≡ false → wh
     → ((what : Fault) (offset : ℕ) → why ≢ errors.Fault what offset) → next_answer state ≢ Err why
 never state why s o n e = never_by state why (request state) o n (sym (answers state s) ∙ e)
 
-pub told_error : (state new : State) (why : NextError) → state.core.failed ≡ false → IsNext state (Err why)
-    → new ≡ left {R = Option Report} state (after_next state) (Err why) → ReadsUntil reading state [] (Some why) new
+pub told_error : (state new : State) (why : NextError) → state.core.failed ≡ false → IsServerNext state (Err why)
+    → new ≡ unless_memory {R = Option Report} state (after_next state) (Err why)
+    → ReadsUntil server_reading state [] (Some why) new
 told_error state new (errors.Fault what offset) s (inl e) l =
-    subst (λ (x : State). Reads reading state [] (Some (errors.Fault what offset)) x) (sym l) (fault (sym e))
+    subst (λ (x : State). Reads server_reading state [] (Some (errors.Fault what offset)) x) (sym l) (fault (sym e))
 told_error state new (errors.Fault what offset) s (inr e) l = absurd (cc e.0)
 told_error state new errors.Failed s (inl e) l = absurd
     (never state errors.Failed s (λ h. cc h) (λ what offset h. cc h) (sym e))
@@ -150,33 +152,35 @@ told_error state new errors.Failed s (inr e) l = absurd (cc e.0)
 told_error state new errors.Memory s (inl e) l = absurd
     (never state errors.Memory s (λ h. cc h) (λ what offset h. cc h) (sym e))
 told_error state new errors.Memory s (inr e) l = (let some = some_report needs_memory (next_answer state) e.1 in
-    subst (λ (x : State). ReadsUntil reading state [] (Some errors.Memory) x) (sym l) (nothing, (some.0, some.1)))
+    subst (λ (x : State). ReadsUntil server_reading state [] (Some errors.Memory) x) (sym l)
+    (nothing, (some.0, some.1)))
 told_error state new errors.OutFull s (inl e) l =
-    subst (λ (x : State). Reads reading state [] (Some errors.OutFull) x) (sym (l ∙ full_leaves state (sym e)))
+    subst (λ (x : State). Reads server_reading state [] (Some errors.OutFull) x) (sym (l ∙ full_leaves state (sym e)))
     (full (sym e))
 told_error state new errors.OutFull s (inr e) l = absurd (cc e.0)
 
 -- ---- what one reading is
 
 one_report : (state new : State) (r : Report) → next_answer state ≡ Ok (Some r) → new ≡ after_next state
-    → ReadsReport reading state r new
+    → ReadsReport server_reading state r new
 one_report state new r e l = record {
   is = e;
   leaves = l;
   stays = λ bytes tokens. answer_stays state r bytes tokens e;
   leaves_more = λ bytes tokens. after_stays state r bytes tokens e
-      ∙ ap (λ (s : State). arrived reading s bytes tokens) (sym l);
+      ∙ ap (λ (s : State). with_arrivals server_reading s bytes tokens) (sym l);
   fewer = subst (λ (s : State). length s.core.inbox.bytes < length state.core.inbox.bytes) (sym l)
       (fewer_wait state r e);
   ends = ap (λ (s : State). s.core.failed) l ∙ sound_after state r e;
 }
 
-no_report : (state : State) → next_answer state ≡ Ok None → ReadsNothing reading state
+no_report : (state : State) → next_answer state ≡ Ok None → ReadsNothing server_reading state
 no_report state e = record { is = e; sound = sound_none state e; short = none_waits state e }
 
 pub next_read : {A : Type 0} (state new : State) (r : Result (Option (OwnedRequest A)) NextError)
-    → state.core.failed ≡ false → IsNext state (report_in r) → new ≡ left state (after_next state) (report_in r)
-    → ReadsNext reading report_of state r new
+    → state.core.failed ≡ false → IsServerNext state (report_in r)
+    → new ≡ unless_memory state (after_next state) (report_in r)
+    → ReadsNext server_reading report_of state r new
 next_read state new (Ok (Some x)) s t l = one_report state new (report_of x) (told_report state new _ (report_of x) t) l
 next_read state new (Ok None) s t l = (
   l ∙ none_leaves state (told_none state new _ t),
@@ -187,7 +191,7 @@ next_read state new (Err why) s t l = told_error state new why s t l
 
 -- a server has no last report
 pub sound_at_end : {state end : State} {reports : List Report} {stop : Option NextError}
-    → Reads reading state reports stop end → stop ≡ None → end.core.failed ≡ false
+    → Reads server_reading state reports stop end → stop ≡ None → end.core.failed ≡ false
 sound_at_end (none {state = state} e) n = sound_none state e
 sound_at_end (fault e) n = absurd (cc n)
 sound_at_end (full e) n = absurd (cc n)
@@ -195,6 +199,6 @@ sound_at_end (last e l) n = absurd (cc l)
 sound_at_end (next e l h) n = sound_at_end h n
 
 pub sound_until : (state end : State) (reports : List Report) (stop : Option NextError)
-    → ReadsUntil reading state reports stop end → stop ≡ None → end.core.failed ≡ false
+    → ReadsUntil server_reading state reports stop end → stop ≡ None → end.core.failed ≡ false
 sound_until state end reports None h n = sound_at_end h refl
 sound_until state end reports (Some why) h n = absurd (cc n)

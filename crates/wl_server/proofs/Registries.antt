@@ -12,7 +12,7 @@ use Rattle.wl_wire.specs.Argument.{Argument}
 use Rattle.wl_sigs.specs.declared.signature.Side.TheVariants.{Event}
 use Rattle.wl_sigs.specs.declared.signature.Destroys.{Destroys}
 use Rattle.wl_sigs.specs.declared.signature.Destroys.TheVariants.{Nothing, Target, Arg}
-use Rattle.wl_sigs.specs.Tables.{Interface, Message, interface_at, new_objects}
+use Rattle.wl_sigs.specs.Tables.{Interface, MessageSignature, interface_at, new_objects}
 use Rattle.wl_sigs.specs.Fixed.{display, registry}
 use Rattle.wl_sigs.specs.Valid.{Valid}
 use Rattle.wl_object_map.specs.declared.object.Object.{Object}
@@ -31,14 +31,14 @@ use Rattle.wl_connection.specs.Core.{Core, past, with_view}
 use Rattle.wl_connection.specs.Sending.{after_send, after_checked, made_at, version_at, fits, delete_id_len}
 use Rattle.wl_server.specs.State.{Registry, untold}
 use Rattle.wl_server.specs.Registries.{IsSound, without_registry, registry_birth, IsAmong}
-use Rattle.wl_server.specs.Registries.{IsRegistry, IsFresh, HasRegistries, BirthsAreOnce}
+use Rattle.wl_server.specs.Registries.{IsRegistry, IsFreshId, HasRegistries, BirthsAreOnce}
 use Rattle.wl_server.specs.Requests.{registries_after}
 use Rattle.wl_sigs.specs.Rules.{is_ended_by_event}
 use Rattle.wl_server.specs.Calls.{drop_at, drop_refusal, after_drop}
 use Rattle.wl_server.specs.Announcing.{Due, marked_in, all_marked}
 use Rattle.wl_connection.proofs.Ends.{no_event}
 use Rattle.wl_server.specs.Steps.{Step, CanEnd, core_without, core_by, registries_by, registries_without, CanTake}
-use Rattle.wl_server.specs.Tellings.{IsTold}
+use Rattle.wl_server.specs.Tellings.{IsAnnounced}
 use Rattle.wl_server.specs.declared.announce.Announced.{Announced}
 use Rattle.wl_server.proofs.RisingBirths.{rise-without}
 use Rattle.wl_server.proofs.AfterRequest.{rise-opened}
@@ -136,14 +136,15 @@ old_there rs r true o h = among_more o rs r h
 old_there rs r false o h = h
 
 -- the rows that were there stay
-pub row_kept : (v : View) (m : Option NewObject) (id : ℕ) (d : Entry) → IsFresh v m → look v id ≡ Some d
+pub row_kept : (v : View) (m : Option NewObject) (id : ℕ) (d : Entry) → IsFreshId v m → look v id ≡ Some d
     → look (opens v m) id ≡ Some d
 row_kept v None id d f row = row
 row_kept v (Some m) id d f row =
     let other : eqb id m.id ≡ false = ne_eqb id m.id (λ e. (let no = sym row ∙ (ap (look v) e ∙ f) in cc no)) in
     look-opened_at v m.id m.iface m.version id ∙ rw other row
 
-registry_kept : (v : View) (m : Option NewObject) (o : Object) → IsFresh v m → IsRegistry v o → IsRegistry (opens v m) o
+registry_kept : (v : View) (m : Option NewObject) (o : Object) → IsFreshId v m → IsRegistry v o
+    → IsRegistry (opens v m) o
 registry_kept v m o f r = record {
   entry = r.entry;
   row = row_kept v m o.id r.entry f r.row;
@@ -164,7 +165,7 @@ registry_new v m is = record {
 }
 
 each_opened : (v : View) (rs : List Registry) (m : NewObject) (r : Registry) (b : Bool) (o : Object)
-    → same_iface m.iface registry ≡ b → r.object ≡ record { id = m.id; birth = v.births } → IsFresh v (Some m)
+    → same_iface m.iface registry ≡ b → r.object ≡ record { id = m.id; birth = v.births } → IsFreshId v (Some m)
     → ((x : Object) → IsAmong x rs → IsRegistry v x) → IsAmong o (cond b (rs ++ r ∷ []) rs)
     → IsRegistry (opens v (Some m)) o
 each_opened v rs m r true o is s f h a = elim (among_before o rs r a) as (λ _. IsRegistry (opens v (Some m)) o) [
@@ -173,7 +174,7 @@ each_opened v rs m r true o is s f h a = elim (among_before o rs r a) as (λ _. 
 ]
 each_opened v rs m r false o is s f h a = registry_kept v (Some m) o f (h o a)
 
-pub has_opened : (core : Core) (rs : List Registry) (m : Option NewObject) → IsFresh core.view m
+pub has_opened : (core : Core) (rs : List Registry) (m : Option NewObject) → IsFreshId core.view m
     → HasRegistries core.view rs → HasRegistries (opens core.view m) (registries_after core rs m)
 has_opened core rs None f h = h
 has_opened core rs (Some m) f h =
@@ -257,7 +258,7 @@ births_closed v id h = record {
 
 -- ---- a request is read
 
-has_step : (core : Core) (rs : List Registry) (step : Step) → CanTake core step → IsFresh core.view step.made
+has_step : (core : Core) (rs : List Registry) (step : Step) → CanTake core step → IsFreshId core.view step.made
     → BirthsAreOnce core.view → HasRegistries core.view rs
     → HasRegistries (core_by core step).view (registries_by core rs step)
 has_step core rs step can f b h = by_ended step.ended can.ended
@@ -284,7 +285,7 @@ births_step core step h = by_ended step.ended
 -- the same of an end and a list that are these
 pub has_now : (core now : Core) (rs ms : List Registry) (step : Step) → CanTake core step → now ≡ core_by core step
     → ms ≡ registries_by core rs step
-    → IsFresh core.view step.made → BirthsAreOnce core.view → HasRegistries core.view rs → HasRegistries now.view ms
+    → IsFreshId core.view step.made → BirthsAreOnce core.view → HasRegistries core.view rs → HasRegistries now.view ms
 has_now core now rs ms step can c m f b h =
     subst (λ (k : Core). HasRegistries k.view ms) (sym c)
     (subst (HasRegistries (core_by core step).view) (sym m) (has_step core rs step can f b h))
@@ -295,7 +296,7 @@ births_now core now step c b = subst (λ (k : Core). BirthsAreOnce k.view) (sym 
 
 pub sound_now : (core now : Core) (rs ms : List Registry) (step : Step) → CanTake core step → now ≡ core_by core step
     → ms ≡ registries_by core rs step
-    → IsFresh core.view step.made → IsSound core.view rs → IsSound now.view ms
+    → IsFreshId core.view step.made → IsSound core.view rs → IsSound now.view ms
 sound_now core now rs ms step can c m f h = record {
   has = has_now core now rs ms step can c m f h.once h.has;
   once = births_now core now step c h.once;
@@ -319,7 +320,7 @@ makes_none tables version (kinds.New iface ∷ ks) (v ∷ values) h = absurd (cc
 makes_none tables version (kinds.Array ∷ ks) (v ∷ values) h = makes_none tables version ks values h
 makes_none tables version (kinds.Fd ∷ ks) (v ∷ values) h = makes_none tables version ks values h
 
-none_made : (core : Core) (target : Object) (opcode : ℕ) (list : List Given) (m : Message) → Valid core.tables
+none_made : (core : Core) (target : Object) (opcode : ℕ) (list : List Given) (m : MessageSignature) → Valid core.tables
     → checked core.outbox.limit.bytes core.tables Event core.view target opcode list ≡ Ok m
     → made_at core target m list ≡ None
 none_made core target opcode list m v e =
@@ -332,7 +333,7 @@ not_sent_to : (iface : Iface) (opcode : ℕ) → is_hidden Event iface opcode �
 not_sent_to iface opcode h is = let no : is_hidden Event registry opcode ≡ false =
     subst (λ (i : Iface). is_hidden Event i opcode ≡ false) is h in cc no
 
-not_target : (core : Core) (target : Object) (opcode : ℕ) (list : List Given) (m : Message)
+not_target : (core : Core) (target : Object) (opcode : ℕ) (list : List Given) (m : MessageSignature)
     → checked core.outbox.limit.bytes core.tables Event core.view target opcode list ≡ Ok m
     → (d : Entry) → look core.view target.id ≡ Some d → d.iface ≢ registry
 not_target core target opcode list m e d row is =
@@ -351,14 +352,16 @@ after_event : (core : Core) (target : Object) (opcode : ℕ) (list : List Given)
 after_event core target opcode list v = by_result
     (checked core.outbox.limit.bytes core.tables Event core.view target opcode list) refl
   where
-    by_what : (m : Message) (what : Destroys) → ((k : ℕ) → what ≡ Arg k → ⊥) → made_at core target m list ≡ None
+    by_what : (m : MessageSignature) (what : Destroys) → ((k : ℕ) → what ≡ Arg k → ⊥)
+        → made_at core target m list ≡ None
         → ((d : Entry) → look core.view target.id ≡ Some d → d.iface ≢ registry)
         → After core target (after_checked core Event target opcode list (Ok (record m { destroys = what })))
     by_what m Nothing n e f = inl (ap (λ (o : Option NewObject). after Server core.view o Nothing target.id) e)
     by_what m Target n e f = inr (ap (λ (o : Option NewObject). after Server core.view o Target target.id) e, f)
     by_what m (Arg k) n e f = absurd (n k refl)
 
-    by_result : (x : Result Message SendError) → checked core.outbox.limit.bytes core.tables Event core.view target
+    by_result : (x : Result MessageSignature SendError)
+        → checked core.outbox.limit.bytes core.tables Event core.view target
         opcode list ≡ x → After core target (after_checked core Event target opcode list x)
     by_result (Err why) e = inl refl
     by_result (Ok m) e = by_what m m.destroys (λ k d.
@@ -422,11 +425,11 @@ has_marked v d rs h = record {
 }
 
 view_told : (core : Core) (rs : List Registry) (all : List Due) (told : Announced) (now : Core) (ms : List Registry)
-    → IsTold core rs all told now ms → now.view ≡ core.view
+    → IsAnnounced core rs all told now ms → now.view ≡ core.view
 view_told core rs all told now ms t = ap (λ (c : Core). c.view) t.progress.written ∙ view-dues core t.progress.done
 
 pub has_told : (core : Core) (rs : List Registry) (all : List Due) (told : Announced) (now : Core) (ms : List Registry)
-    → IsTold core rs all told now ms → HasRegistries core.view rs → HasRegistries now.view ms
+    → IsAnnounced core rs all told now ms → HasRegistries core.view rs → HasRegistries now.view ms
 has_told core rs all told now ms t h = record {
   rising = rising-told core rs all told now ms t h.rising;
   all = λ id e there is. subst (IsAmong (record { id = id; birth = e.birth })) (sym t.progress.marks)
@@ -437,7 +440,7 @@ has_told core rs all told now ms t h = record {
 }
 
 pub births_told : (core : Core) (rs : List Registry) (all : List Due) (told : Announced) (now : Core)
-    (ms : List Registry) → IsTold core rs all told now ms → BirthsAreOnce core.view → BirthsAreOnce now.view
+    (ms : List Registry) → IsAnnounced core rs all told now ms → BirthsAreOnce core.view → BirthsAreOnce now.view
 births_told core rs all told now ms t h = subst BirthsAreOnce (sym (view_told core rs all told now ms t)) h
 
 -- ---- a new server, and any sound table

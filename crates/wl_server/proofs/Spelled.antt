@@ -11,7 +11,7 @@ use Rattle.wl_wire.specs.Spelling.{IsText}
 use Rattle.wl_wire.specs.declared.kind.Kind.{Kind}
 use Rattle.wl_wire.specs.declared.kind.Iface.{Iface}
 use Rattle.wl_sigs.specs.declared.signature.Side.TheVariants.{Event}
-use Rattle.wl_sigs.specs.Tables.{Interface, Message, interface_at, signature_at, message_of}
+use Rattle.wl_sigs.specs.Tables.{Interface, MessageSignature, interface_at, signature_at, message_of}
 use Rattle.wl_sigs.specs.Fixed.{any_object, uint, string}
 use Rattle.wl_sigs.specs.Valid.{Valid, IsNameByte}
 use Rattle.wl_objects.specs.declared.error.Fault.{Fault}
@@ -26,11 +26,12 @@ use Rattle.wl_server.specs.Announcing.{Due, Owing, Removal, Telling, name_at}
 use Rattle.wl_server.specs.Spelled.{DeleteSpells, ErrorSpells, DueSpells, IsSpelled}
 
 -- the kinds of a message that valid tables have
-kinds_in : (o : Option Message) (m signature : Message) → o ≡ Some m → o ≡ Some signature → m.kinds ≡ signature.kinds
+kinds_in : (o : Option MessageSignature) (m signature : MessageSignature) → o ≡ Some m → o ≡ Some signature
+    → m.kinds ≡ signature.kinds
 kinds_in o m signature e there = let same = sym e ∙ there in let is : m ≡ signature = cc same
-    in ap (λ (x : Message). x.kinds) is
+    in ap (λ (x : MessageSignature). x.kinds) is
 
-by_display : (tables : List Interface) (opcode : ℕ) (m : Message) (object : ℕ) (values : List Argument)
+by_display : (tables : List Interface) (opcode : ℕ) (m : MessageSignature) (object : ℕ) (values : List Argument)
     → (Valid tables → signature_at tables 0 Event opcode ≡ Some m)
     → MessageSpells usual_limit m.kinds object opcode values (message_bytes object opcode values)
     → IsSpelled tables 0 object opcode values
@@ -38,7 +39,7 @@ by_display tables opcode m object values e s v signature there =
     subst (λ (ks : List Kind). MessageSpells usual_limit ks object opcode values (message_bytes object opcode values))
     (kinds_in _ m signature (e v) there) s
 
-by_registry : (tables : List Interface) (opcode : ℕ) (m : Message) (object : ℕ) (values : List Argument)
+by_registry : (tables : List Interface) (opcode : ℕ) (m : MessageSignature) (object : ℕ) (values : List Argument)
     → (Valid tables → signature_at tables 1 Event opcode ≡ Some m)
     → (Valid tables → MessageSpells usual_limit m.kinds object opcode values (message_bytes object opcode values))
     → IsSpelled tables 1 object opcode values

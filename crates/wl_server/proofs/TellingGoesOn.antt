@@ -13,9 +13,9 @@ use Rattle.wl_connection.specs.Core.{Core, IsOrdinary}
 use Rattle.wl_connection.specs.Sending.{with_sent}
 use Rattle.wl_server.specs.declared.announce.Announced.{Announced}
 use Rattle.wl_server.specs.State.{State, Global, Registry, RiseFrom}
-use Rattle.wl_server.specs.Announcing.{Due, Fitting, due_len, due_to, owed, owed_in, opcode_of}
+use Rattle.wl_server.specs.Announcing.{Due, Fitting, due_len, due_to, owed, owed_in, owed_opcode}
 use Rattle.wl_server.specs.Announcing.{values_of, with_dues, marked, all_marked, after_announce}
-use Rattle.wl_server.specs.Tellings.{Progress, IsBlocked, IsTold}
+use Rattle.wl_server.specs.Tellings.{Progress, IsBlocked, IsAnnounced}
 use Rattle.wl_server.proofs.OwedEvents.{all-marked-at, all_marked-append, due_len-append}
 use Rattle.wl_server.proofs.OwedEvents.{due_len-take, front-for, length-dues, marked_in-own}
 use Rattle.wl_server.proofs.OwedEvents.{rising-all, room-dues, tables-dues, view-dues}
@@ -34,7 +34,7 @@ pub told-one : (core : Core) (rs : List Registry) (all : List Due) (count : ℕ)
     (rest : List Due) → IsOrdinary core.outbox
     → Progress core rs all count now (r ∷ []) (d ∷ rest) → d.object ≡ r.object
     → message_len (values_of now.tables d.owing) ≤ room_of now.outbox
-    → new ≡ with_sent now d.object.id (opcode_of d.owing) (values_of now.tables d.owing) []
+    → new ≡ with_sent now d.object.id (owed_opcode d.owing) (values_of now.tables d.owing) []
     → Progress core rs all (count + 1) new (marked d.owing r ∷ []) rest
 told-one core rs all count now new r d rest o p own len w =
     let tables : now.tables ≡ core.tables = ap (λ (c : Core). c.tables) p.written ∙ tables-dues core p.done in
@@ -46,7 +46,7 @@ told-one core rs all count now new r d rest o p own len w =
       done = p.done ++ d ∷ [];
       whole = p.whole ∙ sym (append_assoc p.done (d ∷ []) rest);
       number = length-append p.done (d ∷ []) ∙ ap (λ n. n + 1) p.number;
-      written = w ∙ ap (λ (c : Core). with_sent c d.object.id (opcode_of d.owing) (values_of c.tables d.owing) [])
+      written = w ∙ ap (λ (c : Core). with_sent c d.object.id (owed_opcode d.owing) (values_of c.tables d.owing) [])
           p.written ∙ sym (with_dues-append core p.done (d ∷ []));
       marks = sym (marked_in-own d r own) ∙ ap (all_marked (d ∷ [])) p.marks
           ∙ sym (all_marked-append p.done (d ∷ []) rs);
@@ -103,7 +103,7 @@ most core now done (d ∷ ds) n w o fit b f =
 
 -- the end of the telling
 pub finished : (state : State) (told : Announced) (now : Core) (ms : List Registry) → IsOrdinary state.core.outbox
-    → IsTold state.core state.registries (owed state) told now ms
+    → IsAnnounced state.core state.registries (owed state) told now ms
     → Fitting state told.count × (record { core = now; globals = state.globals; registries = ms }
     ≡ after_announce state told.count)
 finished state told now ms o t =
@@ -148,7 +148,7 @@ pub told-next : (core : Core) (rs : List Registry) (all : List Due) (count : ℕ
     (globals : List Global) (i high : ℕ) (r after : Registry) (told : Announced) (new : Core)
     → IsOrdinary core.outbox → RiseFrom 0 high rs → Progress core rs all count now ms (owed_in globals (drop i ms))
     → i < length ms → r ≡ get_or ms i r
-    → (t : IsTold now (r ∷ []) (due_to globals r) told new (after ∷ []))
+    → (t : IsAnnounced now (r ∷ []) (due_to globals r) told new (after ∷ []))
     → Progress core rs all (count + told.count) new (set ms i after) (t.rest ++ owed_in globals (drop (i + 1) ms))
 told-next core rs all count now ms globals i high r after told new o rise p l e t =
     told-registry core rs all count now ms globals i 0 high r after told.count new t.rest
@@ -171,7 +171,7 @@ pub told-whole : (core : Core) (rs : List Registry) (all : List Due) (count : �
     (globals : List Global) (i high : ℕ) (r after : Registry) (told : Announced) (new : Core)
     → IsOrdinary core.outbox → RiseFrom 0 high rs → Progress core rs all count now ms (owed_in globals (drop i ms))
     → i < length ms → r ≡ get_or ms i r
-    → (t : IsTold now (r ∷ []) (due_to globals r) told new (after ∷ [])) → told.all ≡ true
+    → (t : IsAnnounced now (r ∷ []) (due_to globals r) told new (after ∷ [])) → told.all ≡ true
     → Progress core rs all (count + told.count) new (set ms i after) (owed_in globals (drop (i + 1) (set ms i after)))
 told-whole core rs all count now ms globals i high r after told new o rise p l e t whole =
     let none : t.rest ≡ [] = none-left told.all new t.rest whole t.end in
@@ -186,8 +186,8 @@ pub told-part : (core : Core) (rs : List Registry) (all : List Due) (count : ℕ
     (globals : List Global) (i high : ℕ) (r after : Registry) (told : Announced) (new : Core)
     → IsOrdinary core.outbox → RiseFrom 0 high rs → Progress core rs all count now ms (owed_in globals (drop i ms))
     → i < length ms → r ≡ get_or ms i r
-    → (t : IsTold now (r ∷ []) (due_to globals r) told new (after ∷ [])) → told.all ≡ false
-    → IsTold core rs all (record { count = count + told.count; all = false }) new (set ms i after)
+    → (t : IsAnnounced now (r ∷ []) (due_to globals r) told new (after ∷ [])) → told.all ≡ false
+    → IsAnnounced core rs all (record { count = count + told.count; all = false }) new (set ms i after)
 told-part core rs all count now ms globals i high r after told new o rise p l e t part = record {
   rest = t.rest ++ owed_in globals (drop (i + 1) ms);
   progress = told-next core rs all count now ms globals i high r after told new o rise p l e t;
@@ -196,7 +196,7 @@ told-part core rs all count now ms globals i high r after told new o rise p l e 
 
 pub told-end : (core : Core) (rs : List Registry) (all : List Due) (count : ℕ) (now : Core) (ms : List Registry)
     (globals : List Global) (i : ℕ) → Progress core rs all count now ms (owed_in globals (drop i ms)) → length ms ≤ i
-    → IsTold core rs all (record { count = count; all = true }) now ms
+    → IsAnnounced core rs all (record { count = count; all = true }) now ms
 told-end core rs all count now ms globals i p l = record {
   rest = [];
   progress = subst (λ (list : List Registry). Progress core rs all count now ms (owed_in globals list))
@@ -206,7 +206,7 @@ told-end core rs all count now ms globals i p l = record {
 
 -- the registries' births still rise
 pub rising-told : (core : Core) (rs : List Registry) (all : List Due) (told : Announced) (now : Core)
-    (ms : List Registry) → IsTold core rs all told now ms → RiseFrom 0 core.view.births rs
+    (ms : List Registry) → IsAnnounced core rs all told now ms → RiseFrom 0 core.view.births rs
     → RiseFrom 0 now.view.births ms
 rising-told core rs all told now ms t h =
     let view : now.view ≡ core.view = ap (λ (c : Core). c.view) t.progress.written ∙ view-dues core t.progress.done in

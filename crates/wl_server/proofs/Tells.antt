@@ -6,16 +6,16 @@ use Rattle.wl_object_map.specs.declared.object.Object.{Object}
 use Rattle.wl_objects.specs.Writing.{message_len}
 use Rattle.wl_connection.specs.Core.{Core, IsOrdinary}
 use Rattle.wl_server.specs.State.{Global, Registry}
-use Rattle.wl_server.specs.Announcing.{Due, Owing, Removal, Telling, opcode_of, owings}
+use Rattle.wl_server.specs.Announcing.{Due, Owing, Removal, Telling, owed_opcode, owings}
 use Rattle.wl_server.specs.Announcing.{owes_removal, owes_telling, marked, values_of}
-use Rattle.wl_server.specs.Tellings.{Progress, IsTold, IsWritten, dues_for}
+use Rattle.wl_server.specs.Tellings.{Progress, IsAnnounced, IsWritten, dues_for}
 use Rattle.wl_server.proofs.OwedByRegistry.{owings-skip, owings-take, removals-behind, tellings-behind}
 use Rattle.wl_server.proofs.TellingGoesOn.{told-one}
 
 pub told-blocked : (core : Core) (rs : List Registry) (all : List Due) (count : ℕ) (now new : Core) (ms : List Registry)
     (d : Due) (rest : List Due) → Progress core rs all count now ms (d ∷ rest)
     → (room_of now.outbox < message_len (values_of now.tables d.owing)) × (new ≡ now)
-    → IsTold core rs all (record { count = count; all = false }) new ms
+    → IsAnnounced core rs all (record { count = count; all = false }) new ms
 told-blocked core rs all count now new ms d rest p h = record {
   rest = d ∷ rest;
   progress = subst (λ (c : Core). Progress core rs all count c ms (d ∷ rest)) (sym h.1) p;

@@ -1,7 +1,7 @@
 -- The bits of words, as a list.
-use Rattle.std.proofs.Common.{◌≡◌, ◌≢◌, ℕ, zero, suc, ◌+◌, ◌-◌, ◌*◌, ◌/◌, ◌%◌, ◌^◌, ◌<◌, ◌≤◌, ◌==◌}
-use Rattle.std.proofs.Common.{eqb, ◌⊎◌, Bool, true, false, List, [], ◌∷◌, length, get_or, Some}
-use Rattle.std.proofs.Common.{None, Option, slice_get, slice_set, slice_index_or, unwrap_or, refl}
+use Rattle.std.proofs.Common.{◌≡◌, ◌≢◌, ℕ, zero, suc, ◌+◌, ◌*◌, ◌/◌, ◌%◌, ◌^◌, ◌<◌, ◌≤◌, ◌==◌}
+use Rattle.std.proofs.Common.{eqb, Bool, true, false, List, ◌∷◌, length, get_or, Some}
+use Rattle.std.proofs.Common.{Option, slice_get, slice_set, unwrap_or, refl}
 use Rattle.std.proofs.Common.{sym, ap, ◌∙◌, arith}
 use Rattle.std.proofs.lemmas.List.{get_or-set_same, get_or-set_other}
 use Rattle.std.specs.Int.{bit_at, w64}
@@ -78,6 +78,13 @@ read_bit ws p h =
     let e : 0 + p ≡ p = omega arith in
     ap (λ (b : ℕ). b == 1) (shr_and_one (get_or ws (p / 64) 0) (p % 64))
     ∙ sym (ap (λ (o : Option Bool). unwrap_or o false) (bits_get 1024 0 p ws h) ∙ ap (has_bit ws) e)
+
+pub reads_set : (ws : List ℕ) (p : ℕ) → p < 1024 → length ws ≡ 16
+    → unwrap_or (slice_get (bits 1024 0 (set_in ws p)) p) false ≡ true
+reads_set ws p h l =
+    let e : 0 + p ≡ p = omega arith in
+    ap (λ (o : Option Bool). unwrap_or o false) (bits_get 1024 0 p (set_in ws p) h)
+    ∙ ap (has_bit (set_in ws p)) e ∙ set_here ws p (omega (arith, h, l))
 
 pub bit_is_set : (ws : List ℕ) (p : ℕ) → p < 1024 → length ws ≡ 16
     → bits 1024 0 (set_in ws p) ≡ slice_set (bits 1024 0 ws) p true

@@ -1,6 +1,6 @@
 -- What the open registries are owed.
-use Rattle.std.specs.Prelude.{ℕ, suc, ◌+◌, ◌≤◌, Bool, not, ◌&&◌, nat_eq, if◌then◌else◌, List, []}
-use Rattle.std.specs.Prelude.{◌∷◌, ◌++◌, length, take, map, Some}
+use Rattle.std.specs.Prelude.{◌≡◌, ℕ, suc, ◌+◌, ◌≤◌, Bool, true, not, ◌&&◌, nat_eq, if◌then◌else◌}
+use Rattle.std.specs.Prelude.{List, [], ◌∷◌, ◌++◌, length, take, map, Some}
 use Rattle.std.specs.Option.{option_map_or}
 use Rattle.wl_wire.specs.declared.kind.Iface.{Iface}
 use Rattle.wl_wire.specs.Argument.{Argument, Uint, Str}
@@ -62,9 +62,9 @@ owed state = owed_in state.globals state.registries
 abbrev pub name_at : List Interface → Iface → List ℕ
 name_at tables iface = option_map_or (λ i. i.name) (interface_at tables iface.0) []
 
-abbrev pub opcode_of : Owing → ℕ
-opcode_of (Removal name) = 1
-opcode_of (Telling name global) = 0
+abbrev pub owed_opcode : Owing → ℕ
+owed_opcode (Removal name) = 1
+owed_opcode (Telling name global) = 0
 
 abbrev pub values_of : List Interface → Owing → List Argument
 values_of tables (Removal name) = Uint name ∷ []
@@ -89,7 +89,7 @@ abbrev pub with_dues : Core → List Due → Core
 with_dues core [] = core
 with_dues core (due ∷ dues) =
     with_dues
-    (with_sent core due.object.id (opcode_of due.owing) (values_of core.tables due.owing) []) dues
+    (with_sent core due.object.id (owed_opcode due.owing) (values_of core.tables due.owing) []) dues
 
 -- a registry with the mark of an event that it was sent
 abbrev pub marked : Owing → Registry → Registry
@@ -105,6 +105,13 @@ marked_in due (registry ∷ registries) =
 abbrev pub all_marked : List Due → List Registry → List Registry
 all_marked [] registries = registries
 all_marked (due ∷ dues) registries = all_marked dues (marked_in due registries)
+
+-- Where it is known of registries that they are owed nothing, it was known of these before, and they
+-- are owed no more since.
+abbrev pub KeepsSettled : Bool → List Registry → Bool → List Registry → Type 0
+KeepsSettled before registries after left = after ≡ true
+    → (before ≡ true) × ((globals : List Global) → owed_in globals registries ≡ []
+    → owed_in globals left ≡ [])
 
 -- The server after the first of the owed events were written, and marked as told or removed.
 abbrev pub after_announce : State → ℕ → State

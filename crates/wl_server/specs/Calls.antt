@@ -19,7 +19,8 @@ use Rattle.wl_connection.specs.Core.{Core, with_view}
 use Rattle.wl_connection.specs.Sending.{fits, with_delete_id, delete_id_len, with_error_event}
 use Rattle.wl_server.specs.declared.globals.GlobalError.{GlobalError}
 use Rattle.wl_server.specs.declared.globals.GlobalError.TheVariants as global_errors
-use Rattle.wl_server.specs.State.{State, Global, global_of, max_globals}
+use Rattle.wl_server.specs.State.{State, Global, global_of}
+use Rattle.wl_connection.specs.Core.{max_globals}
 
 -- ---- ending an object without an event
 

@@ -48,9 +48,9 @@ pub record HasRegistries (view : View) (registries : List Registry) : Type 0 whe
   pub only : (object : Object) → IsAmong object registries → IsRegistry view object
 
 -- the id at which an object is to be opened has no row
-abbrev pub IsFresh : View → Option NewObject → Type 0
-IsFresh view None = Unit {0}
-IsFresh view (Some m) = look view m.id ≡ None
+abbrev pub IsFreshId : View → Option NewObject → Type 0
+IsFreshId view None = Unit {0}
+IsFreshId view (Some m) = look view m.id ≡ None
 
 -- Each birth in a table was counted, and is that of one id.
 pub record BirthsAreOnce (view : View) : Type 0 where

@@ -38,31 +38,31 @@ name_fits name (Some i) = bytes_eq i.name name
 
 -- whether a bind names a global that was ever advertised, withdrawn or not, by its interface and a
 -- version from 1 to the advertised one
-abbrev pub can_bind : List Interface → List ℕ → ℕ → Option Global → Bool
-can_bind tables iface version None = false
-can_bind tables iface version (Some global) =
+abbrev pub was_advertised : List Interface → List ℕ → ℕ → Option Global → Bool
+was_advertised tables iface version None = false
+was_advertised tables iface version (Some global) =
     name_fits iface (interface_at tables global.iface.0)
     && (nat_le 1 version && nat_le version global.version)
 
 abbrev pub is_good_bind_of : List Interface → List Global → List Argument → Bool
 is_good_bind_of tables globals (Uint name ∷ NewNamed iface version id ∷ []) =
-    can_bind tables iface version (global_of globals name)
+    was_advertised tables iface version (global_of globals name)
 is_good_bind_of tables globals _ = false
 
 abbrev pub is_good_bind : State → List Argument → Bool
 is_good_bind state values = is_good_bind_of state.core.tables state.globals values
 
 -- F9 comes after all other faults
-abbrev pub judged : State → Result (Option Found) Fault → Result (Option Found) Fault
-judged state (Ok (Some f)) =
+abbrev pub unless_bad_bind : State → Result (Option Found) Fault → Result (Option Found) Fault
+unless_bad_bind state (Ok (Some f)) =
     if is_bind request_side f.message.entry.iface f.opcode
     && not (is_good_bind state f.message.values)
     then Err faults.BadBind else Ok (Some f)
-judged state other = other
+unless_bad_bind state other = other
 
 -- What stands in front of a server's waiting bytes.
 abbrev pub request : State → Result (Option Found) Fault
-request state = judged state (found state.core request_side)
+request state = unless_bad_bind state (found state.core request_side)
 
 -- ---- the event of a fault
 
@@ -92,24 +92,25 @@ after_fault state fault =
 -- ---- what a request leaves
 
 -- the object that a request makes
-abbrev pub made_in : Core → Received → Option NewObject
-made_in core message = made core.tables message.entry.version message.signature.kinds message.values
+abbrev pub made_by_request : Core → Received → Option NewObject
+made_by_request core message = made core.tables message.entry.version message.signature.kinds
+    message.values
 
 abbrev pub destroys_it : Received → Bool
 destroys_it message = destroys_one message.signature.destroys
 
 -- the object that a reported argument names
-abbrev pub object_in : Option Reported → Object
-object_in (Some (Obj (named_as.Live object))) = object
-object_in (Some (Obj (named_as.Dead object))) = object
-object_in _ = record { id = 0; birth = 0 }
+abbrev pub reported_object : Option Reported → Object
+reported_object (Some (Obj (named_as.Live object))) = object
+reported_object (Some (Obj (named_as.Dead object))) = object
+reported_object _ = record { id = 0; birth = 0 }
 
 -- the object that a request destroys, if it destroys one, by what is reported of the request: its
 -- target, or the object that an argument names
 abbrev pub ended_object : Destroys → Report → Object
 ended_object Nothing report = report.target
 ended_object Target report = report.target
-ended_object (Arg place) report = object_in (slice_get report.args place)
+ended_object (Arg place) report = reported_object (slice_get report.args place)
 
 abbrev pub report : Core → Found → Report
 report core f = record {
@@ -126,7 +127,7 @@ ended core f = ended_object f.message.signature.destroys (report core f)
 abbrev pub core_after : Core → Found → Core
 core_after core f =
     with_following (destroys_it f.message) (ended core f).id
-    (with_view (past_found core f) (after server core.view (made_in core f.message)
+    (with_view (past_found core f) (after server core.view (made_by_request core f.message)
     f.message.signature.destroys (ended core f).id))
 
 -- a new registry was told nothing yet
@@ -139,7 +140,7 @@ abbrev pub state_past : State → Found → State
 state_past state f = record state {
   core = core_after state.core f;
   registries = without_registry registry_birth (destroys_it f.message) (ended state.core f).birth
-      (registries_after state.core state.registries (made_in state.core f.message));
+      (registries_after state.core state.registries (made_by_request state.core f.message));
 }
 
 -- ---- reading the next message, where no memory is needed
@@ -175,18 +176,18 @@ after_next state = if state.core.failed then state else state_found state (reque
 
 -- What `next_owned` returns where memory can be refused: out of memory stands only in place of a
 -- report that needs some.
-abbrev pub IsNext : State → Result (Option Report) NextError → Type 0
-IsNext state result =
+abbrev pub IsServerNext : State → Result (Option Report) NextError → Type 0
+IsServerNext state result =
     AnswersOrMemory errors.Memory (answers_with needs_memory (next_answer state))
     (next_answer state) result
 
 -- whether what stands in front opens an object
-abbrev pub opens_object : Core → Result (Option Found) Fault → Bool
-opens_object core (Ok (Some f)) = is_some (made_in core f.message)
-opens_object core _ = false
+abbrev pub request_opens : Core → Result (Option Found) Fault → Bool
+request_opens core (Ok (Some f)) = is_some (made_by_request core f.message)
+request_opens core _ = false
 
 -- The same for a lent report: no memory stands only in place of a request that opens an object.
 abbrev pub IsLentNext : State → Result (Option Report) NextError → Type 0
 IsLentNext state result =
-    AnswersOrMemory errors.Memory (opens_object state.core (request state))
+    AnswersOrMemory errors.Memory (request_opens state.core (request state))
     (next_answer state) result

@@ -2,19 +2,20 @@
 use Rattle.std.specs.Prelude.{◌≡◌, ℕ, ◌<◌, ◌^◌, true, List, [], ◌∷◌, Some}
 use Rattle.wl_wire.specs.Argument.{Argument, Uint}
 use Rattle.wl_sigs.specs.declared.signature.Side.TheVariants.{Event}
-use Rattle.wl_sigs.specs.Tables.{Interface, Message, signature_at}
+use Rattle.wl_sigs.specs.Tables.{Interface, MessageSignature, signature_at}
 use Rattle.wl_sigs.specs.Valid.{Valid}
 use Rattle.wl_objects.specs.Writing.{error_values, message_bytes}
 use Rattle.wl_message.specs.Cut.{usual_limit}
 use Rattle.wl_connection.specs.Spelled.{MessageSpells}
 use Rattle.wl_server.specs.Calls.{is_error_text}
-use Rattle.wl_server.specs.Announcing.{Due, Owing, Removal, Telling, opcode_of, values_of}
+use Rattle.wl_server.specs.Announcing.{Due, Owing, Removal, Telling, owed_opcode, values_of}
 
 -- A message for this object, with these values, is a spelling of them by the signature that valid
 -- tables have for it.
 abbrev pub IsSpelled : List Interface → (place object opcode : ℕ) → List Argument → Type 0
 IsSpelled tables place object opcode values =
-    Valid tables → (signature : Message) → signature_at tables place Event opcode ≡ Some signature
+    Valid tables → (signature : MessageSignature)
+    → signature_at tables place Event opcode ≡ Some signature
     → MessageSpells usual_limit signature.kinds object opcode values
     (message_bytes object opcode values)
 
@@ -37,4 +38,4 @@ InWords (Telling name global) = (name < 2 ^ 32) × (global.version < 2 ^ 32)
 abbrev pub DueSpells : List Interface → Due → Type 0
 DueSpells tables due =
     InWords due.owing
-    → IsSpelled tables 1 due.object.id (opcode_of due.owing) (values_of tables due.owing)
+    → IsSpelled tables 1 due.object.id (owed_opcode due.owing) (values_of tables due.owing)

@@ -6,6 +6,7 @@ use Rattle.wl_sigs.specs.Tables.{Interface}
 use Rattle.wl_message.specs.declared.amounts.Sizes.{Sizes}
 use Rattle.wl_object_map.specs.declared.object.Object.{Object}
 use Rattle.wl_connection.specs.Core.{Core, new_core}
+use Rattle.wl_connection.specs.Core.{max_globals}
 
 -- a global: what is advertised, and whether it is still there or was withdrawn
 pub record Global : Type 0 where
@@ -26,10 +27,6 @@ pub record State : Type 0 where
   pub core : Core
   pub globals : List Global
   pub registries : List Registry
-
--- the most globals that a server adds in its life
-abbrev pub max_globals : ℕ
-max_globals = 1024
 
 abbrev pub new_state : List Interface → Sizes → State
 new_state tables sizes = record { core = new_core tables sizes; globals = []; registries = [] }

@@ -28,7 +28,7 @@ use Rattle.wl_connection.specs.Sending.{with_delete_id, with_error_event, fits, 
 use Rattle.wl_server.specs.declared.outline.Outline.{Outline}
 use Rattle.wl_server.specs.declared.pending.PendingRequest.{PendingRequest}
 use Rattle.wl_server.specs.State.{State, Global, Registry, with_core}
-use Rattle.wl_server.specs.Requests.{Report, request, report, made_in, is_out_full}
+use Rattle.wl_server.specs.Requests.{Report, request, report, made_by_request, is_out_full}
 use Rattle.wl_server.specs.Requests.{registries_after, ended_object, fault_code, fault_message}
 use Rattle.wl_server.specs.Requests.{is_good_bind_of}
 use Rattle.wl_server.specs.Registries.{without_registry, registry_birth}
@@ -47,10 +47,10 @@ abbrev pub report_with : Object → ℕ → List Reported → Report
 report_with target opcode args = record { target = target; opcode = opcode; args = args }
 
 -- the object that a request destroys, if it destroys one
-abbrev pub ended_by : Destroys → Report → Option Object
-ended_by Nothing report = None
-ended_by Target report = Some (ended_object Target report)
-ended_by (Arg place) report = Some (ended_object (Arg place) report)
+abbrev pub ended_by_request : Destroys → Report → Option Object
+ended_by_request Nothing report = None
+ended_by_request Target report = Some (ended_object Target report)
+ended_by_request (Arg place) report = Some (ended_object (Arg place) report)
 
 abbrev pub step_of : Core → Found → Step
 step_of core f = record {
@@ -58,8 +58,8 @@ step_of core f = record {
   size = f.size;
   tokens = takes f.message;
   birth = core.view.births;
-  made = made_in core f.message;
-  ended = ended_by f.message.signature.destroys (report core f);
+  made = made_by_request core f.message;
+  ended = ended_by_request f.message.signature.destroys (report core f);
 }
 
 -- ---- a request that was read and not yet taken
@@ -87,7 +87,7 @@ pending_in core args p = record {
 abbrev pub IsEndedBy : Received → List ParsedArg → Option Object → Type 0
 IsEndedBy m args ended =
     (opcode birth : ℕ) (body tokens : List ℕ)
-    → ended ≡ ended_by m.signature.destroys
+    → ended ≡ ended_by_request m.signature.destroys
     (report_with m.target opcode (reported_in body birth tokens args))
 
 -- what a message is and does, where it destroys this object and a new one gets this birth
@@ -143,8 +143,8 @@ taken_report core args p = outlined core.inbox.last args core.inbox.last_tokens 
 -- ---- what stands in front
 
 -- the state of a server, as far as it tells what stands in front
-abbrev pub state_of : Core → List Global → State
-state_of core globals = record { core = core; globals = globals; registries = [] }
+abbrev pub server_state : Core → List Global → State
+server_state core globals = record { core = core; globals = globals; registries = [] }
 
 -- a server
 abbrev pub whole_state : Core → List Global → List Registry → State
@@ -236,10 +236,10 @@ after_front state (Ok (Some step)) = after_step state step
 after_front state (Err why) = with_core state (core_told state.core why)
 
 -- what a read returns, by the step in front
-abbrev pub report_by : Result (Option Step) NextError → Result (Option Report) NextError
-report_by (Ok None) = Ok None
-report_by (Ok (Some step)) = Ok (Some step.report)
-report_by (Err why) = Err why
+abbrev pub report_of_step : Result (Option Step) NextError → Result (Option Report) NextError
+report_of_step (Ok None) = Ok None
+report_of_step (Ok (Some step)) = Ok (Some step.report)
+report_of_step (Err why) = Err why
 
 -- what a read returns, by the request that was taken
 abbrev pub taken_in : Core → List ParsedArg → Result (Option PendingRequest) NextError

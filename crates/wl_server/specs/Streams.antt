@@ -8,8 +8,8 @@ use Rattle.wl_server.specs.Requests.{Report, next_answer, after_next}
 abbrev pub is_last : Report → Bool
 is_last report = false
 
-abbrev pub reading : Reading State Report
-reading = record {
+abbrev pub server_reading : Reading State Report
+server_reading = record {
   core = λ state. state.core;
   with_core = with_core;
   answer = next_answer;

@@ -8,7 +8,7 @@ use Rattle.wl_connection.specs.Core.{Core}
 use Rattle.wl_connection.specs.Sending.{with_sent}
 use Rattle.wl_server.specs.declared.announce.Announced.{Announced}
 use Rattle.wl_server.specs.State.{Registry}
-use Rattle.wl_server.specs.Announcing.{Due, Owing, due_len, opcode_of, values_of, with_dues}
+use Rattle.wl_server.specs.Announcing.{Due, Owing, due_len, owed_opcode, values_of, with_dues}
 use Rattle.wl_server.specs.Announcing.{all_marked}
 
 -- these events, for this registry
@@ -29,7 +29,7 @@ pub record Progress (core : Core) (registries : List Registry) (all : List Due) 
 abbrev pub IsWritten : Core → ℕ → Owing → Bool → Core → Type 0
 IsWritten core registry owing written now = MatchBool written
     ((message_len (values_of core.tables owing) ≤ room_of core.outbox)
-    × (now ≡ with_sent core registry (opcode_of owing) (values_of core.tables owing) []))
+    × (now ≡ with_sent core registry (owed_opcode owing) (values_of core.tables owing) []))
     ((room_of core.outbox < message_len (values_of core.tables owing)) × (now ≡ core))
 
 -- the first of these events does not fit
@@ -38,7 +38,8 @@ IsBlocked core [] = ⊥
 IsBlocked core (due ∷ dues) = room_of core.outbox < message_len (values_of core.tables due.owing)
 
 -- All that was owed is told, or as much as fits.
-pub record IsTold (core : Core) (registries : List Registry) (all : List Due) (told : Announced)
+pub record IsAnnounced (core : Core) (registries : List Registry) (all : List Due)
+    (told : Announced)
     (now : Core) (marked : List Registry) : Type 0 where
   pub rest : List Due
   pub progress : Progress core registries all told.count now marked rest

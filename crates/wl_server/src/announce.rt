@@ -7,7 +7,7 @@ ghost use Rattle.wl_server.specs.State.{RiseFrom};
 ghost use Rattle.wl_server.specs.Registries.{HasRegistries};
 ghost use Rattle.wl_server.specs.Announcing.{Fitting, Removal, Telling, after_announce, due_to};
 ghost use Rattle.wl_server.specs.Announcing.{name_at, owed_in};
-ghost use Rattle.wl_server.specs.Tellings.{IsTold, IsWritten};
+ghost use Rattle.wl_server.specs.Tellings.{IsAnnounced, IsWritten};
 
 use crate::globals::Advertised;
 use crate::registry::OpenRegistry;
@@ -84,8 +84,9 @@ fn announce_to<T: Table>(
 ) -> Announced
     requires few { length globals.now ≤ 1024 }
     requires ordinary { IsOrdinary core.old.outbox }
-    ensures { IsTold core.old (registry.old ∷ []) (due_to globals.now registry.old) result core.new
-        (registry.new ∷ []) }
+    ensures told { IsAnnounced core.old (registry.old ∷ []) (due_to globals.now registry.old) result
+        core.new (registry.new ∷ []) }
+    ensures settled { result.all ≡ true → due_to globals.now registry.new ≡ [] }
 {
     let mut count = 0;
     'removals: for (place, global) in globals.iter().enumerate() {
@@ -120,8 +121,9 @@ fn announce_to_all<T: Table>(
     requires few { length globals.now ≤ 1024 }
     requires ordinary { IsOrdinary core.old.outbox }
     requires rising { RiseFrom 0 core.old.view.births registries.old }
-    ensures { IsTold core.old registries.old
+    ensures told { IsAnnounced core.old registries.old
         (owed_in globals.now registries.old) result core.new registries.new }
+    ensures settled { result.all ≡ true → owed_in globals.now registries.new ≡ [] }
 {
     let mut count = 0;
     'registries: for registry in registries.iter_mut() {
@@ -152,7 +154,11 @@ impl<'t, T: Table> Server<'t, T> {
         if self.end.core.failed {
             return Err(SendError::Failed);
         }
+        if self.settled {
+            return Ok(0);
+        }
         let told = announce_to_all(&mut self.end.core, &self.globals, &mut self.registries);
+        self.settled = told.all;
         Ok(told.count)
     }
 }

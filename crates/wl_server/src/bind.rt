@@ -2,8 +2,8 @@
 ghost use Rattle.std.specs.Prelude.{◌≡◌, ◌&&◌, not};
 ghost use Rattle.wl_sigs.specs.declared.signature.Side.TheVariants.{Request as request_side};
 ghost use Rattle.wl_objects.specs.Messages.{is_bind};
-ghost use Rattle.wl_objects.specs.Seen.{message_of};
-ghost use Rattle.wl_server.specs.Requests.{can_bind, is_good_bind_of};
+ghost use Rattle.wl_objects.specs.Seen.{received_of};
+ghost use Rattle.wl_server.specs.Requests.{was_advertised, is_good_bind_of};
 
 use crate::globals::{Advertised, global_of};
 use wl_objects::{Received, Values, is_bind};
@@ -18,7 +18,7 @@ pub(crate) fn is_bad_bind(
     message: &Received<'_, '_>,
 ) -> bool
     ensures { result ≡ (is_bind request_side message.now.entry.iface opcode && not
-        (is_good_bind_of tables.now globals.now (message_of message.now).values)) }
+        (is_good_bind_of tables.now globals.now (received_of message.now).values)) }
 {
     is_bind(Side::Request, message.entry.iface, opcode)
         && !is_good_bind(tables, globals, &message.values())
@@ -36,7 +36,8 @@ fn is_good_bind(tables: &Tables, globals: &[Advertised], values: &Values<'_>) ->
     };
     match left.next() {
         Some(ValueRef::NewNamed { iface, version, .. }) => {
-            left.next().is_none() && can_bind(tables, iface, version, global_of(globals, name))
+            left.next().is_none()
+                && was_advertised(tables, iface, version, global_of(globals, name))
         }
         _ => false,
     }
@@ -44,8 +45,8 @@ fn is_good_bind(tables: &Tables, globals: &[Advertised], values: &Values<'_>) ->
 
 /// Whether a global, present or withdrawn, is of this interface and was advertised with at least
 /// this version.
-fn can_bind(tables: &Tables, iface: &[u8], version: u32, global: Option<Advertised>) -> bool
-    ensures { result ≡ can_bind tables.now iface.now version global }
+fn was_advertised(tables: &Tables, iface: &[u8], version: u32, global: Option<Advertised>) -> bool
+    ensures { result ≡ was_advertised tables.now iface.now version global }
 {
     match global {
         Some(global) => {

@@ -7,7 +7,8 @@ ghost use Rattle.wl_objects.specs.Messages.{opens, same_iface};
 ghost use Rattle.wl_connection.specs.Core.{with_view};
 ghost use Rattle.wl_connection.specs.Sending.{delete_id_len, fits};
 ghost use Rattle.wl_server.specs.Requests.{registries_after};
-ghost use Rattle.wl_server.specs.Registries.{IsFresh, IsSound, without_registry, registry_birth};
+ghost use Rattle.wl_server.specs.Announcing.{KeepsSettled};
+ghost use Rattle.wl_server.specs.Registries.{IsFreshId, IsSound, without_registry, registry_birth};
 ghost use Rattle.wl_server.specs.Steps.{HasRow, core_without, registries_without};
 
 use crate::registry::OpenRegistry;
@@ -28,6 +29,7 @@ pub(crate) struct Change {
 pub(crate) fn open_new_object<T: Table>(
     core: &mut Core<'_, T>,
     registries: &mut Vec<OpenRegistry, T::Alloc>,
+    settled: &mut bool,
     made: Option<NewObject>,
     birth: u64,
 ) -> Result<(), AllocError>
@@ -38,10 +40,12 @@ pub(crate) fn open_new_object<T: Table>(
     ensures err { OnErr result
         ((core.new ≡ core.old) × (registries.new.items ≡ registries.old.items)) }
     ensures wants { OnErr result (made ≢ None) }
-    ensures fresh { OnOk result (IsFresh core.old.view made) }
+    ensures fresh { OnOk result (IsFreshId core.old.view made) }
+    ensures settled { KeepsSettled settled.old registries.old.items settled.new
+        registries.new.items }
 {
     match made {
-        Some(made) => open_object(core, registries, made, birth),
+        Some(made) => open_object(core, registries, settled, made, birth),
         None => Ok(()),
     }
 }
@@ -51,6 +55,7 @@ pub(crate) fn open_new_object<T: Table>(
 fn open_object<T: Table>(
     core: &mut Core<'_, T>,
     registries: &mut Vec<OpenRegistry, T::Alloc>,
+    settled: &mut bool,
     made: NewObject,
     birth: u64,
 ) -> Result<(), AllocError>
@@ -60,13 +65,18 @@ fn open_object<T: Table>(
         (registries.new.items ≡ registries_after core.old registries.old.items (Some made)) }
     ensures err { OnErr result
         ((core.new ≡ core.old) × (registries.new.items ≡ registries.old.items)) }
-    ensures fresh { OnOk result (IsFresh core.old.view (Some made)) }
+    ensures fresh { OnOk result (IsFreshId core.old.view (Some made)) }
+    ensures settled { KeepsSettled settled.old registries.old.items settled.new
+        registries.new.items }
 {
     if made.iface == REGISTRY {
         let object = Object { id: made.id, birth };
         registries.reserve(1)?;
         match core.open_at(made) {
-            Ok(_) => registries.push_reserved(OpenRegistry::new(object)),
+            Ok(_) => {
+                *settled = false;
+                registries.push_reserved(OpenRegistry::new(object));
+            }
             Err(_) => return Err(AllocError),
         }
     } else if core.open_at(made).is_err() {

@@ -29,6 +29,14 @@ impl<'t, T: Table> End for Server<'t, T> {
         self.end.core.outbox.take(bytes, tokens)
     }
 
+    fn received(&mut self, bytes: usize, tokens: &[u32]) -> Fed {
+        self.end.core.received(bytes, tokens)
+    }
+
+    fn sent(&mut self, bytes: usize) -> Taken {
+        self.end.core.outbox.sent(bytes)
+    }
+
     fn fill<R: Read>(&mut self, reader: &mut R) -> Result<usize, FillError> {
         self.end.core.fill(reader)
     }

@@ -93,7 +93,10 @@ impl<'t, T: Table> Server<'t, T> {
             present: true,
         };
         match self.globals.push(global) {
-            Ok(()) => Ok(count as u32 + 1),
+            Ok(()) => {
+                self.settled = false;
+                Ok(count as u32 + 1)
+            }
             Err(_) => Err(GlobalError::Memory),
         }
     }
@@ -110,6 +113,7 @@ impl<'t, T: Table> Server<'t, T> {
         }
         match global_of(&self.globals, name) {
             Some(global) if global.present => {
+                self.settled = false;
                 self.globals[name as usize - 1] = Advertised {
                     present: false,
                     ..global

@@ -9,21 +9,21 @@ ghost use Rattle.wl_server.specs.Announcing.{Due};
 ghost use Rattle.wl_server.specs.Calls.{is_error_text};
 ghost use Rattle.wl_server.specs.Requests.{fault_message};
 ghost use Rattle.wl_server.specs.Spelled.{DeleteSpells, DueSpells, ErrorSpells};
-ghost use Rattle.wl_server.specs.Streams.{reading};
+ghost use Rattle.wl_server.specs.Streams.{server_reading};
 
 /// What waits is read in one way, also when more comes behind it.
 pub fn one_reading()
-    ensures { HasOneReading reading }
+    ensures { HasOneReading server_reading }
 {}
 
 /// It does not matter how a stream is cut, where its pieces are in step.
 pub fn any_cut_reads()
-    ensures { AnyCutReads reading request_side }
+    ensures { AnyCutReads server_reading request_side }
 {}
 
 /// What is read begins what waits: as many whole messages as there are reports.
 pub fn whole_messages_are_read()
-    ensures { ReadsWhole reading }
+    ensures { ReadsWhole server_reading }
 {}
 
 /// What a server writes of itself is a spelling by the tables' signature: a delete_id, the error of

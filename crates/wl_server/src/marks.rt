@@ -1,5 +1,5 @@
 //! Marks of the names of globals, a bit for each.
-ghost use Rattle.std.specs.Prelude.{◌≡◌, ◌≤◌, ◌<◌, false, replicate};
+ghost use Rattle.std.specs.Prelude.{◌≡◌, ◌≤◌, ◌<◌, true, false, replicate};
 ghost use Rattle.wl_server.specs.State.{mark_of, with_mark};
 
 use std::marker::Model;
@@ -47,7 +47,8 @@ impl Marks {
     /// Marks a name.
     pub(crate) fn set(&mut self, name: u32)
         requires { (0 < name) × (name ≤ 1024) }
-        ensures { self.new ≡ with_mark self.old name }
+        ensures set { self.new ≡ with_mark self.old name }
+        ensures marked { mark_of self.new name ≡ true }
     {
         let place = name as usize - 1;
         self.words[place / WORD_LEN] |= 1 << (place % WORD_LEN);

@@ -6,10 +6,11 @@ ghost use Rattle.wl_sigs.specs.Valid.{Valid};
 ghost use Rattle.wl_object_map.specs.View.{look};
 ghost use Rattle.wl_objects.specs.Messages.{made, reader_of, received};
 ghost use Rattle.wl_objects.specs.Parsed.{reported_in};
-ghost use Rattle.wl_objects.specs.Seen.{message_of};
+ghost use Rattle.wl_objects.specs.Seen.{received_of};
 ghost use Rattle.wl_connection.specs.Sending.{delete_id_len};
-ghost use Rattle.wl_server.specs.Steps.{CanTake, IsEndedBy, IsPendingOf, ended_by, front_step};
-ghost use Rattle.wl_server.specs.Steps.{pending_in, pendings_in, report_with, state_of};
+ghost use Rattle.wl_server.specs.Steps.{CanTake, IsEndedBy, IsPendingOf, ended_by_request};
+ghost use Rattle.wl_server.specs.Steps.{front_step, pending_in, pendings_in, report_with};
+ghost use Rattle.wl_server.specs.Steps.{server_state};
 
 use crate::bind::is_bad_bind;
 use crate::changes::Change;
@@ -41,7 +42,7 @@ pub(crate) struct PendingRequest {
 /// argument names.
 fn ended_by(destroys: Destroys, target: Object, args: &ParsedArgs) -> Option<Object>
     ensures { (opcode birth : ℕ) (body tokens : List ℕ)
-        → result ≡ ended_by destroys
+        → result ≡ ended_by_request destroys
         (report_with target opcode (reported_in body birth tokens args.now)) }
 {
     match destroys {
@@ -64,7 +65,7 @@ pub(crate) fn find<T: Table>(
     globals: &[Advertised],
 ) -> Result<Option<PendingRequest>, NextError>
     ensures answer { pendings_in end.old.core end.new.args result
-        ≡ front_step (state_of end.old.core globals.now) }
+        ≡ front_step (server_state end.old.core globals.now) }
     ensures can { IfOk result (λ found. IfSome found
         (λ request. CanTake end.old.core (pending_in end.old.core end.new.args request))) }
     ensures same { end.new.core ≡ end.old.core }
@@ -143,8 +144,8 @@ fn pending_of<T: Table>(
 /// What a message changes among the objects.
 fn change_of(tables: &Tables, message: &Received<'_, '_>) -> Change
     ensures made { result.made ≡ made tables.now message.now.entry.version
-        message.now.signature.now.kinds (message_of message.now).values }
-    ensures ended { IsEndedBy (message_of message.now) message.now.args.now result.ended }
+        message.now.signature.now.kinds (received_of message.now).values }
+    ensures ended { IsEndedBy (received_of message.now) message.now.args.now result.ended }
 {
     let signature = message.signature;
     Change {

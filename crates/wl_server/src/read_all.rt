@@ -4,7 +4,7 @@ ghost use Rattle.wl_message.specs.InStep.{part};
 ghost use Rattle.wl_connection.specs.Core.{no_room};
 ghost use Rattle.wl_connection.specs.Reads.{appended, ReadsAll};
 ghost use Rattle.wl_server.specs.Seen.{report_of};
-ghost use Rattle.wl_server.specs.Streams.{reading};
+ghost use Rattle.wl_server.specs.Streams.{server_reading};
 
 use crate::report::OwnedRequest;
 use crate::server::Server;
@@ -28,7 +28,7 @@ impl<'t, T: Table> Server<'t, T> {
     ) -> ReadAll
         ensures reports { take (length reports.old.items) reports.new.items ≡ reports.old.items }
         ensures reads { self.old.core.failed ≡ false
-            → ReadsAll reading self.old (map part pieces.now)
+            → ReadsAll server_reading self.old (map part pieces.now)
             (appended report_of reports.old.items reports.new.items) result self.new }
         // A server has no last report: without a stop it has not failed.
         ensures sound { self.old.core.failed ≡ false → result.stop ≡ None

@@ -3,13 +3,14 @@ ghost use Rattle.std.specs.Prelude.{◌≡◌, ◌≢◌, None, Some, [], OnOk, 
 ghost use Rattle.std.specs.Borrow.{sem};
 ghost use Rattle.std.specs.Io.BufRead.{Rests};
 ghost use Rattle.wl_object_map.specs.View.{look};
-ghost use Rattle.wl_connection.specs.Outcomes.{left};
+ghost use Rattle.wl_connection.specs.Outcomes.{unless_memory};
 ghost use Rattle.wl_server.specs.Registries.{IsSound};
-ghost use Rattle.wl_server.specs.Requests.{after_next, IsLentNext, IsNext};
+ghost use Rattle.wl_server.specs.Announcing.{KeepsSettled};
+ghost use Rattle.wl_server.specs.Requests.{after_next, IsLentNext, IsServerNext};
 ghost use Rattle.wl_server.specs.Seen.{lent_in, lent_report, lent_request_in, report_in};
 ghost use Rattle.wl_server.specs.Seen.{report_of, request_in};
 ghost use Rattle.wl_server.specs.Steps.{CanTake, checked_front, core_by, core_unless};
-ghost use Rattle.wl_server.specs.Steps.{pending_in, pendings_in, registries_by, state_of};
+ghost use Rattle.wl_server.specs.Steps.{pending_in, pendings_in, registries_by, server_state};
 ghost use Rattle.wl_server.specs.Steps.{taken_in, taken_report, whole_state};
 ghost use Rattle.wl_server.specs.Lent.{server_row};
 
@@ -36,10 +37,15 @@ impl<'t, T: Table> Server<'t, T> {
     pub fn next(&mut self) -> Result<Option<Request<'_>>, NextError>
         ensures* after { sem 𝓛 (Rests
             (server_row T.row T.Alloc.row T.Table T.Alloc.Allocator T.Alloc.Clone) self.entry
-            (λ server. server ≡ left self.old (after_next self.old) (lent_in result))) }
+            (λ server. server ≡ unless_memory self.old (after_next self.old) (lent_in result))) }
         ensures answer { IsLentNext self.old (lent_in result) }
     {
-        match read(&mut self.end, &mut self.registries, &self.globals)? {
+        match read(
+            &mut self.end,
+            &mut self.registries,
+            &mut self.settled,
+            &self.globals,
+        )? {
             Some(request) => Ok(Some(lend(&self.end, request))),
             None => Ok(None),
         }
@@ -51,12 +57,17 @@ impl<'t, T: Table> Server<'t, T> {
         ensures* after { sem 𝓛 (Rests
             (server_row T.row T.Alloc.row T.Table T.Alloc.Allocator T.Alloc.Clone) self.entry
             (λ server. server
-            ≡ left self.old (after_next self.old) (lent_request_in result))) }
+            ≡ unless_memory self.old (after_next self.old) (lent_request_in result))) }
         ensures answer { IsLentNext self.old (lent_request_in result) }
         ensures entry { IfOk result (λ read. IfSome read (λ told.
             look self.old.core.view told.request.target.id ≡ Some told.entry)) }
     {
-        match read(&mut self.end, &mut self.registries, &self.globals)? {
+        match read(
+            &mut self.end,
+            &mut self.registries,
+            &mut self.settled,
+            &self.globals,
+        )? {
             Some(request) => Ok(Some(RequestWithEntry {
                 request: lend(&self.end, request),
                 entry: request.entry,
@@ -69,12 +80,13 @@ impl<'t, T: Table> Server<'t, T> {
     /// is no memory for the report, the request stays and can be read again. A request without
     /// arguments never returns out of memory.
     pub fn next_owned(&mut self) -> Result<Option<OwnedRequest<T::Alloc>>, NextError>
-        ensures answer { IsNext self.old (report_in result) }
-        ensures state { self.new ≡ left self.old (after_next self.old) (report_in result) }
+        ensures answer { IsServerNext self.old (report_in result) }
+        ensures state { self.new ≡ unless_memory self.old (after_next self.old) (report_in result) }
     {
         match read_owned(
             &mut self.end,
             &mut self.registries,
+            &mut self.settled,
             &self.globals,
             &self.alloc,
         )? {
@@ -88,14 +100,16 @@ impl<'t, T: Table> Server<'t, T> {
     pub fn next_owned_with_entry(
         &mut self,
     ) -> Result<Option<OwnedRequestWithEntry<T::Alloc>>, NextError>
-        ensures answer { IsNext self.old (request_in result) }
-        ensures state { self.new ≡ left self.old (after_next self.old) (request_in result) }
+        ensures answer { IsServerNext self.old (request_in result) }
+        ensures state { self.new ≡ unless_memory self.old (after_next self.old)
+            (request_in result) }
         ensures entry { IfOk result (λ read. IfSome read (λ told.
             look self.old.core.view told.request.target.id ≡ Some told.entry)) }
     {
         read_owned(
             &mut self.end,
             &mut self.registries,
+            &mut self.settled,
             &self.globals,
             &self.alloc,
         )
@@ -107,24 +121,27 @@ impl<'t, T: Table> Server<'t, T> {
 fn read<T: Table>(
     end: &mut Endpoint<'_, T>,
     registries: &mut Vec<OpenRegistry, T::Alloc>,
+    settled: &mut bool,
     globals: &[Advertised],
 ) -> Result<Option<PendingRequest>, NextError>
     requires { IsSound end.old.core.view registries.old.items }
     ensures answer { IsLentNext (whole_state end.old.core globals.now registries.old.items)
         (taken_in end.new.core end.new.args result) }
     ensures state { whole_state end.new.core globals.now registries.new.items
-        ≡ left (whole_state end.old.core globals.now registries.old.items)
+        ≡ unless_memory (whole_state end.old.core globals.now registries.old.items)
         (after_next (whole_state end.old.core globals.now registries.old.items))
         (taken_in end.new.core end.new.args result) }
     ensures sound { IsSound end.new.core.view registries.new.items }
     ensures entry { IfOk result (λ read. IfSome read (λ request.
         look end.old.core.view request.outline.target.id ≡ Some request.entry)) }
+    ensures settled { KeepsSettled settled.old registries.old.items settled.new
+        registries.new.items }
 {
     let request = match find_or_fail(end, globals)? {
         Some(request) => request,
         None => return Ok(None),
     };
-    match take(end, registries, &request) {
+    match take_request(end, registries, settled, &request) {
         Ok(()) => Ok(Some(request)),
         Err(_) => Err(NextError::Memory),
     }
@@ -134,19 +151,22 @@ fn read<T: Table>(
 fn read_owned<T: Table>(
     end: &mut Endpoint<'_, T>,
     registries: &mut Vec<OpenRegistry, T::Alloc>,
+    settled: &mut bool,
     globals: &[Advertised],
     alloc: &T::Alloc,
 ) -> Result<Option<OwnedRequestWithEntry<T::Alloc>>, NextError>
     requires { IsSound end.old.core.view registries.old.items }
-    ensures answer { IsNext (whole_state end.old.core globals.now registries.old.items)
+    ensures answer { IsServerNext (whole_state end.old.core globals.now registries.old.items)
         (request_in result) }
     ensures state { whole_state end.new.core globals.now registries.new.items
-        ≡ left (whole_state end.old.core globals.now registries.old.items)
+        ≡ unless_memory (whole_state end.old.core globals.now registries.old.items)
         (after_next (whole_state end.old.core globals.now registries.old.items))
         (request_in result) }
     ensures sound { IsSound end.new.core.view registries.new.items }
     ensures entry { IfOk result (λ read. IfSome read (λ told.
         look end.old.core.view told.request.target.id ≡ Some told.entry)) }
+    ensures settled { KeepsSettled settled.old registries.old.items settled.new
+        registries.new.items }
 {
     let request = match find_or_fail(end, globals)? {
         Some(request) => request,
@@ -156,7 +176,7 @@ fn read_owned<T: Table>(
         Ok(report) => report,
         Err(_) => return Err(NextError::Memory),
     };
-    match take(end, registries, &request) {
+    match take_request(end, registries, settled, &request) {
         Ok(()) => Ok(Some(OwnedRequestWithEntry {
             request: report,
             entry: request.entry,
@@ -172,7 +192,7 @@ fn find_or_fail<T: Table>(
     globals: &[Advertised],
 ) -> Result<Option<PendingRequest>, NextError>
     ensures answer { pendings_in end.old.core end.new.args result
-        ≡ checked_front (state_of end.old.core globals.now) }
+        ≡ checked_front (server_state end.old.core globals.now) }
     ensures core { end.new.core ≡ core_unless end.old.core result }
     ensures can { IfOk result (λ found. IfSome found
         (λ request. CanTake end.old.core (pending_in end.old.core end.new.args request))) }
@@ -219,9 +239,10 @@ fn copy<T: Table>(
 
 /// Takes the message in front with its tokens, opens the object that it makes and closes the one
 /// that it destroys. If there is no memory for the object that it makes, nothing changes.
-fn take<T: Table>(
+fn take_request<T: Table>(
     end: &mut Endpoint<'_, T>,
     registries: &mut Vec<OpenRegistry, T::Alloc>,
+    settled: &mut bool,
     request: &PendingRequest,
 ) -> Result<(), AllocError>
     requires can { CanTake end.old.core (pending_in end.old.core end.old.args request.now) }
@@ -236,9 +257,17 @@ fn take<T: Table>(
         ((end.new.core ≡ end.old.core) × (registries.new.items ≡ registries.old.items)) }
     ensures wants { OnErr result (request.now.change.made ≢ None) }
     ensures sound { OnOk result (IsSound end.new.core.view registries.new.items) }
+    ensures settled { KeepsSettled settled.old registries.old.items settled.new
+        registries.new.items }
 {
     let Change { made, ended } = request.change;
-    open_new_object(&mut end.core, registries, made, request.outline.birth)?;
+    open_new_object(
+        &mut end.core,
+        registries,
+        settled,
+        made,
+        request.outline.birth,
+    )?;
     // Nothing is allocated from here on.
     end.core.pass(request.size, request.tokens);
     if let Some(object) = ended {

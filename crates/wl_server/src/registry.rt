@@ -1,6 +1,6 @@
 //! The open registries of a server's client, and what each was told of the globals.
-ghost use Rattle.std.specs.Prelude.{◌≡◌, ◌≤◌, ◌<◌};
-ghost use Rattle.wl_server.specs.State.{untold, with_mark};
+ghost use Rattle.std.specs.Prelude.{◌≡◌, ◌≤◌, ◌<◌, true};
+ghost use Rattle.wl_server.specs.State.{mark_of, untold, with_mark};
 ghost use Rattle.wl_server.specs.Announcing.{owes_removal, owes_telling};
 
 use crate::globals::Advertised;
@@ -56,7 +56,8 @@ impl OpenRegistry {
     /// Marks a name as told of its removal.
     pub(crate) fn mark_removed(&mut self, name: u32)
         requires { (0 < name) × (name ≤ 1024) }
-        ensures { self.new ≡ record self.old { removed = with_mark self.old.removed name } }
+        ensures set { self.new ≡ record self.old { removed = with_mark self.old.removed name } }
+        ensures marked { mark_of self.new.removed name ≡ true }
     {
         self.removed.set(name);
     }
@@ -64,7 +65,8 @@ impl OpenRegistry {
     /// Marks a name as told.
     pub(crate) fn mark_told(&mut self, name: u32)
         requires { (0 < name) × (name ≤ 1024) }
-        ensures { self.new ≡ record self.old { told = with_mark self.old.told name } }
+        ensures set { self.new ≡ record self.old { told = with_mark self.old.told name } }
+        ensures marked { mark_of self.new.told name ≡ true }
     {
         self.told.set(name);
     }

@@ -23,14 +23,17 @@ pub struct Server<'t, T: Table> {
     pub(crate) globals: Vec<Advertised, T::Alloc>,
     /// In the order of their births.
     pub(crate) registries: Vec<OpenRegistry, T::Alloc>,
+    /// Whether it is known that the registries are owed nothing.
+    pub(crate) settled: bool,
 }
 
 impl<'t, T: Table> Model for Server<'t, T> {
-    ghost use Rattle.std.specs.Prelude.{◌≤◌, length};
+    ghost use Rattle.std.specs.Prelude.{◌≡◌, ◌≤◌, [], true, length};
     ghost use Rattle.std.specs.Coded.{codes};
     ghost use Rattle.wl_object_map.specs.View.{view_code};
     ghost use Rattle.wl_server.specs.State.{State};
     ghost use Rattle.wl_server.specs.Registries.{HasRegistries, BirthsAreOnce};
+    ghost use Rattle.wl_server.specs.Announcing.{owed_in};
 
     ghost Value = { State };
 
@@ -46,6 +49,7 @@ impl<'t, T: Table> Model for Server<'t, T> {
       few : length s.globals.items ≤ 1024;
       registries : HasRegistries s.end.core.view s.registries.items;
       births : BirthsAreOnce s.end.core.view;
+      settled : s.settled ≡ true → owed_in s.globals.items s.registries.items ≡ [];
     } };
 }
 
@@ -63,6 +67,7 @@ impl<'t, T: Table> Server<'t, T> {
             alloc,
             globals,
             registries,
+            settled: true,
         })
     }
 }

@@ -14,7 +14,7 @@ use Rattle.wl_objects.specs.declared.error.Fault.{Fault}
 use Rattle.wl_sigs.specs.declared.signature.Side.TheVariants.{Event as event_side}
 use Rattle.wl_connection.specs.Core.{Core}
 use Rattle.wl_connection.specs.Receiving.{Found, found}
-use Rattle.wl_connection.specs.Outcomes.{AnswersOrMemory, answers_with, left, refusal_in, new_in}
+use Rattle.wl_connection.specs.Outcomes.{AnswersOrMemory, answers_with, unless_memory, refusal_in, some_object}
 use Rattle.wl_client.specs.State as client
 use Rattle.wl_client.specs.Reports as events
 use Rattle.wl_server.specs.State as server
@@ -24,7 +24,7 @@ use Rattle.wl_server.specs.declared.globals.GlobalError.TheVariants as global_er
 use Rattle.wl_server.specs.Calls.{ok_unless, error_refusal, after_error}
 use Rattle.wl_server.specs.Announcing.{Fitting, after_announce}
 use Rattle.wl_connection.proofs.ReceivedMessage.{some_report}
-use Rattle.theory_connection.specs.Pair.{PairState, with_server, marked, after_post, Writes, Calls}
+use Rattle.theory_connection.specs.Pair.{PairState, with_server, ended_mark, after_post, Writes, Calls}
 use Rattle.theory_connection.specs.Pair.{Adds, Announces, Nexts, accepted, refused, no_memory, done}
 use Rattle.theory_connection.specs.Pair.{added, announced, answered}
 
@@ -64,8 +64,8 @@ writes f answer opens before after now (Err why) g ok err = refuses f answer ope
 
 pub binds : {S : Type 0} (f : S → PairState) (answer : Result (Option Object) SendError) (before after now : S)
     (result : Result Object SendError)
-    → AnswersOrMemory refusals.Memory true answer (new_in result) → OnOk result (now ≡ after)
-    → OnErr result (now ≡ before) → Writes answer true (f before) (f after) (new_in result) (f now)
+    → AnswersOrMemory refusals.Memory true answer (some_object result) → OnOk result (now ≡ after)
+    → OnErr result (now ≡ before) → Writes answer true (f before) (f after) (some_object result) (f now)
 binds f answer before after now (Ok new) g ok err = accepts f answer true before after now (Some new) g ok
 binds f answer before after now (Err why) g ok err = refuses f answer true before after now why g err
 
@@ -132,7 +132,7 @@ announces p now (Err why) ok err =
 pub posts : (p : PairState) (object : Object) (code : ℕ) (text : List ℕ) (now : server.State) (mark : Option ℕ)
     → None ≡ error_refusal p.server.core object text
     → now ≡ server.with_core p.server (after_error p.server.core object code text)
-    → mark ≡ marked p.ended_at (length p.recording)
+    → mark ≡ ended_mark p.ended_at (length p.recording)
     → Calls (error_refusal p.server.core object text) p (after_post p object code text) (Ok tt)
     (record { client = p.client; server = now; recording = p.recording; ended_at = mark })
 posts p object code text now mark a e m =
@@ -155,18 +155,18 @@ fails {S = S} {E = E} f refusal before now after why (Err other) a e r =
     subst (λ (s : S). Calls {E = E} refusal (f before) after (Err other) (f s)) (sym e)
     (subst (λ (x : E). Calls {E = E} refusal (f before) after (Err x) (f before)) (sym r) (refused (sym a)))
 
-pub marks_first : (o : Option ℕ) (count : ℕ) → is_some o ≡ false → Some count ≡ marked o count
+pub marks_first : (o : Option ℕ) (count : ℕ) → is_some o ≡ false → Some count ≡ ended_mark o count
 marks_first None count h = refl
 marks_first (Some first) count h = absurd (cc h)
 
-pub marks_no_more : (o : Option ℕ) (count : ℕ) → is_some o ≡ true → o ≡ marked o count
+pub marks_no_more : (o : Option ℕ) (count : ℕ) → is_some o ≡ true → o ≡ ended_mark o count
 marks_no_more None count h = absurd (cc h)
 marks_no_more (Some first) count h = refl
 
 -- ---- a read
 
 left_is : {S R : Type 0} (before after : S) (r : Result (Option R) NextError) → (r ≡ Err errors.Memory → ⊥)
-    → left before after r ≡ after
+    → unless_memory before after r ≡ after
 left_is before after (Ok x) h = refl
 left_is before after (Err (errors.Fault what offset)) h = refl
 left_is before after (Err errors.Failed) h = refl
@@ -176,13 +176,13 @@ left_is before after (Err errors.OutFull) h = refl
 pub nexts : {S R : Type 0} (f : S → PairState) (needs : R → Bool) (answer : Result (Option R) NextError)
     (before after now : S) (result : Result (Option R) NextError)
     → (answer ≡ Err errors.Memory → ⊥) → AnswersOrMemory errors.Memory (answers_with needs answer) answer result
-    → now ≡ left before after result → Nexts needs answer (f before) (f after) result (f now)
+    → now ≡ unless_memory before after result → Nexts needs answer (f before) (f after) result (f now)
 nexts {S = S} {R = R} f needs answer before after now result never (inl e) h =
-    let l : now ≡ after = h ∙ ap (left before after) e ∙ left_is before after answer never in
+    let l : now ≡ after = h ∙ ap (unless_memory before after) e ∙ left_is before after answer never in
     subst (λ (s : S). Nexts needs answer (f before) (f after) result (f s)) (sym l)
     (subst (λ (r : Result (Option R) NextError). Nexts needs answer (f before) (f after) r (f after)) (sym e) answered)
 nexts {S = S} {R = R} f needs answer before after now result never (inr k) h =
-    let l : now ≡ before = h ∙ ap (left before after) k.0 in
+    let l : now ≡ before = h ∙ ap (unless_memory before after) k.0 in
     let some = some_report needs answer k.1 in
     subst (λ (s : S). Nexts needs answer (f before) (f after) result (f s)) (sym l)
     (subst (λ (r : Result (Option R) NextError). Nexts needs answer (f before) (f after) r (f before)) (sym k.0)

@@ -6,7 +6,7 @@ use Rattle.std.specs.declared.result.Result.{Result}
 use Rattle.std.specs.declared.result.Result.TheVariants.{Ok, Err}
 use Rattle.wl_message.specs.Arrived.{Arrived}
 use Rattle.wl_sigs.specs.declared.signature.Side.{Side}
-use Rattle.wl_sigs.specs.Tables.{Message}
+use Rattle.wl_sigs.specs.Tables.{MessageSignature}
 use Rattle.wl_object_map.specs.declared.object.Object.{Object}
 use Rattle.wl_objects.specs.declared.error.SendError.{SendError}
 use Rattle.wl_objects.specs.declared.error.SendError.TheVariants as refusals
@@ -17,15 +17,15 @@ use Rattle.wl_objects.specs.Writing.{Given}
 use Rattle.wl_objects.specs.Messages.{checked}
 use Rattle.wl_connection.specs.Core.{Core}
 use Rattle.wl_connection.specs.Receiving.{Found, found}
-use Rattle.wl_connection.specs.Outcomes.{left}
+use Rattle.wl_connection.specs.Outcomes.{unless_memory}
 use Rattle.wl_connection.specs.Sending.{after_send, after_checked, with_following, following, with_sent}
 use Rattle.wl_sigs.specs.declared.signature.Side.TheVariants.{Event as event_side}
 use Rattle.wl_client.specs.State as client
 use Rattle.wl_client.specs.Reports as events
 use Rattle.wl_server.specs.State as server
 use Rattle.wl_server.specs.Requests as requests
-use Rattle.wl_server.specs.Announcing.{Due, Fitting, with_dues, opcode_of, values_of, after_announce, owed}
-use Rattle.wl_session.specs.Room.{Holds}
+use Rattle.wl_server.specs.Announcing.{Due, Fitting, with_dues, owed_opcode, values_of, after_announce, owed}
+use Rattle.wl_session.specs.Room.{HoldsInbox}
 
 -- one inbox holds as much as another
 pub record AsLarge (a b : Arrived) : Type 0 where
@@ -40,7 +40,7 @@ following_box true id core = record { bytes = refl; tokens = refl }
 following_box false id core = record { bytes = refl; tokens = refl }
 
 checked_box : (core : Core) (side : Side) (target : Object) (opcode : ℕ) (given : List Given)
-    (r : Result Message SendError) → AsLarge (after_checked core side target opcode given r).inbox core.inbox
+    (r : Result MessageSignature SendError) → AsLarge (after_checked core side target opcode given r).inbox core.inbox
 checked_box core side target opcode given (Err why) = same_size core.inbox
 checked_box core side target opcode given (Ok signature) =
     let f = following_box (following side signature.destroys) _ _ in
@@ -53,7 +53,7 @@ send_box core side target opcode given = checked_box core side target opcode giv
 
 dues_box : (core : Core) (dues : List Due) → AsLarge (with_dues core dues).inbox core.inbox
 dues_box core [] = same_size core.inbox
-dues_box core (due ∷ dues) = let k = dues_box (with_sent core due.object.id (opcode_of due.owing)
+dues_box core (due ∷ dues) = let k = dues_box (with_sent core due.object.id (owed_opcode due.owing)
     (values_of core.tables due.owing) []) dues in record { bytes = k.bytes; tokens = k.tokens }
 
 pub announce_box : (state : server.State) (count : ℕ) → AsLarge (after_announce state count).core.inbox state.core.inbox
@@ -94,7 +94,7 @@ pub server_next_box : (state : server.State) → AsLarge (requests.after_next st
 server_next_box state = next_server state state.core.failed
 
 -- so what held it holds it still
-pub holds : (bytes tokens : ℕ) (a b : Arrived) → AsLarge a b → Holds bytes tokens b → Holds bytes tokens a
+pub holds : (bytes tokens : ℕ) (a b : Arrived) → AsLarge a b → HoldsInbox bytes tokens b → HoldsInbox bytes tokens a
 holds bytes tokens a b l h = record { bytes_fit = rw l.bytes h.bytes_fit; tokens_fit = rw l.tokens h.tokens_fit }
 
 pub announced_box : (before now : server.State) (result : Result ℕ SendError)
@@ -107,7 +107,8 @@ announced_box before now (Err why) ok err = subst (λ (s : server.State). AsLarg
     (sym err.2) (same_size before.core.inbox)
 
 left_box : {R : Type 0} (before after : server.State) (result : Result (Option R) NextError)
-    → AsLarge after.core.inbox before.core.inbox → AsLarge (left before after result).core.inbox before.core.inbox
+    → AsLarge after.core.inbox before.core.inbox → AsLarge (unless_memory before after result).core.inbox
+    before.core.inbox
 left_box before after (Ok x) k = k
 left_box before after (Err (errors.Fault what offset)) k = k
 left_box before after (Err errors.Failed) k = k
@@ -115,7 +116,7 @@ left_box before after (Err errors.Memory) k = same_size before.core.inbox
 left_box before after (Err errors.OutFull) k = k
 
 pub read_leaves_box : {R : Type 0} (before now : server.State) (result : Result (Option R) NextError)
-    → now ≡ left before (requests.after_next before) result → AsLarge now.core.inbox before.core.inbox
+    → now ≡ unless_memory before (requests.after_next before) result → AsLarge now.core.inbox before.core.inbox
 read_leaves_box before now result h =
     subst (λ (s : server.State). AsLarge s.core.inbox before.core.inbox) (sym h)
     (left_box before (requests.after_next before) result (server_next_box before))

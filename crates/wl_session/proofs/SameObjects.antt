@@ -12,7 +12,7 @@ use Rattle.wl_session.specs.Room.{AreSame}
 
 -- no other id has a row
 no_row : (view : View) (id : ℕ) → Sound view → view.used < id → look view id ≡ None
-no_row view id s h = elim (Views.place_of view s id) [
+no_row view id s h = elim (Views.place_of_id view s id) [
   | in_row e l t a b ↦ absurd (omega arith)
   | in_list l t a b ↦ l
   | at_null l t e ↦ l
@@ -20,7 +20,7 @@ no_row view id s h = elim (Views.place_of view s id) [
 ]
 
 null_row : (view : View) (id : ℕ) → Sound view → id ≡ 0 → look view id ≡ None
-null_row view id s h = elim (Views.place_of view s id) [
+null_row view id s h = elim (Views.place_of_id view s id) [
   | in_row e l t a b ↦ absurd (omega arith)
   | in_list l t a b ↦ l
   | at_null l t e ↦ l

@@ -7,8 +7,8 @@ pub record Copy : Type 0 where
   pub room : ℕ
 
 -- how many bytes more may be copied
-abbrev pub left : Copy → ℕ
-left c = c.room - length c.bytes
+abbrev pub room_left : Copy → ℕ
+room_left c = c.room - length c.bytes
 
 -- the copy with these bytes behind the others
 abbrev pub with_copied : Copy → List ℕ → Copy

@@ -2,7 +2,7 @@
 use Rattle.std.specs.Prelude.{ℕ, List, map, length, Some, None}
 use Rattle.wl_wire.specs.Argument.{Int, Uint, Fixed, Str, Obj, New, Array, Fd, units}
 use Rattle.wl_objects.specs.Writing.{Given}
-use Rattle.wl_connection.specs.Outcomes.{new_in}
+use Rattle.wl_connection.specs.Outcomes.{some_object}
 use Rattle.wl_client.specs.Seen as client
 use Rattle.wl_server.specs.Seen as server
 use Rattle.theory_connection.specs.Pair as world
@@ -48,13 +48,13 @@ move_of moves.ServerNext = world.ServerNext
 abbrev pub moves_of : {A : Type 0} → List (Move A) → List world.Move
 moves_of list = map move_of list
 
-abbrev pub carried_of : Carried → world.Carried
+abbrev pub carried_of : Carried → world.CarryOutcome
 carried_of (carrying.Moved fed) = world.Moved fed
 carried_of carrying.Memory = world.Memory
 
 abbrev pub reply_of : {A : Type 0} → Reply A → world.Reply
 reply_of (replies.ClientSend result) = world.ClientSend result
-reply_of (replies.ClientBind result) = world.ClientBind (new_in result)
+reply_of (replies.ClientBind result) = world.ClientBind (some_object result)
 reply_of (replies.ServerSend result) = world.ServerSend result
 reply_of (replies.ServerDrop result) = world.ServerDrop result
 reply_of (replies.PostError result) = world.PostError result

@@ -6,7 +6,7 @@ use Rattle.wl_recording.specs.Piece.{Piece, with_last_bytes}
 use Rattle.wl_message.specs.Arrived.{Arrived}
 
 -- whatever fits into an inbox fits into this number of bytes and of tokens
-pub record Holds (bytes tokens : ℕ) (inbox : Arrived) : Type 0 where
+pub record HoldsInbox (bytes tokens : ℕ) (inbox : Arrived) : Type 0 where
   pub bytes_fit : inbox.capacity ≤ bytes
   pub tokens_fit : inbox.token_capacity ≤ tokens
 

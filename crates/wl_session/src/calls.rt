@@ -1,7 +1,7 @@
 //! The calls of the two ends, as the pair does them: what each does to both ends and to the
 //! recording.
 ghost use Rattle.wl_objects.specs.Writing.{given};
-ghost use Rattle.wl_connection.specs.Outcomes.{new_in};
+ghost use Rattle.wl_connection.specs.Outcomes.{some_object};
 ghost use Rattle.wl_client.specs.Seen as client_seen;
 ghost use Rattle.wl_server.specs.Seen as server_seen;
 ghost use Rattle.theory_connection.specs.Pair.{Does, ClientSend, ClientBind, ServerSend};
@@ -35,7 +35,7 @@ impl<'t, T: Table> Pair<'t, T> {
         version: u32,
     ) -> Result<Object, SendError>
         ensures { Does self.old (ClientBind registry name iface.now version)
-            (ClientBind (new_in result)) self.new }
+            (ClientBind (some_object result)) self.new }
     {
         self.client.bind(registry, name, iface, version)
     }

@@ -5,7 +5,7 @@ ghost use Rattle.wl_connection.specs.Core.{feeds, with_gone, with_arrived};
 ghost use Rattle.wl_recording.specs.Piece.{passed, last_len};
 ghost use Rattle.wl_session.specs.Room.{filled};
 ghost use Rattle.theory_connection.specs.Pair.{Does, CarryToServer, CarryToClient, carried_bytes};
-ghost use Rattle.theory_connection.specs.Pair.{carried_tokens, all_of};
+ghost use Rattle.theory_connection.specs.Pair.{carried_tokens};
 ghost use Rattle.wl_session.specs.Meaning.{carried_of};
 
 use crate::moves::Carried;
@@ -58,7 +58,7 @@ fn hand_over<W: End, R: End, A: Allocator + Clone>(
     requires fits { let taken = goes (W.core from.old).outbox (length bytes.old)
         (length tokens.old) in
         feeds (R.core to.old) (carried_bytes (W.core from.old) taken)
-        (carried_tokens (W.core from.old) taken) ≡ all_of taken }
+        (carried_tokens (W.core from.old) taken) ≡ taken }
     requires room { let taken = goes (W.core from.old).outbox (length bytes.old)
         (length tokens.old) in
         0 < taken.bytes → taken.bytes ≡ last_len recording.old }
@@ -94,7 +94,7 @@ fn pass<W: End, R: End, A: Allocator + Clone>(
         × (limit.tokens ≤ length tokens.old.items) }
     requires fits { let taken = goes (W.core from.old).outbox limit.bytes limit.tokens in
         feeds (R.core to.old) (carried_bytes (W.core from.old) taken)
-        (carried_tokens (W.core from.old) taken) ≡ all_of taken }
+        (carried_tokens (W.core from.old) taken) ≡ taken }
     requires room { let taken = goes (W.core from.old).outbox limit.bytes limit.tokens in
         0 < taken.bytes → taken.bytes ≡ last_len recording.old }
     ensures from { let taken = goes (W.core from.old).outbox limit.bytes limit.tokens in
@@ -136,10 +136,7 @@ impl<'t, T: Table> Pair<'t, T> {
             &mut self.tokens,
             limit,
         );
-        Carried::Moved(Fed {
-            bytes: going.bytes,
-            tokens: going.tokens,
-        })
+        Carried::Moved(going)
     }
 
     /// Carries what waits at the server to the client, at most `most` bytes, and records it. The
@@ -164,9 +161,6 @@ impl<'t, T: Table> Pair<'t, T> {
             &mut self.tokens,
             limit,
         );
-        Carried::Moved(Fed {
-            bytes: going.bytes,
-            tokens: going.tokens,
-        })
+        Carried::Moved(going)
     }
 }

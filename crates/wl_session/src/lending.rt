@@ -2,7 +2,7 @@
 ghost use Rattle.std.specs.Prelude.{◌≡◌, ◌≤◌, length, vec_capacity};
 ghost use Rattle.wl_objects.specs.Writing.{given, given_of};
 ghost use Rattle.theory_connection.specs.World.{Each};
-ghost use Rattle.theory_connection.specs.Runs.{IsGiven};
+ghost use Rattle.theory_connection.specs.Runs.{FitsWords};
 ghost use Rattle.wl_session.specs.Meaning.{arg_of, args_of};
 
 use crate::moves::SendArg;
@@ -14,7 +14,7 @@ use wl_wire::Fixed;
 pub fn lend<'m, A: Allocator, B: Allocator>(args: &'m [SendArg<A>], list: &mut Vec<Arg<'m>, B>)
     requires { length args.now ≤ vec_capacity list.old }
     ensures same { given list.new.items ≡ args_of args.now }
-    ensures in_range { Each IsGiven (args_of args.now) }
+    ensures in_range { Each FitsWords (args_of args.now) }
     ensures capacity { vec_capacity list.new ≡ vec_capacity list.old }
 {
     list.clear();
@@ -25,7 +25,7 @@ pub fn lend<'m, A: Allocator, B: Allocator>(args: &'m [SendArg<A>], list: &mut V
 
 fn lend_one<A: Allocator>(arg: &SendArg<A>) -> Arg<'_>
     ensures same { given_of result ≡ arg_of arg.now }
-    ensures in_range { IsGiven (arg_of arg.now) }
+    ensures in_range { FitsWords (arg_of arg.now) }
 {
     match arg {
         SendArg::Int(z) => Arg::Int(*z),

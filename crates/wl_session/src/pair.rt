@@ -6,10 +6,10 @@ ghost use Rattle.wl_message.specs.Arrived.{AreSizes};
 ghost use Rattle.wl_client.specs.State.{new_state as new_client};
 ghost use Rattle.wl_server.specs.State.{new_state as new_server};
 ghost use Rattle.wl_check.specs.Session.{IsLawful, session_of};
-ghost use Rattle.theory_connection.specs.World.{World, opening};
+ghost use Rattle.theory_connection.specs.World.{World, opening_world};
 ghost use Rattle.theory_connection.specs.Pair.{new_pair, drained};
 ghost use Rattle.theory_connection.specs.Stands.{Stands};
-ghost use Rattle.theory_recording.specs.Linked.{Linked, limit_of, up_to};
+ghost use Rattle.theory_recording.specs.Linked.{Linked, pair_limit, up_to};
 
 use std::alloc::{AllocError, Allocator};
 use std::marker::Model;
@@ -43,7 +43,7 @@ impl<'t, T: Table> Model for Pair<'t, T> {
     ghost use Rattle.std.specs.Coded.{codes};
     ghost use Rattle.wl_object_map.specs.View.{view_code};
     ghost use Rattle.theory_connection.specs.Pair.{PairState};
-    ghost use Rattle.wl_session.specs.Room.{Holds};
+    ghost use Rattle.wl_session.specs.Room.{HoldsInbox};
 
     ghost Value = { PairState };
 
@@ -57,8 +57,8 @@ impl<'t, T: Table> Model for Pair<'t, T> {
     } };
 
     ghost invariant = { λ p. record {
-      client_fits : Holds (length p.bytes.items) (length p.tokens.items) p.client.core.inbox;
-      server_fits : Holds (length p.bytes.items) (length p.tokens.items) p.server.core.inbox;
+      client_fits : HoldsInbox (length p.bytes.items) (length p.tokens.items) p.client.core.inbox;
+      server_fits : HoldsInbox (length p.bytes.items) (length p.tokens.items) p.server.core.inbox;
       few_tokens : length p.tokens.items ≤ 65536;
     } };
 }
@@ -76,8 +76,8 @@ impl<'t, T: Table + Drop> Pair<'t, T> {
         requires server { AreSizes server }
         requires one_limit { client.limit.bytes ≡ server.limit.bytes }
         ensures begins { IfOk result (λ pair. pair ≡ new_pair tables.now client server) }
-        ensures stands { IfOk result (λ pair. Stands pair opening) }
-        ensures linked { IfOk result (λ pair. Linked pair opening) }
+        ensures stands { IfOk result (λ pair. Stands pair opening_world) }
+        ensures linked { IfOk result (λ pair. Linked pair opening_world) }
     {
         know_valid(tables);
         let (bytes, tokens) = buffers(&alloc, client.in_bytes.max(server.in_bytes))?;
@@ -119,7 +119,7 @@ impl<'t, T: Table> Pair<'t, T> {
         ensures lends { result.now ≡ self.now.recording }
         ensures lawful { (world : World) → Linked self.now world
             → IsLawful self.now.server.core.tables
-            (session_of (limit_of self.now) (up_to self.now.ended_at result.now)) }
+            (session_of (pair_limit self.now) (up_to self.now.ended_at result.now)) }
     {
         &self.recording
     }

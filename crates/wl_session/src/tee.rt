@@ -5,7 +5,7 @@ ghost use Rattle.std.specs.Io.KnownBytes.{ReadConsumes};
 ghost use types.Logic.{sem};
 ghost use denote.Follow.{follows};
 ghost use Rattle.wl_recording.specs.Piece.{passed};
-ghost use Rattle.wl_session.specs.Copied.{left, with_copied, emptied, Copies};
+ghost use Rattle.wl_session.specs.Copied.{room_left, with_copied, emptied, Copies};
 ghost use Rattle.wl_session.specs.Tee.{with_reader};
 ghost use Rattle.wl_session.specs.contracts.tee.Tee.{the_row};
 
@@ -48,7 +48,7 @@ impl<A: Allocator> Copied<A> {
 
     /// How many bytes there is still room for.
     fn left(&self) -> usize
-        ensures left { result ≡ left self.now }
+        ensures left { result ≡ room_left self.now }
         ensures within { length self.now.bytes + result ≡ self.now.room }
     {
         self.room - self.bytes.len()
@@ -56,7 +56,7 @@ impl<A: Allocator> Copied<A> {
 
     /// Adds bytes for which there is room.
     fn add(&mut self, bytes: &[u8])
-        requires { length bytes.now ≤ left self.old }
+        requires { length bytes.now ≤ room_left self.old }
         ensures { self.new ≡ with_copied self.old bytes.now }
     {
         // The room was reserved, so this does not allocate and cannot fail.
@@ -139,8 +139,8 @@ impl<R: Read, A: Allocator> Read for Tee<R, A> {
         ensures bytes { ReadConsumes (R.remaining self.old.reader) (R.remaining self.new.reader)
             result buf.new }
         ensures copies { Copies self.old.copied result buf.new self.new.copied }
-        ensures room { IfOk result (λ n. n ≤ left self.old.copied) }
-        ensures full { left self.old.copied ≡ 0 → IsErr result × (self.new ≡ self.old) }
+        ensures room { IfOk result (λ n. n ≤ room_left self.old.copied) }
+        ensures full { room_left self.old.copied ≡ 0 → IsErr result × (self.new ≡ self.old) }
     {
         let left = self.copied.left();
         if left == 0 {

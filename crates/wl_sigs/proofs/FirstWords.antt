@@ -3,13 +3,13 @@
 use Rattle.std.proofs.Common.{◌≡◌, ℕ, ◌+◌, List, [], length, map, refl, sym, ap, ◌∙◌, subst, Some}
 use Rattle.std.proofs.Common.{None, Option, slice_get, arith}
 use Rattle.std.specs.Prelude.{option_map, option_and_then, ◌↔◌}
-use Rattle.wl_sigs.specs.Tables.{Message, Interface, interface_at, message_of}
+use Rattle.wl_sigs.specs.Tables.{MessageSignature, Interface, interface_at, message_of}
 use Rattle.wl_interface_text.specs.Text.{WrittenInterface}
 use Rattle.wl_interface_text.specs.TableText.{TableText}
 use Rattle.wl_sigs.specs.Joined.{all_names, first_place, joined}
 use Rattle.wl_sigs.specs.Broken.{Broken, ended_of, first_broken}
 use Rattle.wl_sigs.specs.FirstBroken.{written_of, InterfaceBreaks, MessageBreaks, BreaksRule}
-use Rattle.wl_sigs.specs.FirstBroken.{by_interface, by_message, IsFirstBroken}
+use Rattle.wl_sigs.specs.FirstBroken.{by_interface, by_message, IsFirstBrokenLine}
 use Rattle.std.proofs.lemmas.Option.{slice_get-map}
 use Rattle.wl_sigs.proofs.JoinedLookup.{placing, placing_message, placed_messages}
 use Rattle.wl_sigs.proofs.ValidKeeps.{placed_at}
@@ -80,7 +80,8 @@ by_tests tables written line rule (by_message place i side o m d breaks) =
     some_same m (placing_message tables written d.own) (sym listed ∙ found) in
     let here : MessageBreaks (joined tables written) (placing tables written d.owner) side o
     (placing_message tables written d.own) rule =
-    subst (λ (x : Message). MessageBreaks (joined tables written) (placing tables written d.owner) side o x rule)
+    subst (λ (x : MessageSignature). MessageBreaks (joined tables written) (placing tables written d.owner) side o x
+    rule)
     same_message
     (subst (λ (x : Interface). MessageBreaks (joined tables written) x side o m rule) same breaks) in
     record {
@@ -124,7 +125,7 @@ one_declared tables text written told line tests others d d' =
     some_same others tests (sym b.tests_are ∙ ap (tests_of tables written) same ∙ a.tests_are)
 
 first_in_words : (tables : List Interface) (text : List ℕ) (written : List WrittenInterface) → TableText text written
-    → (it : Broken) → first_broken tables written ≡ Some it → IsFirstBroken tables written it
+    → (it : Broken) → first_broken tables written ≡ Some it → IsFirstBrokenLine tables written it
 first_in_words tables text written told it found =
     let first = first_tested tables written it found in
     record {
@@ -140,7 +141,7 @@ first_in_words tables text written told it found =
 
 -- one line and one rule are the first
 one_first : (tables : List Interface) (written : List WrittenInterface) (it other : Broken)
-    → IsFirstBroken tables written it → IsFirstBroken tables written other → other ≡ it
+    → IsFirstBrokenLine tables written it → IsFirstBrokenLine tables written other → other ≡ it
 one_first tables written it other a b =
     let lines : other.line ≡ it.line = (let le = a.first other.line other.rule b.breaks
     in let ge = b.first it.line it.rule a.breaks in omega (arith, le, ge)) in
@@ -156,7 +157,7 @@ one_first tables written it other a b =
     same_broken a b lines rules = ap (λ (l : ℕ). broken_of l a.rule) lines ∙ ap (λ (r : ℕ). broken_of b.line r) rules
 
 first_of_words : (tables : List Interface) (text : List ℕ) (written : List WrittenInterface) → TableText text written
-    → (it : Broken) → IsFirstBroken tables written it
+    → (it : Broken) → IsFirstBrokenLine tables written it
     → (o : Option Broken) → first_broken tables written ≡ o → o ≡ Some it
 first_of_words tables text written told it first None none =
     let other = by_tests tables written it.line it.rule first.breaks in
@@ -166,7 +167,7 @@ first_of_words tables text written told it first (Some other) found =
     (first_in_words tables text written told other found))
 
 pub first_line : (tables : List Interface) (text : List ℕ) (written : List WrittenInterface) (it : Broken)
-    → TableText text written → (first_broken tables written ≡ Some it) ↔ IsFirstBroken tables written it
+    → TableText text written → (first_broken tables written ≡ Some it) ↔ IsFirstBrokenLine tables written it
 first_line tables text written it told = (
   first_in_words tables text written told it,
   λ first. first_of_words tables text written told it first (first_broken tables written) refl,

@@ -6,7 +6,7 @@ use Rattle.std.proofs.lemmas.List.{map-append, length-append, length-map}
 use Rattle.std.proofs.lemmas.Option.{slice_get-map}
 use Rattle.wl_sigs.specs.declared.signature.Side.{Side}
 use Rattle.wl_sigs.specs.declared.signature.Side.TheVariants.{Request, Event}
-use Rattle.wl_sigs.specs.Tables.{Message, Interface, interface_at, messages_of, message_of, signature_at}
+use Rattle.wl_sigs.specs.Tables.{MessageSignature, Interface, interface_at, messages_of, message_of, signature_at}
 use Rattle.wl_interface_text.specs.Text.{WrittenMessage, WrittenInterface}
 use Rattle.wl_sigs.specs.Joined.{all_names, first_place, message_placed, interface_placed, joined}
 use Rattle.wl_sigs.specs.Valid.{EachInterface, EachMessage}
@@ -44,7 +44,7 @@ mapped_at f xs k y at = mapped_some f (slice_get xs k) y (sym (slice_get-map f x
 abbrev pub placing : List Interface → List WrittenInterface → WrittenInterface → Interface
 placing tables written = let names = all_names tables written in interface_placed (first_place names) (length names)
 
-abbrev pub placing_message : List Interface → List WrittenInterface → WrittenMessage → Message
+abbrev pub placing_message : List Interface → List WrittenInterface → WrittenMessage → MessageSignature
 placing_message tables written = let names = all_names tables written
     in message_placed (first_place names) (length names)
 
@@ -84,7 +84,7 @@ placed_messages tables written Event w = refl
 
 -- a message of joined tables that the text brought
 pub record BroughtMessage (tables : List Interface) (written : List WrittenInterface) (place : ℕ) (side : Side)
-    (opcode : ℕ) (m : Message) : Type 0 where
+    (opcode : ℕ) (m : MessageSignature) : Type 0 where
   pub index : ℕ
   pub interface : WrittenInterface
   pub at : slice_get written index ≡ Some interface
@@ -94,7 +94,7 @@ pub record BroughtMessage (tables : List Interface) (written : List WrittenInter
   pub is : placing_message tables written from ≡ m
 
 pub either_message : (tables : List Interface) (written : List WrittenInterface) (place : ℕ) (side : Side) (opcode : ℕ)
-    (m : Message)
+    (m : MessageSignature)
     → signature_at (joined tables written) place side opcode ≡ Some m
     → (signature_at tables place side opcode ≡ Some m) ⊎ BroughtMessage tables written place side opcode m
 either_message tables written place side opcode m h =
@@ -119,7 +119,8 @@ either_message tables written place side opcode m h =
     ]
 
 -- what holds of the messages of both holds of those of the joined
-pub each_message : (P : Message → Type 0) (tables : List Interface) (written : List WrittenInterface) (side : Side)
+pub each_message : (P : MessageSignature → Type 0) (tables : List Interface) (written : List WrittenInterface)
+    (side : Side)
     → EachMessage tables side P
     → ((k : ℕ) (w : WrittenInterface) (o : ℕ) (m : WrittenMessage) → slice_get written k ≡ Some w
     → slice_get (written_of side w) o ≡ Some m → P (placing_message tables written m))

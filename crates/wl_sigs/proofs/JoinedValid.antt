@@ -18,10 +18,10 @@ use Rattle.wl_wire.specs.declared.kind.Kind.TheVariants as kinds
 use Rattle.wl_sigs.specs.declared.signature.Side.{Side}
 use Rattle.wl_sigs.specs.declared.signature.Side.TheVariants.{Request, Event}
 use Rattle.wl_sigs.specs.Rules.{is_empty}
-use Rattle.wl_sigs.specs.Tables.{Message, Interface, interface_at, messages_of, signature_at}
+use Rattle.wl_sigs.specs.Tables.{MessageSignature, Interface, interface_at, messages_of, signature_at}
 use Rattle.wl_sigs.specs.Tables.{new_objects, named_interface, has_destroying_event}
 use Rattle.wl_sigs.specs.Tables.{destroys_target, destroys_argument}
-use Rattle.wl_sigs.specs.Valid.{IsName, NamesAreDistinct, HasFixedFour, AreSmall, MakeFewObjects}
+use Rattle.wl_sigs.specs.Valid.{IsTableName, NamesAreDistinct, HasFixedFour, AreSmall, MakeFewObjects}
 use Rattle.wl_sigs.specs.Valid.{UnnamedNewInBindAlone, NoAnyInRequests, SincesAreInRange}
 use Rattle.wl_sigs.specs.Valid.{DestroyingEventsAreRaceFree, NamedInterfacesAreThere}
 use Rattle.wl_sigs.specs.Valid.{ArgumentEndsInFixesAlone, Valid}
@@ -103,7 +103,7 @@ unnamed_joined tables written none old place side opcode m h =
           let all = all_placed _ (kind_placed (first_place names) (length names)) (λ k. k ≢ kinds.New None)
           (λ k t. not_unnamed (first_place names) (length names) k.kind k.iface t) b.from.kinds keeps.none_unnamed
           in
-          inr (subst (λ (x : Message). All (λ k. k ≢ kinds.New None) x.kinds) b.is all)
+          inr (subst (λ (x : MessageSignature). All (λ k. k ≢ kinds.New None) x.kinds) b.is all)
     ]
 
 -- V6
@@ -136,7 +136,7 @@ sinces_joined tables written none old = record {
         let le = leb-true _ _ (keeps_at tables written none side b.index b.interface opcode b.from b.at b.of).to_version
         in
         subst (λ (x : Interface). m.since ≤ x.version) own
-        (subst (λ (x : Message). x.since ≤ b.interface.version) b.is le)
+        (subst (λ (x : MessageSignature). x.since ≤ b.interface.version) b.is le)
   ];
 }
   where
@@ -273,7 +273,7 @@ interfaces_apart tables written none old p q i j at at' same =
 
 -- V1, the names of messages
 messages_apart : (tables : List Interface) (written : List WrittenInterface) → NoneBroken tables written
-    → NamesAreDistinct tables → (place : ℕ) (side : Side) (o p : ℕ) (m n : Message)
+    → NamesAreDistinct tables → (place : ℕ) (side : Side) (o p : ℕ) (m n : MessageSignature)
     → signature_at (joined tables written) place side o ≡ Some m
     → signature_at (joined tables written) place side p ≡ Some n → m.name ≡ n.name → o ≡ p
 messages_apart tables written none old place side o p m n h h' same =
@@ -300,8 +300,8 @@ messages_apart tables written none old place side o p m n h h' same =
             (keeps_at tables written none side b.index b.interface o b.from b.at b.of).first_named in
             let d = found_first first b'.from.name p
             (keeps_at tables written none side b.index b.interface p b'.from b.at of').first_named in
-            let named : b.from.name ≡ m.name = ap (λ (x : Message). x.name) b.is in
-            let named' : b'.from.name ≡ n.name = ap (λ (x : Message). x.name) b'.is in
+            let named : b.from.name ≡ m.name = ap (λ (x : MessageSignature). x.name) b.is in
+            let named' : b'.from.name ≡ n.name = ap (λ (x : MessageSignature). x.name) b'.is in
             let e : Some o ≡ Some p = sym a ∙ ap first (named ∙ same ∙ sym named') ∙ d in
             cc e
       ]
@@ -311,10 +311,10 @@ messages_apart tables written none old place side o p m n h h' same =
 names_joined_apart : (tables : List Interface) (written : List WrittenInterface) → NoneBroken tables written
     → NamesAreDistinct tables → NamesAreDistinct (joined tables written)
 names_joined_apart tables written none old = record {
-  interfaces_named = each_interface (λ i. IsName i.name) tables written old.interfaces_named
+  interfaces_named = each_interface (λ i. IsTableName i.name) tables written old.interfaces_named
       (λ k w at. (decides_name w.name).0 (none k w at).interface.named);
   interfaces_distinct = interfaces_apart tables written none old;
-  messages_named = λ side. each_message (λ m. IsName m.name) tables written side (old.messages_named side)
+  messages_named = λ side. each_message (λ m. IsTableName m.name) tables written side (old.messages_named side)
       (λ k w o m at of. (decides_name m.name).0 (keeps_at tables written none side k w o m at of).named);
   messages_distinct = messages_apart tables written none old;
 }
@@ -407,7 +407,8 @@ argument_joined tables written old place side opcode m h =
     elim (either_message tables written place side opcode m h) as
     (λ _. (place ≡ 18) ⊎ (destroys_argument m.destroys ≡ false)) [
       | inl front ↦ old place side opcode m front
-      | inr b ↦ inr (subst (λ (x : Message). destroys_argument x.destroys ≡ false) b.is (no_argument b.from.destroys))
+      | inr b ↦ inr (subst (λ (x : MessageSignature). destroys_argument x.destroys ≡ false) b.is
+          (no_argument b.from.destroys))
     ]
   where
     no_argument : (b : Bool) → destroys_argument (destroys_of b) ≡ false

@@ -10,7 +10,7 @@ use Rattle.std.proofs.lemmas.Bool.Decides.{Decides-ltb}
 use Rattle.std.proofs.lemmas.Slice.Eq.{bytes_eq-Decides}
 use Rattle.wl_wire.specs.declared.kind.Iface.{Iface}
 use Rattle.wl_sigs.specs.declared.signature.Side.{Side}
-use Rattle.wl_sigs.specs.Tables.{Message, Interface, interface_at, message_of, signature_at, place_of}
+use Rattle.wl_sigs.specs.Tables.{MessageSignature, Interface, interface_at, message_of, signature_at, place_of}
 use Rattle.wl_sigs.specs.Valid.{Valid}
 
 pub then_some : {X Y : Type 0} (f : X → Option Y) (o : Option X) (y : Y) → option_and_then f o ≡ Some y
@@ -19,18 +19,19 @@ then_some f None y h = cc
 then_some f (Some x) y h = (x, refl, h)
 
 -- the interface that a message was found in
-pub record Found (tables : List Interface) (place : ℕ) (side : Side) (opcode : ℕ) (m : Message) : Type 0 where
+pub record Found (tables : List Interface) (place : ℕ) (side : Side) (opcode : ℕ) (m : MessageSignature) : Type 0 where
   pub interface : Interface
   pub at : interface_at tables place ≡ Some interface
   pub of : message_of side opcode interface ≡ Some m
 
-pub found : (tables : List Interface) (place : ℕ) (side : Side) (opcode : ℕ) (m : Message)
+pub found : (tables : List Interface) (place : ℕ) (side : Side) (opcode : ℕ) (m : MessageSignature)
     → signature_at tables place side opcode ≡ Some m → Found tables place side opcode m
 found tables place side opcode m h =
     let it = then_some (message_of side opcode) (interface_at tables place) m h
     in record { interface = it.0; at = it.1; of = it.2 }
 
-pub signature_from : (tables : List Interface) (place : ℕ) (side : Side) (opcode : ℕ) (i : Interface) (m : Message)
+pub signature_from : (tables : List Interface) (place : ℕ) (side : Side) (opcode : ℕ) (i : Interface)
+    (m : MessageSignature)
     → interface_at tables place ≡ Some i → message_of side opcode i ≡ Some m
     → signature_at tables place side opcode ≡ Some m
 signature_from tables place side opcode i m at of = ap (option_and_then (message_of side opcode)) at ∙ of

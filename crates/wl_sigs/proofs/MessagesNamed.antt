@@ -6,20 +6,21 @@ use Rattle.std.proofs.lemmas.List.Quantifiers.{position-Some}
 use Rattle.std.proofs.lemmas.Option.{slice_get-get_or}
 use Rattle.std.proofs.lemmas.Slice.Eq.{bytes_eq-Decides}
 use Rattle.wl_sigs.specs.declared.signature.Side.{Side}
-use Rattle.wl_sigs.specs.Tables.{Message, Interface, interface_at, messages_of, signature_at}
+use Rattle.wl_sigs.specs.Tables.{MessageSignature, Interface, interface_at, messages_of, signature_at}
 use Rattle.wl_sigs.specs.ByName.{opcode_of}
 use Rattle.wl_sigs.specs.Valid.{Valid}
 use Rattle.wl_sigs.proofs.Lookups.{then_some, found, signature_from, passes_within, position_within}
 
 -- the message of this name stands at this opcode
 abbrev Named : List Interface → ℕ → Side → List ℕ → ℕ → Type 0
-Named tables place side name opcode = (m : Message) × (signature_at tables place side opcode ≡ Some m) × (m.name ≡ name)
+Named tables place side name opcode = (m : MessageSignature) × (signature_at tables place side opcode ≡ Some m)
+    × (m.name ≡ name)
 
-abbrev has_name : List ℕ → Message → Bool
+abbrev has_name : List ℕ → MessageSignature → Bool
 has_name name m = bytes_eq m.name name
 
-at_position : (ms : List Message) (name : List ℕ) (opcode : ℕ) → position (has_name name) ms ≡ Some opcode
-    → (m : Message) × (slice_get ms opcode ≡ Some m) × (m.name ≡ name)
+at_position : (ms : List MessageSignature) (name : List ℕ) (opcode : ℕ) → position (has_name name) ms ≡ Some opcode
+    → (m : MessageSignature) × (slice_get ms opcode ≡ Some m) × (m.name ≡ name)
 at_position [] name opcode h = cc h
 at_position (first ∷ more) name opcode h =
     let ms = first ∷ more in
@@ -53,7 +54,7 @@ there_named tables valid place side name opcode h =
 -- what an answer of this value says
 pub opcode_named : (tables : List Interface) → Valid tables → (place : ℕ) (side : Side) (name : List ℕ) (o : Option ℕ)
     → o ≡ opcode_of tables place side name
-    → (opcode : ℕ) → (o ≡ Some opcode) ↔ ((m : Message) × (signature_at tables place side opcode ≡ Some m)
+    → (opcode : ℕ) → (o ≡ Some opcode) ↔ ((m : MessageSignature) × (signature_at tables place side opcode ≡ Some m)
     × (m.name ≡ name))
 opcode_named tables valid place side name o is opcode = (
   λ e. named_there tables place side name opcode (sym is ∙ e),

@@ -10,10 +10,10 @@ use Rattle.wl_wire.specs.declared.kind.Kind.TheVariants as kinds
 use Rattle.wl_wire.specs.declared.kind.Iface.{Iface}
 use Rattle.wl_sigs.specs.declared.signature.Side.{Side}
 use Rattle.wl_sigs.specs.declared.signature.Side.TheVariants.{Request, Event}
-use Rattle.wl_sigs.specs.Tables.{Message, Interface, interface_at, messages_of, message_of}
+use Rattle.wl_sigs.specs.Tables.{MessageSignature, Interface, interface_at, messages_of, message_of}
 use Rattle.wl_sigs.specs.Tables.{signature_at, new_objects, has_destroying_event, named_interface}
 use Rattle.wl_sigs.specs.Tables.{destroys_argument}
-use Rattle.wl_sigs.specs.Valid.{EachInterface, EachMessage, IsNameByte, IsName, NamesAreDistinct}
+use Rattle.wl_sigs.specs.Valid.{EachInterface, EachMessage, IsNameByte, IsTableName, NamesAreDistinct}
 use Rattle.wl_sigs.specs.Valid.{HasFixedFour, AreSmall, MakeFewObjects, IsBind}
 use Rattle.wl_sigs.specs.Valid.{UnnamedNewInBindAlone, NoAnyInRequests, DestroyingEventsAreRaceFree}
 use Rattle.wl_sigs.specs.Valid.{SincesAreInRange, NamedInterfacesAreThere, ArgumentEndsInFixesAlone}
@@ -34,7 +34,7 @@ decides_name_byte b =
     (Decides-or (nat_le 48 b && nat_le b 57) (nat_eq b 95)
     (Decides-and (nat_le 48 b) (nat_le b 57) (Decides-le 48 b) (Decides-le b 57)) (Decides-eqb b 95))
 
-pub decides_name : (name : List ℕ) → Decides (test.is_name name) (IsName name)
+pub decides_name : (name : List ℕ) → Decides (test.is_name name) (IsTableName name)
 decides_name name =
     Decides-like (test.is_name name) (λ h. record { some = h.0.0; few = h.0.1; bytes = h.1 })
     (λ n. ((n.some, n.few), n.bytes))
@@ -48,7 +48,7 @@ abbrev MessagesDistinct : Side → Interface → Type 0
 MessagesDistinct side i = DistinctBy (λ m. m.name) (messages_of side i)
 
 distinct_in_tables : (tables : List Interface) → ((side : Side) → EachInterface tables (MessagesDistinct side))
-    → (place : ℕ) (side : Side) (o p : ℕ) (m n : Message) → signature_at tables place side o ≡ Some m
+    → (place : ℕ) (side : Side) (o p : ℕ) (m n : MessageSignature) → signature_at tables place side o ≡ Some m
     → signature_at tables place side p ≡ Some n → m.name ≡ n.name → o ≡ p
 distinct_in_tables tables all place side o p m n at at' same =
     let a = found tables place side o m at in
@@ -58,7 +58,7 @@ distinct_in_tables tables all place side o p m n at at' same =
     subst (λ i. message_of side p i ≡ Some n) (let e : b.interface ≡ a.interface = cc in e) b.of in
     all side place a.interface a.at o p m n a.of of same
 
-distinct_in_each : (tables : List Interface) → ((place : ℕ) (side : Side) (o p : ℕ) (m n : Message)
+distinct_in_each : (tables : List Interface) → ((place : ℕ) (side : Side) (o p : ℕ) (m n : MessageSignature)
     → signature_at tables place side o ≡ Some m → signature_at tables place side p ≡ Some n → m.name ≡ n.name → o ≡ p)
     → (side : Side) → EachInterface tables (MessagesDistinct side)
 distinct_in_each tables all side place i at o p m n of of' same =
@@ -87,11 +87,11 @@ decides_names tables =
     (Decides-and (named && distinct && messages) apart
     (Decides-and (named && distinct) messages
     (Decides-and named distinct
-    (Decides-each (λ i. test.is_name i.name) (λ i. IsName i.name) (λ i. decides_name i.name) tables)
+    (Decides-each (λ i. test.is_name i.name) (λ i. IsTableName i.name) (λ i. decides_name i.name) tables)
     (Decides-distinct_by (λ i. i.name) tables))
     (Decides-both (test.each_message (λ m. test.is_name m.name) tables)
-    (λ side. EachMessage tables side (λ m. IsName m.name))
-    (Decides-message (λ m. test.is_name m.name) (λ m. IsName m.name) (λ m. decides_name m.name) tables)))
+    (λ side. EachMessage tables side (λ m. IsTableName m.name))
+    (Decides-message (λ m. test.is_name m.name) (λ m. IsTableName m.name) (λ m. decides_name m.name) tables)))
     (Decides-both (λ side. list_all (λ i. test.are_distinct (map (λ m. m.name) (messages_of side i))) tables)
     (λ side. EachInterface tables (MessagesDistinct side))
     (λ side. Decides-each (λ i. test.are_distinct (map (λ m. m.name) (messages_of side i))) (MessagesDistinct side)
@@ -142,18 +142,18 @@ decides_unnamed (kinds.New (Some iface)) = (λ _ e. cc, λ _. refl)
 decides_unnamed kinds.Array = (λ _ e. cc, λ _. refl)
 decides_unnamed kinds.Fd = (λ _ e. cc, λ _. refl)
 
-abbrev NoUnnamedNew : Message → Type 0
+abbrev NoUnnamedNew : MessageSignature → Type 0
 NoUnnamedNew m = All (λ k. k ≢ kinds.New None) m.kinds
 
-decides_no_unnamed : (m : Message) → Decides (test.has_no_unnamed_new m) (NoUnnamedNew m)
+decides_no_unnamed : (m : MessageSignature) → Decides (test.has_no_unnamed_new m) (NoUnnamedNew m)
 decides_no_unnamed m = Decides-list_all (λ k. not (test.is_unnamed_new k))
     (λ k. k ≢ kinds.New None) decides_unnamed m.kinds
 
 -- a request at its place and opcode
-abbrev IsBindOrNamed : ℕ → ℕ → Message → Type 0
+abbrev IsBindOrNamed : ℕ → ℕ → MessageSignature → Type 0
 IsBindOrNamed place opcode m = ((place ≡ 1) × (opcode ≡ 0)) ⊎ NoUnnamedNew m
 
-decides_request : (place opcode : ℕ) (m : Message)
+decides_request : (place opcode : ℕ) (m : MessageSignature)
     → Decides ((nat_eq place 1 && nat_eq opcode 0) || test.has_no_unnamed_new m) (IsBindOrNamed place opcode m)
 decides_request place opcode m =
     Decides-or (nat_eq place 1 && nat_eq opcode 0) (test.has_no_unnamed_new m)
@@ -161,19 +161,20 @@ decides_request place opcode m =
     (decides_no_unnamed m)
 
 abbrev RequestsNamed : ℕ → Interface → Type 0
-RequestsNamed place i = (opcode : ℕ) (m : Message) → slice_get i.requests opcode ≡ Some m → IsBindOrNamed place opcode m
+RequestsNamed place i = (opcode : ℕ) (m : MessageSignature) → slice_get i.requests opcode ≡ Some m
+    → IsBindOrNamed place opcode m
 
-bind_or_named : (place opcode : ℕ) (m : Message) → IsBindOrNamed place opcode m
+bind_or_named : (place opcode : ℕ) (m : MessageSignature) → IsBindOrNamed place opcode m
     → IsBind place Request opcode ⊎ NoUnnamedNew m
 bind_or_named place opcode m (inl at) = inl (record { registry = at.0; request = refl; bind = at.1 })
 bind_or_named place opcode m (inr named) = inr named
 
-request_named : (place opcode : ℕ) (m : Message) → IsBind place Request opcode ⊎ NoUnnamedNew m
+request_named : (place opcode : ℕ) (m : MessageSignature) → IsBind place Request opcode ⊎ NoUnnamedNew m
     → IsBindOrNamed place opcode m
 request_named place opcode m (inl b) = inl (b.registry, b.bind)
 request_named place opcode m (inr named) = inr named
 
-event_named : (place opcode : ℕ) (m : Message) → IsBind place Event opcode ⊎ NoUnnamedNew m → NoUnnamedNew m
+event_named : (place opcode : ℕ) (m : MessageSignature) → IsBind place Event opcode ⊎ NoUnnamedNew m → NoUnnamedNew m
 event_named place opcode m (inl b) = let e = b.request in cc
 event_named place opcode m (inr named) = named
 
@@ -266,7 +267,7 @@ decides_ended tables (kinds.New iface) = (λ _ null other i e at. cc, λ _. refl
 decides_ended tables kinds.Array = (λ _ null iface i e at. cc, λ _. refl)
 decides_ended tables kinds.Fd = (λ _ null iface i e at. cc, λ _. refl)
 
-or_empty : (ended : Bool) (requests : List Message)
+or_empty : (ended : Bool) (requests : List MessageSignature)
     → Decides (not ended || test.is_empty requests) (ended ≡ true → requests ≡ [])
 or_empty true requests = ((λ h _. (Decides-empty requests).0 h), λ all. (Decides-empty requests).1 (all refl))
 or_empty false requests = ((λ _ h. cc), λ _. refl)
@@ -291,10 +292,11 @@ decides_race_free tables =
 -- versions
 
 abbrev SincesBelow : Side → Interface → Type 0
-SincesBelow side i = (opcode : ℕ) (m : Message) → slice_get (messages_of side i) opcode ≡ Some m → m.since ≤ i.version
+SincesBelow side i = (opcode : ℕ) (m : MessageSignature) → slice_get (messages_of side i) opcode ≡ Some m
+    → m.since ≤ i.version
 
 below_from : (tables : List Interface) → ((side : Side) → EachInterface tables (SincesBelow side))
-    → (place : ℕ) (side : Side) (opcode : ℕ) (i : Interface) (m : Message) → interface_at tables place ≡ Some i
+    → (place : ℕ) (side : Side) (opcode : ℕ) (i : Interface) (m : MessageSignature) → interface_at tables place ≡ Some i
     → signature_at tables place side opcode ≡ Some m → m.since ≤ i.version
 below_from tables all place side opcode i m at h =
     let it = found tables place side opcode m h in
@@ -358,7 +360,7 @@ is_not true = (λ h. cc, λ h. cc)
 is_not false = (λ h. refl, λ h. refl)
 
 abbrev FixesOrNone : ℕ → Interface → Type 0
-FixesOrNone place i = (place ≡ 18) ⊎ ((side : Side) (opcode : ℕ) (m : Message)
+FixesOrNone place i = (place ≡ 18) ⊎ ((side : Side) (opcode : ℕ) (m : MessageSignature)
     → slice_get (messages_of side i) opcode ≡ Some m → destroys_argument m.destroys ≡ false)
 
 decides_place : (place : ℕ) (i : Interface) → Decides
@@ -368,12 +370,12 @@ decides_place place i =
     Decides-or (nat_eq place 18) (test.both_sides (λ side. list_all test.ends_no_argument (messages_of side i)))
     (Decides-eqb place 18)
     (Decides-both (λ side. list_all test.ends_no_argument (messages_of side i))
-    (λ side. (opcode : ℕ) (m : Message) → slice_get (messages_of side i) opcode ≡ Some m
+    (λ side. (opcode : ℕ) (m : MessageSignature) → slice_get (messages_of side i) opcode ≡ Some m
     → destroys_argument m.destroys ≡ false)
     (λ side. Decides-each test.ends_no_argument (λ m. destroys_argument m.destroys ≡ false)
     (λ m. is_not (destroys_argument m.destroys)) (messages_of side i)))
 
-fixes_from : (side : Side) (opcode place : ℕ) (i : Interface) (m : Message) → FixesOrNone place i
+fixes_from : (side : Side) (opcode place : ℕ) (i : Interface) (m : MessageSignature) → FixesOrNone place i
     → slice_get (messages_of side i) opcode ≡ Some m → (place ≡ 18) ⊎ (destroys_argument m.destroys ≡ false)
 fixes_from side opcode place i m (inl p) h = inl p
 fixes_from side opcode place i m (inr f) h = inr (f side opcode m h)
@@ -386,7 +388,7 @@ or_right : (A P : Type 0) → A ⊎ P → (A → ⊥) → P
 or_right A P (inl a) f = absurd (f a)
 or_right A P (inr p) f = p
 
-fixes_to : (place : ℕ) (i : Interface) → ((side : Side) (opcode : ℕ) (m : Message)
+fixes_to : (place : ℕ) (i : Interface) → ((side : Side) (opcode : ℕ) (m : MessageSignature)
     → slice_get (messages_of side i) opcode ≡ Some m → (place ≡ 18) ⊎ (destroys_argument m.destroys ≡ false))
     → FixesOrNone place i
 fixes_to place i all =

@@ -13,8 +13,9 @@ use Rattle.wl_wire.specs.declared.kind.Iface.{Iface}
 use Rattle.wl_sigs.specs.declared.signature.Side.{Side}
 use Rattle.wl_sigs.specs.declared.signature.Side.TheVariants.{Request, Event}
 use Rattle.wl_sigs.specs.Rules.{is_name, is_empty}
-use Rattle.wl_sigs.specs.Tables.{Message, Interface, interface_at, new_objects, named_interface, destroys_target}
-use Rattle.wl_sigs.specs.Valid.{IsName}
+use Rattle.wl_sigs.specs.Tables.{MessageSignature, Interface, interface_at, new_objects, named_interface}
+use Rattle.wl_sigs.specs.Tables.{destroys_target}
+use Rattle.wl_sigs.specs.Valid.{IsTableName}
 use Rattle.wl_interface_text.specs.Text.{WrittenKind, WrittenMessage, WrittenInterface}
 use Rattle.wl_sigs.specs.Joined.{all_names, first_place, kind_placed, destroys_of, joined}
 use Rattle.wl_sigs.specs.Broken.{is_first, makes_object, makes_unnamed, takes_any, takes_ended}
@@ -70,10 +71,10 @@ name_at tables written p i found = rw (← names_joined tables written)
     (slice_get-map (λ (i : Interface). i.name) (joined tables written) p
     ∙ ap (option_map (λ (i : Interface). i.name)) found)
 
-not_name : (name : List ℕ) → is_name name ≡ false → ¬ IsName name
+not_name : (name : List ℕ) → is_name name ≡ false → ¬ IsTableName name
 not_name name fails is = let passes = (decides_name name).1 is in let no : false ≡ true = sym fails ∙ passes in cc no
 
-no_name : (name : List ℕ) → ¬ IsName name → is_name name ≡ false
+no_name : (name : List ℕ) → ¬ IsTableName name → is_name name ≡ false
 no_name name never = fails_unless (is_name name) (λ passes. never ((decides_name name).0 passes))
 
 not_lt : (a b : ℕ) → b ≤ a → nat_lt a b ≡ false
@@ -326,7 +327,7 @@ message_says tables written k w side o m at of = record {
         let listed : slice_get (map (placing_message tables written) (written_of side w)) earlier ≡ Some n =
         subst (λ ms. slice_get ms earlier ≡ Some n) (placed_messages tables written side w) found in
         let x = mapped_at (placing_message tables written) (written_of side w) earlier n listed in
-        let named : x.0.name ≡ m.name = ap (λ (y : Message). y.name) x.2 ∙ same in
+        let named : x.0.name ≡ m.name = ap (λ (y : MessageSignature). y.name) x.2 ∙ same in
         failing_at tests 0 1 rule _ refl is (right_fails (is_name m.name) (is_first (first_place own_names) m.name o)
         (not_first own_names m.name o earlier lt (own_name earlier x.0 x.1 ∙ ap Some named)))
     back rule (message_beyond is le) =

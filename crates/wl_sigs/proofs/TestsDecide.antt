@@ -7,7 +7,7 @@ use Rattle.std.proofs.lemmas.Bool.Decides.{Decides-by_and, Decides-like, Decides
 use Rattle.std.proofs.lemmas.Option.{slice_get_within, get_or_from_slice_get, slice_get-get_or}
 use Rattle.wl_sigs.specs.declared.signature.Side.{Side}
 use Rattle.wl_sigs.specs.declared.signature.Side.TheVariants.{Request, Event}
-use Rattle.wl_sigs.specs.Tables.{Message, Interface, messages_of}
+use Rattle.wl_sigs.specs.Tables.{MessageSignature, Interface, messages_of}
 use Rattle.wl_sigs.specs.Valid.{EachMessage}
 use Rattle.wl_sigs.proofs.Lookups.{found, signature_from}
 use Rattle.wl_sigs.specs.Rules.{both_sides, each_message, is_empty}
@@ -46,12 +46,13 @@ Decides-both test P each =
     Decides-like (both_sides test) (λ both. by_side P both.0 both.1) (λ all. (all Request, all Event))
     (Decides-and (test Request) (test Event) (each Request) (each Event))
 
-pub Decides-message : (test : Message → Bool) (P : Message → Type 0) → ((m : Message) → Decides (test m) (P m))
+pub Decides-message : (test : MessageSignature → Bool) (P : MessageSignature → Type 0)
+    → ((m : MessageSignature) → Decides (test m) (P m))
     → (tables : List Interface) (side : Side) → Decides (each_message test tables side) (EachMessage tables side P)
 Decides-message test P each tables side =
     Decides-like (each_message test tables side)
     (λ all place opcode m h. let it = found tables place side opcode m h in all place it.interface it.at opcode m it.of)
     (λ all place i at opcode m of. all place opcode m (signature_from tables place side opcode i m at of))
     (Decides-each (λ i. list_all test (messages_of side i))
-    (λ i. (opcode : ℕ) (m : Message) → slice_get (messages_of side i) opcode ≡ Some m → P m)
+    (λ i. (opcode : ℕ) (m : MessageSignature) → slice_get (messages_of side i) opcode ≡ Some m → P m)
     (λ i. Decides-each test P each (messages_of side i)) tables)

@@ -4,10 +4,10 @@ use Rattle.std.specs.Prelude.{Result, Ok, Err, ◌↔◌}
 use Rattle.std.specs.Str.Lines.{lines}
 use Rattle.wl_interface_text.specs.declared.fault.TableFault.TheVariants.{BadLine, BadTable}
 use Rattle.wl_interface_text.specs.TableText.{TableText, IsFirstBadLine}
-use Rattle.wl_interface_text.specs.Text.{WrittenInterface, listed}
+use Rattle.wl_interface_text.specs.Text.{WrittenInterface, interfaces_from}
 use Rattle.wl_interface_text.proofs.Texts.{text_lists, first_bad}
 use Rattle.wl_sigs.specs.Broken.{Broken, first_broken}
-use Rattle.wl_sigs.specs.FirstBroken.{IsFirstBroken}
+use Rattle.wl_sigs.specs.FirstBroken.{IsFirstBrokenLine}
 use Rattle.wl_sigs.specs.Joined.{joined}
 use Rattle.wl_sigs.specs.Outcome.{joined_unless, outcome_of, outcome}
 use Rattle.wl_sigs.specs.Tables.{Interface}
@@ -30,7 +30,7 @@ unbroken_told tables all text written valid told None unbroken is =
 unbroken_told tables all text written valid told (Some it) broken is = cc is
 
 read_told : (tables all : List Interface) (text : List ℕ) → Valid tables → (r : Result (List WrittenInterface) ℕ)
-    → listed 1 (lines text) [] ≡ r → outcome_of tables r ≡ Ok all → Told tables text all
+    → interfaces_from 1 (lines text) [] ≡ r → outcome_of tables r ≡ Ok all → Told tables text all
 read_told tables all text valid (Ok written) read is =
     unbroken_told tables all text written valid ((text_lists text written).0 read) (first_broken tables written) refl is
 read_told tables all text valid (Err n) read is = cc is
@@ -38,7 +38,7 @@ read_told tables all text valid (Err n) read is = cc is
 told_read : (tables all : List Interface) (text : List ℕ) → Valid tables → Told tables text all
     → outcome tables text ≡ Ok all
 told_read tables all text valid told =
-    let read : listed 1 (lines text) [] ≡ Ok told.0 = (text_lists text told.0).1 told.1 in
+    let read : interfaces_from 1 (lines text) [] ≡ Ok told.0 = (text_lists text told.0).1 told.1 in
     let whole : Valid (joined tables told.0) = subst Valid (sym told.2) told.3 in
     ap (outcome_of tables) read ∙ ap (joined_unless tables told.0) (valid_unbroken tables told.0 valid whole)
     ∙ ap Ok told.2
@@ -47,7 +47,7 @@ pub texts_told : (tables all : List Interface) (text : List ℕ) → Valid table
     → (outcome tables text ≡ Ok all) ↔ Told tables text all
 texts_told tables all text valid = (
   read_told tables all text valid
-      (listed 1 (lines text) []) refl,
+      (interfaces_from 1 (lines text) []) refl,
   told_read tables all text valid,
 )
 
@@ -57,7 +57,7 @@ unbroken_stands tables written n None is = cc is
 unbroken_stands tables written n (Some it) is = cc is
 
 read_bad : (tables : List Interface) (text : List ℕ) (n : ℕ) → (r : Result (List WrittenInterface) ℕ)
-    → listed 1 (lines text) [] ≡ r → outcome_of tables r ≡ Err (BadLine n) → IsFirstBadLine text n
+    → interfaces_from 1 (lines text) [] ≡ r → outcome_of tables r ≡ Err (BadLine n) → IsFirstBadLine text n
 read_bad tables text n (Ok written) read is = absurd (unbroken_stands tables written n (first_broken tables written) is)
 read_bad tables text n (Err m) read is =
     let same : m ≡ n = cc is in
@@ -66,7 +66,7 @@ read_bad tables text n (Err m) read is =
 pub texts_bad : (tables : List Interface) (text : List ℕ) (n : ℕ)
     → (outcome tables text ≡ Err (BadLine n)) ↔ IsFirstBadLine text n
 texts_bad tables text n = (
-  read_bad tables text n (listed 1 (lines text) []) refl,
+  read_bad tables text n (interfaces_from 1 (lines text) []) refl,
   λ bad. ap (outcome_of tables)
       ((first_bad text n).1 bad),
 )
@@ -76,7 +76,7 @@ broken_of line rule = record { line = line; rule = rule }
 
 abbrev IsBroken : List Interface → List ℕ → ℕ → ℕ → Type 0
 IsBroken tables text line rule = (written : List WrittenInterface) × TableText text written
-    × IsFirstBroken tables written (record { line = line; rule = rule })
+    × IsFirstBrokenLine tables written (record { line = line; rule = rule })
 
 broken_stands : (tables : List Interface) (text : List ℕ) (line rule : ℕ) (written : List WrittenInterface)
     → TableText text written
@@ -95,7 +95,8 @@ broken_stands tables text line rule written told (Some it) broken is =
     )
 
 read_broken : (tables : List Interface) (text : List ℕ) (line rule : ℕ) → (r : Result (List WrittenInterface) ℕ)
-    → listed 1 (lines text) [] ≡ r → outcome_of tables r ≡ Err (BadTable line rule) → IsBroken tables text line rule
+    → interfaces_from 1 (lines text) [] ≡ r → outcome_of tables r ≡ Err (BadTable line rule)
+    → IsBroken tables text line rule
 read_broken tables text line rule (Ok written) read is =
     broken_stands tables text line rule written ((text_lists text written).0 read) (first_broken tables written) refl is
 read_broken tables text line rule (Err m) read is = cc is
@@ -103,7 +104,7 @@ read_broken tables text line rule (Err m) read is = cc is
 broken_read : (tables : List Interface) (text : List ℕ) (line rule : ℕ) → IsBroken tables text line rule
     → outcome tables text ≡ Err (BadTable line rule)
 broken_read tables text line rule is =
-    let read : listed 1 (lines text) [] ≡ Ok is.0 = (text_lists text is.0).1 is.1 in
+    let read : interfaces_from 1 (lines text) [] ≡ Ok is.0 = (text_lists text is.0).1 is.1 in
     let broken : first_broken tables is.0 ≡ Some (broken_of line rule) =
     (first_line tables text is.0 (broken_of line rule) is.1).1 is.2 in
     ap (outcome_of tables) read ∙ ap (joined_unless tables is.0) broken
@@ -112,6 +113,6 @@ pub texts_broken : (tables : List Interface) (text : List ℕ) (line rule : ℕ)
     → (outcome tables text ≡ Err (BadTable line rule)) ↔ IsBroken tables text line rule
 texts_broken tables text line rule = (
   read_broken tables text line rule
-      (listed 1 (lines text) []) refl,
+      (interfaces_from 1 (lines text) []) refl,
   broken_read tables text line rule,
 )

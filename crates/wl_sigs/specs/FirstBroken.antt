@@ -8,9 +8,9 @@ use Rattle.wl_wire.specs.declared.kind.Kind.TheVariants as kinds
 use Rattle.wl_wire.specs.declared.kind.Iface.{Iface}
 use Rattle.wl_sigs.specs.declared.signature.Side.{Side}
 use Rattle.wl_sigs.specs.declared.signature.Side.TheVariants.{Request, Event}
-use Rattle.wl_sigs.specs.Tables.{Message, Interface, interface_at, message_of, new_objects}
+use Rattle.wl_sigs.specs.Tables.{MessageSignature, Interface, interface_at, message_of, new_objects}
 use Rattle.wl_sigs.specs.Tables.{has_destroying_event, destroys_target, named_interface}
-use Rattle.wl_sigs.specs.Valid.{IsName}
+use Rattle.wl_sigs.specs.Valid.{IsTableName}
 use Rattle.wl_interface_text.specs.Text.{WrittenMessage, WrittenInterface}
 use Rattle.wl_sigs.specs.Joined.{joined}
 use Rattle.wl_sigs.specs.Broken.{Broken}
@@ -33,22 +33,23 @@ pub record DeclaresInterface (tables : List Interface) (written : List WrittenIn
 
 -- The line declares the message at this opcode of one side of the interface at this place.
 pub record DeclaresMessage (tables : List Interface) (written : List WrittenInterface)
-    (line place : ℕ) (i : Interface) (side : Side) (opcode : ℕ) (m : Message) : Type 0 where
-  pub index : ℕ
-  pub owner : WrittenInterface
-  pub own : WrittenMessage
-  pub at : slice_get written index ≡ Some owner
-  pub of : slice_get (written_of side owner) opcode ≡ Some own
-  pub line_is : line ≡ own.line
-  pub place_is : place ≡ length tables + index
-  pub stands : interface_at (joined tables written) place ≡ Some i
-  pub listed : message_of side opcode i ≡ Some m
+    (line place : ℕ) (i : Interface) (side : Side) (opcode : ℕ) (m : MessageSignature) : Type 0
+  where
+    pub index : ℕ
+    pub owner : WrittenInterface
+    pub own : WrittenMessage
+    pub at : slice_get written index ≡ Some owner
+    pub of : slice_get (written_of side owner) opcode ≡ Some own
+    pub line_is : line ≡ own.line
+    pub place_is : place ≡ length tables + index
+    pub stands : interface_at (joined tables written) place ≡ Some i
+    pub listed : message_of side opcode i ≡ Some m
 
 -- The interface at this place of all tables breaks the rule by itself.
 pub data InterfaceBreaks (all : List Interface) (place : ℕ) (i : Interface) (rule : ℕ)
     : Type 0 where
   -- V1: its name is none, or that of an earlier interface
-  interface_misnamed : rule ≡ 1 → ¬ IsName i.name → InterfaceBreaks all place i rule
+  interface_misnamed : rule ≡ 1 → ¬ IsTableName i.name → InterfaceBreaks all place i rule
   interface_named_again : (earlier : ℕ) (j : Interface) → rule ≡ 1 → earlier < place
       → interface_at all earlier ≡ Some j → j.name ≡ i.name → InterfaceBreaks all place i rule
   -- V3: 1,024 stand before it
@@ -58,10 +59,10 @@ pub data InterfaceBreaks (all : List Interface) (place : ℕ) (i : Interface) (r
 
 -- The message at this opcode of one side of this interface, among all tables, breaks the rule.
 pub data MessageBreaks (all : List Interface) (i : Interface) (side : Side) (opcode : ℕ)
-    (m : Message) (rule : ℕ) : Type 0 where
+    (m : MessageSignature) (rule : ℕ) : Type 0 where
   -- V1: its name is none, or that of an earlier message of the side
-  message_misnamed : rule ≡ 1 → ¬ IsName m.name → MessageBreaks all i side opcode m rule
-  message_named_again : (earlier : ℕ) (n : Message) → rule ≡ 1 → earlier < opcode
+  message_misnamed : rule ≡ 1 → ¬ IsTableName m.name → MessageBreaks all i side opcode m rule
+  message_named_again : (earlier : ℕ) (n : MessageSignature) → rule ≡ 1 → earlier < opcode
       → message_of side earlier i ≡ Some n → n.name ≡ m.name
       → MessageBreaks all i side opcode m rule
   -- V3: 256 of the side stand before it, or it has more than 20 arguments
@@ -99,13 +100,14 @@ pub data BreaksRule (tables : List Interface) (written : List WrittenInterface) 
     : Type 0 where
   by_interface : (place : ℕ) (i : Interface) → DeclaresInterface tables written line place i
       → InterfaceBreaks (joined tables written) place i rule → BreaksRule tables written line rule
-  by_message : (place : ℕ) (i : Interface) (side : Side) (opcode : ℕ) (m : Message)
+  by_message : (place : ℕ) (i : Interface) (side : Side) (opcode : ℕ) (m : MessageSignature)
       → DeclaresMessage tables written line place i side opcode m
       → MessageBreaks (joined tables written) i side opcode m rule
       → BreaksRule tables written line rule
 
 -- The line breaks the rule and no lesser one, and no earlier line breaks any.
-pub record IsFirstBroken (tables : List Interface) (written : List WrittenInterface) (it : Broken)
+pub record IsFirstBrokenLine (tables : List Interface) (written : List WrittenInterface)
+    (it : Broken)
     : Type 0 where
   pub breaks : BreaksRule tables written it.line it.rule
   pub least : (rule : ℕ) → BreaksRule tables written it.line rule → it.rule ≤ rule

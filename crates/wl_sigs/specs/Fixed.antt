@@ -7,9 +7,9 @@ use Rattle.wl_wire.specs.declared.kind.Kind.TheVariants as kinds
 use Rattle.wl_wire.specs.declared.kind.Iface.{Iface}
 use Rattle.wl_sigs.specs.declared.signature.Destroys.{Destroys}
 use Rattle.wl_sigs.specs.declared.signature.Destroys.TheVariants.{Nothing, Target, Arg}
-use Rattle.wl_sigs.specs.Tables.{Message, Interface}
+use Rattle.wl_sigs.specs.Tables.{MessageSignature, Interface}
 
-abbrev pub message : List ℕ → ℕ → List Kind → Destroys → Message
+abbrev pub message : List ℕ → ℕ → List Kind → Destroys → MessageSignature
 message name since kinds destroys = record {
   name = name;
   since = since;

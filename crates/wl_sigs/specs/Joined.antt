@@ -6,7 +6,7 @@ use Rattle.wl_wire.specs.declared.kind.Kind.TheVariants as kinds
 use Rattle.wl_wire.specs.declared.kind.Iface.{Iface}
 use Rattle.wl_sigs.specs.declared.signature.Destroys.{Destroys}
 use Rattle.wl_sigs.specs.declared.signature.Destroys.TheVariants.{Nothing, Target}
-use Rattle.wl_sigs.specs.Tables.{Message, Interface}
+use Rattle.wl_sigs.specs.Tables.{MessageSignature, Interface}
 use Rattle.wl_interface_text.specs.Text.{WrittenKind, WrittenMessage, WrittenInterface}
 
 -- the names of the interfaces of the tables, then those of the text
@@ -35,7 +35,7 @@ abbrev pub destroys_of : Bool → Destroys
 destroys_of true = Target
 destroys_of false = Nothing
 
-abbrev pub message_placed : (List ℕ → Option ℕ) → ℕ → WrittenMessage → Message
+abbrev pub message_placed : (List ℕ → Option ℕ) → ℕ → WrittenMessage → MessageSignature
 message_placed place past m = record {
   name = m.name;
   since = m.since;

@@ -4,7 +4,7 @@ use Rattle.std.specs.Str.Lines.{lines}
 use Rattle.wl_interface_text.specs.declared.fault.TableFault.{TableFault}
 use Rattle.wl_interface_text.specs.declared.fault.TableFault.TheVariants.{BadLine, BadTable}
 use Rattle.wl_sigs.specs.Tables.{Interface}
-use Rattle.wl_interface_text.specs.Text.{WrittenInterface, listed}
+use Rattle.wl_interface_text.specs.Text.{WrittenInterface, interfaces_from}
 use Rattle.wl_sigs.specs.Joined.{joined}
 use Rattle.wl_sigs.specs.Broken.{Broken, first_broken}
 
@@ -22,4 +22,4 @@ outcome_of tables (Ok written) = joined_unless tables written (first_broken tabl
 -- The tables of a text behind these; else the first line that has no form or is a message before
 -- any interface; else the first line that breaks a rule, and the least rule there.
 abbrev pub outcome : List Interface → List ℕ → Result (List Interface) TableFault
-outcome tables text = outcome_of tables (listed 1 (lines text) [])
+outcome tables text = outcome_of tables (interfaces_from 1 (lines text) [])

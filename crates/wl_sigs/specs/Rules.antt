@@ -8,8 +8,9 @@ use Rattle.wl_wire.specs.declared.kind.Kind.TheVariants as kinds
 use Rattle.wl_wire.specs.declared.kind.Iface.{Iface}
 use Rattle.wl_sigs.specs.declared.signature.Side.{Side}
 use Rattle.wl_sigs.specs.declared.signature.Side.TheVariants.{Request, Event}
-use Rattle.wl_sigs.specs.Tables.{Message, Interface, interface_at, messages_of, new_objects}
-use Rattle.wl_sigs.specs.Tables.{has_destroying_event, named_interface, destroys_argument}
+use Rattle.wl_sigs.specs.Tables.{MessageSignature, Interface, interface_at, messages_of}
+use Rattle.wl_sigs.specs.Tables.{new_objects, has_destroying_event, named_interface}
+use Rattle.wl_sigs.specs.Tables.{destroys_argument}
 
 -- each element passes, given its place, where the first stands at n
 abbrev pub all_from : {X : Type 0} → (ℕ → X → Bool) → ℕ → List X → Bool
@@ -23,7 +24,7 @@ is_empty (x ∷ xs) = false
 abbrev pub both_sides : (Side → Bool) → Bool
 both_sides test = test Request && test Event
 
-abbrev pub each_message : (Message → Bool) → List Interface → Side → Bool
+abbrev pub each_message : (MessageSignature → Bool) → List Interface → Side → Bool
 each_message test tables side = list_all (λ i. list_all test (messages_of side i)) tables
 
 abbrev pub is_name_byte : ℕ → Bool
@@ -62,7 +63,7 @@ abbrev pub is_unnamed_new : Kind → Bool
 is_unnamed_new (kinds.New None) = true
 is_unnamed_new _ = false
 
-abbrev pub has_no_unnamed_new : Message → Bool
+abbrev pub has_no_unnamed_new : MessageSignature → Bool
 has_no_unnamed_new m = list_all (λ k. not (is_unnamed_new k)) m.kinds
 
 -- V5
@@ -115,7 +116,7 @@ named_interfaces_are_there tables =
     both_sides (each_message (λ m.
     list_all (λ k. is_there tables (named_interface k)) m.kinds) tables)
 
-abbrev pub ends_no_argument : Message → Bool
+abbrev pub ends_no_argument : MessageSignature → Bool
 ends_no_argument m = not (destroys_argument m.destroys)
 
 -- V10

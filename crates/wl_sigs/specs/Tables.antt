@@ -12,7 +12,7 @@ use Rattle.wl_sigs.specs.declared.signature.Side.TheVariants.{Request, Event}
 
 -- a request or an event: its name, the version of its interface that brought it, the kinds of its
 -- arguments, and what it destroys
-pub record Message : Type 0 where
+pub record MessageSignature : Type 0 where
   pub name : List ℕ
   pub since : ℕ
   pub kinds : List Kind
@@ -22,24 +22,24 @@ pub record Message : Type 0 where
 pub record Interface : Type 0 where
   pub name : List ℕ
   pub version : ℕ
-  pub requests : List Message
-  pub events : List Message
+  pub requests : List MessageSignature
+  pub events : List MessageSignature
 
 -- the interface at a place of the tables, if there is one
 abbrev pub interface_at : List Interface → ℕ → Option Interface
 interface_at tables place = slice_get tables place
 
 -- an interface's messages of one side
-abbrev pub messages_of : Side → Interface → List Message
+abbrev pub messages_of : Side → Interface → List MessageSignature
 messages_of Request i = i.requests
 messages_of Event i = i.events
 
 -- the message of one side of an interface at an opcode, if there is one
-abbrev pub message_of : Side → ℕ → Interface → Option Message
+abbrev pub message_of : Side → ℕ → Interface → Option MessageSignature
 message_of side opcode i = slice_get (messages_of side i) opcode
 
 -- the message at an opcode of one side of the interface at a place, if there are such
-abbrev pub signature_at : List Interface → ℕ → Side → ℕ → Option Message
+abbrev pub signature_at : List Interface → ℕ → Side → ℕ → Option MessageSignature
 signature_at tables place side opcode =
     option_and_then (message_of side opcode) (interface_at tables place)
 
@@ -61,7 +61,7 @@ first (x ∷ xs) = Some x
 
 -- Whether a message makes an object, and of which interface: `Some None` where only the bytes tell.
 -- In valid tables no message makes more than one.
-abbrev pub makes : Message → Option (Option Iface)
+abbrev pub makes : MessageSignature → Option (Option Iface)
 makes m = first (new_objects m.kinds)
 
 -- whether a message destroys the object that it is for

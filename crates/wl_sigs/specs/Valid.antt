@@ -6,8 +6,8 @@ use Rattle.wl_wire.specs.declared.kind.Kind.TheVariants as kinds
 use Rattle.wl_wire.specs.declared.kind.Iface.{Iface}
 use Rattle.wl_sigs.specs.declared.signature.Side.{Side}
 use Rattle.wl_sigs.specs.declared.signature.Side.TheVariants.{Request, Event}
-use Rattle.wl_sigs.specs.Tables.{Message, Interface, interface_at, messages_of, signature_at}
-use Rattle.wl_sigs.specs.Tables.{new_objects, has_destroying_event, named_interface}
+use Rattle.wl_sigs.specs.Tables.{MessageSignature, Interface, interface_at, messages_of}
+use Rattle.wl_sigs.specs.Tables.{signature_at, new_objects, has_destroying_event, named_interface}
 use Rattle.wl_sigs.specs.Tables.{destroys_argument}
 use Rattle.wl_sigs.specs.Fixed.{wl_display, wl_registry, wl_callback, wl_fixes}
 
@@ -16,16 +16,16 @@ abbrev pub EachInterface : List Interface → (Interface → Type 0) → Type 0
 EachInterface tables P = (place : ℕ) (i : Interface) → interface_at tables place ≡ Some i → P i
 
 -- P holds of each message of the side
-abbrev pub EachMessage : List Interface → Side → (Message → Type 0) → Type 0
+abbrev pub EachMessage : List Interface → Side → (MessageSignature → Type 0) → Type 0
 EachMessage tables side P =
-    (place opcode : ℕ) (m : Message) → signature_at tables place side opcode ≡ Some m → P m
+    (place opcode : ℕ) (m : MessageSignature) → signature_at tables place side opcode ≡ Some m → P m
 
 -- a byte of a name: a to z, 0 to 9 or _
 abbrev pub IsNameByte : ℕ → Type 0
 IsNameByte b = ((97 ≤ b) × (b ≤ 122)) ⊎ ((48 ≤ b) × (b ≤ 57)) ⊎ (b ≡ 95)
 
 -- a name: 1 to 256 such bytes
-pub record IsName (name : List ℕ) : Type 0 where
+pub record IsTableName (name : List ℕ) : Type 0 where
   pub some : 1 ≤ length name
   pub few : length name ≤ 256
   pub bytes : All IsNameByte name
@@ -33,12 +33,12 @@ pub record IsName (name : List ℕ) : Type 0 where
 -- V1: interfaces and messages have names; those of interfaces are distinct, and those of messages
 -- within one interface and side
 pub record NamesAreDistinct (tables : List Interface) : Type 0 where
-  pub interfaces_named : EachInterface tables (λ i. IsName i.name)
+  pub interfaces_named : EachInterface tables (λ i. IsTableName i.name)
   pub interfaces_distinct : (p q : ℕ) (i j : Interface)
       → interface_at tables p ≡ Some i → interface_at tables q ≡ Some j
       → i.name ≡ j.name → p ≡ q
-  pub messages_named : (side : Side) → EachMessage tables side (λ m. IsName m.name)
-  pub messages_distinct : (place : ℕ) (side : Side) (o p : ℕ) (m n : Message)
+  pub messages_named : (side : Side) → EachMessage tables side (λ m. IsTableName m.name)
+  pub messages_distinct : (place : ℕ) (side : Side) (o p : ℕ) (m n : MessageSignature)
       → signature_at tables place side o ≡ Some m → signature_at tables place side p ≡ Some n
       → m.name ≡ n.name → o ≡ p
 
@@ -70,7 +70,7 @@ pub record IsBind (place : ℕ) (side : Side) (opcode : ℕ) : Type 0 where
 -- V5: a new object without an interface stands in wl_registry.bind alone
 abbrev pub UnnamedNewInBindAlone : List Interface → Type 0
 UnnamedNewInBindAlone tables =
-    (place : ℕ) (side : Side) (opcode : ℕ) (m : Message)
+    (place : ℕ) (side : Side) (opcode : ℕ) (m : MessageSignature)
     → signature_at tables place side opcode ≡ Some m
     → IsBind place side opcode ⊎ All (λ k. k ≢ kinds.New None) m.kinds
 
@@ -92,7 +92,7 @@ pub record DestroyingEventsAreRaceFree (tables : List Interface) : Type 0 where
 pub record SincesAreInRange (tables : List Interface) : Type 0 where
   pub versions : EachInterface tables (λ i. 1 ≤ i.version)
   pub from_one : (side : Side) → EachMessage tables side (λ m. 1 ≤ m.since)
-  pub to_version : (place : ℕ) (side : Side) (opcode : ℕ) (i : Interface) (m : Message)
+  pub to_version : (place : ℕ) (side : Side) (opcode : ℕ) (i : Interface) (m : MessageSignature)
       → interface_at tables place ≡ Some i → signature_at tables place side opcode ≡ Some m
       → m.since ≤ i.version
 
@@ -106,7 +106,7 @@ NamedInterfacesAreThere tables =
 -- destroys the registry that its only argument names
 abbrev pub ArgumentEndsInFixesAlone : List Interface → Type 0
 ArgumentEndsInFixesAlone tables =
-    (place : ℕ) (side : Side) (opcode : ℕ) (m : Message)
+    (place : ℕ) (side : Side) (opcode : ℕ) (m : MessageSignature)
     → signature_at tables place side opcode ≡ Some m
     → (place ≡ 18) ⊎ (destroys_argument m.destroys ≡ false)
 

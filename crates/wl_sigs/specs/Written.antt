@@ -2,9 +2,9 @@
 use Rattle.std.specs.Prelude.{map}
 use Rattle.wl_sigs.specs.declared.core_interfaces.CoreMessage.{CoreMessage}
 use Rattle.wl_sigs.specs.declared.core_interfaces.CoreInterface.{CoreInterface}
-use Rattle.wl_sigs.specs.Tables.{Message, Interface}
+use Rattle.wl_sigs.specs.Tables.{MessageSignature, Interface}
 
-abbrev pub message_written : CoreMessage → Message
+abbrev pub message_written : CoreMessage → MessageSignature
 message_written m = record {
   name = m.name.now;
   since = m.since;

@@ -3,7 +3,7 @@ ghost use Rattle.std.specs.Prelude.{◌≡◌, ◌↔◌, ℕ, List, Ok, Err, So
 ghost use Rattle.wl_sigs.specs.declared.signature.Side.{Side};
 ghost use Rattle.wl_sigs.specs.Broken.{Broken, first_broken};
 ghost use Rattle.wl_sigs.specs.Core.{core_tables};
-ghost use Rattle.wl_sigs.specs.FirstBroken.{IsFirstBroken};
+ghost use Rattle.wl_sigs.specs.FirstBroken.{IsFirstBrokenLine};
 ghost use Rattle.wl_sigs.specs.Joined.{joined};
 ghost use Rattle.wl_sigs.specs.Opcodes.{opcodes, opcodes_in};
 ghost use Rattle.wl_sigs.specs.Outcome.{outcome};
@@ -46,7 +46,7 @@ pub fn unbroken_where_valid()
 pub fn first_broken_is_first()
     ensures { (tables : List Interface) (text : List ℕ) (written : List WrittenInterface)
         (it : Broken) → TableText text written
-        → (first_broken tables written ≡ Some it) ↔ IsFirstBroken tables written it }
+        → (first_broken tables written ≡ Some it) ↔ IsFirstBrokenLine tables written it }
 {}
 
 /// A text is read behind valid tables, as the tables joined with those that it lists, exactly where
@@ -63,5 +63,5 @@ pub fn texts_are_told()
     ensures broken { (tables : List Interface) (text : List ℕ) (line rule : ℕ)
         → (outcome tables text ≡ Err (BadTable line rule)) ↔ ((written : List WrittenInterface)
         × TableText text written
-        × IsFirstBroken tables written (record { line = line; rule = rule })) }
+        × IsFirstBrokenLine tables written (record { line = line; rule = rule })) }
 {}

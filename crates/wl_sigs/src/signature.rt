@@ -55,9 +55,9 @@ pub struct Signature<A: Allocator = Global> {
 }
 
 impl<A: Allocator> Model for Signature<A> {
-    ghost use Rattle.wl_sigs.specs.Tables.{Message};
+    ghost use Rattle.wl_sigs.specs.Tables.{MessageSignature};
 
-    ghost Value = { Message };
+    ghost Value = { MessageSignature };
 
     ghost view = { λ s. record {
       name = s.name.items;

@@ -4,7 +4,7 @@ ghost use Rattle.std.specs.Prelude.{option_copied};
 ghost use Rattle.std.specs.Prelude.{option_map, position, bytes_eq, length, IfSome, ◌<◌};
 ghost use Rattle.wl_sigs.specs.Core.{core_tables};
 ghost use Rattle.wl_sigs.specs.ByName.{opcode_of};
-ghost use Rattle.wl_sigs.specs.Tables.{Message, interface_at, signature_at, place_of};
+ghost use Rattle.wl_sigs.specs.Tables.{MessageSignature, interface_at, signature_at, place_of};
 ghost use Rattle.wl_sigs.specs.Rules.{is_ended_by_event};
 ghost use Rattle.wl_sigs.specs.Valid.{Valid};
 ghost use Rattle.wl_sigs.specs.Written.{interface_written};
@@ -94,7 +94,7 @@ impl<A: Allocator> Tables<A> {
     pub fn opcode(&self, iface: Iface, side: Side, name: &[u8]) -> Option<u16>
         ensures answer { result ≡ opcode_of self.now iface.0 side name.now }
         ensures found { (opcode : ℕ) → (result ≡ Some opcode)
-            ↔ ((m : Message) × (signature_at self.now iface.0 side opcode ≡ Some m)
+            ↔ ((m : MessageSignature) × (signature_at self.now iface.0 side opcode ≡ Some m)
             × (m.name ≡ name.now)) }
         ensures valid { Valid self.now }
     {

@@ -10,8 +10,8 @@ use Rattle.wl_sigs.specs.Tables.{Interface}
 use Rattle.wl_object_map.specs.declared.object.Entry.{Entry}
 use Rattle.std.specs.Prelude.{Option}
 use Rattle.wl_objects.specs.Reading.{is_descriptor}
-use Rattle.wl_trace_line.specs.Text.{listed}
-use Rattle.wl_trace_line.specs.Line.{parts_of, all_parts, taken_after}
+use Rattle.wl_trace_line.specs.Text.{comma_separated}
+use Rattle.wl_trace_line.specs.Line.{parts_of, all_parts, taken_with}
 
 -- what is written of parts that stand behind others: each with its separator in front
 abbrev pub listed_more : List (List ℕ) → List ℕ
@@ -19,7 +19,7 @@ listed_more parts = flat_map (λ part. codes ", " ++ part) parts
 
 -- what is written of parts, behind those of so many arguments
 abbrev pub listed_behind : ℕ → List (List ℕ) → List ℕ
-listed_behind zero parts = listed parts
+listed_behind zero parts = comma_separated parts
 listed_behind (suc n) parts = listed_more parts
 
 pub listed_more-append : (xs ys : List (List ℕ)) → listed_more (xs ++ ys) ≡ listed_more xs ++ listed_more ys
@@ -46,14 +46,15 @@ begins tables held taken kind (Array bytes) = record { first = _; more = _; whol
 begins tables held taken kind (Fd _) = record { first = _; more = _; whole = refl }
 
 -- the parts of the first argument, and those behind them
-listed-first : (parts rest : List (List ℕ)) → Begins parts → listed (parts ++ rest) ≡ listed parts ++ listed_more rest
+listed-first : (parts rest : List (List ℕ)) → Begins parts
+    → comma_separated (parts ++ rest) ≡ comma_separated parts ++ listed_more rest
 listed-first parts rest b =
     rw b.whole (ap (λ t. b.first ++ t) (listed_more-append b.more rest)
     ∙ sym (append_assoc b.first (listed_more b.more) (listed_more rest)))
 
 -- the parts of a further argument
 listed-next : (parts rest : List (List ℕ)) → Begins parts
-    → listed_more (parts ++ rest) ≡ codes ", " ++ listed parts ++ listed_more rest
+    → listed_more (parts ++ rest) ≡ codes ", " ++ comma_separated parts ++ listed_more rest
 listed-next parts rest b =
     listed_more-append parts rest ∙ rw b.whole (ap (λ t. t ++ listed_more rest)
     (append_assoc (codes ", ") b.first (listed_more b.more))
@@ -65,27 +66,27 @@ Separated n before now = ((0 < n) × (now ≡ before ++ codes ", ")) ⊎ ((n ≡
 
 -- the parts of one argument, behind the separator
 next_written : (n : ℕ) (before separated now : List ℕ) (parts rest : List (List ℕ)) → Begins parts
-    → Separated n before separated → now ≡ separated ++ listed parts
+    → Separated n before separated → now ≡ separated ++ comma_separated parts
     → now ++ listed_more rest ≡ before ++ listed_behind n (parts ++ rest)
 next_written zero before separated now parts rest b (inl s) w = absurd (omega (arith, s.0))
 next_written zero before separated now parts rest b (inr s) w =
-    rw (w, s.1, listed-first parts rest b) (append_assoc before (listed parts) (listed_more rest))
+    rw (w, s.1, listed-first parts rest b) (append_assoc before (comma_separated parts) (listed_more rest))
 next_written (suc n) before separated now parts rest b (inl s) w =
     rw (w, s.1, listed-next parts rest b)
-    (ap (λ t. t ++ listed_more rest) (append_assoc before (codes ", ") (listed parts))
-    ∙ append_assoc before (codes ", " ++ listed parts) (listed_more rest))
+    (ap (λ t. t ++ listed_more rest) (append_assoc before (codes ", ") (comma_separated parts))
+    ∙ append_assoc before (codes ", " ++ comma_separated parts) (listed_more rest))
 next_written (suc n) before separated now parts rest b (inr s) w = absurd (omega (arith, s.0))
 
 -- one argument more is written
 pub argument_written : (tables : List Interface) (held : ℕ → Option Entry) (taken after n : ℕ) (ks : List Kind)
     (k : Kind) (left more : List Argument) (v : Argument) (before separated now : List ℕ)
-    → n < length ks → left ≡ v ∷ more → after ≡ taken_after taken v → Separated n before separated
-    → now ≡ separated ++ listed (parts_of tables held taken (get_or ks n k) v)
+    → n < length ks → left ≡ v ∷ more → after ≡ taken_with taken v → Separated n before separated
+    → now ≡ separated ++ comma_separated (parts_of tables held taken (get_or ks n k) v)
     → now ++ listed_behind (n + 1) (all_parts tables held after (drop (n + 1) ks) more)
     ≡ before ++ listed_behind n (all_parts tables held taken (drop n ks) left)
 argument_written tables held taken after n ks k left more v before separated now p e a s w =
     rw (add-one, drop-cons ks n k p, e, a)
-    (next_written n before separated now _ (all_parts tables held (taken_after taken v) (drop (suc n) ks) more)
+    (next_written n before separated now _ (all_parts tables held (taken_with taken v) (drop (suc n) ks) more)
     (begins tables held taken (get_or ks n k) v) s w)
 
 -- nothing is left to write
@@ -105,6 +106,6 @@ no_more_values tables held taken n ks k left before p e =
     rw (drop-cons ks n k p, e, nothing_behind n, append-nil before) refl
 
 -- an argument takes one token at most
-pub taken_after-le : (taken : ℕ) (value : Argument) → taken_after taken value ≤ taken + 1
+pub taken_after-le : (taken : ℕ) (value : Argument) → taken_with taken value ≤ taken + 1
 taken_after-le taken value = elim (is_descriptor value) as
     (λ b. cond b (taken + 1) taken ≤ taken + 1) [ true ↦ omega arith | false ↦ omega arith ]

@@ -11,7 +11,8 @@ use Rattle.wl_sigs.specs.Tables.{Interface}
 use Rattle.wl_object_map.specs.declared.object.Entry.{Entry}
 use Rattle.wl_objects.specs.Reading.{is_descriptor}
 use Rattle.wl_objects.specs.Messages.{Received}
-use Rattle.wl_trace_line.specs.Text.{arrow, object_text, new_text, name_of, string_text, listed}
+use Rattle.wl_trace_line.specs.Text.{arrow, object_text, new_text, name_of, string_text}
+use Rattle.wl_trace_line.specs.Text.{comma_separated}
 
 abbrev pub null_text : List ℕ
 null_text = codes "nil"
@@ -52,15 +53,15 @@ parts_of tables held taken kind (Array bytes) =
 parts_of tables held taken kind (Fd _) = (codes "fd " ++ decimal (taken + 1)) ∷ []
 
 -- how many tokens have been taken behind an argument
-abbrev pub taken_after : ℕ → Argument → ℕ
-taken_after taken value = if is_descriptor value then taken + 1 else taken
+abbrev pub taken_with : ℕ → Argument → ℕ
+taken_with taken value = if is_descriptor value then taken + 1 else taken
 
 -- the parts that tell a message's arguments, in order
 abbrev pub all_parts : List Interface → (ℕ → Option Entry) → ℕ → List Kind → List Argument
     → List (List ℕ)
 all_parts tables held taken (kind ∷ ks) (value ∷ values) =
     parts_of tables held taken kind value
-    ++ all_parts tables held (taken_after taken value) ks values
+    ++ all_parts tables held (taken_with taken value) ks values
 all_parts tables held taken _ _ = []
 
 -- The line of a message that was read, with the line feed that ends it: by these tables, where
@@ -69,4 +70,5 @@ abbrev pub line : List Interface → Side → (ℕ → Option Entry) → Receive
 line tables side held message taken =
     arrow side ++ codes " " ++ object_text (name_of tables message.entry.iface) message.target.id
     ++ codes "." ++ message.signature.name ++ codes "("
-    ++ listed (all_parts tables held taken message.signature.kinds message.values) ++ codes ")\n"
+    ++ comma_separated (all_parts tables held taken message.signature.kinds message.values)
+    ++ codes ")\n"

@@ -44,5 +44,5 @@ abbrev pub string_text : List ℕ → List ℕ
 string_text text = codes "\"" ++ flat_map byte_text text ++ codes "\""
 
 -- texts with a comma and a space between each two
-abbrev pub listed : List (List ℕ) → List ℕ
-listed texts = join_by (λ text. text) (codes ", ") texts
+abbrev pub comma_separated : List (List ℕ) → List ℕ
+comma_separated texts = join_by (λ text. text) (codes ", ") texts

@@ -2,8 +2,8 @@
 ghost use Rattle.std.specs.Prelude.{◌≡◌, ◌<◌, ◌^◌, ◌+◌, [], ◌∷◌, ◌++◌, OnOk, option_copied};
 ghost use Rattle.wl_wire.specs.Argument.{lent};
 ghost use Rattle.std.specs.Fmt.{decimal};
-ghost use Rattle.wl_trace_line.specs.Text.{listed, new_text, string_text};
-ghost use Rattle.wl_trace_line.specs.Line.{parts_of, all_parts, taken_after, argument_object};
+ghost use Rattle.wl_trace_line.specs.Text.{comma_separated, new_text, string_text};
+ghost use Rattle.wl_trace_line.specs.Line.{parts_of, all_parts, taken_with, argument_object};
 ghost use Rattle.wl_trace_line.specs.Line.{argument_string, made_name};
 
 use crate::text::{name_of, write_new, write_object, write_string};
@@ -24,7 +24,8 @@ pub(crate) fn write_arguments<A: Allocator, L: Lookup>(
 ) -> Result<(), AllocError>
     requires { taken < 2 ^ 127 }
     ensures { OnOk result (out.new.items ≡ out.old.items
-        ++ listed (all_parts tables.now (L.reader lookup.now).object taken kinds.now values.now)) }
+        ++ comma_separated (all_parts tables.now (L.reader lookup.now).object taken kinds.now
+        values.now)) }
 {
     let mut left = values.clone();
     let mut taken = taken;
@@ -45,7 +46,7 @@ pub(crate) fn write_arguments<A: Allocator, L: Lookup>(
 /// The number of tokens that have been taken once this argument was read.
 fn taken_after(taken: u128, value: ValueRef<'_>) -> u128
     requires { taken < 2 ^ 127 + 2 ^ 64 }
-    ensures { result ≡ taken_after taken (lent value.entry) }
+    ensures { result ≡ taken_with taken (lent value.entry) }
 {
     match value {
         ValueRef::Fd => taken + 1,
@@ -64,7 +65,7 @@ fn write_argument<A: Allocator, L: Lookup>(
 ) -> Result<(), AllocError>
     requires { taken < 2 ^ 127 + 2 ^ 64 }
     ensures { OnOk result (out.new.items ≡ out.old.items
-        ++ listed (parts_of tables.now (L.reader lookup.now).object taken kind
+        ++ comma_separated (parts_of tables.now (L.reader lookup.now).object taken kind
         (lent value.entry))) }
 {
     match value {
@@ -135,7 +136,7 @@ fn write_named<A: Allocator>(
     id: u32,
 ) -> Result<(), AllocError>
     ensures { OnOk result (out.new.items ≡ out.old.items
-        ++ listed (string_text iface.now ∷ decimal version ∷ new_text iface.now id ∷ [])) }
+        ++ comma_separated (string_text iface.now ∷ decimal version ∷ new_text iface.now id ∷ [])) }
 {
     write_string(out, iface)?;
     match write!(out, ", {version}, ") {

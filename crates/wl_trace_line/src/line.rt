@@ -1,7 +1,7 @@
 //! One message as a line.
 ghost use Rattle.std.specs.Prelude.{◌≡◌, ◌<◌, ◌^◌, ◌++◌, OnOk};
 ghost use Rattle.wl_trace_line.specs.Line.{line};
-ghost use Rattle.wl_objects.specs.Seen.{message_of};
+ghost use Rattle.wl_objects.specs.Seen.{received_of};
 
 use crate::argument::write_arguments;
 use crate::text::{arrow, name_of, write_object};
@@ -25,7 +25,7 @@ pub fn write_line<A: Allocator, L: Lookup>(
 ) -> Result<(), AllocError>
     requires { taken < 2 ^ 127 }
     ensures { OnOk result (out.new.items ≡ out.old.items
-        ++ line tables.now side (L.reader lookup.now).object (message_of message.now) taken) }
+        ++ line tables.now side (L.reader lookup.now).object (received_of message.now) taken) }
 {
     let signature = message.signature;
     out.extend_from_slice(arrow(side))?;

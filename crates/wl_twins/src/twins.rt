@@ -73,8 +73,8 @@ impl<A: Allocator + Clone + Drop> Twins<A> {
     }
 
     /// An argument of a request as one of the client's call: an object by its twin, a new object as
-    /// the place of one that the call makes. None where the object has no twin, and of a bind, which
-    /// is a call of its own.
+    /// the place of one that the call makes. None where the object has no twin, and of a bind,
+    /// which is a call of its own.
     pub fn request_arg<'a>(&self, argument: GotRef<'a>) -> Option<Arg<'a>>
         ensures { IsForwarded (client_twin self.now) (lent_got argument.entry) result }
     {

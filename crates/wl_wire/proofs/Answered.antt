@@ -19,8 +19,9 @@ use Rattle.wl_wire.specs.Argument.{Argument, Str, Obj, NewNamed, Array}
 use Rattle.wl_wire.specs.Spelling.{Spells, SpellsText, Padded, padded, is_int, is_uint, is_fixed}
 use Rattle.wl_wire.specs.Spelling.{is_null, is_text, is_object, is_new, is_named, is_array}
 use Rattle.wl_wire.specs.Spelling.{is_descriptor}
-use Rattle.wl_wire.specs.Faults.{Begins, Holds, LacksCounted, LacksEndingNul, HasInnerNul, IsFirstFault, IsShort}
-use Rattle.wl_wire.specs.Reading.{number_at, asked, counted, text_of, on_found, argument_of, reading}
+use Rattle.wl_wire.specs.Faults.{BeginsWithWord, HoldsCounted, LacksCounted, LacksEndingNul, HasInnerNul, IsFirstFault}
+use Rattle.wl_wire.specs.Faults.{IsShort}
+use Rattle.wl_wire.specs.Reading.{number_at, asked, counted_bytes, text_of, on_found, argument_of, reading}
 use Rattle.wl_wire.proofs.Numbers.{Bytewise, number_at_fits, word-number_at, number-from_word}
 use Rattle.wl_wire.proofs.Numbers.{signed_fits, int_word-signed}
 
@@ -47,15 +48,15 @@ padded_front n xs h =
     }
 
 array_front : (n : ℕ) (bytes : List ℕ) → n < 2 ^ 32 → take 4 bytes ≡ word n → 4 + padded n ≤ length bytes
-    → Spells kinds.Array (Array (counted n bytes)) (take (4 + padded n) bytes)
+    → Spells kinds.Array (Array (counted_bytes n bytes)) (take (4 + padded n) bytes)
 array_front n bytes f w h =
     let short : length (take n (drop 4 bytes)) ≡ n = omega (arith, length-take n (drop 4 bytes), length-drop 4 bytes) in
     is_array (omega arith) (padded_front n (drop 4 bytes) (omega (arith, length-drop 4 bytes)))
     (rw (take-add 4 (padded n) bytes, w, short) refl)
 
 text_spelled : (m : ℕ) (bytes : List ℕ) → m + 1 < 2 ^ 32 → take 4 bytes ≡ word (m + 1)
-    → 4 + padded (m + 1) ≤ length bytes → get_or bytes (4 + m) 0 ≡ 0 → All (λ b. b ≢ 0) (counted m bytes)
-    → SpellsText (counted m bytes) (take (4 + padded (m + 1)) bytes)
+    → 4 + padded (m + 1) ≤ length bytes → get_or bytes (4 + m) 0 ≡ 0 → All (λ b. b ≢ 0) (counted_bytes m bytes)
+    → SpellsText (counted_bytes m bytes) (take (4 + padded (m + 1)) bytes)
 text_spelled m bytes f w h z a =
     let long : m < length (drop 4 bytes) = omega (arith, length-drop 4 bytes) in
     let short : length (take m (drop 4 bytes)) ≡ m = omega (arith, length-take m (drop 4 bytes)) in
@@ -73,7 +74,7 @@ text_spelled m bytes f w h z a =
 -- the faults of a string, with so many bytes asked for behind it
 abbrev IsTextFault : ℕ → List ℕ → ArgFault → Type 0
 IsTextFault more bytes Short = ⊥
-IsTextFault more bytes NullNotAllowed = Holds more 0 bytes
+IsTextFault more bytes NullNotAllowed = HoldsCounted more 0 bytes
 IsTextFault more bytes NoEndingNul = LacksEndingNul more bytes
 IsTextFault more bytes InnerNul = HasInnerNul more bytes
 
@@ -92,23 +93,24 @@ text_answered more bytes w h =
     let n : ℕ = number_at bytes in
     let Want : Result (List ℕ) ArgFault → Type 0 =
     λ r. MatchResult r (λ text. SpellsText text (take (4 + padded n) bytes)) (IsTextFault more bytes) in
-    let begins : Begins n bytes = (number_at_fits bytes, word-number_at bytes (omega arith) w) in
-    let holds : Holds more n bytes = (begins, h) in
+    let begins : BeginsWithWord n bytes = (number_at_fits bytes, word-number_at bytes (omega arith) w) in
+    let holds : HoldsCounted more n bytes = (begins, h) in
     cond_both (n == 0) (Err NullNotAllowed) _ Want
-    (λ z. subst (λ (k : ℕ). Holds more k bytes) (eqb-true n 0 z) holds)
+    (λ z. subst (λ (k : ℕ). HoldsCounted more k bytes) (eqb-true n 0 z) holds)
     (λ z.
     let above : 0 < n = let ne = eqb-false n 0 z in omega arith in
     cond_both (slice_index bytes (n + 3) == 0) _ (Err NoEndingNul) Want
     (λ e.
     let ending : slice_index bytes (n + 3) ≡ 0 = eqb-true _ 0 e in
-    cond_both (list_any (λ b. b == 0) (counted (n - 1) bytes)) (Err InnerNul) (Ok (counted (n - 1) bytes)) Want
-    (λ t. (n, above, holds, ending, zero_in (counted (n - 1) bytes) t))
+    cond_both (list_any (λ b. b == 0) (counted_bytes (n - 1) bytes)) (Err InnerNul) (Ok (counted_bytes (n - 1) bytes))
+    Want
+    (λ t. (n, above, holds, ending, zero_in (counted_bytes (n - 1) bytes) t))
     (λ f.
     let more_is : n - 1 + 1 ≡ n = omega arith in
     let place : 4 + (n - 1) ≡ n + 3 = omega arith in
     let s = text_spelled (n - 1) bytes (omega (arith, number_at_fits bytes)) (begins.1 ∙ ap word (sym more_is))
-    (omega arith) (ap (λ (i : ℕ). get_or bytes i 0) place ∙ ending) (no_zero (counted (n - 1) bytes) f) in
-    subst (λ (k : ℕ). SpellsText (counted (n - 1) bytes) (take (4 + padded k) bytes)) more_is s))
+    (omega arith) (ap (λ (i : ℕ). get_or bytes i 0) place ∙ ending) (no_zero (counted_bytes (n - 1) bytes) f) in
+    subst (λ (k : ℕ). SpellsText (counted_bytes (n - 1) bytes) (take (4 + padded k) bytes)) more_is s))
     (λ e. (n, above, holds, eqb-false _ 0 e)))
 
 string_case : (null : Bool) (bytes : List ℕ) → (number_at bytes ≡ 0 → null ≡ false) → (r : Result (List ℕ) ArgFault)

@@ -14,7 +14,7 @@ use Rattle.wl_wire.specs.Word.{word, complement}
 use Rattle.wl_wire.specs.Argument.{Argument, Int, Uint, Fixed, Str, Obj, New, NewNamed, Array, Fd}
 use Rattle.wl_wire.specs.Spelling.{Spells, SpellsText, padded, is_int, is_uint, is_fixed, is_null}
 use Rattle.wl_wire.specs.Spelling.{is_text, is_object, is_new, is_named, is_array, is_descriptor}
-use Rattle.wl_wire.specs.Reading.{number_at, signed, asked, counted, text_of, on_found, argument_of, reading}
+use Rattle.wl_wire.specs.Reading.{number_at, signed, asked, counted_bytes, text_of, on_found, argument_of, reading}
 use Rattle.wl_wire.proofs.Numbers.{number_at-word, complement_fits, signed-complement}
 
 -- where all bytes are there, the argument that they are is what is read
@@ -28,7 +28,7 @@ reading-is kind value len bytes h a e = reading-there kind bytes (omega (arith, 
     ∙ ap (on_found (λ v. (v, asked kind bytes))) e ∙ ap (λ (n : ℕ). Ok (value, n)) a
 
 text_of-is : (n : ℕ) (bytes text : List ℕ) → (n == 0) ≡ false → (slice_index bytes (n + 3) == 0) ≡ true
-    → counted (n - 1) bytes ≡ text → list_any (λ b. b == 0) text ≡ false → text_of n bytes ≡ Ok text
+    → counted_bytes (n - 1) bytes ≡ text → list_any (λ b. b == 0) text ≡ false → text_of n bytes ≡ Ok text
 text_of-is n bytes text a b c d = rw (a, b, c, d) refl
 
 at_end : (text z : List ℕ) → get_or (text ++ 0 ∷ z) (length text) 0 ≡ 0
@@ -53,7 +53,7 @@ text_front {text} {front} rest s =
     ∙ ap (λ (l : List ℕ). word n ++ l) (append_assoc text (0 ∷ s.padded_rest.padding) rest) in
     let last : slice_index (front ++ rest) (n + 3) ≡ 0 = let i : n + 3 ≡ suc (suc (suc (suc (length text)))) =
     omega arith in rw (i, shape) (at_end text tail) in
-    let inner : counted (n - 1) (front ++ rest) ≡ text = let i : n - 1 ≡ length text = omega arith
+    let inner : counted_bytes (n - 1) (front ++ rest) ≡ text = let i : n - 1 ≡ length text = omega arith
     in rw (i, shape) (take_at text (0 ∷ tail) (length text) refl) in
     let clean : list_any (λ b. b == 0) text ≡ false =
     list_any_none (λ (b : ℕ). b == 0) text (λ k d h. ne_eqb _ 0 (s.text_fits.no_nul k d h)) in
@@ -120,8 +120,8 @@ array_found : (array rest : List ℕ) (bytes : List ℕ) → length array < 2 ^ 
     → bytes ≡ word (length array) ++ (array ++ rest) → argument_of kinds.Array bytes ≡ Ok (Array array)
 array_found array rest bytes f e =
     let number : number_at bytes ≡ length array = ap number_at e ∙ number_at-word (length array) (array ++ rest) f in
-    let content : counted (number_at bytes) bytes ≡ array =
-    ap (λ (n : ℕ). counted n bytes) number ∙ ap (λ (l : List ℕ). counted (length array) l) e
+    let content : counted_bytes (number_at bytes) bytes ≡ array =
+    ap (λ (n : ℕ). counted_bytes n bytes) number ∙ ap (λ (l : List ℕ). counted_bytes (length array) l) e
     ∙ take_at array rest (length array) refl in
     ap (λ (l : List ℕ). Ok (Array l)) content
 

@@ -14,8 +14,8 @@ use Rattle.wl_wire.specs.declared.kind.Iface.{Iface}
 use Rattle.wl_wire.specs.Word.{number_at}
 use Rattle.wl_wire.specs.Argument.{Str, NewNamed}
 use Rattle.wl_wire.specs.Spelling.{padded}
-use Rattle.wl_wire.specs.Faults.{Begins, Holds, LacksCounted, LacksEndingNul, HasInnerNul, IsFirstFault}
-use Rattle.wl_wire.specs.Reading.{asked, counted, text_of, on_found, argument_of, reading}
+use Rattle.wl_wire.specs.Faults.{BeginsWithWord, HoldsCounted, LacksCounted, LacksEndingNul, HasInnerNul, IsFirstFault}
+use Rattle.wl_wire.specs.Reading.{asked, counted_bytes, text_of, on_found, argument_of, reading}
 use Rattle.wl_wire.proofs.Numbers.{Bytewise, number-from_word}
 use Rattle.wl_wire.proofs.Fronts.{reading-there}
 use Rattle.wl_wire.proofs.Answered.{IsAnswer, reading-answers}
@@ -27,10 +27,10 @@ fault_read : (kind : Kind) (bytes : List ℕ) (fault : ArgFault) → asked kind 
     → argument_of kind bytes ≡ Err fault → reading kind bytes ≡ Err fault
 fault_read kind bytes fault h e = reading-there kind bytes h ∙ ap (on_found (λ value. (value, asked kind bytes))) e
 
-begins_number : (n : ℕ) (bytes : List ℕ) → Begins n bytes → number_at bytes ≡ n
+begins_number : (n : ℕ) (bytes : List ℕ) → BeginsWithWord n bytes → number_at bytes ≡ n
 begins_number n bytes b = number-from_word n bytes b.0 b.1
 
-begins_long : (n : ℕ) (bytes : List ℕ) → Begins n bytes → 4 ≤ length bytes
+begins_long : (n : ℕ) (bytes : List ℕ) → BeginsWithWord n bytes → 4 ≤ length bytes
 begins_long n bytes b = let l = ap length b.1 in omega (arith, l, length-take 4 bytes)
 
 lacking : (more : ℕ) (bytes : List ℕ) → LacksCounted more bytes → length bytes < 4 + padded (number_at bytes) + more
@@ -40,7 +40,7 @@ lacking more bytes h =
       | inr s ↦ let e = begins_number s.0 bytes s.1.0 in omega (arith, e, s.1.1)
     ]
 
-held : (more n : ℕ) (bytes : List ℕ) → Holds more n bytes → 4 + padded (number_at bytes) + more ≤ length bytes
+held : (more n : ℕ) (bytes : List ℕ) → HoldsCounted more n bytes → 4 + padded (number_at bytes) + more ≤ length bytes
 held more n bytes h = let e = begins_number n bytes h.0 in omega (arith, e, h.1)
 
 null_text : (bytes : List ℕ) → number_at bytes ≡ 0 → text_of (number_at bytes) bytes ≡ Err NullNotAllowed
@@ -51,7 +51,7 @@ unended : (n : ℕ) (bytes : List ℕ) → (n == 0) ≡ false → (slice_index b
 unended n bytes a b = rw (a, b) refl
 
 inner : (n : ℕ) (bytes : List ℕ) → (n == 0) ≡ false → (slice_index bytes (n + 3) == 0) ≡ true
-    → list_any (λ b. b == 0) (counted (n - 1) bytes) ≡ true → text_of n bytes ≡ Err InnerNul
+    → list_any (λ b. b == 0) (counted_bytes (n - 1) bytes) ≡ true → text_of n bytes ≡ Err InnerNul
 inner n bytes a b c = rw (a, b, c) refl
 
 unended_text : (more : ℕ) (bytes : List ℕ) → LacksEndingNul more bytes
@@ -62,7 +62,7 @@ unended_text more bytes h = ap (λ (n : ℕ). text_of n bytes) (begins_number h.
 inner_text : (more : ℕ) (bytes : List ℕ) → HasInnerNul more bytes → text_of (number_at bytes) bytes ≡ Err InnerNul
 inner_text more bytes h = ap (λ (n : ℕ). text_of n bytes) (begins_number h.0 bytes h.2.0)
     ∙ inner h.0 bytes (ne_eqb h.0 0 (λ z. let p = h.1 in omega arith)) (eq-eqb _ 0 h.3)
-    (list_any_at (λ (b : ℕ). b == 0) (counted (h.0 - 1) bytes) h.4.0 0 h.4.1 (eq-eqb _ 0 h.4.2))
+    (list_any_at (λ (b : ℕ). b == 0) (counted_bytes (h.0 - 1) bytes) h.4.0 0 h.4.1 (eq-eqb _ 0 h.4.2))
 
 -- a string that is not null, or is not allowed to be
 string_read : (null : Bool) (bytes : List ℕ) (fault : ArgFault) → ((number_at bytes == 0) && null) ≡ false
@@ -71,7 +71,7 @@ string_read null bytes fault n e = ap (λ (b : Bool). if b then Ok (Str None)
     else on_found (λ text. Str (Some text)) (text_of (number_at bytes) bytes)) n
     ∙ ap (on_found (λ text. Str (Some text))) e
 
-not_null : (null : Bool) (more n : ℕ) (bytes : List ℕ) → 0 < n → Holds more n bytes
+not_null : (null : Bool) (more n : ℕ) (bytes : List ℕ) → 0 < n → HoldsCounted more n bytes
     → ((number_at bytes == 0) && null) ≡ false
 not_null null more n bytes p h = let e = begins_number n bytes h.0
     in ap (λ (b : Bool). b && null) (ne_eqb (number_at bytes) 0 (λ z. omega arith))

@@ -12,17 +12,17 @@ use Rattle.wl_wire.specs.Word.{word}
 use Rattle.wl_wire.specs.Spelling.{padded}
 
 -- the bytes begin with the word n
-abbrev pub Begins : ℕ → List ℕ → Type 0
-Begins n bytes = (n < 2 ^ 32) × (take 4 bytes ≡ word n)
+abbrev pub BeginsWithWord : ℕ → List ℕ → Type 0
+BeginsWithWord n bytes = (n < 2 ^ 32) × (take 4 bytes ≡ word n)
 
 -- They begin with the word n, and the n bytes after it, their padding, and `more` bytes behind that
 -- are not all there.
 abbrev pub Lacks : (more n : ℕ) → List ℕ → Type 0
-Lacks more n bytes = Begins n bytes × (length bytes < 4 + padded n + more)
+Lacks more n bytes = BeginsWithWord n bytes × (length bytes < 4 + padded n + more)
 
 -- they begin with the word n, and all these are there
-abbrev pub Holds : (more n : ℕ) → List ℕ → Type 0
-Holds more n bytes = Begins n bytes × (4 + padded n + more ≤ length bytes)
+abbrev pub HoldsCounted : (more n : ℕ) → List ℕ → Type 0
+HoldsCounted more n bytes = BeginsWithWord n bytes × (4 + padded n + more ≤ length bytes)
 
 -- the first word is not all there, or it is a length and what follows is not
 abbrev pub LacksCounted : ℕ → List ℕ → Type 0
@@ -30,12 +30,13 @@ LacksCounted more bytes = (length bytes < 4) ⊎ ((n : ℕ) × Lacks more n byte
 
 -- all is there of a string that is not null, and the last byte that its length counts is not 0
 abbrev pub LacksEndingNul : ℕ → List ℕ → Type 0
-LacksEndingNul more bytes = (n : ℕ) × (0 < n) × Holds more n bytes × (slice_index bytes (n + 3) ≢ 0)
+LacksEndingNul more bytes = (n : ℕ) × (0 < n) × HoldsCounted more n bytes
+    × (slice_index bytes (n + 3) ≢ 0)
 
 -- that byte is 0, and one before it is too
 abbrev pub HasInnerNul : ℕ → List ℕ → Type 0
 HasInnerNul more bytes =
-    (n : ℕ) × (0 < n) × Holds more n bytes × (slice_index bytes (n + 3) ≡ 0)
+    (n : ℕ) × (0 < n) × HoldsCounted more n bytes × (slice_index bytes (n + 3) ≡ 0)
     × Contains (take (n - 1) (drop 4 bytes)) 0
 
 -- A1: what the argument asks for is not all there; behind a name that is the version and the id, of
@@ -49,9 +50,9 @@ IsShort _ bytes = length bytes < 4
 
 -- A2: null where the kind does not allow it
 abbrev pub IsNull : Kind → List ℕ → Type 0
-IsNull (kinds.Str null) bytes = (null ≡ false) × Begins 0 bytes
-IsNull (kinds.Obj null iface) bytes = (null ≡ false) × Begins 0 bytes
-IsNull (kinds.New None) bytes = Holds 8 0 bytes
+IsNull (kinds.Str null) bytes = (null ≡ false) × BeginsWithWord 0 bytes
+IsNull (kinds.Obj null iface) bytes = (null ≡ false) × BeginsWithWord 0 bytes
+IsNull (kinds.New None) bytes = HoldsCounted 8 0 bytes
 IsNull _ bytes = ⊥
 
 -- A3

@@ -29,16 +29,16 @@ asked kinds.Array bytes = 4 + padded (number_at bytes)
 asked kinds.Fd bytes = 0
 
 -- the n bytes after the first word
-abbrev pub counted : ℕ → List ℕ → List ℕ
-counted n bytes = take n (drop 4 bytes)
+abbrev pub counted_bytes : ℕ → List ℕ → List ℕ
+counted_bytes n bytes = take n (drop 4 bytes)
 
 -- the string after a length of n, which counts the ending NUL
 abbrev pub text_of : ℕ → List ℕ → Result (List ℕ) ArgFault
 text_of n bytes =
     if n == 0 then Err NullNotAllowed
     else if slice_index bytes (n + 3) == 0
-    then (if has_nul (counted (n - 1) bytes)
-    then Err InnerNul else Ok (counted (n - 1) bytes))
+    then (if has_nul (counted_bytes (n - 1) bytes)
+    then Err InnerNul else Ok (counted_bytes (n - 1) bytes))
     else Err NoEndingNul
 
 -- the same fault, or this function of what was found
@@ -62,7 +62,7 @@ argument_of (kinds.New None) bytes =
     let after = drop (4 + padded (number_at bytes)) bytes in
     on_found (λ name. NewNamed name (number_at after) (number_at (drop 4 after)))
     (text_of (number_at bytes) bytes)
-argument_of kinds.Array bytes = Ok (Array (counted (number_at bytes) bytes))
+argument_of kinds.Array bytes = Ok (Array (counted_bytes (number_at bytes) bytes))
 argument_of kinds.Fd bytes = Ok (Fd tt)
 
 -- What stands at the front of the bytes for an argument of the kind, and how many bytes it takes;
@@ -86,8 +86,8 @@ seen (Err fault) = Err fault
 
 -- This is the answer of a reader that makes a value of its own: as `reading`, or out of memory,
 -- which only a value with bytes can be.
-abbrev pub IsRead : {A : Type 0} → Kind → List ℕ → Result (Value A × ℕ) ReadError → Type 0
-IsRead kind bytes (Ok found) = reading kind bytes ≡ Ok (plain found.0, found.1)
-IsRead kind bytes (Err (errors.Arg fault)) = reading kind bytes ≡ Err fault
-IsRead kind bytes (Err errors.Memory) =
+abbrev pub IsValueRead : {A : Type 0} → Kind → List ℕ → Result (Value A × ℕ) ReadError → Type 0
+IsValueRead kind bytes (Ok found) = reading kind bytes ≡ Ok (plain found.0, found.1)
+IsValueRead kind bytes (Err (errors.Arg fault)) = reading kind bytes ≡ Err fault
+IsValueRead kind bytes (Err errors.Memory) =
     (value : Argument) × (len : ℕ) × (reading kind bytes ≡ Ok (value, len)) × HoldsBytes value

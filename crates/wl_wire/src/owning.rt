@@ -4,7 +4,7 @@ ghost use Rattle.wl_wire.specs.declared.kind.ReadError.TheVariants.{Memory};
 ghost use Rattle.wl_wire.specs.Argument.{Argument, lent, plain};
 ghost use Rattle.wl_wire.specs.Spelling.{Spells};
 ghost use Rattle.wl_wire.specs.Faults.{IsReason};
-ghost use Rattle.wl_wire.specs.Reading.{HoldsBytes, IsRead};
+ghost use Rattle.wl_wire.specs.Reading.{HoldsBytes, IsValueRead};
 
 use crate::bytes::Bytes;
 use crate::kind::{Kind, ReadError};
@@ -27,7 +27,7 @@ pub fn read_value<A: Allocator>(
         → MatchResult result (λ x. (plain x.0 ≡ v) × (x.1 ≡ n)) (λ e. e ≡ Memory) }
     // Which fault it is.
     ensures fault { IfErr result (IsReason kind bytes.now) }
-    ensures computes { IsRead kind bytes.now result }
+    ensures computes { IsValueRead kind bytes.now result }
 {
     match read_ref(kind, bytes) {
         Ok((value, len)) => match owned(alloc, value) {

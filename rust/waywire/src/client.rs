@@ -34,6 +34,12 @@ impl Client {
         self.end.live(object)
     }
 
+    /// How many objects the client has: wl_display, those that are live, and those that it destroyed
+    /// and that [`Incoming::Deleted`] has not ended yet.
+    pub fn object_count(&self) -> usize {
+        self.end.object_count()
+    }
+
     /// The free bytes and tokens of the inbox; zeros at a failed client.
     pub fn in_room(&self) -> Amounts {
         self.end.in_room()

@@ -11,6 +11,7 @@ pub struct Message<'a> {
     interface: Interface,
     version: u32,
     opcode: u16,
+    forgotten: bool,
     args: Args<'a>,
 }
 
@@ -28,6 +29,7 @@ impl<'a> Message<'a> {
             interface: report.interface(),
             version: report.version(),
             opcode: report.opcode(),
+            forgotten: report.is_forgotten(),
             args: Args(report.args()),
         }
     }
@@ -54,6 +56,13 @@ impl<'a> Message<'a> {
     #[inline]
     pub fn opcode(&self) -> u16 {
         self.opcode
+    }
+
+    /// Whether it is wl_registry.global and the client does not remember the global, which then
+    /// cannot be bound: it remembers 1,024 at a time, and none whose interface is not in the tables.
+    #[inline]
+    pub fn is_forgotten(&self) -> bool {
+        self.forgotten
     }
 
     /// Its arguments, in order.

@@ -34,6 +34,11 @@ impl Server {
         self.end.live(object)
     }
 
+    /// How many objects the server has, wl_display counted.
+    pub fn object_count(&self) -> usize {
+        self.end.object_count()
+    }
+
     /// The free bytes and tokens of the inbox; zeros at a failed server.
     pub fn in_room(&self) -> Amounts {
         self.end.in_room()

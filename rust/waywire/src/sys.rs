@@ -166,6 +166,7 @@ pub struct Report {
     place: usize,
     offset: u64,
     interface: u16,
+    forgotten: bool,
     version: u32,
     /// For C alone.
     #[allow(dead_code)]
@@ -209,6 +210,7 @@ impl Report {
             place: 0,
             offset: 0,
             interface: 0,
+            forgotten: false,
             version: 0,
             user: ptr::null_mut(),
             args: [NO_ARG; MAX_ARGS as usize],
@@ -233,6 +235,11 @@ impl Report {
     #[inline]
     pub fn version(&self) -> u32 {
         self.version
+    }
+
+    #[inline]
+    pub fn is_forgotten(&self) -> bool {
+        self.forgotten
     }
 
     #[inline]
@@ -365,8 +372,9 @@ type RawTables = c_void;
 type RawEnd = c_void;
 
 macro_rules! end_calls {
-    ($new:ident $free:ident $display:ident $live:ident $in_room:ident $is_drained:ident
-     $feed:ident $goes:ident $take:ident $take_waiting_tokens:ident $send:ident $next:ident) => {
+    ($new:ident $free:ident $display:ident $live:ident $object_count:ident $in_room:ident
+     $is_drained:ident $feed:ident $goes:ident $take:ident $take_waiting_tokens:ident $send:ident
+     $next:ident) => {
         extern "C" {
             fn $new(tables: *const RawTables, sizes: *const Sizes, made: *mut *mut RawEnd) -> u32;
             fn $free(end: *mut RawEnd);
@@ -377,6 +385,7 @@ macro_rules! end_calls {
                 interface: *mut u16,
                 version: *mut u32,
             ) -> u32;
+            fn $object_count(end: *const RawEnd, count: *mut usize) -> u32;
             fn $in_room(end: *const RawEnd, room: *mut Amounts) -> u32;
             fn $is_drained(end: *const RawEnd, drained: *mut bool) -> u32;
             fn $feed(
@@ -418,11 +427,13 @@ macro_rules! end_calls {
 }
 
 end_calls!(waywire_client_new waywire_client_free waywire_client_display waywire_client_live
-    waywire_client_in_room waywire_client_is_drained waywire_client_feed waywire_client_goes
-    waywire_client_take waywire_client_take_waiting_tokens waywire_client_send waywire_client_next);
+    waywire_client_object_count waywire_client_in_room waywire_client_is_drained waywire_client_feed
+    waywire_client_goes waywire_client_take waywire_client_take_waiting_tokens waywire_client_send
+    waywire_client_next);
 end_calls!(waywire_server_new waywire_server_free waywire_server_display waywire_server_live
-    waywire_server_in_room waywire_server_is_drained waywire_server_feed waywire_server_goes
-    waywire_server_take waywire_server_take_waiting_tokens waywire_server_send waywire_server_next);
+    waywire_server_object_count waywire_server_in_room waywire_server_is_drained waywire_server_feed
+    waywire_server_goes waywire_server_take waywire_server_take_waiting_tokens waywire_server_send
+    waywire_server_next);
 
 extern "C" {
     fn waywire_strerror(status: u32) -> *const c_char;
@@ -613,9 +624,9 @@ fn global_error(status: u32) -> GlobalError {
 }
 
 macro_rules! end {
-    ($(#[$doc:meta])* $name:ident: $new:ident $free:ident $display:ident $live:ident $in_room:ident
-     $is_drained:ident $feed:ident $goes:ident $take:ident $take_waiting_tokens:ident $send:ident
-     $next:ident) => {
+    ($(#[$doc:meta])* $name:ident: $new:ident $free:ident $display:ident $live:ident
+     $object_count:ident $in_room:ident $is_drained:ident $feed:ident $goes:ident $take:ident
+     $take_waiting_tokens:ident $send:ident $next:ident) => {
         $(#[$doc])*
         #[derive(Debug)]
         pub struct $name {
@@ -661,6 +672,12 @@ macro_rules! end {
                 let status =
                     unsafe { $live(self.at.as_ptr(), object, &mut interface, &mut version) };
                 (status == OK).then_some((Interface(interface), version))
+            }
+
+            pub fn object_count(&self) -> usize {
+                let mut count = 0;
+                unsafe { $object_count(self.at.as_ptr(), &mut count) };
+                count
             }
 
             pub fn in_room(&self) -> Amounts {
@@ -749,14 +766,16 @@ macro_rules! end {
 end!(
     /// A client's end, freed when it is dropped.
     Client: waywire_client_new waywire_client_free waywire_client_display waywire_client_live
-    waywire_client_in_room waywire_client_is_drained waywire_client_feed waywire_client_goes
-    waywire_client_take waywire_client_take_waiting_tokens waywire_client_send waywire_client_next
+    waywire_client_object_count waywire_client_in_room waywire_client_is_drained waywire_client_feed
+    waywire_client_goes waywire_client_take waywire_client_take_waiting_tokens waywire_client_send
+    waywire_client_next
 );
 end!(
     /// A server's end, freed when it is dropped.
     Server: waywire_server_new waywire_server_free waywire_server_display waywire_server_live
-    waywire_server_in_room waywire_server_is_drained waywire_server_feed waywire_server_goes
-    waywire_server_take waywire_server_take_waiting_tokens waywire_server_send waywire_server_next
+    waywire_server_object_count waywire_server_in_room waywire_server_is_drained waywire_server_feed
+    waywire_server_goes waywire_server_take waywire_server_take_waiting_tokens waywire_server_send
+    waywire_server_next
 );
 
 // Safety, for each call of these two: as for the calls that both ends have.
@@ -869,7 +888,7 @@ mod tests {
             Sizes, "waywire_sizes": out_bytes out_tokens in_bytes in_tokens limit;
             RawArg, "waywire_arg": kind i u object bytes length;
             Report, "waywire_report": kind opcode target arg_count tokens token_count id code named
-                spelling text text_length place offset interface version user args;
+                spelling text text_length place offset interface forgotten version user args;
         };
         wanted.push(("sizeof(waywire_object)".into(), size_of::<Object>()));
         wanted.push(("sizeof(waywire_status)".into(), size_of::<u32>()));

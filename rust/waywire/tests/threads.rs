@@ -30,6 +30,7 @@ impl Pair {
         let asked = self.server.next().unwrap().unwrap();
         assert_eq!(asked.opcode(), request::wl_display::SYNC);
         assert!(self.server.live(made.unwrap()).is_some());
+        assert_eq!(self.client.object_count(), self.server.object_count());
     }
 }
 

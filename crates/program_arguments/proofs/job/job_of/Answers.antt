@@ -16,7 +16,7 @@ use Rattle.clap.specs.declared.error.kind.ErrorKind.TheVariants.{OutOfMemory}
 use Rattle.program_arguments.specs.declared.job.Job.{Job}
 use Rattle.program_arguments.specs.declared.job.Stop.{Stop}
 use Rattle.program_arguments.specs.Asking.{Asks, AsksHelp, HasFault, IsAnswer, IsHelp}
-use Rattle.program_arguments.specs.Asking.{IsOutOfMemory, Names, NamesNone, Says, Stops, StopsFor}
+use Rattle.program_arguments.specs.Asking.{IsOutOfMemory, NamesJob, NamesNone, Says, Stops, StopsFor}
 use Rattle.program_arguments.specs.Asking.{StopsWith, command_line, faulty, helps, names_none}
 use Rattle.program_arguments.specs.Asking.{no_memory, texts_of}
 use Rattle.program_arguments.proofs.job.job_of.Goals as goal
@@ -63,7 +63,7 @@ stops words stop Format among is = usage words stop Format (λ e. cc) (λ h. h) 
 
 -- what was parsed without a fault
 abbrev Parsed : List Text → Option Job → Type 0
-Parsed words = λ found. (fault_of command_line words ≡ []) × Names (subcommand_of command_line words) found
+Parsed words = λ found. (fault_of command_line words ≡ []) × NamesJob (subcommand_of command_line words) found
 
 -- the job that was parsed is asked for
 asked : (words : List Text) (parsed : Result (Option Job) Error) (result : Result Job Stop) → IfOk parsed (Parsed words)

@@ -3,7 +3,7 @@ use Rattle.std.specs.Prelude.{Ok, Err, Result}
 use Rattle.std.specs.Str.Parse.{ExplainsUnsignedError, HasUnsignedDigitsIfOk, ParsesUnsigned}
 use Rattle.clap.specs.Words.{ReadsOne, Row, Text, found_of, one_of, one_text, rows_of}
 use Rattle.clap.proofs.WalkLemmas.{one_text-rows}
-use Rattle.program_arguments.specs.Asking.{IsNumber, Spells}
+use Rattle.program_arguments.specs.Asking.{IsNumber, SpellsU32}
 use Rattle.program_arguments.proofs.job.number_of.Goals as goal
 
 -- what a text reads as
@@ -16,7 +16,7 @@ read E G name rows digits (Some v) is only h =
 read E G name rows digits None is only h = λ other piece given spells.
     let both = rw is at given in
     let same : digits ≡ other = cc in
-    let spelled : Spells digits piece = rw same spells in
+    let spelled : SpellsU32 digits piece = rw same spells in
     only digits (Err h.0) h.1 (spelled.0, rw (sym spelled.1) spelled.2)
 
 pub returns : goal.returns

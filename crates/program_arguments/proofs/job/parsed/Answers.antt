@@ -1,7 +1,7 @@
 use Rattle.std.proofs.Common.{◌≡◌, ◌∙◌, true, List, [], Option, refl, ap, sym, subst}
 use Rattle.clap.specs.Words.{App, Row, Text, fault_of, is_simple, is_simple_and_free, subcommand_of, subcommand_rows_of}
 use Rattle.clap.proofs.OnLiterals.{clap_on_literals}
-use Rattle.program_arguments.specs.Asking.{Names, command_line, texts_of}
+use Rattle.program_arguments.specs.Asking.{NamesJob, command_line, texts_of}
 use Rattle.program_arguments.proofs.job.parsed.Goals as goal
 
 -- the command line is one of which the parser says all
@@ -21,5 +21,8 @@ returns-clause-asked c =
     ∙ ap (λ (a : App). subcommand_of a (texts_of c.args.words.now)) line in
     let faultless : fault_of command_line (texts_of c.args.words.now) ≡ [] =
     ap (λ (a : App). fault_of a (texts_of c.args.words.now)) (sym line)
-    ∙ c.in_ok-matches.ensures.kinds (ap is_simple_and_free line ∙ whole) in
-    (faultless, subst (λ (o : Option (Text × List Row)). Names o c.in_ok-chosen.field-0) found c.in_ok-chosen.ensures)
+    ∙ c.in_ok-matches.ensures.kinds (ap is_simple_and_free line ∙ whole) in (
+      faultless,
+      subst (λ (o : Option (Text × List Row)). NamesJob o c.in_ok-chosen.field-0) found
+          c.in_ok-chosen.ensures,
+    )

@@ -1,13 +1,13 @@
 use Rattle.std.proofs.Common.{List, ℕ, true, ◌++◌, ◌∙◌, ap}
 use Rattle.program_session.specs.Agreement.{agreement_line}
-use Rattle.program_socket.specs.Streams.{known}
+use Rattle.program_socket.specs.Streams.{known_stream}
 use Rattle.program_socket.proofs.Plays.{ends_agreeing}
 use Rattle.program_socket.proofs.showing.socket_text.Goals as goal
 
 pub returns : goal.returns
 returns g c =
-    let client = known g.C.Read.remaining g.C.Write.contents in
-    let server = known g.S.Read.remaining g.S.Write.contents in
+    let client = known_stream g.C.Read.remaining g.C.Write.contents in
+    let server = known_stream g.S.Read.remaining g.S.Write.contents in
     let played = c.in_ok-played.played in
     record {
       pieces = played.recording;

@@ -1,7 +1,7 @@
 use Rattle.std.proofs.Common.{◌≡◌, ◌+◌, ◌∙◌, ℕ, ap, refl, sym, subst}
 use Rattle.std.specs.Prelude.{Ok, Err}
 use Rattle.wl_message.specs.declared.streams.FlushError.{FlushError}
-use Rattle.wl_message.specs.Streams.{written_of}
+use Rattle.wl_message.specs.Streams.{bytes_written}
 use Rattle.program_socket.proofs.Turns.{Written, written_none, flushed, flushed_all, counts_all, all_sends, all_counted}
 use Rattle.program_socket.proofs.turn.flush_all.Goals as goal
 
@@ -56,7 +56,7 @@ tries-preserved g c =
     let more = flushed core with_core g.met.E.End.laws first held c.tries.count c.tries.end
     (g.W.Write.contents c.tries.writer) (Err c.in-Err-Io.field-0) end holds c.tries.invariant
     c.in-Err-Io.ensures.flushes c.in-Err-Io.ensures.others in
-    let count : c.tries.count + written_of (Err c.in-Err-Io.field-0) ≡ c.in_ok-count-in-Err-Io.count =
-    ap (λ (w : FlushError). c.tries.count + written_of (Err w)) c.in-Err-Io.field-0-is
+    let count : c.tries.count + bytes_written (Err c.in-Err-Io.field-0) ≡ c.in_ok-count-in-Err-Io.count =
+    ap (λ (w : FlushError). c.tries.count + bytes_written (Err w)) c.in-Err-Io.field-0-is
     ∙ sym c.in_ok-count-in-Err-Io.ensures in
     subst (λ (n : ℕ). Written core with_core first held n end holds) count more

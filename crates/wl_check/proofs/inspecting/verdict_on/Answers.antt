@@ -3,7 +3,7 @@ use Rattle.std.proofs.Math.Logic.{∥∥₁_elim}
 use Rattle.std.specs.Coded.{le_prop}
 use Rattle.wl_check.specs.declared.session_state.Output.TheVariants.{Nothing}
 use Rattle.wl_check.specs.declared.session_state.SessionStatus.{SessionStatus}
-use Rattle.wl_check.specs.Session.{Answers, session_of}
+use Rattle.wl_check.specs.Session.{IsVerdictOf, session_of}
 use Rattle.wl_check.proofs.SessionByMessage.{count_few, few_judged}
 use Rattle.wl_check.proofs.SessionByPiece.{answers_so, ends_within, verdict_of}
 use Rattle.wl_check.proofs.inspecting.verdict_on.Goals as goal
@@ -27,7 +27,7 @@ lawful-requires-clause-to_client g c = ∥∥₁_elim c.requires le_prop
 
 pub returns-in-Broken : goal.returns-in-Broken
 returns-in-Broken g c limit tables ps h =
-    subst (Answers tables (session_of limit ps)) (sym
+    subst (IsVerdictOf tables (session_of limit ps)) (sym
     (c.broken.ensures ∙ sym (ap (λ (st : SessionStatus). verdict_of st c.args.scanner.now) c.in-Broken.is)))
     (answers_so limit tables Nothing ps c.args.scanner.now h)
 
@@ -35,8 +35,8 @@ pub returns-in-Open : goal.returns-in-Open
 returns-in-Open g c limit tables ps h =
     let so = answers_so limit tables Nothing ps c.args.scanner.now h in
     elim c.in-Open.is [
-      | inl is ↦ subst (Answers tables (session_of limit ps))
+      | inl is ↦ subst (IsVerdictOf tables (session_of limit ps))
           (sym (c.lawful.ensures ∙ sym (ap (λ (st : SessionStatus). verdict_of st c.args.scanner.now) is))) so
-      | inr is ↦ subst (Answers tables (session_of limit ps))
+      | inr is ↦ subst (IsVerdictOf tables (session_of limit ps))
           (sym (c.lawful.ensures ∙ sym (ap (λ (st : SessionStatus). verdict_of st c.args.scanner.now) is))) so
     ]

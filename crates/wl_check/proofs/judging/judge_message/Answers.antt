@@ -1,7 +1,7 @@
 use Rattle.std.proofs.Common.{◌≡◌, refl, sym, ap, ◌∙◌}
 use Rattle.std.specs.declared.result.Result.TheVariants.{Ok}
 use Rattle.wl_objects.specs.declared.error.Fault.TheVariants.{BadBind}
-use Rattle.wl_objects.specs.Seen.{message_of, received_in}
+use Rattle.wl_objects.specs.Seen.{received_of, received_in}
 use Rattle.wl_check.specs.Rules.{called}
 use Rattle.wl_check.specs.Seen.{call_of, known_in}
 use Rattle.wl_check.proofs.JudgedMessages.{judged_is, from_side, called_bad, called_good}
@@ -35,11 +35,12 @@ returns-then-is_bad_bind-clause-changes g c =
     (c.saturating_sub-waiting.ensures ∙ rw c.taken.ensures refl)
     (from_side c.args.tables.now (known_in c.args.known.now) c.args.frame.now.direction c.args.header c.args.body.now
     c.count.result c.side_of-side.result _ c.side_of-side.ensures c.receive-received.ensures.answer) in
-    let message : received_in c.receive-received.result ≡ Ok (message_of c.in-Ok.message) = rw c.in-Ok.is refl in
+    let message : received_in c.receive-received.result ≡ Ok (received_of c.in-Ok.message) = rw c.in-Ok.is refl in
     let is = sym (found ∙ ap (λ r. called c.args.tables.now
     (known_in c.args.known.now) c.args.frame.now.direction c.args.header.opcode r) message
     ∙ called_bad c.args.tables.now (known_in c.args.known.now) c.args.frame.now.direction c.args.header.opcode
-    (message_of c.in-Ok.message) (rw (← c.side_of-side.ensures) (sym c.is_bad_bind.ensures ∙ c.if-is_bad_bind.true))) in
+    (received_of c.in-Ok.message) (rw (← c.side_of-side.ensures) (sym c.is_bad_bind.ensures ∙ c.if-is_bad_bind.true)))
+    in
     no_changes c.args.tables.now _ BadBind is
 
 pub returns-then-is_bad_bind-clause-text : goal.returns-then-is_bad_bind-clause-text
@@ -49,11 +50,12 @@ returns-then-is_bad_bind-clause-text g c =
     (c.saturating_sub-waiting.ensures ∙ rw c.taken.ensures refl)
     (from_side c.args.tables.now (known_in c.args.known.now) c.args.frame.now.direction c.args.header c.args.body.now
     c.count.result c.side_of-side.result _ c.side_of-side.ensures c.receive-received.ensures.answer) in
-    let message : received_in c.receive-received.result ≡ Ok (message_of c.in-Ok.message) = rw c.in-Ok.is refl in
+    let message : received_in c.receive-received.result ≡ Ok (received_of c.in-Ok.message) = rw c.in-Ok.is refl in
     let is = sym (found ∙ ap (λ r. called c.args.tables.now
     (known_in c.args.known.now) c.args.frame.now.direction c.args.header.opcode r) message
     ∙ called_bad c.args.tables.now (known_in c.args.known.now) c.args.frame.now.direction c.args.header.opcode
-    (message_of c.in-Ok.message) (rw (← c.side_of-side.ensures) (sym c.is_bad_bind.ensures ∙ c.if-is_bad_bind.true))) in
+    (received_of c.in-Ok.message) (rw (← c.side_of-side.ensures) (sym c.is_bad_bind.ensures ∙ c.if-is_bad_bind.true)))
+    in
     no_line c.args.tables.now (known_in c.args.known.now) c.args.output c.args.text.now.items _ BadBind is
 
 pub returns-clause-changes : goal.returns-clause-changes
@@ -63,11 +65,11 @@ returns-clause-changes g c =
     (c.saturating_sub-waiting.ensures ∙ rw c.taken.ensures refl)
     (from_side c.args.tables.now (known_in c.args.known.now) c.args.frame.now.direction c.args.header c.args.body.now
     c.count.result c.side_of-side.result _ c.side_of-side.ensures c.receive-received.ensures.answer) in
-    let message : received_in c.receive-received.result ≡ Ok (message_of c.in-Ok.message) = rw c.in-Ok.is refl in
+    let message : received_in c.receive-received.result ≡ Ok (received_of c.in-Ok.message) = rw c.in-Ok.is refl in
     let is = sym (found ∙ ap (λ r. called c.args.tables.now
     (known_in c.args.known.now) c.args.frame.now.direction c.args.header.opcode r) message
     ∙ called_good c.args.tables.now (known_in c.args.known.now) c.args.frame.now.direction c.args.header.opcode
-    (message_of c.in-Ok.message) (rw (← c.side_of-side.ensures) (sym c.is_bad_bind.ensures ∙ c.if-is_bad_bind.false)))
+    (received_of c.in-Ok.message) (rw (← c.side_of-side.ensures) (sym c.is_bad_bind.ensures ∙ c.if-is_bad_bind.false)))
     in
     own_changes c.args.tables.now _ (call_of c.args.frame.now.direction c.args.header.opcode c.in-Ok.message)
     c.changes_of.result c.changes_of.ensures is
@@ -79,11 +81,11 @@ returns-clause-text g c =
     (c.saturating_sub-waiting.ensures ∙ rw c.taken.ensures refl)
     (from_side c.args.tables.now (known_in c.args.known.now) c.args.frame.now.direction c.args.header c.args.body.now
     c.count.result c.side_of-side.result _ c.side_of-side.ensures c.receive-received.ensures.answer) in
-    let message : received_in c.receive-received.result ≡ Ok (message_of c.in-Ok.message) = rw c.in-Ok.is refl in
+    let message : received_in c.receive-received.result ≡ Ok (received_of c.in-Ok.message) = rw c.in-Ok.is refl in
     let is = sym (found ∙ ap (λ r. called c.args.tables.now
     (known_in c.args.known.now) c.args.frame.now.direction c.args.header.opcode r) message
     ∙ called_good c.args.tables.now (known_in c.args.known.now) c.args.frame.now.direction c.args.header.opcode
-    (message_of c.in-Ok.message) (rw (← c.side_of-side.ensures) (sym c.is_bad_bind.ensures ∙ c.if-is_bad_bind.false)))
+    (received_of c.in-Ok.message) (rw (← c.side_of-side.ensures) (sym c.is_bad_bind.ensures ∙ c.if-is_bad_bind.false)))
     in
     own_line c.args.tables.now (known_in c.args.known.now) c.args.output c.args.text.now.items c.write.new.text.items _
     (call_of c.args.frame.now.direction c.args.header.opcode c.in-Ok.message) c.in_ok-write.ensures is

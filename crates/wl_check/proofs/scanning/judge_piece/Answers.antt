@@ -1,6 +1,6 @@
 use Rattle.std.proofs.Common.{◌+◌, ◌∷◌, ◌++◌, List, ℕ, [], sym, ap, subst, ◌∙◌, drop, arith}
 use Rattle.wl_recording.specs.declared.piece.Direction.{Direction}
-use Rattle.wl_check.specs.SessionState.{AllJudged, Follows}
+use Rattle.wl_check.specs.SessionState.{AllJudged, CutFollows}
 use Rattle.wl_check.specs.Session.{session_of}
 use Rattle.wl_check.proofs.SessionByPiece.{along_closed, along_piece, follows_piece}
 use Rattle.wl_check.proofs.scanning.judge_piece.Goals as goal
@@ -26,7 +26,7 @@ judge_all-requires-clause-follows g c =
     let p = c.requires.come.1 in
     let h = c.requires.come.2 in (
       session_of c.args.limit.bytes (ps ++ p ∷ []),
-      subst (λ (d : Direction). Follows c.args.limit.bytes c.args.tables.now
+      subst (λ (d : Direction). CutFollows c.args.limit.bytes c.args.tables.now
           (session_of c.args.limit.bytes (ps ++ p ∷ [])) c.args.output c.args.state.now d c.in-Some-checked_add.tokens
           c.as_slice.result.now) (sym h.direction_is)
           (follows_piece c.args.limit.bytes c.args.tables.now c.args.output ps p c.args.state.now h.before c.in-Some.len
@@ -48,7 +48,7 @@ returns-clause-along g c ps p h =
     let len_is = len.1 ∙ (let a = h.len in let b = h.len_is in omega (arith, a, b)) in
     let tokens_is = tokens.1 ∙ (let a = h.tokens in let b = h.tokens_are in let t = c.from.ensures
     in omega (arith, a, b, t)) in
-    let follows = subst (λ (d : Direction). Follows c.args.limit.bytes c.args.tables.now s c.args.output
+    let follows = subst (λ (d : Direction). CutFollows c.args.limit.bytes c.args.tables.now s c.args.output
     c.args.state.now d c.in-Some-checked_add.tokens c.as_slice.result.now) (sym h.direction_is)
     (follows_piece c.args.limit.bytes c.args.tables.now c.args.output ps p c.args.state.now h.before c.in-Some.len
     c.in-Some-checked_add.tokens c.as_slice.result.now

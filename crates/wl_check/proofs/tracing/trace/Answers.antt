@@ -1,6 +1,6 @@
 use Rattle.std.proofs.Common.{List, ap, ◌∙◌, subst}
 use Rattle.wl_recording.specs.Piece.{Piece}
-use Rattle.wl_check.specs.Session.{session_of, Answers}
+use Rattle.wl_check.specs.Session.{session_of, IsVerdictOf}
 use Rattle.wl_check.specs.Trace.{trace_of}
 use Rattle.wl_check.proofs.Examined.{if_ok_to}
 use Rattle.wl_check.proofs.tracing.trace.Goals as goal
@@ -12,5 +12,5 @@ returns-clause-lines g c =
 
 pub returns-clause-verdict : goal.returns-clause-verdict
 returns-clause-verdict g c =
-    if_ok_to c.scan.result _ _ (λ r h. subst (λ (ps : List Piece). Answers c.args.tables.now
+    if_ok_to c.scan.result _ _ (λ r h. subst (λ (ps : List Piece). IsVerdictOf c.args.tables.now
     (session_of c.args.limit.bytes ps) r.1) c.pieces.ensures.all h) c.scan.ensures.verdict

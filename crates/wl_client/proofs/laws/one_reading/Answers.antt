@@ -1,8 +1,8 @@
 use Rattle.wl_sigs.specs.declared.signature.Side.TheVariants.{Event as event_side}
 use Rattle.wl_connection.proofs.AnyCut.{has_one_reading}
-use Rattle.wl_client.specs.Streams.{reading}
+use Rattle.wl_client.specs.Streams.{client_reading}
 use Rattle.wl_client.proofs.ReadingStays.{is_reading}
 use Rattle.wl_client.proofs.laws.one_reading.Goals as goal
 
 pub returns : goal.returns
-returns c = has_one_reading reading event_side is_reading
+returns c = has_one_reading client_reading event_side is_reading

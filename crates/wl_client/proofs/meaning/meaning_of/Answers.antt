@@ -1,5 +1,5 @@
 use Rattle.std.proofs.Common.{sym, ap, ◌∙◌, rules}
-use Rattle.wl_objects.specs.Seen.{message_of}
+use Rattle.wl_objects.specs.Seen.{received_of}
 use Rattle.wl_client.specs.declared.changes.Change.{Change}
 use Rattle.wl_client.specs.Steps.{changed}
 use Rattle.wl_client.proofs.Zombies.{after_zombie}
@@ -10,5 +10,5 @@ returns-in-Zombie-clause-changed g c =
     let view = g.T.Table.view c.args.table.now in
     let m = c.args.message.now in
     let same = after_zombie view m.signature.now.destroys m.target.id
-    (message_of m).values m.entry c.requires.argument c.requires.row (search c.in-Zombie.is) in
+    (received_of m).values m.entry c.requires.argument c.requires.row (search c.in-Zombie.is) in
     ap (λ (x : Change). changed view x.objects) c.no_change-in-Zombie.ensures ∙ (sym same ∙ search rules)

@@ -3,7 +3,7 @@ use Rattle.std.specs.Prelude.{List, ℕ}
 use Rattle.std.specs.declared.option.Option.TheVariants.{None}
 use Rattle.wl_message.specs.InStep.{part, part_bytes, part_tokens}
 use Rattle.wl_connection.specs.Core.{no_room}
-use Rattle.wl_connection.specs.Reads.{reading_of, arrived, appended, ReadsOn, ReadsAll}
+use Rattle.wl_connection.specs.Reads.{reading_of, with_arrivals, appended, ReadsOn, ReadsAll}
 use Rattle.wl_connection.proofs.Appended.{kept_same, kept_again, behind_again}
 use Rattle.wl_connection.proofs.Pieces.{parts_len, part_at, few_fit, none_fits_end}
 use Rattle.wl_connection.proofs.ReadsGoOn.{arrived_nothing, on_first, on_again, until_again}
@@ -35,7 +35,7 @@ returns-in-Err-clause-reads g c sound =
     let e = reading_of g.E.End.core g.E.End.with_core g.E.Receiver.answer g.E.Receiver.after g.E.Receiver.is_last in
     let pieces = map part c.args.pieces.now in
     let i = c.loop-taken.taken in
-    let first = arrived e c.args.end.now (part_bytes (take i pieces)) (part_tokens (take i pieces)) in
+    let first = with_arrivals e c.args.end.now (part_bytes (take i pieces)) (part_tokens (take i pieces)) in
     let end = c.read_waiting.new.end in
     let before = c.args.reports.now.items in
     let after = c.read_waiting.new.reports.items in
@@ -56,7 +56,7 @@ returns-then-in_room-piece-clause-reads g c sound =
     let e = reading_of g.E.End.core g.E.End.with_core g.E.Receiver.answer g.E.Receiver.after g.E.Receiver.is_last in
     let pieces = map part c.args.pieces.now in
     let i = c.loop-taken.taken in
-    let first = arrived e c.args.end.now (part_bytes (take i pieces)) (part_tokens (take i pieces)) in
+    let first = with_arrivals e c.args.end.now (part_bytes (take i pieces)) (part_tokens (take i pieces)) in
     let end = c.read_waiting.new.end in
     let before = c.args.reports.now.items in
     let after = c.read_waiting.new.reports.items in
@@ -84,7 +84,7 @@ returns-in-Err-read_piece-clause-reads g c sound =
     let seen = g.E.Receiver.seen in
     let pieces = map part c.args.pieces.now in
     let i = c.loop-taken.taken in
-    let first = arrived e c.args.end.now (part_bytes (take i pieces)) (part_tokens (take i pieces)) in
+    let first = with_arrivals e c.args.end.now (part_bytes (take i pieces)) (part_tokens (take i pieces)) in
     let middle = c.read_waiting.new.end in
     let end = c.read_piece.new.end in
     let before = c.args.reports.now.items in
@@ -110,7 +110,7 @@ loop-taken-preserved g c =
     let seen = g.E.Receiver.seen in
     let pieces = map part c.args.pieces.now in
     let i = c.loop-taken.taken in
-    let first = arrived e c.args.end.now (part_bytes (take i pieces)) (part_tokens (take i pieces)) in
+    let first = with_arrivals e c.args.end.now (part_bytes (take i pieces)) (part_tokens (take i pieces)) in
     let middle = c.read_waiting.new.end in
     let end = c.read_piece.new.end in
     let before = c.args.reports.now.items in
@@ -120,7 +120,7 @@ loop-taken-preserved g c =
     in
     record {
       kept = kept_again before mid after kept c.in_default-read_piece.ensures.reports;
-      some = subst (λ (rs : List _). ReadsOn e (arrived e c.args.end.now (part_bytes (take (i + 1) pieces))
+      some = subst (λ (rs : List _). ReadsOn e (with_arrivals e c.args.end.now (part_bytes (take (i + 1) pieces))
           (part_tokens (take (i + 1) pieces))) rs end)
           (sym (behind_again seen before mid after kept c.in_default-read_piece.ensures.reports))
           (reads_piece e g.met.E.End.laws c.args.end.now middle end pieces i (i + 1) _ _ (appended seen before mid)
@@ -142,7 +142,7 @@ returns-in-Err-read_waiting-clause-reads g c sound =
     let e = reading_of g.E.End.core g.E.End.with_core g.E.Receiver.answer g.E.Receiver.after g.E.Receiver.is_last in
     let pieces = map part c.args.pieces.now in
     let i = c.loop-taken.taken in
-    let first = arrived e c.args.end.now (part_bytes (take i pieces)) (part_tokens (take i pieces)) in
+    let first = with_arrivals e c.args.end.now (part_bytes (take i pieces)) (part_tokens (take i pieces)) in
     let end = c.read_waiting-2.new.end in
     let before = c.args.reports.now.items in
     let after = c.read_waiting-2.new.reports.items in
@@ -167,7 +167,7 @@ returns-clause-reads g c sound =
     let e = reading_of g.E.End.core g.E.End.with_core g.E.Receiver.answer g.E.Receiver.after g.E.Receiver.is_last in
     let pieces = map part c.args.pieces.now in
     let i = c.loop-taken.taken in
-    let first = arrived e c.args.end.now (part_bytes (take i pieces)) (part_tokens (take i pieces)) in
+    let first = with_arrivals e c.args.end.now (part_bytes (take i pieces)) (part_tokens (take i pieces)) in
     let end = c.read_waiting-2.new.end in
     let before = c.args.reports.now.items in
     let after = c.read_waiting-2.new.reports.items in

@@ -1,7 +1,7 @@
 use Rattle.std.proofs.Common.{◌≡◌, ◌-◌, [], length, take, drop, sym, subst, refl, arith}
 use Rattle.std.specs.Prelude.{List, ℕ}
 use Rattle.std.proofs.lemmas.List.{take_all}
-use Rattle.wl_connection.specs.Reads.{reading_of, arrived, appended, ReadsUntil}
+use Rattle.wl_connection.specs.Reads.{reading_of, with_arrivals, appended, ReadsUntil}
 use Rattle.wl_connection.proofs.Appended.{kept_same, kept_again}
 use Rattle.wl_connection.proofs.ReadsGoOn.{fed_tokens, fed_bytes, fed_first, fed_more, fed_open}
 use Rattle.wl_connection.proofs.ReadsGoOn.{fed_some, fed_within, on_again, until_again, rest_is}
@@ -35,10 +35,10 @@ returns-in-Err-clause-reads g c =
     let all : take c.rest.part.tokens tokens ≡ tokens =
     take_all c.rest.part.tokens tokens (omega (arith, c.rest.invariant.tokens)) in
     let reports = appended g.E.Receiver.seen c.args.reports.now.items c.read_waiting.new.reports.items in (
-      subst (λ (t : List ℕ). ReadsUntil e (arrived e c.args.end.now bytes t) reports c.in-Err.stop
+      subst (λ (t : List ℕ). ReadsUntil e (with_arrivals e c.args.end.now bytes t) reports c.in-Err.stop
           c.read_waiting.new.end) (sym all)
           (until_again e g.met.E.End.laws g.E.Receiver.seen
-          (arrived e c.args.end.now bytes tokens) c.rest.end c.read_waiting.new.end c.args.reports.now.items
+          (with_arrivals e c.args.end.now bytes tokens) c.rest.end c.read_waiting.new.end c.args.reports.now.items
           c.rest.reports.items c.read_waiting.new.reports.items c.in-Err.stop
           c.rest.invariant.some c.rest.invariant.kept c.in-Err.ensures.reports c.in-Err.ensures.reads.0),
       c.in-Err.ensures.reads.1,
@@ -70,7 +70,7 @@ rest-preserved g c =
     let within = fed_within (g.E.End.core middle) rest c.feed.result sound c.feed.ensures.fed in
     let len = rest_len k bytes in
     let known = c.rest.invariant.within in
-    let read = on_again e g.E.Receiver.seen (arrived e c.args.end.now (take k bytes) tokens) c.rest.end middle
+    let read = on_again e g.E.Receiver.seen (with_arrivals e c.args.end.now (take k bytes) tokens) c.rest.end middle
     c.args.reports.now.items c.rest.reports.items c.read_waiting.new.reports.items
     c.rest.invariant.some c.rest.invariant.kept c.in_default.ensures.reports c.in_default.ensures.reads.0 in
     record {

@@ -2,7 +2,7 @@ use Rattle.std.proofs.Common.{◌≡◌, sym, subst, drop, List, ℕ}
 use Rattle.std.specs.declared.result.Result.TheVariants.{Ok}
 use Rattle.wl_wire.specs.Argument.{lent}
 use Rattle.wl_wire.specs.Reading.{reading}
-use Rattle.wl_objects.specs.Reading.{forgiving, kind_at, value_fault}
+use Rattle.wl_objects.specs.Reading.{forgiving, forgiving_kind, value_fault}
 use Rattle.wl_objects.specs.Parsed.{Lies, both_of}
 use Rattle.wl_objects.proofs.ValueBytes.{read-lies}
 use Rattle.wl_objects.proofs.ParsedLemmas.{one-ok, one-err}
@@ -16,7 +16,7 @@ resolve-requires-clause-lies g c =
 pub returns-in-Ok-resolve-clause-one : goal.returns-in-Ok-resolve-clause-one
 returns-in-Ok-resolve-clause-one g c =
     let r = g.L.Lookup.reader c.args.lookup.now in
-    let read : reading (kind_at c.args.forgives c.args.kind) (drop c.args.start c.args.body.now)
+    let read : reading (forgiving_kind c.args.forgives c.args.kind) (drop c.args.start c.args.body.now)
     ≡ Ok (lent c.in-Ok.value, c.in-Ok.len) =
     rw (← c.kind_at.ensures, ← c.bytes_from.ensures) (sym c.in-Ok.ensures.computes) in
     rw read (one-ok r c.args.descriptors c.in-Ok.len (lent c.in-Ok.value)
@@ -26,7 +26,7 @@ returns-in-Ok-resolve-clause-one g c =
 pub returns-in-Err-resolve-clause-one : goal.returns-in-Err-resolve-clause-one
 returns-in-Err-resolve-clause-one g c =
     let r = g.L.Lookup.reader c.args.lookup.now in
-    let read : reading (kind_at c.args.forgives c.args.kind) (drop c.args.start c.args.body.now)
+    let read : reading (forgiving_kind c.args.forgives c.args.kind) (drop c.args.start c.args.body.now)
     ≡ Ok (lent c.in-Ok.value, c.in-Ok.len) =
     rw (← c.kind_at.ensures, ← c.bytes_from.ensures) (sym c.in-Ok.ensures.computes) in
     rw read (one-err r c.args.descriptors c.in-Ok.len (lent c.in-Ok.value)

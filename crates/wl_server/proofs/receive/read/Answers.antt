@@ -20,11 +20,11 @@ returns-in-Ok-clause-answer g c =
     let step = pending_in core args p in
     let state : State = whole_state core c.args.globals.now c.args.registries.now.items in
     let answer : ok (Some step) ≡ checked_front state = rw c.in-Some.is at c.in_ok-request.ensures.answer in
-    let now : c.take.new.end.core ≡ core_by core step =
+    let now : c.take_request.new.end.core ≡ core_by core step =
     c.in-Ok.ensures.core ∙ ap (λ (k : Core). core_by k (pending_in k args p)) c.in_ok-request.ensures.core in
-    inl (step-answer state step (taken_report c.take.new.end.core c.take.new.end.args p) answer
-    (ap (λ l. taken_report c.take.new.end.core l p) c.in-Ok.ensures.args
-    ∙ taken-is core c.take.new.end.core args p now))
+    inl (step-answer state step (taken_report c.take_request.new.end.core c.take_request.new.end.args p) answer
+    (ap (λ l. taken_report c.take_request.new.end.core l p) c.in-Ok.ensures.args
+    ∙ taken-is core c.take_request.new.end.core args p now))
 
 pub returns-in-Ok-clause-state : goal.returns-in-Ok-clause-state
 returns-in-Ok-clause-state g c =
@@ -35,12 +35,13 @@ returns-in-Ok-clause-state g c =
     let registries = c.args.registries.now.items in
     let answer : ok (Some step) ≡ checked_front (whole_state core c.args.globals.now registries) =
     rw c.in-Some.is at c.in_ok-request.ensures.answer in
-    let now : c.take.new.end.core ≡ core_by core step =
+    let now : c.take_request.new.end.core ≡ core_by core step =
     c.in-Ok.ensures.core ∙ ap (λ (k : Core). core_by k (pending_in k args p)) c.in_ok-request.ensures.core in
-    let left : c.take.new.registries.items ≡ registries_by core registries step =
+    let left : c.take_request.new.registries.items ≡ registries_by core registries step =
     c.in-Ok.ensures.registries ∙ ap (λ (k : Core). registries_by k registries (pending_in k args p))
     c.in_ok-request.ensures.core in
-    taken-left core c.take.new.end.core c.args.globals.now registries c.take.new.registries.items step answer now left
+    taken-left core c.take_request.new.end.core c.args.globals.now registries c.take_request.new.registries.items step
+    answer now left
 
 pub returns-in-Err-clause-answer : goal.returns-in-Err-clause-answer
 returns-in-Err-clause-answer g c =

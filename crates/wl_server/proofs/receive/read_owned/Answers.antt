@@ -24,8 +24,8 @@ returns-in-Err-clause-answer g c =
     let answer : ok (Some step) ≡ checked_front state = rw c.in-Some.is at c.in_ok-request.ensures.answer in
     needs-some state step answer (some-args (reported_of _ p.outline.birth _) args c.in-Err.ensures.err)
 
-pub take-requires-clause-can : goal.take-requires-clause-can
-take-requires-clause-can g c =
+pub take_request-requires-clause-can : goal.take_request-requires-clause-can
+take_request-requires-clause-can g c =
     let old = c.args.end.now.core in
     let p = c.in-Some.request in
     let can : CanTake old (pending_in old c.find_or_fail.new.end.args p) =
@@ -34,8 +34,8 @@ take-requires-clause-can g c =
     subst (λ (k : Core). CanTake k (pending_in k c.copy.new.end.args p)) (sym core)
     (subst (λ (a : List ParsedArg). CanTake old (pending_in old a p)) (sym c.in-Ok.ensures.args) can)
 
-pub returns-in-Ok-take-clause-state : goal.returns-in-Ok-take-clause-state
-returns-in-Ok-take-clause-state g c =
+pub returns-in-Ok-take_request-clause-state : goal.returns-in-Ok-take_request-clause-state
+returns-in-Ok-take_request-clause-state g c =
     let old = c.args.end.now.core in
     let p = c.in-Some.request in
     let step = pending_in old c.find_or_fail.new.end.args p in
@@ -44,17 +44,18 @@ returns-in-Ok-take-clause-state g c =
     rw c.in-Some.is at c.in_ok-request.ensures.answer in
     let core : c.copy.new.end.core ≡ old = c.in-Ok.ensures.core ∙ c.in_ok-request.ensures.core in
     let args = c.in-Ok.ensures.args in
-    let now : c.take.new.end.core ≡ core_by old step =
-    c.in-Ok-take.ensures.core ∙ (λ i. core_by (core i) (pending_in (core i) (args i) p)) in
-    let left : c.take.new.registries.items ≡ registries_by old registries step =
-    c.in-Ok-take.ensures.registries ∙ (λ i. registries_by (core i) registries (pending_in (core i) (args i) p))
+    let now : c.take_request.new.end.core ≡ core_by old step =
+    c.in-Ok-take_request.ensures.core ∙ (λ i. core_by (core i) (pending_in (core i) (args i) p)) in
+    let left : c.take_request.new.registries.items ≡ registries_by old registries step =
+    c.in-Ok-take_request.ensures.registries ∙ (λ i. registries_by (core i) registries (pending_in (core i) (args i) p))
     in
-    taken-left old c.take.new.end.core c.args.globals.now registries c.take.new.registries.items step answer now left
+    taken-left old c.take_request.new.end.core c.args.globals.now registries c.take_request.new.registries.items step
+    answer now left
 
-pub returns-in-Err-take-clause-answer : goal.returns-in-Err-take-clause-answer
-returns-in-Err-take-clause-answer g c =
+pub returns-in-Err-take_request-clause-answer : goal.returns-in-Err-take_request-clause-answer
+returns-in-Err-take_request-clause-answer g c =
     let core = c.args.end.now.core in
     let step = pending_in core c.find_or_fail.new.end.args c.in-Some.request in
     let state : State = whole_state core c.args.globals.now c.args.registries.now.items in
     let answer : ok (Some step) ≡ checked_front state = rw c.in-Some.is at c.in_ok-request.ensures.answer in
-    memory-wanted state step answer c.in-Err-take.ensures.wants
+    memory-wanted state step answer c.in-Err-take_request.ensures.wants

@@ -2,7 +2,7 @@ use Rattle.std.proofs.Common.{◌≡◌, subst}
 use Rattle.std.proofs.lemmas.List.{take_all}
 use Rattle.wl_objects.specs.Writing.{given}
 use Rattle.theory_connection.specs.World.{Each}
-use Rattle.theory_connection.specs.Runs.{IsGiven}
+use Rattle.theory_connection.specs.Runs.{FitsWords}
 use Rattle.wl_session.specs.Meaning.{args_of}
 use Rattle.wl_session.proofs.lending.lend.Goals as goal
 
@@ -14,4 +14,4 @@ returns-clause-same g c =
 pub returns-clause-in_range : goal.returns-clause-in_range
 returns-clause-in_range g c =
     let whole = take_all c.loop-arg.arg-index c.args.args.now c.loop-arg-test.false in
-    subst (λ args. Each IsGiven (args_of args)) whole c.loop-arg.invariant.1
+    subst (λ args. Each FitsWords (args_of args)) whole c.loop-arg.invariant.1

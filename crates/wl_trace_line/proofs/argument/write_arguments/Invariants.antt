@@ -1,5 +1,5 @@
 use Rattle.std.proofs.Common.{◌≡◌, ◌+◌, ◌≤◌, ◌++◌, drop}
-use Rattle.wl_trace_line.specs.Text.{listed}
+use Rattle.wl_trace_line.specs.Text.{comma_separated}
 use Rattle.wl_trace_line.specs.Line.{all_parts}
 use Rattle.wl_trace_line.proofs.JoinedParts.{listed_behind}
 use Rattle.wl_trace_line.proofs.argument.write_arguments.Given as goal
@@ -9,7 +9,7 @@ abbrev pub invariant-kinds : goal.invariant-kinds
 invariant-kinds g l = record {
   written : l.out.items ++ listed_behind l.place (all_parts l.tables (g.L.Lookup.reader l.lookup).object l.taken
       (drop l.place l.kinds) l.left)
-      ≡ l.fn.out.items ++ listed (all_parts l.tables
+      ≡ l.fn.out.items ++ comma_separated (all_parts l.tables
       (g.L.Lookup.reader l.lookup).object l.fn.taken l.kinds l.fn.values);
   few : l.taken ≤ l.fn.taken + l.place;
 }

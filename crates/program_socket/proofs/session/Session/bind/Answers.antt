@@ -1,14 +1,14 @@
 use Rattle.std.proofs.Common.{refl}
 use Rattle.std.specs.declared.option.Option.TheVariants.{None}
 use Rattle.std.specs.declared.result.Result.TheVariants.{Ok}
-use Rattle.wl_connection.specs.Outcomes.{new_in}
+use Rattle.wl_connection.specs.Outcomes.{some_object}
 use Rattle.wl_session.proofs.CallOutcomes.{binds}
 use Rattle.theory_connection.specs.Pair.{ClientBind}
 use Rattle.program_socket.proofs.session.Session.bind.Goals as goal
 
 pub returns : goal.returns
 returns g c = record {
-  reply = ClientBind (new_in (Ok c.in_ok-bind.field-0));
+  reply = ClientBind (some_object (Ok c.in_ok-bind.field-0));
   accepted = tt;
   does = binds (λ s. record {
     client = s;

@@ -2,7 +2,7 @@ use Rattle.std.proofs.Common.{[], ◌∷◌, refl}
 use Rattle.std.specs.Prelude.{codes}
 use Rattle.theory_connection.specs.Pair.{ClientBind, ClientSend}
 use Rattle.program_session.specs.Session.{the_display, the_registry, new_object}
-use Rattle.program_socket.specs.Streams.{known}
+use Rattle.program_socket.specs.Streams.{known_stream}
 use Rattle.program_socket.specs.Playing.{Call}
 use Rattle.program_socket.specs.Sessions.{connected}
 use Rattle.program_socket.proofs.Plays.{ends_call, plays_call, plays_then}
@@ -10,8 +10,8 @@ use Rattle.program_socket.proofs.session.Session.bind_globals.Goals as goal
 
 pub returns : goal.returns
 returns g c =
-    let client = known g.C.Read.remaining g.C.Write.contents in
-    let server = known g.S.Read.remaining g.S.Write.contents in
+    let client = known_stream g.C.Read.remaining g.C.Write.contents in
+    let server = known_stream g.S.Read.remaining g.S.Write.contents in
     let start = connected c.args.self.now in
     let compositor = connected c.bind.new.self in
     let seat = connected c.bind-2.new.self in

@@ -1,7 +1,7 @@
 use Rattle.std.proofs.Common.{[], ◌∷◌, refl}
 use Rattle.theory_connection.specs.Pair.{ClientSend}
 use Rattle.program_session.specs.Session.{the_compositor, the_surface, new_object}
-use Rattle.program_socket.specs.Streams.{known}
+use Rattle.program_socket.specs.Streams.{known_stream}
 use Rattle.program_socket.specs.Playing.{Call}
 use Rattle.program_socket.specs.Sessions.{connected}
 use Rattle.program_socket.proofs.Plays.{ends_call, plays_call, plays_then}
@@ -9,8 +9,8 @@ use Rattle.program_socket.proofs.session.Session.draw_surface.Goals as goal
 
 pub returns : goal.returns
 returns g c =
-    let client = known g.C.Read.remaining g.C.Write.contents in
-    let server = known g.S.Read.remaining g.S.Write.contents in
+    let client = known_stream g.C.Read.remaining g.C.Write.contents in
+    let server = known_stream g.S.Read.remaining g.S.Write.contents in
     let start = connected c.args.self.now in
     let made = connected c.send_request.new.self in
     let committed = connected c.send_request-2.new.self in

@@ -1,7 +1,7 @@
 use Rattle.std.proofs.Common.{[], ◌∷◌, ◌++◌}
 use Rattle.program_session.specs.Session.{adding_globals, getting_registry, announcing_globals}
 use Rattle.program_session.specs.Session.{binding_globals, finishing_callback, drawing_surface}
-use Rattle.program_socket.specs.Streams.{known}
+use Rattle.program_socket.specs.Streams.{known_stream}
 use Rattle.program_socket.specs.Playing.{calls, ClientTurn, ServerTurn}
 use Rattle.program_socket.specs.Sessions.{connected}
 use Rattle.program_socket.proofs.Plays.{plays_on, plays_then}
@@ -9,8 +9,8 @@ use Rattle.program_socket.proofs.session.Session.play.Goals as goal
 
 pub returns : goal.returns
 returns g c =
-    let client = known g.C.Read.remaining g.C.Write.contents in
-    let server = known g.S.Read.remaining g.S.Write.contents in
+    let client = known_stream g.C.Read.remaining g.C.Write.contents in
+    let server = known_stream g.S.Read.remaining g.S.Write.contents in
     let start = connected c.args.self.now in
     let parts-1 = calls (adding_globals c.args.tables.now) in
     let here-1 = connected c.add_globals.new.self in

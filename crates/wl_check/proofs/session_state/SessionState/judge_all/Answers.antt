@@ -1,7 +1,7 @@
 use Rattle.std.proofs.Common.{◌≡◌, ℕ, Some, None, List, drop, sym, ap, ◌∙◌, arith, subst}
 use Rattle.std.proofs.lemmas.List.{length-drop, drop-drop}
 use Rattle.wl_message.specs.Cut.{front}
-use Rattle.wl_check.specs.SessionState.{Comes, Follows}
+use Rattle.wl_check.specs.SessionState.{Comes, CutFollows}
 use Rattle.wl_check.specs.Seen.{size_of}
 use Rattle.wl_check.proofs.SessionByMessage.{all_judged, closed, comes_next, follows_next, frame_of, in_front, rest_is}
 use Rattle.wl_check.proofs.LongerRecording.{size_least}
@@ -87,7 +87,7 @@ messages-preserved g c =
           (frame_of c.args.direction c.tally.result.end c.in-Some.size c.args.tokens) r) (sym is)
           (comes_next c.args.limit.bytes c.args.tables.now s c.args.output c.messages.self c.args.direction
           c.args.tokens c.in-Some.size c.tally.result.end (drop p b) f some here) in
-          subst (λ (r : List ℕ). Follows c.args.limit.bytes c.args.tables.now s c.args.output c.judge_next.new.self
+          subst (λ (r : List ℕ). CutFollows c.args.limit.bytes c.args.tables.now s c.args.output c.judge_next.new.self
           c.args.direction c.args.tokens r) (drop-drop c.in-Some.size p b)
           (follows_next c.args.limit.bytes c.args.tables.now s c.args.output c.messages.self c.judge_next.new.self
           c.args.direction c.args.tokens c.in-Some.size c.tally.result.end (drop p b) f some here on

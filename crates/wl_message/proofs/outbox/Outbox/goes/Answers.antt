@@ -1,5 +1,5 @@
 use Rattle.std.proofs.Common.{sym, subst}
-use Rattle.wl_message.specs.declared.amounts.Taken.{Taken}
+use Rattle.wl_message.specs.declared.amounts.Amounts.{Amounts}
 use Rattle.wl_message.specs.Outgoing.{Goes}
 use Rattle.wl_message.proofs.PartedQueue.{is_taken}
 use Rattle.wl_message.proofs.WhatGoes.{goes_goes}
@@ -11,6 +11,6 @@ returns-clause-computed g c = is_taken c.args.self.now c.args.bytes c.args.token
 
 pub returns-clause-longest : goal.returns-clause-longest
 returns-clause-longest g c =
-    subst (λ (t : Taken). Goes c.args.self.now c.args.bytes c.args.tokens t)
+    subst (λ (t : Amounts). Goes c.args.self.now c.args.bytes c.args.tokens t)
     (sym (is_taken c.args.self.now c.args.bytes c.args.tokens c.reach-reach.result c.reach-reach.ensures))
     (goes_goes c.args.self.now c.args.bytes c.args.tokens)

@@ -1,5 +1,5 @@
 use Rattle.std.proofs.Common.{◌≡◌, ℕ, ◌-◌, List, ◌++◌, length, take, drop, ap, sym, subst, refl, ◌∙◌}
-use Rattle.wl_message.specs.declared.amounts.Taken.{Taken}
+use Rattle.wl_message.specs.declared.amounts.Amounts.{Amounts}
 use Rattle.wl_message.specs.Outgoing.{Outgoing, Goes, after_taking, waiting_bytes, waiting_tokens}
 use Rattle.wl_message.proofs.PartedQueue.{is_taken, leaves, bytes_wait, tokens_wait}
 use Rattle.wl_message.proofs.WhatGoes.{goes_goes}
@@ -42,7 +42,7 @@ invariant_of-self g c =
 
 pub returns-clause-longest : goal.returns-clause-longest
 returns-clause-longest g c =
-    subst (λ (t : Taken). Goes c.args.self.now (length c.args.bytes.now) (length c.args.tokens.now) t)
+    subst (λ (t : Amounts). Goes c.args.self.now (length c.args.bytes.now) (length c.args.tokens.now) t)
     (sym (is_taken c.args.self.now (length c.args.bytes.now)
     (length c.args.tokens.now) c.reach-reach.result c.reach-reach.ensures))
     (goes_goes c.args.self.now (length c.args.bytes.now) (length c.args.tokens.now))

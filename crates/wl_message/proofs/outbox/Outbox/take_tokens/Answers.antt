@@ -1,6 +1,6 @@
 use Rattle.std.proofs.Common.{◌≡◌, ℕ, ◌-◌, List, ◌++◌, length, take, drop, ap, sym, subst, refl}
 use Rattle.std.proofs.Common.{◌∙◌, arith, length-drop}
-use Rattle.wl_message.specs.declared.amounts.Taken.{Taken}
+use Rattle.wl_message.specs.declared.amounts.Amounts.{Amounts}
 use Rattle.wl_message.specs.Outgoing.{Outgoing, Goes, goes, after_taking, waiting_bytes, waiting_tokens}
 use Rattle.wl_message.proofs.PartedQueue.{is_taken, leaves, bytes_wait, tokens_wait, nothing_waits}
 use Rattle.wl_message.proofs.WhatGoes.{goes_goes}
@@ -52,7 +52,7 @@ returns-clause-computed g c =
 
 pub returns-clause-longest : goal.returns-clause-longest
 returns-clause-longest g c =
-    subst (λ (t : Taken). Goes c.args.self.now (length (waiting_bytes c.args.self.now)) (length c.args.tokens.now) t)
+    subst (λ (t : Amounts). Goes c.args.self.now (length (waiting_bytes c.args.self.now)) (length c.args.tokens.now) t)
     (sym (returns-clause-computed g c))
     (goes_goes c.args.self.now (length (waiting_bytes c.args.self.now)) (length c.args.tokens.now))
 

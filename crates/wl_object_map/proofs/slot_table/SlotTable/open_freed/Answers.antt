@@ -4,7 +4,7 @@ use Rattle.wl_object_map.specs.declared.slot_table.Slot.{Slot}
 use Rattle.std.specs.Vec.{with_items}
 use Rattle.wl_object_map.specs.View.{View, opened_at, has_room, times}
 use Rattle.wl_object_map.specs.Sounds.{Sound-opened_at}
-use Rattle.wl_object_map.specs.Slots.{slot_at, row, new_row, row_at, view_of, IsChain, Holds}
+use Rattle.wl_object_map.specs.Slots.{slot_at, slot_of_entry, new_row, row_at, view_of, IsChain, IsSoundChain}
 use Rattle.wl_object_map.proofs.SlotViews.{holds_of, becomes_reopened, chained_is_free}
 use Rattle.wl_object_map.proofs.slot_table.SlotTable.open_freed.Goals as goal
 
@@ -25,12 +25,12 @@ invariant_of-self g c =
     (λ q. c.put.ensures q ∙ ap (λ (s : Slot). cond (eqb q c.args.id) (Some s) (slot_at c.deref_mut-2.result.now q))
     c.live.ensures
     ∙ ap (λ (s : List Slot). cond (eqb q c.args.id)
-    (Some (row (new_row c.self.inside.births c.args.iface c.args.version))) (slot_at s q)) mid)
+    (Some (slot_of_entry (new_row c.self.inside.births c.args.iface c.args.version))) (slot_at s q)) mid)
     long in
     let room = subst (λ (v : View). has_room v c.args.id ≡ true) (sym c.self.view_is) c.requires.room in
     let new = with_items_is (with_items c.self.inside.slots c.take_out.new.slots) c.put.new.slots
     (omega (arith, c.self.inside.slots.ok.0)) in
-    subst (λ (s : List Slot). Holds s c.take_out.new.first (c.self.inside.free - 1) (c.self.inside.births + 1))
+    subst (λ (s : List Slot). IsSoundChain s c.take_out.new.first (c.self.inside.free - 1) (c.self.inside.births + 1))
     (sym new)
     (holds_of _ _ _ _ _ b (Sound-opened_at _ _ c.args.iface c.args.version c.self.invariant.sound
     (chained_is_free (view_of c.self.inside.slots.items c.self.inside.first_free c.self.inside.free
@@ -53,7 +53,7 @@ returns-clause-table g c =
     (λ q. c.put.ensures q ∙ ap (λ (s : Slot). cond (eqb q c.args.id) (Some s) (slot_at c.deref_mut-2.result.now q))
     c.live.ensures
     ∙ ap (λ (s : List Slot). cond (eqb q c.args.id)
-    (Some (row (new_row c.self.inside.births c.args.iface c.args.version))) (slot_at s q)) mid)
+    (Some (slot_of_entry (new_row c.self.inside.births c.args.iface c.args.version))) (slot_at s q)) mid)
     long in
     let new = with_items_is (with_items c.self.inside.slots c.take_out.new.slots) c.put.new.slots
     (omega (arith, c.self.inside.slots.ok.0)) in

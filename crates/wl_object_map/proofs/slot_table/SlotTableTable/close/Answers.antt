@@ -4,7 +4,7 @@ use Rattle.std.proofs.lemmas.List.{with_items_is}
 use Rattle.wl_object_map.specs.declared.slot_table.Slot.{Slot}
 use Rattle.wl_object_map.specs.View.{View, is_held, closed}
 use Rattle.wl_object_map.specs.Sounds.{Sound-closed}
-use Rattle.wl_object_map.specs.Slots.{row_at, view_of, IsChain, Holds}
+use Rattle.wl_object_map.specs.Slots.{row_at, view_of, IsChain, IsSoundChain}
 use Rattle.wl_object_map.proofs.SlotViews.{holds_of, becomes_closed, counted}
 use Rattle.wl_object_map.proofs.slot_table.SlotTableTable.close.Goals as goal
 
@@ -25,7 +25,8 @@ invariant_of-self g c =
     (λ q. c.put_first.ensures.rows q ∙ ap (λ (s : List Slot). cond (eqb q c.args.id) None (row_at s q)) value)
     long in
     let new = with_items_is c.self.inside.slots c.put_first.new.slots (omega (arith, c.self.inside.slots.ok.0)) in
-    subst (λ (s : List Slot). Holds s c.put_first.new.first (c.self.inside.free + 1) c.self.inside.births) (sym new)
+    subst (λ (s : List Slot). IsSoundChain s c.put_first.new.first (c.self.inside.free + 1) c.self.inside.births)
+    (sym new)
     (holds_of _ _ _ _ _ b (Sound-closed _ c.args.id c.self.invariant.sound held c.requires.not_display))
 
 pub returns : goal.returns

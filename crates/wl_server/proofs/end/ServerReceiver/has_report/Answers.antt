@@ -4,7 +4,7 @@ use Rattle.std.specs.declared.result.Result.TheVariants.{Ok as ok}
 use Rattle.wl_connection.specs.Reads.{HasReport}
 use Rattle.wl_server.specs.State.{State}
 use Rattle.wl_server.specs.Steps.{pending_in}
-use Rattle.wl_server.specs.Streams.{reading}
+use Rattle.wl_server.specs.Streams.{server_reading}
 use Rattle.wl_server.proofs.AfterRequest.{seen-by, answer-is}
 use Rattle.wl_server.proofs.end.ServerReceiver.has_report.Goals.{in-Ok-Some, in_default, in_default-2}
 use Rattle.wl_server.proofs.end.ServerReceiver.has_report.Goals as goal
@@ -22,7 +22,7 @@ returns-clause-yes g c t =
           let step = pending_in state.core c.find.new.end.args w.in-Ok-Some.field-0-0 in
           let answer = seen-by state c.deref.result.now (ok (Some step)) lives c.deref.ensures.value
           (rw w.in-Ok-Some.field-0-is at w.in-Ok-Some.ensures.answer) in
-          subst (HasReport reading) c.self.view_is (step.report, sym (answer-is state (ok (Some step)) answer))
+          subst (HasReport server_reading) c.self.view_is (step.report, sym (answer-is state (ok (Some step)) answer))
       | in_default w ↦ absurd (let r = w.result-is in cc)
       | in_default-2 w ↦ absurd (let r = w.result-is in cc)
     ]

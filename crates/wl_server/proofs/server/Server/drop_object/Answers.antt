@@ -36,4 +36,5 @@ invariant_of-self g c =
           c.close_dropped.new.core e.answer e.ok e.err e.valid c.self.invariant.registries;
       births = births_by c.args.object c.close_dropped.result c.self.inside.end.core c.close_dropped.new.core e.ok e.err
           c.self.invariant.births;
+      settled = c.self.invariant.settled;
     }

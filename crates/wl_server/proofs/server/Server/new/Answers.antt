@@ -1,8 +1,10 @@
-use Rattle.std.proofs.Common.{rules, sym, ap, subst, ◌∙◌, arith, []}
+use Rattle.std.proofs.Common.{◌≡◌, List, rules, refl, sym, ap, subst, ◌∙◌, arith, []}
 use Rattle.wl_sigs.specs.Fixed.{display}
 use Rattle.wl_object_map.specs.View.{View, opening}
 use Rattle.wl_object_map.specs.Sounds.{Sound-opening}
 use Rattle.wl_connection.specs.Core.{Core}
+use Rattle.wl_server.specs.State.{Registry}
+use Rattle.wl_server.specs.Announcing.{owed_in}
 use Rattle.wl_server.specs.Registries.{HasRegistries, BirthsAreOnce}
 use Rattle.wl_server.proofs.Registries.{has_none, births_of_sound}
 use Rattle.wl_server.proofs.server.Server.new.Goals as goal
@@ -18,4 +20,6 @@ invariant_of-result g c =
       registries = subst (HasRegistries c.new-2.result.core.view) (sym c.new-registries.ensures.items)
           (subst (λ (v : View). HasRegistries v []) (sym view) has_none);
       births = subst BirthsAreOnce (sym view) (births_of_sound (opening display) (Sound-opening display));
+      settled = λ t. subst (λ (rs : List Registry). owed_in c.new-globals.result.items rs ≡ [])
+          (sym c.new-registries.ensures.items) refl;
     }

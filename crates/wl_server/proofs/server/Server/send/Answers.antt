@@ -33,4 +33,5 @@ invariant_of-self g c =
       births = by_result (λ (k : Core). BirthsAreOnce k.view) c.send.result core now sent e.ok e.err e.valid
           (λ v is. births_sent core now c.args.target c.args.opcode list v is c.self.invariant.births)
           c.self.invariant.births;
+      settled = c.self.invariant.settled;
     }

@@ -1,6 +1,6 @@
 use Rattle.std.proofs.Common.{ap, sym, ◌∙◌, length, Some}
 use Rattle.std.proofs.lemmas.List.{length-map}
-use Rattle.wl_recording.specs.Piece.{plain}
+use Rattle.wl_recording.specs.Piece.{recorded_piece}
 use Rattle.wl_session.proofs.CallOutcomes.{posts, fails, marks_first, marks_no_more}
 use Rattle.wl_session.proofs.pair.Pair.post_error.Goals as goal
 
@@ -17,7 +17,7 @@ returns-in_err-post_error g c =
 
 pub returns-then-is_none : goal.returns-then-is_none
 returns-then-is_none g c =
-    let count = sym (length-map c.pieces.result.now plain) ∙ ap length c.pieces.ensures.all in
+    let count = sym (length-map c.pieces.result.now recorded_piece) ∙ ap length c.pieces.ensures.all in
     rw (← c.self.view_is)
     (posts (record {
       client = c.self.inside.client;

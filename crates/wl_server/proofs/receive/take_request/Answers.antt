@@ -1,14 +1,16 @@
-use Rattle.std.proofs.Common.{◌≡◌, sym, ap, subst, ◌∙◌, rules}
+use Rattle.std.proofs.Common.{◌≡◌, List, [], sym, ap, subst, ◌∙◌, rules}
 use Rattle.std.specs.Prelude.{IsTrue}
-use Rattle.wl_object_map.specs.View.{View}
 use Rattle.wl_objects.specs.Messages.{opens}
 use Rattle.wl_message.specs.Outgoing.{Outgoing}
 use Rattle.wl_connection.specs.Core.{Core, past, with_view}
 use Rattle.wl_connection.specs.Sending.{delete_id_len, fits}
+use Rattle.wl_server.specs.State.{Registry}
+use Rattle.wl_server.specs.Announcing.{owed_in}
 use Rattle.wl_server.specs.Steps.{core_by, core_without, pending_in, registries_by, registries_without}
 use Rattle.wl_server.proofs.Closings.{row_opened, sound_opened}
 use Rattle.wl_server.proofs.Registries.{sound_now}
-use Rattle.wl_server.proofs.receive.take.Goals as goal
+use Rattle.wl_server.proofs.Settled.{owed-without}
+use Rattle.wl_server.proofs.receive.take_request.Goals as goal
 
 pub close_object-requires-clause-row : goal.close_object-requires-clause-row
 close_object-requires-clause-row g c =
@@ -70,3 +72,11 @@ returns-in_default-clause-sound g c =
     (λ i. registries_without (sym c.in_default.is i) (opened.registries i)) in
     sound_now core c.pass.new.self registries c.open_new_object.new.registries.items step c.requires.can now left
     opened.fresh c.requires.sound
+
+pub returns-in-Some-clause-settled : goal.returns-in-Some-clause-settled
+returns-in-Some-clause-settled g c = λ t.
+    let opened = c.in_ok-open_new_object.ensures.settled t in (
+      opened.0,
+      λ globals none. subst (λ (rs : List Registry). owed_in globals rs ≡ []) (sym c.close_object.ensures.registries)
+          (owed-without globals c.in-Some.object.birth c.open_new_object.new.registries.items (opened.1 globals none)),
+    )

@@ -1,0 +1,52 @@
+"""What the measurements share: programs in C, and instructions counted by valgrind.
+
+Instructions are those in user code under callgrind. What one message takes is the difference of two
+runs, of which one sends more messages."""
+
+import os
+import re
+import subprocess
+
+# Valgrind counts each byte of a string instruction, so copies are made without them.
+WHOLE_COPIES = "glibc.cpu.x86_rep_stosb_threshold=1000000000:glibc.cpu.x86_rep_movsb_threshold=1000000000"
+
+
+def under_valgrind(tool, words):
+    """Runs a program under a tool of valgrind. Returns what the tool says."""
+    ran = subprocess.run(
+        ["valgrind", f"--tool={tool}", *words],
+        capture_output=True,
+        text=True,
+        errors="replace",
+        env={**os.environ, "GLIBC_TUNABLES": WHOLE_COPIES},
+    )
+    if ran.returncode != 0:
+        raise SystemExit(f"{' '.join(words)}: status {ran.returncode}\n{ran.stderr}")
+    return ran.stderr
+
+
+def instructions(words):
+    """The instructions of a run."""
+    text = under_valgrind("callgrind", ["--callgrind-out-file=/dev/null", *words])
+    return int(re.search(r"Collected *: *(\d+)", text)[1])
+
+
+def of_one(measure, words, batch, messages, sample):
+    """What one message takes. A run's last word says how often a batch of so many times so many messages is sent."""
+    first, more = sample // 4 // batch + 1, max(sample // batch, 1)
+    taken = measure([*words, str(first + more)]) - measure([*words, str(first)])
+    return taken / (more * batch * messages)
+
+
+def build_c(source, program, words=(), packages=()):
+    """Compiles a program in C. Returns whether the packages that it needs are there."""
+    flags = []
+    if packages:
+        asked = subprocess.run(
+            ["pkg-config", "--cflags", "--libs", *packages], capture_output=True, text=True
+        )
+        if asked.returncode != 0:
+            return False
+        flags = asked.stdout.split()
+    subprocess.run(["cc", "-O2", "-o", program, source, *words, *flags], check=True)
+    return True

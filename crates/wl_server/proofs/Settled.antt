@@ -1,0 +1,172 @@
+-- A registry that was told all is owed nothing.
+use Rattle.std.proofs.Common.{◌≡◌, ◌≢◌, ℕ, suc, ◌+◌, ◌-◌, ◌<◌, ◌≤◌, Bool, true, false, List, [], ◌∷◌, ◌++◌, length}
+use Rattle.std.proofs.Common.{get_or, take, set, cond, refl, sym, ap, ◌∙◌, append_assoc, ◌⊎◌, inl, inr, arith}
+use Rattle.std.specs.Prelude.{not, ◌&&◌, if◌then◌else◌, map, nat_eq}
+use Rattle.std.proofs.lemmas.List.{get_or-set_other, get_or_default, take_more_set}
+use Rattle.std.proofs.lemmas.Option.{unwrap_or-slice_get}
+use Rattle.wl_message.proofs.Steps.{side}
+use Rattle.wl_server.specs.State.{Global, Registry, mark_of, with_mark}
+use Rattle.wl_server.specs.Registries.{without_registry, registry_birth}
+use Rattle.wl_server.specs.Announcing.{Due, Owing, Removal, Telling, due_to, owed_in, owings, owes_removal}
+use Rattle.wl_server.specs.Announcing.{owes_telling, marked}
+
+-- the test fails of the first n of these globals, each with the name that its place gives it
+abbrev pub NoneOf : (ℕ → Global → Bool) → List Global → ℕ → Type 0
+NoneOf test globals n =
+    (k : ℕ) (x : Global) → k < n → k < length globals → x ≡ get_or globals k x → test (k + 1) x ≡ false
+
+pub none-yet : (test : ℕ → Global → Bool) (globals : List Global) → NoneOf test globals 0
+none-yet test globals k x l there e = absurd (omega (arith, l))
+
+same-global : (globals : List Global) (k n : ℕ) (x y : Global) → k ≡ n → n < length globals → x ≡ get_or globals n x
+    → y ≡ get_or globals k y → y ≡ x
+same-global globals k n x y same there e d =
+    d ∙ ap (λ (i : ℕ). get_or globals i y) same ∙ get_or_default globals n y x there ∙ sym e
+
+-- the first n + 1, where another test fails as this one did, and fails of the next
+pub none-next : (test other : ℕ → Global → Bool) (globals : List Global) (n : ℕ) (x : Global)
+    → ((k : ℕ) (y : Global) → k < n → test (k + 1) y ≡ false → other (k + 1) y ≡ false) → NoneOf test globals n
+    → n < length globals → x ≡ get_or globals n x → other (n + 1) x ≡ false → NoneOf other globals (n + 1)
+none-next test other globals n x keep h here e is k y l there d = elim (side k n) [
+  | inl less ↦ keep k y less (h k y less there d)
+  | inr least ↦ (let same : k ≡ n = omega (arith, least, l) in
+      ap (λ (i : ℕ). other (i + 1) y) same
+      ∙ ap (other (n + 1)) (same-global globals k n x y same here e d) ∙ is)
+]
+
+-- nothing is owed where the test fails of all
+owings-none : (test : ℕ → Global → Bool) (owing : ℕ → Global → Owing) (n : ℕ) (globals : List Global)
+    → ((k : ℕ) (x : Global) → k < length globals → x ≡ get_or globals k x → test (n + k) x ≡ false)
+    → owings test owing n globals ≡ []
+owings-none test owing n [] h = refl
+owings-none test owing n (x ∷ globals) h =
+    let e : n + 0 ≡ n = omega arith in
+    let no : test n x ≡ false = ap (λ (i : ℕ). test i x) (sym e) ∙ h 0 x (omega arith) refl in
+    ap (λ (b : Bool). if b then owing n x ∷ owings test owing (suc n) globals else owings test owing (suc n) globals) no
+    ∙ owings-none test owing (suc n) globals (λ k y l d. (let f : suc n + k ≡ n + suc k = omega arith in
+    ap (λ (i : ℕ). test i y) f ∙ h (suc k) y (omega (arith, l)) d))
+
+all-none : (test : ℕ → Global → Bool) (owing : ℕ → Global → Owing) (globals : List Global) (n : ℕ)
+    → length globals ≤ n → NoneOf test globals n → owings test owing 1 globals ≡ []
+all-none test owing globals n l h = owings-none test owing 1 globals (λ k x there e.
+    (let f : 1 + k ≡ k + 1 = omega arith in
+    ap (λ (i : ℕ). test i x) f ∙ h k x (omega (arith, there, l)) there e))
+
+pub nothing-due : (globals : List Global) (r : Registry) (n m : ℕ) → length globals ≤ n → length globals ≤ m
+    → NoneOf (owes_removal r) globals n → NoneOf (owes_telling r) globals m → due_to globals r ≡ []
+nothing-due globals r n m l d h k =
+    ap (λ (os : List Owing). map (λ (owing : Owing). record { object = r.object; owing = owing }) os)
+    (λ i. all-none (owes_removal r) (λ name _. Removal name) globals n l h i
+    ++ all-none (owes_telling r) Telling globals m d k i)
+
+-- ---- a name is marked
+
+and-no : (b : Bool) → (b && false) ≡ false
+and-no true = refl
+and-no false = refl
+
+first-true : (b c : Bool) → (b && c) ≡ true → b ≡ true
+first-true true c e = refl
+first-true false c e = e
+
+-- the mark of one name is no other's
+mark-apart : (marks : List Bool) (n k : ℕ) → 0 < n → 0 < k → k ≢ n → mark_of (with_mark marks n) k ≡ mark_of marks k
+mark-apart marks n k p q ne =
+    let other : k - 1 ≢ n - 1 = λ e. ne (omega (arith, e, p, q)) in
+    unwrap_or-slice_get (with_mark marks n) (k - 1) false
+    ∙ (get_or-set_other marks (n - 1) (k - 1) true false other ∙ sym (unwrap_or-slice_get marks (k - 1) false))
+
+removed-kept : (r : Registry) (n k : ℕ) (y : Global) → k ≢ n → owes_removal r (k + 1) y ≡ false
+    → owes_removal (marked (Removal (n + 1)) r) (k + 1) y ≡ false
+removed-kept r n k y ne h =
+    ap (λ (b : Bool). (mark_of r.told (k + 1) && not y.present) && not b)
+    (mark-apart r.removed (n + 1) (k + 1) (omega arith) (omega arith) (λ e. ne (omega (arith, e)))) ∙ h
+
+-- once the removal of a name is told, that of the next is next
+pub removal-settled : (r : Registry) (globals : List Global) (n : ℕ) (x : Global)
+    → NoneOf (owes_removal r) globals n → n < length globals → x ≡ get_or globals n x
+    → mark_of (with_mark r.removed (n + 1)) (n + 1) ≡ true
+    → NoneOf (owes_removal (marked (Removal (n + 1)) r)) globals (n + 1)
+removal-settled r globals n x h here e is =
+    none-next (owes_removal r) (owes_removal (marked (Removal (n + 1)) r)) globals n x
+    (λ k y l f. removed-kept r n k y (λ same. omega (arith, same, l)) f) h here e
+    (ap (λ (b : Bool). (mark_of r.told (n + 1) && not x.present) && not b) is
+    ∙ and-no (mark_of r.told (n + 1) && not x.present))
+
+told-kept : (r : Registry) (n k : ℕ) (x y : Global) → k ≢ n → owes_telling r (k + 1) y ≡ false
+    → owes_telling (marked (Telling (n + 1) x) r) (k + 1) y ≡ false
+told-kept r n k x y ne h =
+    ap (λ (b : Bool). y.present && not b)
+    (mark-apart r.told (n + 1) (k + 1) (omega arith) (omega arith) (λ e. ne (omega (arith, e)))) ∙ h
+
+-- and so for the telling of a name
+pub telling-settled : (r : Registry) (globals : List Global) (n : ℕ) (x : Global)
+    → NoneOf (owes_telling r) globals n → n < length globals → x ≡ get_or globals n x
+    → mark_of (with_mark r.told (n + 1)) (n + 1) ≡ true
+    → NoneOf (owes_telling (marked (Telling (n + 1) x) r)) globals (n + 1)
+telling-settled r globals n x h here e is =
+    none-next (owes_telling r) (owes_telling (marked (Telling (n + 1) x) r)) globals n x
+    (λ k y l f. told-kept r n k x y (λ same. omega (arith, same, l)) f) h here e
+    (ap (λ (b : Bool). x.present && not b) is ∙ and-no x.present)
+
+same_or_apart : (k n : ℕ) → (k ≡ n) ⊎ (k ≢ n)
+same_or_apart k n = elim (side k n) [
+  | inl less ↦ inr (λ e. omega (arith, e, less))
+  | inr least ↦ elim (side n k) [
+    | inl more ↦ inr (λ e. omega (arith, e, more))
+    | inr most ↦ inl (omega (arith, least, most))
+  ]
+]
+
+-- which owes no removal of what is there
+pub removals-stay : (r : Registry) (globals : List Global) (n m : ℕ) (x : Global) → NoneOf (owes_removal r) globals m
+    → n < length globals → x ≡ get_or globals n x → owes_telling r (n + 1) x ≡ true
+    → NoneOf (owes_removal (marked (Telling (n + 1) x) r)) globals m
+removals-stay r globals n m x h here e is k y l there d = elim (same_or_apart k n) [
+  | inl same ↦ (
+      let present : y.present ≡ true = ap (λ (g : Global). g.present) (same-global globals k n x y same here e d)
+      ∙ first-true x.present (not (mark_of r.told (n + 1))) is in
+      ap (λ (b : Bool). (mark_of (with_mark r.told (n + 1)) (k + 1) && not b) && not (mark_of r.removed (k + 1)))
+      present
+      ∙ ap (λ (b : Bool). b && not (mark_of r.removed (k + 1)))
+      (and-no (mark_of (with_mark r.told (n + 1)) (k + 1))))
+  | inr ne ↦
+      ap (λ (b : Bool). (b && not y.present) && not (mark_of r.removed (k + 1)))
+      (mark-apart r.told (n + 1) (k + 1) (omega arith) (omega arith) (λ f. ne (omega (arith, f))))
+      ∙ h k y l there d
+]
+
+-- ---- all registries
+
+owed-append : (globals : List Global) (rs ms : List Registry)
+    → owed_in globals (rs ++ ms) ≡ owed_in globals rs ++ owed_in globals ms
+owed-append globals [] ms = refl
+owed-append globals (r ∷ rs) ms =
+    ap (λ (l : List Due). due_to globals r ++ l) (owed-append globals rs ms)
+    ∙ sym (append_assoc (due_to globals r) (owed_in globals rs) (owed_in globals ms))
+
+-- the next one was told all
+pub settled-next : (globals : List Global) (ms : List Registry) (i : ℕ) (after : Registry) → i < length ms
+    → owed_in globals (take i ms) ≡ [] → due_to globals after ≡ []
+    → owed_in globals (take (i + 1) (set ms i after)) ≡ []
+settled-next globals ms i after there before none =
+    ap (λ (rs : List Registry). owed_in globals rs) (take_more_set ms i after there)
+    ∙ owed-append globals (take i ms) (after ∷ []) ∙ (λ j. before j ++ (none j ++ []))
+
+no-parts : (xs ys : List Due) → xs ++ ys ≡ [] → (xs ≡ []) × (ys ≡ [])
+no-parts [] ys e = (refl, e)
+no-parts (x ∷ xs) ys e = absurd (cc e)
+
+without-if : (globals : List Global) (r : Registry) (rs : List Registry) (b : Bool) → due_to globals r ≡ []
+    → owed_in globals rs ≡ [] → owed_in globals (cond b rs (r ∷ rs)) ≡ []
+without-if globals r rs true due owed = owed
+without-if globals r rs false due owed = λ j. due j ++ owed j
+
+-- where nothing is owed, nothing is owed to fewer
+pub owed-without : (globals : List Global) (birth : ℕ) (rs : List Registry) → owed_in globals rs ≡ []
+    → owed_in globals (without_registry registry_birth true birth rs) ≡ []
+owed-without globals birth [] none = refl
+owed-without globals birth (r ∷ rs) none =
+    let parts = no-parts (due_to globals r) (owed_in globals rs) none in
+    without-if globals r (without_registry registry_birth true birth rs) (nat_eq r.object.birth birth) parts.0
+    (owed-without globals birth rs parts.1)

@@ -1,0 +1,176 @@
+/* Messages and descriptors through a socket whose buffer is small, so that it takes a part of what it is given:
+ * what is in the boxes is written and read where it lies, and all of it arrives once, in order. */
+#define _GNU_SOURCE
+#include "must.h"
+#include "transport.h"
+
+#include <sys/mman.h>
+#include <sys/socket.h>
+#include <sys/stat.h>
+#include <unistd.h>
+
+#define POOLS 4000
+
+/* Room for some messages, of no common divisor with their lengths. */
+static const waywire_sizes sizes = { 4099, 64, 4097, 64 };
+static waywire_tables *tables;
+static struct link client, server;
+static int next_pool;
+
+/* A descriptor that is known by the length of its file. */
+static int new_descriptor(int length)
+{
+	int descriptor = memfd_create("pool", MFD_CLOEXEC);
+	MUST(descriptor >= 0 && !ftruncate(descriptor, length));
+	return descriptor;
+}
+
+/* Reads all that came, and looks that the pools are the next ones, each with its own descriptor. */
+static void read_requests(void)
+{
+	waywire_report report;
+	struct stat file;
+	while (!waywire_server_next(server.server, &report) && report.kind != WAYWIRE_NOTHING) {
+		MUST(report.kind == WAYWIRE_MESSAGE);
+		if (report.arg_count != 3)
+			continue;
+		MUST(report.args[1].kind == WAYWIRE_FD && report.args[2].i == ++next_pool);
+		MUST(!fstat((int)report.args[1].u, &file) && file.st_size == next_pool);
+		close((int)report.args[1].u);
+	}
+	MUST(report.kind == WAYWIRE_NOTHING);
+}
+
+static void read_events(void)
+{
+	waywire_report report;
+	do
+		MUST(!waywire_client_next(client.client, &report));
+	while (report.kind != WAYWIRE_NOTHING);
+}
+
+/* What waits at the client goes, in as many parts as the socket takes. Returns how many times it was full. */
+static int carry(void)
+{
+	int full = 0;
+	bool drained = false;
+	for (;; full++) {
+		MUST(!link_flush(&client));
+		waywire_part parts[2];
+		size_t count;
+		MUST(!waywire_client_peek(client.client, parts, NULL, 0, &count));
+		drained = !parts[0].length && !parts[1].length;
+		while (link_fill(&server) == 1)
+			read_requests();
+		if (drained)
+			return full;
+	}
+}
+
+static waywire_object bind_shm(void)
+{
+	waywire_object display, registry;
+	waywire_report report;
+	uint16_t place;
+	MUST(!waywire_client_display(client.client, &display));
+	registry = waywire_wl_display_get_registry(client.client, display, NULL);
+	carry();
+	MUST(!waywire_tables_interface(tables, WAYWIRE_WL_SHM_NAME, &place));
+	MUST(!waywire_server_add_global(server.server, place, 1, NULL));
+	MUST(!waywire_server_announce(server.server, NULL) && !link_flush(&server));
+	MUST(link_fill(&client) == 1 && !waywire_client_next(client.client, &report));
+	waywire_object shm = waywire_wl_registry_bind(client.client, registry, 1, WAYWIRE_WL_SHM_NAME, 1, NULL);
+	MUST(shm.id);
+	carry();
+	return shm;
+}
+
+/* Sends pools, each with a descriptor, and lets them go by. */
+static int send_pools(waywire_object shm)
+{
+	int full = 0;
+	for (int each = 1; each <= POOLS; each++) {
+		waywire_status status;
+		waywire_object pool;
+		int descriptor = new_descriptor(each);
+		for (;;) {
+			pool = waywire_wl_shm_create_pool(client.client, shm, descriptor, each, &status);
+			if (status != WAYWIRE_FULL)
+				break;
+			full += carry();
+		}
+		MUST(!status);
+		while ((status = waywire_wl_shm_pool_destroy(client.client, pool)) == WAYWIRE_FULL)
+			full += carry();
+		MUST(!status);
+		MUST(!link_flush(&server));
+		if (link_fill(&client) == 1)
+			read_events();
+	}
+	return full + carry();
+}
+
+/* What no end gives or takes. */
+static void refused(void)
+{
+	waywire_part parts[2];
+	uint32_t token;
+	size_t count;
+	waywire_amounts amounts;
+	MUST(waywire_client_peek(NULL, parts, &token, 1, &count) == WAYWIRE_NULL);
+	MUST(waywire_client_peek(client.client, NULL, &token, 1, &count) == WAYWIRE_NULL);
+	MUST(waywire_client_peek(client.client, parts, NULL, 1, &count) == WAYWIRE_NULL);
+	MUST(waywire_client_peek(client.client, parts, &token, 1, NULL) == WAYWIRE_NULL);
+	MUST(waywire_client_sent(NULL, 0, &amounts) == WAYWIRE_NULL);
+	MUST(waywire_server_space(NULL, parts) == WAYWIRE_NULL);
+	MUST(waywire_server_space(server.server, NULL) == WAYWIRE_NULL);
+	MUST(waywire_server_received(NULL, 0, NULL, 0, &amounts) == WAYWIRE_NULL);
+	MUST(waywire_server_received(server.server, 0, NULL, 1, &amounts) == WAYWIRE_NULL);
+	MUST(waywire_server_received(server.server, 0, NULL, 0, NULL) == WAYWIRE_NULL);
+	MUST(!waywire_client_sent(client.client, 1000, &amounts) && !amounts.bytes && !amounts.tokens);
+}
+
+/* A failed end has no space, and what waits there can go. */
+static void failed(void)
+{
+	static const unsigned char bad_size[] = { 1, 0, 0, 0, 0, 0, 4, 0 };
+	waywire_part parts[2];
+	waywire_amounts amounts;
+	waywire_report report;
+	uint32_t tokens[WAYWIRE_MAX_ARGS];
+	size_t count;
+	MUST(!waywire_server_space(server.server, parts) && parts[0].length + parts[1].length == sizes.in_bytes);
+	memcpy(parts[0].bytes, bad_size, sizeof bad_size < parts[0].length ? sizeof bad_size : parts[0].length);
+	if (parts[0].length < sizeof bad_size)
+		memcpy(parts[1].bytes, bad_size + parts[0].length, sizeof bad_size - parts[0].length);
+	MUST(!waywire_server_received(server.server, sizeof bad_size, NULL, 0, &amounts));
+	MUST(amounts.bytes == sizeof bad_size && !amounts.tokens);
+	MUST(waywire_is_fault(waywire_server_next(server.server, &report)));
+	MUST(!waywire_server_space(server.server, parts) && !parts[0].length && !parts[1].length);
+	MUST(waywire_server_received(server.server, 1, NULL, 0, &amounts) == WAYWIRE_FAILED && !amounts.bytes);
+	MUST(!waywire_server_peek(server.server, parts, tokens, WAYWIRE_MAX_ARGS, &count));
+	MUST(parts[0].length + parts[1].length >= 20 && !count);
+}
+
+int main(void)
+{
+	int sockets[2], smallest = 1;
+	MUST(!socketpair(AF_UNIX, SOCK_STREAM | SOCK_CLOEXEC, 0, sockets));
+	MUST(!setsockopt(sockets[0], SOL_SOCKET, SO_SNDBUF, &smallest, sizeof smallest));
+	MUST(!waywire_tables_core(&tables));
+	client.socket = sockets[0];
+	server.socket = sockets[1];
+	MUST(!waywire_client_new(tables, &sizes, &client.client));
+	MUST(!waywire_server_new(tables, &sizes, &server.server));
+	int full = send_pools(bind_shm());
+	MUST(full && next_pool == POOLS);
+	refused();
+	failed();
+	link_close(&client);
+	link_close(&server);
+	waywire_client_free(client.client);
+	waywire_server_free(server.server);
+	waywire_tables_free(tables);
+	printf("parts: ok\n");
+	return 0;
+}
