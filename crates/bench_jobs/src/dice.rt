@@ -1,0 +1,34 @@
+//! Random draws, the same ones for the same number.
+use rand_core::Rng;
+use rand_pcg::Pcg32;
+
+/// What draws come from.
+#[derive(Drop)]
+pub(crate) struct Dice {
+    words: Pcg32,
+}
+
+impl Dice {
+    /// Draws by a number, where each round and each part of a job has draws of its own.
+    pub(crate) fn new(seed: u32, round: u32, part: u64) -> Dice {
+        let state = u64::from(round).wrapping_mul(4_294_967_296) | u64::from(seed);
+        Dice {
+            words: Pcg32::new(state, part),
+        }
+    }
+
+    pub(crate) fn word(&mut self) -> u32 {
+        self.words.next_u32()
+    }
+
+    /// A number below this one; 0 where there is none.
+    pub(crate) fn below(&mut self, count: u32) -> u32 {
+        self.word().checked_rem(count).unwrap_or(0)
+    }
+
+    /// A number from the first to the last of these.
+    pub(crate) fn between(&mut self, first: u32, last: u32) -> u32 {
+        let count = last.saturating_sub(first).saturating_add(1);
+        first.saturating_add(self.below(count))
+    }
+}

@@ -1,0 +1,282 @@
+//! Recordings checked and traced, and sessions judged as they pass.
+use crate::Amount;
+use crate::digest::Digest;
+use crate::session::{Session, Turn};
+use crate::spelling::{line, lines_of_bytes};
+use std::alloc::Global;
+use wl::{Direction, Inspector, Limit, Tables, Verdict};
+use wl_check::{check_text, trace_text};
+use wl_verdict::write_verdict;
+
+/// A kind of session.
+#[derive(Clone, Copy)]
+struct Course {
+    /// How many turns there are.
+    turns: u32,
+    /// How many surfaces stay open.
+    open: u32,
+    /// The most bytes of a title.
+    title: u32,
+    /// Whether each byte is a piece of its own.
+    bytes: bool,
+}
+
+/// A session of a desktop.
+const USUAL: Course = Course {
+    turns: 60_000,
+    open: 10,
+    title: 60,
+    bytes: false,
+};
+
+/// All objects stay open.
+const MANY: Course = Course {
+    turns: 20_000,
+    open: 100_000,
+    title: 60,
+    bytes: false,
+};
+
+/// Long titles.
+const LONG: Course = Course {
+    turns: 6_000,
+    open: 10,
+    title: 4000,
+    bytes: false,
+};
+
+/// Each byte is a piece.
+const BYTES: Course = Course {
+    turns: 10_000,
+    open: 10,
+    title: 60,
+    bytes: true,
+};
+
+/// How many surfaces are made in one piece.
+const AT_ONCE: u32 = 300;
+
+/// Takes the pieces of a session as they come.
+trait Pieces {
+    /// One piece, with so many tokens.
+    fn piece(&mut self, direction: Direction, bytes: &[u8], tokens: usize) -> Option<()>;
+}
+
+/// Passes on what a turn wrote.
+fn pass<P: Pieces>(pieces: &mut P, turn: &mut Turn) -> Option<()> {
+    if !turn.requests.is_empty() {
+        pieces.piece(Direction::ToServer, &turn.requests, turn.tokens)?;
+    }
+    if !turn.events.is_empty() {
+        pieces.piece(Direction::ToClient, &turn.events, 0)?;
+    }
+    turn.clear();
+    Some(())
+}
+
+/// Passes on what a turn wrote, its events first.
+fn pass_events_first<P: Pieces>(pieces: &mut P, turn: &mut Turn) -> Option<()> {
+    pieces.piece(Direction::ToClient, &turn.events, 0)?;
+    turn.events.clear();
+    pass(pieces, turn)
+}
+
+/// A session of this kind, up to its last turn.
+fn play<P: Pieces>(
+    pieces: &mut P,
+    session: &mut Session,
+    turn: &mut Turn,
+    course: Course,
+    amount: Amount,
+) -> Option<()> {
+    session.ask(turn)?;
+    pass(pieces, turn)?;
+    session.bind(turn)?;
+    pass_events_first(pieces, turn)?;
+    session.open(turn)?;
+    pass(pieces, turn)?;
+    session.warm(turn)?;
+    pass(pieces, turn)?;
+    for _ in 0..amount.of(course.open) / AT_ONCE {
+        for _ in 0..AT_ONCE {
+            session.grow(turn)?;
+        }
+        pass(pieces, turn)?;
+    }
+    for _ in 0..amount.of(course.turns) {
+        session.turn(turn)?;
+        pass(pieces, turn)?;
+    }
+    Some(())
+}
+
+fn empty_turn(alloc: Global) -> Turn {
+    Turn {
+        requests: Vec::new(alloc),
+        events: Vec::new(alloc),
+        tokens: 0,
+    }
+}
+
+/// Writes a recording's text.
+#[derive(Drop)]
+struct TextPieces<'a> {
+    text: &'a mut Vec<u8>,
+    bytes: bool,
+}
+
+impl Pieces for TextPieces<'_> {
+    fn piece(&mut self, direction: Direction, bytes: &[u8], tokens: usize) -> Option<()> {
+        if self.bytes {
+            lines_of_bytes(self.text, direction, bytes, tokens)
+        } else {
+            line(self.text, direction, bytes, tokens)
+        }
+    }
+}
+
+/// Appends the line of a verdict to a digest.
+fn add_verdict(alloc: Global, verdict: Verdict, digest: &mut Digest) -> Option<()> {
+    let mut line = Vec::new(alloc);
+    write_verdict(&mut line, &verdict).ok()?;
+    digest.bytes(&line);
+    Some(())
+}
+
+/// What is done with the text of a recording.
+#[derive(Clone, Copy)]
+enum Work {
+    Check,
+    Trace,
+}
+
+fn work_on(
+    alloc: Global,
+    work: Work,
+    text: &[u8],
+    tables: &Tables,
+    digest: &mut Digest,
+) -> Option<()> {
+    match work {
+        Work::Check => {
+            let verdict = check_text(alloc, text, tables, Limit::USUAL).ok()?;
+            add_verdict(alloc, verdict, digest)
+        }
+        Work::Trace => {
+            let (lines, verdict) = trace_text(alloc, text, tables, Limit::USUAL).ok()?;
+            digest.bytes(lines.as_slice());
+            add_verdict(alloc, verdict, digest)
+        }
+    }
+}
+
+/// Works on the text of a session, and once more where its last message breaks a rule.
+fn work_on_course(
+    alloc: Global,
+    work: Work,
+    tables: &Tables,
+    course: Course,
+    place: usize,
+    amount: Amount,
+    digest: &mut Digest,
+) -> Option<()> {
+    let mut text = Vec::new(alloc);
+    let mut turn = empty_turn(alloc);
+    let mut session = Session::new(amount.dice(place), course.title);
+    let mut pieces = TextPieces {
+        text: &mut text,
+        bytes: course.bytes,
+    };
+    play(&mut pieces, &mut session, &mut turn, course, amount)?;
+    work_on(alloc, work, &text, tables, digest)?;
+    session.break_rule(&mut turn)?;
+    line(&mut text, Direction::ToServer, &turn.requests, 0)?;
+    work_on(alloc, work, &text, tables, digest)
+}
+
+/// Works on the texts of all kinds of sessions.
+fn work_on_all(
+    alloc: Global,
+    work: Work,
+    tables: &Tables,
+    amount: Amount,
+    digest: &mut Digest,
+) -> Option<()> {
+    let courses = [USUAL, MANY, LONG, USUAL, BYTES, USUAL];
+    for (place, course) in courses.iter().enumerate() {
+        work_on_course(alloc, work, tables, *course, place, amount, digest)?;
+    }
+    Some(())
+}
+
+/// Recordings checked.
+pub(crate) fn check(
+    alloc: Global,
+    tables: &Tables,
+    amount: Amount,
+    digest: &mut Digest,
+) -> Option<()> {
+    work_on_all(alloc, Work::Check, tables, amount, digest)
+}
+
+/// Recordings printed message by message.
+pub(crate) fn trace(
+    alloc: Global,
+    tables: &Tables,
+    amount: Amount,
+    digest: &mut Digest,
+) -> Option<()> {
+    work_on_all(alloc, Work::Trace, tables, amount, digest)
+}
+
+/// Passes pieces to an inspector, and digests its lines.
+#[derive(Drop)]
+struct InspectedPieces<'a, 't> {
+    inspector: &'a mut Inspector<'t>,
+    digest: &'a mut Digest,
+}
+
+impl Pieces for InspectedPieces<'_, '_> {
+    fn piece(&mut self, direction: Direction, bytes: &[u8], tokens: usize) -> Option<()> {
+        self.inspector.pass(direction, bytes, tokens).ok()?;
+        self.digest.bytes(self.inspector.lines());
+        Some(())
+    }
+}
+
+/// Judges a session of this kind as it passes.
+fn inspect_course(
+    alloc: Global,
+    tables: &Tables,
+    course: Course,
+    place: usize,
+    amount: Amount,
+    digest: &mut Digest,
+) -> Option<()> {
+    let mut inspector = Inspector::new(alloc, tables, Limit::USUAL).ok()?;
+    let mut turn = empty_turn(alloc);
+    let mut session = Session::new(amount.dice(place), course.title);
+    let mut pieces = InspectedPieces {
+        inspector: &mut inspector,
+        digest,
+    };
+    play(&mut pieces, &mut session, &mut turn, course, amount)?;
+    session.break_rule(&mut turn)?;
+    pass(&mut pieces, &mut turn)?;
+    add_verdict(alloc, inspector.verdict(), digest)
+}
+
+/// Sessions judged as they pass, beside ten and beside 100,000 open objects.
+pub(crate) fn inspect(
+    alloc: Global,
+    tables: &Tables,
+    amount: Amount,
+    digest: &mut Digest,
+) -> Option<()> {
+    let beside_many = Course { turns: 400, ..MANY };
+    let courses = [USUAL, beside_many, USUAL, LONG];
+    for (place, course) in courses.iter().enumerate() {
+        inspect_course(alloc, tables, *course, place, amount, digest)?;
+    }
+    Some(())
+}

@@ -1,0 +1,115 @@
+//! The jobs that a user of waywire waits for, on inputs that a number makes. Prints a digest of all
+//! that the library answered. bench/run times it, and bench/workloads.txt says with which words.
+//!
+//! The words are the jobs, the number, how large each is, in parts of a hundred, and how often it is
+//! done, each time on another input.
+#![tactic(auto)]
+
+mod dice;
+mod digest;
+mod judging;
+mod messages;
+mod registries;
+mod session;
+mod spelling;
+mod table_texts;
+mod talking;
+
+use dice::Dice;
+use digest::Digest;
+use std::alloc::Global;
+use std::process::ExitCode;
+use std::{env, io};
+use wl::Tables;
+
+/// How a job is made and how much of it is done.
+#[derive(Clone, Copy)]
+pub(crate) struct Amount {
+    pub seed: u32,
+    /// In parts of a hundred.
+    pub parts: u32,
+    /// How often the job was done before.
+    pub round: u32,
+}
+
+impl Amount {
+    /// So much of this number.
+    pub(crate) fn of(self, number: u32) -> u32 {
+        let part = u64::from(number).saturating_mul(u64::from(self.parts)) / 100;
+        u32::try_from(part).unwrap_or(u32::MAX)
+    }
+
+    /// The draws of a part of the job.
+    pub(crate) fn dice(self, part: usize) -> Dice {
+        Dice::new(self.seed, self.round, part as u64)
+    }
+}
+
+/// Does a job. None where something did not go as it should.
+fn run(
+    alloc: Global,
+    job: &str,
+    tables: &Tables,
+    amount: Amount,
+    digest: &mut Digest,
+) -> Option<()> {
+    match job {
+        "messages" => messages::play(alloc, tables, amount, digest),
+        "check" => judging::check(alloc, tables, amount, digest),
+        "trace" => judging::trace(alloc, tables, amount, digest),
+        "inspect" => judging::inspect(alloc, tables, amount, digest),
+        "registries" => registries::serve(alloc, tables, amount, digest),
+        "tables" => table_texts::read(alloc, amount, digest),
+        _ => None,
+    }
+}
+
+/// Does a job some times.
+fn run_all(
+    alloc: Global,
+    job: &str,
+    tables: &Tables,
+    rounds: u32,
+    amount: Amount,
+    digest: &mut Digest,
+) -> Option<()> {
+    for round in 0..rounds {
+        run(alloc, job, tables, Amount { round, ..amount }, digest)?;
+    }
+    Some(())
+}
+
+fn number(word: &String) -> Option<u32> {
+    word.as_str().parse::<u32>().ok()
+}
+
+/// The first round's amount, and how many rounds there are.
+fn amount_of(seed: &String, parts: &String, rounds: &String) -> Option<(Amount, u32)> {
+    let amount = Amount {
+        seed: number(seed)?,
+        parts: number(parts)?,
+        round: 0,
+    };
+    Some((amount, number(rounds)?))
+}
+
+fn main(rt: HostRuntime) -> io::Result<ExitCode> {
+    let words: Vec<String> = env::args(&rt)?.collect(rt.alloc())?;
+    let [_program, jobs @ .., seed, parts, rounds] = words.as_slice() else {
+        return Ok(ExitCode::from(2));
+    };
+    let Some((amount, rounds)) = amount_of(seed, parts, rounds) else {
+        return Ok(ExitCode::from(2));
+    };
+    let tables = Tables::core(rt.alloc())?;
+    for job in jobs {
+        let mut digest = Digest::new();
+        let name = job.as_str();
+        if run_all(rt.alloc(), name, &tables, rounds, amount, &mut digest).is_none() {
+            println!(rt; "{name}: did not go well")?;
+            return Ok(ExitCode::from(1));
+        }
+        println!(rt; "{name} {digest}")?;
+    }
+    Ok(ExitCode::from(0))
+}
