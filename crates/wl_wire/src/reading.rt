@@ -16,6 +16,7 @@ use crate::word::{int_at, padded_len, word_at};
 
 /// The argument of this kind at the front of the bytes, with the number of bytes that spell it.
 /// What stands behind it is not looked at, and padding may be any bytes.
+#[inline(always)]
 pub fn read_ref<'a>(kind: Kind, bytes: &'a [u8]) -> Result<(ValueRef<'a>, usize), ArgFault>
     // What is read is spelled so.
     ensures found { IfOk result
@@ -30,6 +31,7 @@ pub fn read_ref<'a>(kind: Kind, bytes: &'a [u8]) -> Result<(ValueRef<'a>, usize)
     front_of(kind, bytes)
 }
 
+#[inline(always)]
 fn front_of<'a>(kind: Kind, bytes: &'a [u8]) -> Result<(ValueRef<'a>, usize), ArgFault>
     ensures { seen result ≡ reading kind bytes.now }
 {
@@ -41,6 +43,7 @@ fn front_of<'a>(kind: Kind, bytes: &'a [u8]) -> Result<(ValueRef<'a>, usize), Ar
 }
 
 /// The number of bytes of the argument at the front, if they are all there.
+#[inline(always)]
 fn len_at(kind: Kind, bytes: &[u8]) -> Result<usize, ArgFault>
     ensures { result ≡ (if nat_lt (length bytes.now) (asked kind bytes.now) then Err Short else Ok
         (asked kind bytes.now)) }
@@ -63,6 +66,7 @@ fn len_at(kind: Kind, bytes: &[u8]) -> Result<usize, ArgFault>
 }
 
 /// The argument at the front of bytes that are all there.
+#[inline(always)]
 fn value_at<'a>(kind: Kind, bytes: &'a [u8]) -> Result<ValueRef<'a>, ArgFault>
     requires { asked kind bytes.now ≤ length bytes.now }
     ensures { on_found lent result ≡ argument_of kind bytes.now }
