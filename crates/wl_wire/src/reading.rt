@@ -1,11 +1,12 @@
 //! One argument, read without a copy.
-ghost use Rattle.std.specs.Prelude.{◌≡◌, ◌≤◌, ◌+◌, ℕ, length, take, nat_lt, if◌then◌else◌};
-ghost use Rattle.std.specs.Prelude.{IfOk, IfErr, Ok, Err};
-ghost use Rattle.wl_wire.specs.declared.kind.ArgFault.TheVariants.{Short};
+ghost use Rattle.std.specs.Prelude.{◌≡◌, ◌≤◌, ◌+◌, ℕ, length, take, IfOk, IfErr, Ok, None};
+ghost use Rattle.wl_wire.specs.declared.kind.Kind.TheVariants.{Str as str_kind};
+ghost use Rattle.wl_wire.specs.declared.kind.Kind.TheVariants.{New as new_kind};
+ghost use Rattle.wl_wire.specs.declared.kind.Kind.TheVariants.{Array as array_kind};
 ghost use Rattle.wl_wire.specs.Argument.{Argument, lent};
 ghost use Rattle.wl_wire.specs.Spelling.{Spells, padded};
 ghost use Rattle.wl_wire.specs.Faults.{IsFirstFault};
-ghost use Rattle.wl_wire.specs.Reading.{asked, argument_of, number_at, on_found, reading, seen};
+ghost use Rattle.wl_wire.specs.Reading.{number_at, on_found, reading, seen};
 ghost use Rattle.wl_wire.specs.Reading.{text_of};
 
 use crate::fixed::Fixed;
@@ -35,75 +36,82 @@ pub fn read_ref<'a>(kind: Kind, bytes: &'a [u8]) -> Result<(ValueRef<'a>, usize)
 fn front_of<'a>(kind: Kind, bytes: &'a [u8]) -> Result<(ValueRef<'a>, usize), ArgFault>
     ensures { seen result ≡ reading kind bytes.now }
 {
-    let len = len_at(kind, bytes)?;
-    match value_at(kind, bytes) {
-        Ok(value) => Ok((value, len)),
-        Err(fault) => Err(fault),
-    }
-}
-
-/// The number of bytes of the argument at the front, if they are all there.
-#[inline(always)]
-fn len_at(kind: Kind, bytes: &[u8]) -> Result<usize, ArgFault>
-    ensures { result ≡ (if nat_lt (length bytes.now) (asked kind bytes.now) then Err Short else Ok
-        (asked kind bytes.now)) }
-{
-    if matches!(&kind, Kind::Fd) {
-        return Ok(0);
-    }
     if bytes.len() < 4 {
-        return Err(ArgFault::Short);
+        return match kind {
+            Kind::Fd => Ok((ValueRef::Fd, 0)),
+            _ => Err(ArgFault::Short),
+        };
     }
-    let len = match kind {
-        Kind::Str { .. } | Kind::Array => 4 + padded_len(word_at(bytes) as usize),
-        Kind::New(None) => 12 + padded_len(word_at(bytes) as usize),
-        _ => 4,
-    };
-    if bytes.len() < len {
-        return Err(ArgFault::Short);
-    }
-    Ok(len)
-}
-
-/// The argument at the front of bytes that are all there.
-#[inline(always)]
-fn value_at<'a>(kind: Kind, bytes: &'a [u8]) -> Result<ValueRef<'a>, ArgFault>
-    requires { asked kind bytes.now ≤ length bytes.now }
-    ensures { on_found lent result ≡ argument_of kind bytes.now }
-{
     match kind {
-        Kind::Int => Ok(ValueRef::Int(int_at(bytes))),
-        Kind::Uint => Ok(ValueRef::Uint(word_at(bytes))),
-        Kind::Fixed => Ok(ValueRef::Fixed(Fixed::from_raw(int_at(bytes)))),
-        Kind::Str { null } => {
-            if null && word_at(bytes) == 0 {
-                return Ok(ValueRef::Str(None));
-            }
-            Ok(ValueRef::Str(Some(text_at(bytes)?)))
-        }
+        Kind::Int => Ok((ValueRef::Int(int_at(bytes)), 4)),
+        Kind::Uint => Ok((ValueRef::Uint(word_at(bytes)), 4)),
+        Kind::Fixed => Ok((ValueRef::Fixed(Fixed::from_raw(int_at(bytes))), 4)),
+        Kind::Str { null } => string_at(null, bytes),
         Kind::Obj { null, .. } => {
             let id = word_at(bytes);
             if id == 0 && !null {
                 return Err(ArgFault::NullNotAllowed);
             }
-            Ok(ValueRef::Obj(id))
+            Ok((ValueRef::Obj(id), 4))
         }
-        Kind::New(Some(_)) => Ok(ValueRef::New(word_at(bytes))),
-        Kind::New(None) => {
-            let iface = text_at(bytes)?;
-            let after = &bytes[4 + padded_len(word_at(bytes) as usize)..];
-            Ok(ValueRef::NewNamed {
-                iface,
-                version: word_at(after),
-                id: word_at(&after[4..]),
-            })
-        }
-        Kind::Array => {
-            let end = 4 + word_at(bytes) as usize;
-            Ok(ValueRef::Array(&bytes[4..end]))
-        }
-        Kind::Fd => Ok(ValueRef::Fd),
+        Kind::New(Some(_)) => Ok((ValueRef::New(word_at(bytes)), 4)),
+        Kind::New(None) => named_at(bytes),
+        Kind::Array => array_at(bytes),
+        Kind::Fd => Ok((ValueRef::Fd, 0)),
     }
+}
+
+/// The string at the front of bytes that hold its length.
+#[inline(always)]
+fn string_at<'a>(null: bool, bytes: &'a [u8]) -> Result<(ValueRef<'a>, usize), ArgFault>
+    requires { 4 ≤ length bytes.now }
+    ensures { seen result ≡ reading (str_kind null) bytes.now }
+{
+    let len = word_at(bytes) as usize;
+    let end = 4 + padded_len(len);
+    if bytes.len() < end {
+        return Err(ArgFault::Short);
+    }
+    if null && len == 0 {
+        return Ok((ValueRef::Str(None), end));
+    }
+    match text_at(bytes) {
+        Ok(text) => Ok((ValueRef::Str(Some(text)), end)),
+        Err(fault) => Err(fault),
+    }
+}
+
+/// The new object with its interface's name at the front of bytes that hold the name's length.
+fn named_at<'a>(bytes: &'a [u8]) -> Result<(ValueRef<'a>, usize), ArgFault>
+    requires { 4 ≤ length bytes.now }
+    ensures { seen result ≡ reading (new_kind None) bytes.now }
+{
+    let name = padded_len(word_at(bytes) as usize);
+    if bytes.len() < 12 + name {
+        return Err(ArgFault::Short);
+    }
+    let iface = text_at(bytes)?;
+    let after = &bytes[4 + name..];
+    let value = ValueRef::NewNamed {
+        iface,
+        version: word_at(after),
+        id: word_at(&after[4..]),
+    };
+    Ok((value, 12 + name))
+}
+
+/// The array at the front of bytes that hold its length.
+#[inline(always)]
+fn array_at<'a>(bytes: &'a [u8]) -> Result<(ValueRef<'a>, usize), ArgFault>
+    requires { 4 ≤ length bytes.now }
+    ensures { seen result ≡ reading array_kind bytes.now }
+{
+    let len = word_at(bytes) as usize;
+    let end = 4 + padded_len(len);
+    if bytes.len() < end {
+        return Err(ArgFault::Short);
+    }
+    Ok((ValueRef::Array(&bytes[4..4 + len]), end))
 }
 
 /// The string at the front, which is not null, without its ending NUL.
