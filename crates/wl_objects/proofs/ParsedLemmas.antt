@@ -1,13 +1,15 @@
 -- One argument after another, parsed.
-use Rattle.std.proofs.Common.{◌≡◌, ℕ, zero, suc, ◌+◌, ◌-◌, ◌<◌, ◌≤◌, Bool, true, false, List, []}
+use Rattle.std.proofs.Common.{◌≡◌, ℕ, zero, suc, ◌+◌, ◌<◌, ◌≤◌, Bool, true, false, List, []}
 use Rattle.std.proofs.Common.{◌∷◌, ◌++◌, length, take, drop, get_or, map, Some, None, refl, sym, ap}
 use Rattle.std.proofs.Common.{◌∙◌, arith, add-one, drop-cons, append_assoc, drop-drop}
-use Rattle.std.specs.Prelude.{set, Option, if◌then◌else◌}
+use Rattle.std.specs.Prelude.{set, Option, if◌then◌else◌, nat_lt}
 use Rattle.std.specs.declared.result.Result.{Result}
 use Rattle.std.specs.declared.result.Result.TheVariants.{Ok, Err}
-use Rattle.std.proofs.lemmas.List.{drop_all, map-append, append-nil, take_more_set}
+use Rattle.std.proofs.lemmas.Bool.{le-ltb}
+use Rattle.std.proofs.lemmas.List.{drop_all, length-drop, map-append, append-nil, take_more_set}
 use Rattle.wl_wire.specs.Argument.{Argument, Int, Uint, Fixed, Str, Obj, New, NewNamed, Array, Fd}
 use Rattle.wl_wire.specs.declared.kind.Kind.{Kind}
+use Rattle.wl_wire.specs.declared.kind.Kind.TheVariants as kinds
 use Rattle.wl_wire.specs.Reading.{reading}
 use Rattle.wl_objects.specs.declared.error.Fault.{Fault}
 use Rattle.wl_objects.specs.declared.parsed.ParsedArg.{ParsedArg}
@@ -19,7 +21,7 @@ use Rattle.wl_objects.specs.Seen.{got, got_values}
 use Rattle.wl_objects.specs.Parsed.{AreParsed, Both, all_of, all_parsed, parsed_argument, behind_those}
 use Rattle.wl_objects.specs.Parsed.{both, both_of, is_fd, made_of, made_of_one, made_unless}
 use Rattle.wl_objects.specs.Parsed.{place_after, place_behind, reported_in, reported_of, spelled_in}
-use Rattle.wl_objects.specs.Parsed.{token_at, with_token}
+use Rattle.wl_objects.specs.Parsed.{token_at, with_token, IsNumber, is_int, is_uint, is_fixed}
 
 pub one-ok : (r : Reader) (place n : ℕ) (v : Argument) (f : Option Fault) (x : Both) → Ok x ≡ made_unless r place v f
     → Ok (x, n) ≡ made_of_one r place (unless f (v, n))
@@ -30,6 +32,39 @@ pub one-err : (r : Reader) (place n : ℕ) (v : Argument) (f : Option Fault) (fa
     → Err fault ≡ made_unless r place v f → Err fault ≡ made_of_one r place (unless f (v, n))
 one-err r place n v None fault e = absurd (cc)
 one-err r place n v (Some other) fault e = let same : fault ≡ other = cc in λ i. Err (same i)
+
+-- ---- numbers
+
+same-int : (forgives : Bool) → forgiving_kind forgives kinds.Int ≡ kinds.Int
+same-int true = refl
+same-int false = refl
+
+same-uint : (forgives : Bool) → forgiving_kind forgives kinds.Uint ≡ kinds.Uint
+same-uint true = refl
+same-uint false = refl
+
+same-fixed : (forgives : Bool) → forgiving_kind forgives kinds.Fixed ≡ kinds.Fixed
+same-fixed true = refl
+same-fixed false = refl
+
+-- a number that was read first is what the general way reads
+pub number-one : (r q : Reader) (i place birth : ℕ) (k : Kind) (bytes body : List ℕ) (p : ParsedArg)
+    → nat_lt (length bytes) 4 ≡ false → IsNumber k bytes p
+    → Ok (both_of body birth p, 4) ≡ made_of_one r place
+    (value_or_fault q i k (reading (forgiving_kind q.forgives k) bytes))
+number-one r q i place birth k bytes body p long (is_int e) = rw (same-int q.forgives, long, e) refl
+number-one r q i place birth k bytes body p long (is_uint e) = rw (same-uint q.forgives, long, e) refl
+number-one r q i place birth k bytes body p long (is_fixed e) = rw (same-fixed q.forgives, long, e) refl
+
+pub number-long : (start : ℕ) (body : List ℕ) → start + 4 ≤ length body
+    → nat_lt (length (drop start body)) 4 ≡ false
+number-long start body h = le-ltb (length (drop start body)) 4 (rw length-drop (omega (arith, h)))
+
+pub number-place : (k : Kind) (bytes : List ℕ) (p : ParsedArg) (place : ℕ) → IsNumber k bytes p
+    → place_behind p place ≡ place
+number-place k bytes p place (is_int e) = refl
+number-place k bytes p place (is_uint e) = refl
+number-place k bytes p place (is_fixed e) = refl
 
 -- ---- descriptors
 

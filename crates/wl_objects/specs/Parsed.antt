@@ -1,11 +1,15 @@
 -- The arguments of a message as they were parsed, once: records that lend nothing, over the body
 -- that they lie in.
-use Rattle.std.specs.Prelude.{◌≡◌, ℕ, ◌+◌, ◌<◌, ◌^◌, Bool, true, false, if◌then◌else◌, List, []}
+use Rattle.std.specs.Prelude.{◌≡◌, ℕ, ℤ, ◌+◌, ◌<◌, ◌^◌, Bool, true, false, if◌then◌else◌, List, []}
 use Rattle.std.specs.Prelude.{◌∷◌, ◌++◌, length, map, take, drop, slice_index_or, Option, Some}
 use Rattle.std.specs.Prelude.{None}
 use Rattle.std.specs.Borrow.{Bor}
 use Rattle.std.specs.declared.result.Result.{Result}
 use Rattle.std.specs.declared.result.Result.TheVariants.{Ok, Err}
+use Rattle.wl_wire.specs.declared.fixed.Fixed as fixed
+use Rattle.wl_wire.specs.declared.kind.Kind.{Kind}
+use Rattle.wl_wire.specs.declared.kind.Kind.TheVariants as kinds
+use Rattle.wl_wire.specs.Word.{number_at, signed}
 use Rattle.wl_wire.specs.Argument.{Argument, units, reshaped, Int, Uint, Fixed, Str, Obj, New}
 use Rattle.wl_wire.specs.Argument.{NewNamed, Array, Fd}
 use Rattle.wl_objects.specs.declared.error.Fault.{Fault}
@@ -158,6 +162,15 @@ is_fd _ = false
 
 abbrev pub place_behind : ParsedArg → ℕ → ℕ
 place_behind parsed place = if is_fd parsed then place + 1 else place
+
+-- a number, and its kind, that the first four bytes are
+pub data IsNumber : Kind → List ℕ → ParsedArg → Type 0 where
+  is_int : {z : ℤ} {bytes : List ℕ} → z ≡ signed (number_at bytes)
+      → IsNumber kinds.Int bytes (parsed_as.Int z)
+  is_uint : {n : ℕ} {bytes : List ℕ} → n ≡ number_at bytes
+      → IsNumber kinds.Uint bytes (parsed_as.Uint n)
+  is_fixed : {z : fixed.Fixed} {bytes : List ℕ} → units z ≡ signed (number_at bytes)
+      → IsNumber kinds.Fixed bytes (parsed_as.Fixed z)
 
 -- the bytes of a text lie behind the first word
 pub record LiesBehind (bytes text : List ℕ) : Type 0 where

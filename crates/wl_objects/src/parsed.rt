@@ -1,13 +1,13 @@
 //! The arguments of a message, parsed once.
-ghost use Rattle.std.specs.Prelude.{◌≡◌, ◌≤◌, ◌+◌, ℕ, List, [], IfOk, drop, length, option_map};
-ghost use Rattle.std.specs.Prelude.{slice_get, take};
+ghost use Rattle.std.specs.Prelude.{◌≡◌, ◌≤◌, ◌+◌, ℕ, List, [], IfOk, IfSome, drop, length};
+ghost use Rattle.std.specs.Prelude.{option_map, slice_get, take};
 ghost use Rattle.wl_wire.specs.Argument.{Obj, lent};
-ghost use Rattle.wl_wire.specs.Reading.{reading};
+ghost use Rattle.wl_wire.specs.Reading.{number_at, reading, signed};
 ghost use Rattle.wl_objects.specs.Reading.{arguments_at, forgiving, value_or_fault, forgiving_kind};
 ghost use Rattle.wl_objects.specs.Reading.{named, object_fault, value_fault};
 ghost use Rattle.wl_objects.specs.Parsed.{AreParsed, Lies, parsed_argument, made_of, made_of_one};
 ghost use Rattle.wl_objects.specs.Parsed.{made_unless, parsed_object, one_in, parsed_in};
-ghost use Rattle.wl_objects.specs.Parsed.{parsed_one, body_part};
+ghost use Rattle.wl_objects.specs.Parsed.{parsed_one, body_part, IsNumber};
 ghost use Rattle.wl_objects.specs.Parsed.{place_behind, placed_of, spelled_in, whole_in};
 
 use crate::args::in_state;
@@ -15,6 +15,7 @@ use crate::argument::Named;
 use crate::error::Fault;
 use crate::lookup::Lookup;
 use crate::reading::{iface_of, new_fault, object_fault};
+use byteorder::{ByteOrder, LittleEndian};
 use std::fmt::{self, Debug, Formatter};
 use std::marker::Model;
 use std::mem::size_of;
@@ -224,6 +225,11 @@ fn parse<L: Lookup>(
     let mut end = 0;
     let mut descriptors = 0;
     'kinds: for (place, kind) in kinds.iter().enumerate() {
+        if let Some(number) = read_number(*kind, body, end) {
+            items[place] = number;
+            end += 4;
+            continue;
+        }
         match parse_at(lookup, forgives, place, *kind, body, end, descriptors) {
             Ok((parsed, len)) => {
                 descriptors = place_behind(parsed, descriptors);
@@ -234,6 +240,40 @@ fn parse<L: Lookup>(
         }
     }
     Ok(end)
+}
+
+/// The argument that starts there, if its kind is a number's and its four bytes are there.
+#[inline(always)]
+fn read_number(kind: Kind, body: &[u8], start: usize) -> Option<ParsedArg>
+    requires { start ≤ length body.now }
+    ensures { IfSome result (λ number. (start + 4 ≤ length body.now)
+        × IsNumber kind (drop start body.now) number) }
+{
+    if body.len() - start < 4 {
+        return None;
+    }
+    match kind {
+        Kind::Int => Some(ParsedArg::Int(int_at(body, start))),
+        Kind::Uint => Some(ParsedArg::Uint(word_at(body, start))),
+        Kind::Fixed => Some(ParsedArg::Fixed(Fixed::from_raw(int_at(body, start)))),
+        _ => None,
+    }
+}
+
+/// The number that the four bytes from a place on are.
+fn word_at(body: &[u8], start: usize) -> u32
+    requires { start + 4 ≤ length body.now }
+    ensures { result ≡ number_at (drop start body.now) }
+{
+    LittleEndian::read_u32(bytes_from(body, start))
+}
+
+/// The signed number that the four bytes from a place on are.
+fn int_at(body: &[u8], start: usize) -> i32
+    requires { start + 4 ≤ length body.now }
+    ensures { result ≡ signed (number_at (drop start body.now)) }
+{
+    LittleEndian::read_i32(bytes_from(body, start))
 }
 
 /// How many descriptors stand before what follows an argument.
