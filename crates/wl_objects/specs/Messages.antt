@@ -1,6 +1,6 @@
 -- A whole message at an end: what it means to its reader, what a writer must meet, and what it
 -- makes of the end's objects.
-use Rattle.std.specs.Prelude.{ℕ, slice_get, Bool, true, false, ◌&&◌, ◌||◌, not, List, [], ◌∷◌, map}
+use Rattle.std.specs.Prelude.{ℕ, slice_get, Bool, true, false, ◌&&◌, ◌||◌, not, List, ◌∷◌, map}
 use Rattle.std.specs.Prelude.{nat_eq, nat_lt, if◌then◌else◌, Option, Some, None, option_map}
 use Rattle.std.specs.declared.result.Result.{Result}
 use Rattle.std.specs.declared.result.Result.TheVariants.{Ok, Err}
@@ -121,6 +121,11 @@ made_by tables version (kinds.New (Some iface)) (New id) =
 made_by tables version (kinds.New None) (NewNamed name own id) =
     option_map (λ iface. record { id = id; iface = iface; version = own }) (place_of tables name)
 made_by tables version _ _ = None
+
+-- whether an argument of this kind is a new object
+abbrev pub is_new : Kind → Bool
+is_new (kinds.New iface) = true
+is_new _ = false
 
 abbrev pub or_else : {X : Type 0} → Option X → Option X → Option X
 or_else None other = other

@@ -1,7 +1,7 @@
 //! The object that a message makes.
 ghost use Rattle.std.specs.Prelude.{◌≡◌};
 ghost use Rattle.wl_wire.specs.Argument.{lent};
-ghost use Rattle.wl_objects.specs.Messages.{made, made_by};
+ghost use Rattle.wl_objects.specs.Messages.{is_new, made, made_by};
 
 use crate::values::Values;
 use wl_sigs::Tables;
@@ -25,9 +25,12 @@ pub fn made_by_message(
 ) -> Option<NewObject>
     ensures { result ≡ made tables.now version kinds.now values.now }
 {
-    let mut left = values.clone();
-    'kinds: for kind in kinds {
-        let value = match left.next() {
+    'kinds: for (place, kind) in kinds.iter().enumerate() {
+        // Most kinds make nothing: of these no value is made.
+        if !is_new(*kind) {
+            continue;
+        }
+        let value = match values.at(place) {
             Some(value) => value,
             None => return None,
         };
@@ -36,6 +39,13 @@ pub fn made_by_message(
         }
     }
     None
+}
+
+/// Whether an argument of this kind is a new object.
+fn is_new(kind: Kind) -> bool
+    ensures { result ≡ is_new kind }
+{
+    matches!(&kind, Kind::New(_))
 }
 
 fn made_by(tables: &Tables, version: u32, kind: Kind, value: ValueRef<'_>) -> Option<NewObject>

@@ -1,5 +1,5 @@
 //! The values of one message's arguments, one after another.
-ghost use Rattle.std.specs.Prelude.{◌≡◌, ◌∷◌, [], MatchOption};
+ghost use Rattle.std.specs.Prelude.{◌≡◌, ◌∷◌, [], MatchOption, option_map, slice_get};
 ghost use Rattle.wl_wire.specs.Argument.{lent};
 ghost use Rattle.wl_objects.specs.Messages.{id_at};
 ghost use Rattle.wl_objects.specs.Parsed.{spelled_in};
@@ -41,6 +41,14 @@ impl<'a> Values<'a> {
     {
         let (parsed, left) = self.left.split_first()?;
         self.left = left;
+        Some(value_of(self.body, *parsed))
+    }
+
+    /// The value at a place, counted from 0.
+    pub(crate) fn at(&self, place: usize) -> Option<ValueRef<'a>>
+        ensures { option_map lent result ≡ slice_get self.now place }
+    {
+        let parsed = self.left.get(place)?;
         Some(value_of(self.body, *parsed))
     }
 

@@ -4,5 +4,5 @@ use Rattle.wl_objects.proofs.new_object.made_by_message.Given as goal
 
 -- the arguments before make nothing
 abbrev pub invariant-kinds : goal.invariant-kinds
-invariant-kinds l = made l.tables l.version (drop l.kind-index l.kinds) l.left
+invariant-kinds l = made l.tables l.version (drop l.place l.kinds) (drop l.place l.values)
     ≡ made l.tables l.version l.kinds l.values
