@@ -20,6 +20,7 @@ use Rattle.wl_wire.specs.Argument.{Argument, Int, Uint, Fixed, Str, Obj, New, Ne
 use Rattle.wl_wire.specs.Spelling.{spelled_len}
 use Rattle.wl_objects.specs.Writing.{Given, wired, on_wire, message_len, given, given_of, suits}
 use Rattle.wl_objects.specs.Writing.{can_name, wrong_place, lost_place, tokens_of, call_makes}
+use Rattle.wl_objects.specs.Writing.{IsNumberGiven, int_given, uint_given, fixed_given}
 
 pub wrong-missing : (i : ℕ) (ks : List Kind) (list : List Arg) (k : Kind) → i < length ks → length list ≤ i
     → wrong_place i (drop i ks) (given (drop i list)) ≡ Some i
@@ -130,3 +131,31 @@ len-one id (Fd token) = refl
 pub len-any : (id : ℕ) (list : List Given) → message_len (map (wired id) list) ≡ message_len (map (wired 0) list)
 len-any id [] = refl
 len-any id (x ∷ list) = rw (len-one id x, len-any id list) refl
+
+-- ---- numbers
+
+pub number-suits : {k : Kind} {x : Given} → IsNumberGiven k x → suits k x ≡ true
+number-suits int_given = refl
+number-suits uint_given = refl
+number-suits fixed_given = refl
+
+pub number-lost : {k : Kind} {x : Given} (rows : ℕ → Option Entry) (i : ℕ) → IsNumberGiven k x
+    → lost_place rows i (k ∷ []) (x ∷ []) ≡ None
+number-lost rows i int_given = refl
+number-lost rows i uint_given = refl
+number-lost rows i fixed_given = refl
+
+pub number-len : {k : Kind} {x : Given} → IsNumberGiven k x → spelled_len (wired 0 x) ≡ 4
+number-len int_given = refl
+number-len uint_given = refl
+number-len fixed_given = refl
+
+pub number-tokens : {k : Kind} {x : Given} → IsNumberGiven k x → length (tokens_of (x ∷ [])) ≡ 0
+number-tokens int_given = refl
+number-tokens uint_given = refl
+number-tokens fixed_given = refl
+
+pub number-makes : {k : Kind} {x : Given} → IsNumberGiven k x → call_makes (k ∷ []) ≡ None
+number-makes int_given = refl
+number-makes uint_given = refl
+number-makes fixed_given = refl

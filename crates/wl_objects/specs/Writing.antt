@@ -1,5 +1,5 @@
 -- What a call's arguments must be, and the message that they become.
-use Rattle.std.specs.Prelude.{ℕ, suc, ◌+◌, Bool, true, false, ◌&&◌, not, List, [], ◌∷◌, ◌++◌, map}
+use Rattle.std.specs.Prelude.{ℕ, ℤ, suc, ◌+◌, Bool, true, false, ◌&&◌, not, List, [], ◌∷◌, ◌++◌, map}
 use Rattle.std.specs.Prelude.{◌≡◌, ◌≤◌, length, nat_eq, nat_lt, if◌then◌else◌, Option, Some, None}
 use Rattle.wl_wire.specs.declared.kind.Kind.{Kind}
 use Rattle.wl_wire.specs.declared.kind.Kind.TheVariants as kinds
@@ -48,6 +48,12 @@ suits (kinds.New None) (NewNamed iface version x) = has_no_nul iface
 suits kinds.Array (Array bytes) = true
 suits kinds.Fd (Fd token) = true
 suits _ _ = false
+
+-- a number is given where one of its kind is asked for
+pub data IsNumberGiven : Kind → Given → Type 0 where
+  int_given : {z : ℤ} → IsNumberGiven kinds.Int (Int z)
+  uint_given : {n : ℕ} → IsNumberGiven kinds.Uint (Uint n)
+  fixed_given : {z : ℤ} → IsNumberGiven kinds.Fixed (Fixed z)
 
 -- The place of the first argument of the wrong kind; where the numbers differ and all before suit,
 -- the smaller number.

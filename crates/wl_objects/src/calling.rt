@@ -1,5 +1,6 @@
 //! The arguments of a call, checked before a message is made of them.
-ghost use Rattle.std.specs.Prelude.{◌≡◌, [], ◌∷◌, ◌≤◌, ◌+◌, ℕ, IfOk, IfSome, length, Some};
+ghost use Rattle.std.specs.Prelude.{◌≡◌, [], ◌∷◌, ◌≤◌, ◌+◌, ℕ, IfOk, IfSome, IsTrue, length};
+ghost use Rattle.std.specs.Prelude.{Some};
 ghost use Rattle.std.specs.List.{All};
 ghost use Rattle.wl_wire.specs.Spelling.{padded, spelled_len};
 ghost use Rattle.wl_sigs.specs.Tables.{MessageSignature};
@@ -11,7 +12,7 @@ ghost use Rattle.wl_objects.specs.Carried.{InRange};
 ghost use Rattle.wl_objects.specs.Seen.{signature_in, signature_of};
 ghost use Rattle.wl_objects.specs.Writing.{EachFits, IsMeasured, call_makes, can_name, given};
 ghost use Rattle.wl_objects.specs.Writing.{given_of, lost_place, message_len, names_one, on_wire};
-ghost use Rattle.wl_objects.specs.Writing.{suits, tokens_of, wired, wrong_place};
+ghost use Rattle.wl_objects.specs.Writing.{suits, tokens_of, wired, wrong_place, IsNumberGiven};
 
 use crate::argument::Arg;
 use crate::error::SendError;
@@ -116,6 +117,10 @@ fn measure<T: Table>(
     let (mut lost, mut len, mut tokens, mut makes) = (None, 8, 0, None);
     'kinds: for (place, kind) in kinds.iter().enumerate() {
         let arg = match args.get(place) {
+            Some(arg) if is_number(*kind, *arg) => {
+                len += 4;
+                continue;
+            }
             Some(arg) if suits(*kind, arg) => arg,
             _ => return Err(SendError::WrongArgs(place)),
         };
@@ -134,6 +139,19 @@ fn measure<T: Table>(
         return Err(SendError::TooLong);
     }
     Ok(Measured { len, tokens, makes })
+}
+
+/// Whether a number is given where one of its kind is asked for.
+fn is_number(kind: Kind, arg: Arg<'_>) -> bool
+    ensures given { IsTrue result → IsNumberGiven kind (given_of arg.entry) }
+    ensures in_range { IsTrue result → InRange (given_of arg.entry) }
+{
+    match (kind, arg) {
+        (Kind::Int, Arg::Int(_)) => true,
+        (Kind::Uint, Arg::Uint(_)) => true,
+        (Kind::Fixed, Arg::Fixed(_)) => true,
+        _ => false,
+    }
 }
 
 /// How many bytes spell the argument; beyond any limit, only that these are more.
