@@ -6,9 +6,8 @@ ghost use Rattle.wl_trace_line.specs.Text.{comma_separated, new_text, string_tex
 ghost use Rattle.wl_trace_line.specs.Line.{parts_of, all_parts, taken_with, argument_object};
 ghost use Rattle.wl_trace_line.specs.Line.{argument_string, made_name};
 
-use crate::text::{name_of, write_new, write_object, write_string};
+use crate::text::{name_of, write_fixed, write_new, write_number, write_object, write_string};
 use std::alloc::{AllocError, Allocator};
-use std::io::Write;
 use wl_objects::{Lookup, Values};
 use wl_sigs::Tables;
 use wl_wire::{Kind, ValueRef};
@@ -69,20 +68,21 @@ fn write_argument<A: Allocator, L: Lookup>(
         (lent value.entry))) }
 {
     match value {
-        ValueRef::Int(number) => write!(out, "{number}").map_err(|_| AllocError),
-        ValueRef::Uint(number) => write!(out, "{number}").map_err(|_| AllocError),
-        ValueRef::Fixed(number) => write!(out, "{number}").map_err(|_| AllocError),
+        ValueRef::Int(number) => write_number(out, number),
+        ValueRef::Uint(number) => write_number(out, number),
+        ValueRef::Fixed(number) => write_fixed(out, number),
         ValueRef::Str(text) => write_text(out, text),
         ValueRef::Obj(id) => write_known(out, tables, lookup, id),
         ValueRef::New(id) => write_new(out, made_name(tables, kind), id),
         ValueRef::NewNamed { iface, version, id } => write_named(out, iface, version, id),
         ValueRef::Array(bytes) => {
-            let len = bytes.len();
-            write!(out, "array[{len}]").map_err(|_| AllocError)
+            out.extend_from_slice(b"array[")?;
+            write_number(out, bytes.len())?;
+            out.extend_from_slice(b"]")
         }
         ValueRef::Fd => {
-            let number = taken + 1;
-            write!(out, "fd {number}").map_err(|_| AllocError)
+            out.extend_from_slice(b"fd ")?;
+            write_number(out, taken + 1)
         }
     }
 }
@@ -139,8 +139,8 @@ fn write_named<A: Allocator>(
         ++ comma_separated (string_text iface.now ∷ decimal version ∷ new_text iface.now id ∷ [])) }
 {
     write_string(out, iface)?;
-    match write!(out, ", {version}, ") {
-        Ok(()) => write_new(out, iface, id),
-        Err(_) => Err(AllocError),
-    }
+    out.extend_from_slice(b", ")?;
+    write_number(out, version)?;
+    out.extend_from_slice(b", ")?;
+    write_new(out, iface, id)
 }

@@ -1,13 +1,16 @@
 //! The texts of which a line is made.
-ghost use Rattle.std.specs.Prelude.{◌≡◌, ◌++◌, IsTrue, ◌↔◌, OnOk};
+ghost use Rattle.std.specs.Prelude.{◌≡◌, ◌++◌, ◌<◌, ◌^◌, OnOk, false};
+ghost use Rattle.std.specs.Fmt.{digit_glyph};
+ghost use Rattle.wl_wire.specs.Argument.{units};
+ghost use Rattle.wl_wire.specs.Units.{decimal_to, fixed_text};
 ghost use Rattle.wl_trace_line.specs.Text.{arrow, object_text, new_text, name_of, is_plain};
 ghost use Rattle.wl_trace_line.specs.Text.{byte_text};
 ghost use Rattle.wl_trace_line.specs.Text.{string_text};
 
+use itoa::{Buffer, Integer};
 use std::alloc::{AllocError, Allocator};
-use std::io::Write;
 use wl_sigs::{Side, Tables};
-use wl_wire::Iface;
+use wl_wire::{Fixed, Iface};
 
 /// Which way a message went.
 pub(crate) fn arrow(side: Side) -> &'static [u8]
@@ -38,7 +41,47 @@ pub(crate) fn write_object<A: Allocator>(
     ensures { OnOk result (out.new.items ≡ out.old.items ++ object_text interface.now id) }
 {
     out.extend_from_slice(interface)?;
-    write!(out, "@{id}").map_err(|_| AllocError)
+    out.push(b'@')?;
+    write_number(out, id)
+}
+
+/// Appends a number in decimal.
+pub(crate) fn write_number<A: Allocator, I: Integer>(
+    out: &mut Vec<u8, A>,
+    number: I,
+) -> Result<(), AllocError>
+    ensures { OnOk result (out.new.items ≡ out.old.items ++ I.text number) }
+{
+    let mut buffer = Buffer::new();
+    out.extend_from_slice(buffer.format(number).as_bytes())
+}
+
+/// Appends a fixed-point number: its sign, its whole part, a point, and what is behind it.
+pub(crate) fn write_fixed<A: Allocator>(
+    out: &mut Vec<u8, A>,
+    number: Fixed,
+) -> Result<(), AllocError>
+    ensures { OnOk result (out.new.items ≡ out.old.items ++ fixed_text (units number)) }
+{
+    let raw = number.raw();
+    if raw < 0 {
+        out.push(b'-')?;
+    }
+    let size = raw.unsigned_abs();
+    write_number(out, size / 256)?;
+    out.push(b'.')?;
+    write_decimals(out, size % 256 * 390_625)
+}
+
+/// Appends eight decimals.
+fn write_decimals<A: Allocator>(out: &mut Vec<u8, A>, number: u32) -> Result<(), AllocError>
+    requires { number < 10 ^ 8 }
+    ensures { OnOk result (out.new.items ≡ out.old.items ++ decimal_to 8 number) }
+{
+    let mut buffer = Buffer::new();
+    let digits = buffer.format(number).as_bytes();
+    out.extend_from_slice(&[b'0'; 8][digits.len()..])?;
+    out.extend_from_slice(digits)
 }
 
 /// Appends a new object.
@@ -68,7 +111,19 @@ fn write_byte<A: Allocator>(out: &mut Vec<u8, A>, byte: u8) -> Result<(), AllocE
         out.push(byte)?;
         return Ok(());
     }
-    write!(out, "\\x{byte:02x}").map_err(|_| AllocError)
+    out.extend_from_slice(&[b'\\', b'x', hex_digit(byte / 16), hex_digit(byte % 16)])
+}
+
+/// A hexadecimal digit, of lower case.
+fn hex_digit(value: u8) -> u8
+    requires { value < 16 }
+    ensures { result ≡ digit_glyph false value }
+{
+    if value < 10 {
+        b'0' + value
+    } else {
+        b'a' + (value - 10)
+    }
 }
 
 /// Appends a string in quotes.
