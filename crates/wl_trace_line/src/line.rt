@@ -29,7 +29,6 @@ pub fn write_line<A: Allocator, L: Lookup>(
 {
     let signature = message.signature;
     out.extend_from_slice(arrow(side))?;
-    out.push(b' ')?;
     write_object(out, name_of(tables, message.entry.iface), message.target.id)?;
     out.push(b'.')?;
     out.extend_from_slice(signature.name())?;

@@ -27,7 +27,6 @@ impl<'t> MessageHead<'t> {
 impl Display for MessageHead<'_> {
     fn fmt<W: fmt::Write>(&self, f: &mut Formatter<W>) -> fmt::Result {
         write_name(f, arrow(self.side))?;
-        f.write_str(" ")?;
         let target = ObjectName {
             tables: self.tables,
             iface: iface_in(self.entry),

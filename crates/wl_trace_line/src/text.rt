@@ -1,24 +1,24 @@
 //! The texts of which a line is made.
-ghost use Rattle.std.specs.Prelude.{◌≡◌, ◌++◌, ◌<◌, ◌^◌, OnOk, false};
-ghost use Rattle.std.specs.Fmt.{digit_glyph};
+ghost use Rattle.std.specs.Prelude.{◌≡◌, ◌++◌, ◌<◌, ◌^◌, OnOk, codes, false};
+ghost use Rattle.std.specs.Fmt.{decimal, digit_glyph};
 ghost use Rattle.wl_wire.specs.Argument.{units};
 ghost use Rattle.wl_wire.specs.Units.{decimal_to, fixed_text};
 ghost use Rattle.wl_trace_line.specs.Text.{arrow, object_text, new_text, name_of, is_plain};
 ghost use Rattle.wl_trace_line.specs.Text.{byte_text};
 ghost use Rattle.wl_trace_line.specs.Text.{string_text};
 
-use itoa::{Buffer, Integer};
+use itoa::{Buffer, Integer, write_digits};
 use std::alloc::{AllocError, Allocator};
 use wl_sigs::{Side, Tables};
 use wl_wire::{Fixed, Iface};
 
-/// Which way a message went.
+/// Which way a message went, and a space.
 pub(crate) fn arrow(side: Side) -> &'static [u8]
-    ensures { result.now ≡ arrow side }
+    ensures { result.now ≡ arrow side ++ codes " " }
 {
     match side {
-        Side::Request => b"->",
-        Side::Event => b"<-",
+        Side::Request => b"-> ",
+        Side::Event => b"<- ",
     }
 }
 
@@ -41,8 +41,16 @@ pub(crate) fn write_object<A: Allocator>(
     ensures { OnOk result (out.new.items ≡ out.old.items ++ object_text interface.now id) }
 {
     out.extend_from_slice(interface)?;
-    out.push(b'@')?;
-    write_number(out, id)
+    write_id(out, id)
+}
+
+/// Appends an `@` and the id of an object, both at once.
+fn write_id<A: Allocator>(out: &mut Vec<u8, A>, id: u32) -> Result<(), AllocError>
+    ensures { OnOk result (out.new.items ≡ out.old.items ++ codes "@" ++ decimal id) }
+{
+    let mut text = [b'@'; 11];
+    let digits = write_digits(u64::from(id), &mut text, 11);
+    out.extend_from_slice(&text[digits - 1..])
 }
 
 /// Appends a number in decimal.
