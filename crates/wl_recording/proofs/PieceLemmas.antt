@@ -62,11 +62,15 @@ tokens_at_space count tokens spelled = elim spelled [
 -- the parts of a line that tells a piece are those at its first space
 pub parts_of : (line rest front back : List ℕ) (direction : Direction) (piece : Piece) → (told : IsPiece line piece)
     → line ≡ sign direction ∷ 32 ∷ rest
-    → rest ≡ front ++ back → NoSpace front → AtSpace back → (told.digits ≡ front) × (told.count ≡ back)
+    → rest ≡ front ++ back
+    → ((digits count : List ℕ) (tokens : ℕ) → rest ≡ digits ++ count → SpellsTokens count tokens → NoSpace digits
+    → NoSpace front)
+    → AtSpace back → (told.digits ≡ front) × (told.count ≡ back)
 parts_of line rest front back direction piece told whole cut clean at =
-    let same : told.digits ++ told.count ≡ front ++ back = let w = told.whole in cc in
-    cut_once told.digits told.count front back (bytes_no_space _ _ told.bytes)
-    (tokens_at_space _ _ told.tokens) clean at same
+    let own : rest ≡ told.digits ++ told.count = let w = told.whole in cc in
+    let no_space = bytes_no_space _ _ told.bytes in
+    cut_once told.digits told.count front back no_space (tokens_at_space _ _ told.tokens)
+    (clean told.digits told.count piece.tokens own told.tokens no_space) at (sym own ∙ cut)
 
 -- two directions with one sign are the same
 pub one_direction : (d e : Direction) → sign d ≡ sign e → d ≡ e
@@ -124,7 +128,7 @@ same_pieces p q d b t =
 pub one_piece : (line : List ℕ) (p q : Piece) → IsPiece line p → IsPiece line q → p ≡ q
 one_piece line p q x y =
     let cut = parts_of line (y.digits ++ y.count) y.digits y.count q.direction p x y.whole refl
-    (bytes_no_space _ _ y.bytes) (tokens_at_space _ _ y.tokens) in
+    (λ digits count tokens whole spelled no_space. bytes_no_space _ _ y.bytes) (tokens_at_space _ _ y.tokens) in
     let signs : sign p.direction ≡ sign q.direction = let w = x.whole in let v = y.whole in cc in
     same_pieces p q (one_direction _ _ signs) (one_bytes y.digits p.bytes q.bytes (rw cut.0 at x.bytes) y.bytes)
     (one_count y.count p.tokens q.tokens (rw cut.1 at x.tokens) y.tokens)

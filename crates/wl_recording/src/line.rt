@@ -1,6 +1,7 @@
 //! Reading the lines of a recording.
-ghost use Rattle.std.specs.Prelude.{◌≡◌, ◌≢◌, ℕ, List, ◌∷◌, ◌++◌, length, IfOk, IfSome};
-ghost use Rattle.std.specs.Prelude.{MatchOption};
+ghost use Rattle.std.specs.Prelude.{◌≡◌, ◌≢◌, ◌<◌, ◌≤◌, ℕ, List, ◌∷◌, ◌++◌, length, slice_index};
+ghost use Rattle.std.specs.Prelude.{IfOk, IfSome, MatchOption};
+ghost use Rattle.std.specs.List.{All};
 ghost use Rattle.wl_recording.specs.Piece.{IsAppended, Piece, own, recorded_piece};
 ghost use Rattle.wl_recording.specs.declared.piece.Direction.{Direction as Way};
 ghost use Rattle.wl_recording.specs.declared.piece.Direction.TheVariants.{ToServer, ToClient};
@@ -9,11 +10,16 @@ ghost use Rattle.wl_recording.specs.Line.{IsPiece, SpellsBytes, SpellsTokens, si
 use crate::digits::append_bytes;
 use crate::piece::{Appended, Direction, Passed};
 use std::alloc::{AllocError, Allocator};
-use wl_line_text::{decimal_number, split_before};
+use wl_line_text::decimal_number;
 use wl_wire::Bytes;
 
 /// The most tokens that one piece can count.
 pub const MOST_TOKENS: u32 = 65_535;
+
+/// The least and the most bytes of a count of tokens: a space, a plus sign, and one to five digits.
+const LEAST_COUNT_LEN: usize = 3;
+
+const MOST_COUNT_LEN: usize = 7;
 
 /// A line in its parts.
 #[derive(Clone, Copy)]
@@ -98,13 +104,32 @@ fn parts_of(line: &[u8]) -> Option<Parts<'_>>
         → SpellsBytes parts.digits.now piece.bytes) }
 {
     let (direction, rest) = strip_sign(line)?;
-    let (digits, count) = split_before(rest, b' ');
+    let (digits, count) = split_count(rest);
     let tokens = read_tokens(count)?;
     Some(Parts {
         direction,
         digits,
         tokens,
     })
+}
+
+// The rest of a line, cut before the first space among the few bytes at its end that can be a count
+// of tokens. Where a space stands before these, the line tells no piece.
+fn split_count(rest: &[u8]) -> (&[u8], &[u8])
+    ensures whole { rest.now ≡ result.0.now ++ result.1.now }
+    ensures front { (digits count : List ℕ) (tokens : ℕ) → rest.now ≡ digits ++ count
+        → SpellsTokens count tokens → All (λ byte. byte ≢ 32) digits
+        → All (λ byte. byte ≢ 32) result.0.now }
+    ensures rest { 0 < length result.1.now → slice_index result.1.now 0 ≡ 32 }
+{
+    let mut count = MOST_COUNT_LEN;
+    'counts: while count >= LEAST_COUNT_LEN {
+        if count <= rest.len() && rest[rest.len() - count] == b' ' {
+            return rest.split_at(rest.len() - count);
+        }
+        count -= 1;
+    }
+    (rest, &[])
 }
 
 // The direction whose sign and a space begin a line, and the rest of the line.
