@@ -2,8 +2,7 @@
 use Rattle.std.proofs.Common.{◌≡◌, ◌≢◌, ℕ, ◌+◌, ◌<◌, length, take, get_or, Bool, true, false, List}
 use Rattle.std.proofs.Common.{[], ◌∷◌, ◌++◌, Some, None, map, refl, sym, ap, subst, ◌∙◌, inr, arith}
 use Rattle.std.proofs.Common.{rules, eqb, cond}
-use Rattle.std.specs.Prelude.{Option, not, nat_eq, if◌then◌else◌, IsOk, IsTrue, is_some}
-use Rattle.std.specs.List.{filter}
+use Rattle.std.specs.Prelude.{Option, not, if◌then◌else◌, IsOk, IsTrue, is_some}
 use Rattle.std.specs.declared.result.Result.{Result}
 use Rattle.std.specs.declared.result.Result.TheVariants.{Ok, Err}
 use Rattle.wl_sigs.specs.declared.signature.Destroys.{Destroys}
@@ -32,7 +31,6 @@ use Rattle.wl_server.specs.Requests.{Report, report, request, made_by_request, i
 use Rattle.wl_server.specs.Requests.{after_next, answer_found, state_found, state_past}
 use Rattle.wl_server.specs.Requests.{registries_after, needs_memory, request_opens, IsServerNext}
 use Rattle.wl_server.specs.Requests.{IsLentNext}
-use Rattle.wl_server.specs.Registries.{without_registry, registry_birth}
 use Rattle.wl_server.specs.declared.pending.PendingRequest.{PendingRequest}
 use Rattle.wl_server.specs.Steps.{CanTake, Step, ended_by_request, pending_in, outlined, taken_report}
 use Rattle.wl_server.specs.Steps.{step_of, step_found, front_step, checked_front, after_front}
@@ -41,22 +39,6 @@ use Rattle.wl_server.specs.Steps.{registries_by, server_state, whole_state}
 use Rattle.wl_server.proofs.RisingBirths.{rise-below, rise-new}
 
 -- ---- the registries
-
--- taking one out keeps those of other births
-pub without-filter : (birth : ℕ) (registries : List Registry)
-    → filter (λ (r : Registry). not (nat_eq r.object.birth birth)) registries
-    ≡ without_registry registry_birth true birth registries
-without-filter birth [] = refl
-without-filter birth (r ∷ registries) = by_test (nat_eq r.object.birth birth) (without-filter birth registries)
-  where
-    by_test : (b : Bool) → filter (λ (r : Registry). not (nat_eq r.object.birth birth)) registries
-        ≡ without_registry registry_birth true birth registries
-        → cond (not b) (r ∷ filter (λ (r : Registry). not (nat_eq r.object.birth birth)) registries)
-        (filter (λ (r : Registry). not (nat_eq r.object.birth birth)) registries)
-        ≡ (if b then without_registry registry_birth true birth registries
-        else r ∷ without_registry registry_birth true birth registries)
-    by_test true h = h
-    by_test false h = ap (λ (l : List Registry). r ∷ l) h
 
 pub rise-opened : (core : Core) (registries : List Registry) (made : Option NewObject)
     → RiseFrom 0 core.view.births registries → RiseFrom 0 (opens core.view made).births

@@ -3,7 +3,9 @@ use Rattle.std.proofs.Common.{◌≡◌, ◌≢◌, ℕ, suc, ◌+◌, ◌-◌, 
 use Rattle.std.proofs.Common.{◌∷◌, length, drop, get_or, refl, sym, ◌∙◌, ap, arith, add-one}
 use Rattle.std.proofs.Common.{drop-cons}
 use Rattle.std.specs.Prelude.{not, ◌&&◌, if◌then◌else◌}
-use Rattle.std.proofs.lemmas.List.{drop_all, get_or-set_other}
+use Rattle.std.proofs.Common.{inl, inr, zero}
+use Rattle.std.proofs.lemmas.Bool.{cases_lt}
+use Rattle.std.proofs.lemmas.List.{drop_all, get_or-set_other, get_or_default}
 use Rattle.std.proofs.lemmas.Option.{unwrap_or-slice_get}
 use Rattle.wl_server.specs.State.{Global, Registry, mark_of, with_mark}
 use Rattle.wl_server.specs.Announcing.{Owing, Removal, Telling, owings, owes_removal, owes_telling, marked}
@@ -24,6 +26,30 @@ owings-take test owing i globals x l e t = rw (drop-cons globals i x l, ← e, t
 pub owings-end : (test : ℕ → Global → Bool) (owing : ℕ → Global → Owing) (i n : ℕ) (globals : List Global)
     → length globals ≤ i → owings test owing n (drop i globals) ≡ []
 owings-end test owing i n globals l = ap (owings test owing n) (drop_all i globals l)
+
+-- and nor are those of the next n globals
+pub owings-skip-all : (test : ℕ → Global → Bool) (owing : ℕ → Global → Owing) (i n : ℕ) (globals : List Global)
+    (any : Global)
+    → ((k : ℕ) (x : Global) → i ≤ k → k < i + n → k < length globals → x ≡ get_or globals k x → test (k + 1) x ≡ false)
+    → owings test owing (i + 1) (drop i globals) ≡ owings test owing (i + n + 1) (drop (i + n) globals)
+owings-skip-all test owing i zero globals any f =
+    let same : i ≡ i + 0 = omega arith in ap (λ (j : ℕ). owings test owing (j + 1) (drop j globals)) same
+owings-skip-all test owing i (suc n) globals any f =
+    let place = i + n in
+    let next : place + 1 ≡ i + suc n = omega arith in
+    let front = owings-skip-all test owing i n globals any (λ k x l m there e. f k x l (omega (arith, m)) there e) in
+    let step : owings test owing (place + 1) (drop place globals)
+    ≡ owings test owing (place + 1 + 1) (drop (place + 1) globals) =
+    elim (cases_lt place (length globals)) [
+      | inl less ↦
+          (let at : get_or globals place any ≡ get_or globals place (get_or globals place any) =
+          get_or_default globals place any (get_or globals place any) less in
+          owings-skip test owing place globals (get_or globals place any) less at
+          (f place (get_or globals place any) (omega arith) (omega arith) less at))
+      | inr behind ↦ owings-end test owing place (place + 1) globals behind
+          ∙ sym (owings-end test owing (place + 1) (place + 1 + 1) globals (omega (arith, behind)))
+    ] in
+    front ∙ step ∙ ap (λ (j : ℕ). owings test owing (j + 1) (drop j globals)) next
 
 -- tests that are alike from this name on
 owings-same : (test other : ℕ → Global → Bool) (owing : ℕ → Global → Owing) (n : ℕ) (globals : List Global)

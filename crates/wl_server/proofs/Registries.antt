@@ -1,5 +1,5 @@
 -- Each open registry goes on standing in its server's list.
-use Rattle.std.proofs.Common.{◌≡◌, ◌≢◌, ◌⊎◌, ℕ, Bool, true, false, cond, eqb, List, [], ◌∷◌, ◌++◌}
+use Rattle.std.proofs.Common.{◌≡◌, ◌≢◌, ◌≤◌, ◌⊎◌, ℕ, Bool, true, false, cond, eqb, List, [], ◌∷◌, ◌++◌}
 use Rattle.std.proofs.Common.{Some, None, refl, sym, ap, subst, ◌∙◌, inl, inr, arith, ⊎_elim}
 use Rattle.std.specs.Prelude.{Option, nat_eq, not, if◌then◌else◌}
 use Rattle.std.proofs.lemmas.Bool.{eqb-true, eqb-false, eq-eqb, ne_eqb}
@@ -386,6 +386,14 @@ births_sent core now target opcode list v e h =
       | inr p ↦ subst BirthsAreOnce (sym p.0) (births_closed core.view target.id h)
     ])
 
+pub past_sent : (core now : Core) (past : ℕ) (target : Object) (opcode : ℕ) (list : List Given) → Valid core.tables
+    → now ≡ after_send core Event target opcode list → past ≤ core.view.births → past ≤ now.view.births
+past_sent core now past target opcode list v e h =
+    subst (λ (k : Core). past ≤ k.view.births) (sym e) (elim (after_event core target opcode list v) [
+      | inl p ↦ subst (λ (w : View). past ≤ w.births) (sym p) h
+      | inr p ↦ subst (λ (w : View). past ≤ w.births) (sym p.0) h
+    ])
+
 -- ---- an object is dropped
 
 no_registry : (tables : List Interface) → Valid tables → is_ended_by_event (interface_at tables registry.0) ≡ false
@@ -442,6 +450,12 @@ has_told core rs all told now ms t h = record {
 pub births_told : (core : Core) (rs : List Registry) (all : List Due) (told : Announced) (now : Core)
     (ms : List Registry) → IsAnnounced core rs all told now ms → BirthsAreOnce core.view → BirthsAreOnce now.view
 births_told core rs all told now ms t h = subst BirthsAreOnce (sym (view_told core rs all told now ms t)) h
+
+pub past_told : (core : Core) (rs : List Registry) (all : List Due) (told : Announced) (now : Core)
+    (ms : List Registry) (past : ℕ) → IsAnnounced core rs all told now ms → past ≤ core.view.births
+    → past ≤ now.view.births
+past_told core rs all told now ms past t h =
+    subst (λ (w : View). past ≤ w.births) (sym (view_told core rs all told now ms t)) h
 
 -- ---- a new server, and any sound table
 

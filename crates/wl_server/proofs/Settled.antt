@@ -1,13 +1,12 @@
 -- A registry that was told all is owed nothing.
 use Rattle.std.proofs.Common.{◌≡◌, ◌≢◌, ℕ, suc, ◌+◌, ◌-◌, ◌<◌, ◌≤◌, Bool, true, false, List, [], ◌∷◌, ◌++◌, length}
-use Rattle.std.proofs.Common.{get_or, take, set, cond, refl, sym, ap, ◌∙◌, append_assoc, ◌⊎◌, inl, inr, arith}
-use Rattle.std.specs.Prelude.{not, ◌&&◌, if◌then◌else◌, map, nat_eq}
-use Rattle.std.proofs.lemmas.List.{get_or-set_other, get_or_default, take_more_set}
+use Rattle.std.proofs.Common.{get_or, refl, sym, ap, ◌∙◌, ◌⊎◌, inl, inr, arith}
+use Rattle.std.specs.Prelude.{not, ◌&&◌, if◌then◌else◌, map}
+use Rattle.std.proofs.lemmas.List.{get_or-set_other, get_or_default}
 use Rattle.std.proofs.lemmas.Option.{unwrap_or-slice_get}
 use Rattle.wl_message.proofs.Steps.{side}
 use Rattle.wl_server.specs.State.{Global, Registry, mark_of, with_mark}
-use Rattle.wl_server.specs.Registries.{without_registry, registry_birth}
-use Rattle.wl_server.specs.Announcing.{Due, Owing, Removal, Telling, due_to, owed_in, owings, owes_removal}
+use Rattle.wl_server.specs.Announcing.{Owing, Removal, Telling, due_to, owings, owes_removal}
 use Rattle.wl_server.specs.Announcing.{owes_telling, marked}
 
 -- the test fails of the first n of these globals, each with the name that its place gives it
@@ -18,7 +17,7 @@ NoneOf test globals n =
 pub none-yet : (test : ℕ → Global → Bool) (globals : List Global) → NoneOf test globals 0
 none-yet test globals k x l there e = absurd (omega (arith, l))
 
-same-global : (globals : List Global) (k n : ℕ) (x y : Global) → k ≡ n → n < length globals → x ≡ get_or globals n x
+pub same-global : (globals : List Global) (k n : ℕ) (x y : Global) → k ≡ n → n < length globals → x ≡ get_or globals n x
     → y ≡ get_or globals k y → y ≡ x
 same-global globals k n x y same there e d =
     d ∙ ap (λ (i : ℕ). get_or globals i y) same ∙ get_or_default globals n y x there ∙ sym e
@@ -32,6 +31,15 @@ none-next test other globals n x keep h here e is k y l there d = elim (side k n
   | inr least ↦ (let same : k ≡ n = omega (arith, least, l) in
       ap (λ (i : ℕ). other (i + 1) y) same
       ∙ ap (other (n + 1)) (same-global globals k n x y same here e d) ∙ is)
+]
+
+-- the next n, where the test fails of them
+pub none-skip : (test : ℕ → Global → Bool) (globals : List Global) (i n : ℕ) → NoneOf test globals i
+    → ((k : ℕ) (x : Global) → i ≤ k → k < i + n → k < length globals → x ≡ get_or globals k x → test (k + 1) x ≡ false)
+    → NoneOf test globals (i + n)
+none-skip test globals i n h f k x l there e = elim (side k i) [
+  | inl less ↦ h k x less there e
+  | inr least ↦ f k x least l there e
 ]
 
 -- nothing is owed where the test fails of all
@@ -70,7 +78,7 @@ first-true true c e = refl
 first-true false c e = e
 
 -- the mark of one name is no other's
-mark-apart : (marks : List Bool) (n k : ℕ) → 0 < n → 0 < k → k ≢ n → mark_of (with_mark marks n) k ≡ mark_of marks k
+pub mark-apart : (marks : List Bool) (n k : ℕ) → 0 < n → 0 < k → k ≢ n → mark_of (with_mark marks n) k ≡ mark_of marks k
 mark-apart marks n k p q ne =
     let other : k - 1 ≢ n - 1 = λ e. ne (omega (arith, e, p, q)) in
     unwrap_or-slice_get (with_mark marks n) (k - 1) false
@@ -135,38 +143,3 @@ removals-stay r globals n m x h here e is k y l there d = elim (same_or_apart k 
       (mark-apart r.told (n + 1) (k + 1) (omega arith) (omega arith) (λ f. ne (omega (arith, f))))
       ∙ h k y l there d
 ]
-
--- ---- all registries
-
-owed-append : (globals : List Global) (rs ms : List Registry)
-    → owed_in globals (rs ++ ms) ≡ owed_in globals rs ++ owed_in globals ms
-owed-append globals [] ms = refl
-owed-append globals (r ∷ rs) ms =
-    ap (λ (l : List Due). due_to globals r ++ l) (owed-append globals rs ms)
-    ∙ sym (append_assoc (due_to globals r) (owed_in globals rs) (owed_in globals ms))
-
--- the next one was told all
-pub settled-next : (globals : List Global) (ms : List Registry) (i : ℕ) (after : Registry) → i < length ms
-    → owed_in globals (take i ms) ≡ [] → due_to globals after ≡ []
-    → owed_in globals (take (i + 1) (set ms i after)) ≡ []
-settled-next globals ms i after there before none =
-    ap (λ (rs : List Registry). owed_in globals rs) (take_more_set ms i after there)
-    ∙ owed-append globals (take i ms) (after ∷ []) ∙ (λ j. before j ++ (none j ++ []))
-
-no-parts : (xs ys : List Due) → xs ++ ys ≡ [] → (xs ≡ []) × (ys ≡ [])
-no-parts [] ys e = (refl, e)
-no-parts (x ∷ xs) ys e = absurd (cc e)
-
-without-if : (globals : List Global) (r : Registry) (rs : List Registry) (b : Bool) → due_to globals r ≡ []
-    → owed_in globals rs ≡ [] → owed_in globals (cond b rs (r ∷ rs)) ≡ []
-without-if globals r rs true due owed = owed
-without-if globals r rs false due owed = λ j. due j ++ owed j
-
--- where nothing is owed, nothing is owed to fewer
-pub owed-without : (globals : List Global) (birth : ℕ) (rs : List Registry) → owed_in globals rs ≡ []
-    → owed_in globals (without_registry registry_birth true birth rs) ≡ []
-owed-without globals birth [] none = refl
-owed-without globals birth (r ∷ rs) none =
-    let parts = no-parts (due_to globals r) (owed_in globals rs) none in
-    without-if globals r (without_registry registry_birth true birth rs) (nat_eq r.object.birth birth) parts.0
-    (owed-without globals birth rs parts.1)

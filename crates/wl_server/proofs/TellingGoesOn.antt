@@ -1,7 +1,7 @@
 -- The telling goes on by one event, or by one registry, and comes to its end.
 use Rattle.std.proofs.Common.{◌≡◌, ℕ, ◌+◌, ◌-◌, ◌<◌, ◌≤◌, Bool, true, false, List, [], ◌∷◌, ◌++◌}
 use Rattle.std.proofs.Common.{length, take, drop, get_or, set, refl, sym, subst, ◌∙◌, ap, arith}
-use Rattle.std.proofs.Common.{add-one, append_assoc, drop-cons, length-append}
+use Rattle.std.proofs.Common.{append_assoc, length-append}
 use Rattle.std.specs.Bool.{MatchBool}
 use Rattle.std.proofs.Common.{inl, inr}
 use Rattle.std.proofs.lemmas.Bool.{cases_lt}
@@ -12,6 +12,9 @@ use Rattle.wl_objects.specs.Writing.{message_len}
 use Rattle.wl_connection.specs.Core.{Core, IsOrdinary}
 use Rattle.wl_connection.specs.Sending.{with_sent}
 use Rattle.wl_server.specs.declared.announce.Announced.{Announced}
+use Rattle.wl_server.specs.declared.registry.Slot.{Slot}
+use Rattle.wl_server.specs.Slots.{open_in}
+use Rattle.wl_server.proofs.Slots.{before, drop-closed, drop-open, open-is, open-place, open-set}
 use Rattle.wl_server.specs.State.{State, Global, Registry, RiseFrom}
 use Rattle.wl_server.specs.Announcing.{Due, Fitting, due_len, due_to, owed, owed_in, owed_opcode}
 use Rattle.wl_server.specs.Announcing.{values_of, with_dues, marked, all_marked, after_announce}
@@ -138,23 +141,22 @@ finished state told now ms o t =
 
 -- ---- all registries
 
--- what is left is owed to the next registry and to those behind it
-pub owed-next : (globals : List Global) (i : ℕ) (ms : List Registry) (r : Registry) → i < length ms → r ≡ get_or ms i r
-    → owed_in globals (drop i ms) ≡ due_to globals r ++ owed_in globals (drop (i + 1) ms)
-owed-next globals i ms r l e = rw (drop-cons ms i r l, ← e, add-one) refl
-
 -- the telling once the next registry was told
-pub told-next : (core : Core) (rs : List Registry) (all : List Due) (count : ℕ) (now : Core) (ms : List Registry)
-    (globals : List Global) (i high : ℕ) (r after : Registry) (told : Announced) (new : Core)
-    → IsOrdinary core.outbox → RiseFrom 0 high rs → Progress core rs all count now ms (owed_in globals (drop i ms))
-    → i < length ms → r ≡ get_or ms i r
-    → (t : IsAnnounced now (r ∷ []) (due_to globals r) told new (after ∷ []))
-    → Progress core rs all (count + told.count) new (set ms i after) (t.rest ++ owed_in globals (drop (i + 1) ms))
-told-next core rs all count now ms globals i high r after told new o rise p l e t =
-    told-registry core rs all count now ms globals i 0 high r after told.count new t.rest
-    (owed_in globals (drop (i + 1) ms)) o rise
-    (subst (λ (list : List Due). Progress core rs all count now ms list) (owed-next globals i ms r l e) p) l e
-    t.progress
+told-next : (core : Core) (rs : List Registry) (all : List Due) (count : ℕ) (now : Core) (xs : List Slot)
+    (globals : List Global) (i high : ℕ) (s u : Slot) (told : Announced) (new : Core) → IsOrdinary core.outbox
+    → RiseFrom 0 high rs → Progress core rs all count now (open_in xs) (owed_in globals (open_in (drop i xs)))
+    → i < length xs → s ≡ get_or xs i s → s.is_open ≡ true → u.is_open ≡ true
+    → (t : IsAnnounced now (s.registry ∷ []) (due_to globals s.registry) told new (u.registry ∷ []))
+    → Progress core rs all (count + told.count) new (open_in (set xs i u))
+    (t.rest ++ owed_in globals (open_in (drop (i + 1) xs)))
+told-next core rs all count now xs globals i high s u told new o rise p l e is also t =
+    let more = owed_in globals (open_in (drop (i + 1) xs)) in
+    subst (λ (ms : List Registry). Progress core rs all (count + told.count) new ms (t.rest ++ more))
+    (sym (open-set xs i s u l e is also))
+    (told-registry core rs all count now (open_in xs) globals (before i xs) 0 high s.registry u.registry told.count new
+    t.rest more o rise
+    (subst (λ (ms : List Registry). Progress core rs all count now (open_in xs) (owed_in globals ms))
+    (drop-open xs i s l e is) p) (open-place xs i s l e is) (open-is xs i s l e is) t.progress)
 
 none-left : (b : Bool) (now : Core) (rest : List Due) → b ≡ true → MatchBool b (rest ≡ []) (IsBlocked now rest)
     → rest ≡ []
@@ -167,40 +169,66 @@ some-left true now rest e h = absurd (cc)
 some-left false now rest e h = h
 
 -- where all was told, the registries behind are left
-pub told-whole : (core : Core) (rs : List Registry) (all : List Due) (count : ℕ) (now : Core) (ms : List Registry)
-    (globals : List Global) (i high : ℕ) (r after : Registry) (told : Announced) (new : Core)
-    → IsOrdinary core.outbox → RiseFrom 0 high rs → Progress core rs all count now ms (owed_in globals (drop i ms))
-    → i < length ms → r ≡ get_or ms i r
-    → (t : IsAnnounced now (r ∷ []) (due_to globals r) told new (after ∷ [])) → told.all ≡ true
-    → Progress core rs all (count + told.count) new (set ms i after) (owed_in globals (drop (i + 1) (set ms i after)))
-told-whole core rs all count now ms globals i high r after told new o rise p l e t whole =
+pub told-whole : (core : Core) (rs : List Registry) (all : List Due) (count : ℕ) (now : Core) (xs : List Slot)
+    (globals : List Global) (i high : ℕ) (s u : Slot) (told : Announced) (new : Core) → IsOrdinary core.outbox
+    → RiseFrom 0 high rs → Progress core rs all count now (open_in xs) (owed_in globals (open_in (drop i xs)))
+    → i < length xs → s ≡ get_or xs i s → s.is_open ≡ true → u.is_open ≡ true
+    → (t : IsAnnounced now (s.registry ∷ []) (due_to globals s.registry) told new (u.registry ∷ []))
+    → told.all ≡ true
+    → Progress core rs all (count + told.count) new (open_in (set xs i u))
+    (owed_in globals (open_in (drop (i + 1) (set xs i u))))
+told-whole core rs all count now xs globals i high s u told new o rise p l e is also t whole =
     let none : t.rest ≡ [] = none-left told.all new t.rest whole t.end in
-    subst (λ (list : List Registry). Progress core rs all (count + told.count) new (set ms i after)
-    (owed_in globals list)) (sym (drop-set-lt (i + 1) ms i after (omega arith)))
-    (subst (λ (list : List Due). Progress core rs all (count + told.count) new (set ms i after)
-    (list ++ owed_in globals (drop (i + 1) ms))) none
-    (told-next core rs all count now ms globals i high r after told new o rise p l e t))
+    subst (λ (list : List Slot). Progress core rs all (count + told.count) new (open_in (set xs i u))
+    (owed_in globals (open_in list))) (sym (drop-set-lt (i + 1) xs i u (omega arith)))
+    (subst (λ (list : List Due). Progress core rs all (count + told.count) new (open_in (set xs i u))
+    (list ++ owed_in globals (open_in (drop (i + 1) xs)))) none
+    (told-next core rs all count now xs globals i high s u told new o rise p l e is also t))
 
 -- where it was not, the telling ends
-pub told-part : (core : Core) (rs : List Registry) (all : List Due) (count : ℕ) (now : Core) (ms : List Registry)
-    (globals : List Global) (i high : ℕ) (r after : Registry) (told : Announced) (new : Core)
-    → IsOrdinary core.outbox → RiseFrom 0 high rs → Progress core rs all count now ms (owed_in globals (drop i ms))
-    → i < length ms → r ≡ get_or ms i r
-    → (t : IsAnnounced now (r ∷ []) (due_to globals r) told new (after ∷ [])) → told.all ≡ false
-    → IsAnnounced core rs all (record { count = count + told.count; all = false }) new (set ms i after)
-told-part core rs all count now ms globals i high r after told new o rise p l e t part = record {
-  rest = t.rest ++ owed_in globals (drop (i + 1) ms);
-  progress = told-next core rs all count now ms globals i high r after told new o rise p l e t;
-  end = blocked-more new t.rest (owed_in globals (drop (i + 1) ms)) (some-left told.all new t.rest part t.end);
+pub told-part : (core : Core) (rs : List Registry) (all : List Due) (count : ℕ) (now : Core) (xs : List Slot)
+    (globals : List Global) (i high : ℕ) (s u : Slot) (told : Announced) (new : Core) → IsOrdinary core.outbox
+    → RiseFrom 0 high rs → Progress core rs all count now (open_in xs) (owed_in globals (open_in (drop i xs)))
+    → i < length xs → s ≡ get_or xs i s → s.is_open ≡ true → u.is_open ≡ true
+    → (t : IsAnnounced now (s.registry ∷ []) (due_to globals s.registry) told new (u.registry ∷ []))
+    → told.all ≡ false
+    → IsAnnounced core rs all (record { count = count + told.count; all = false }) new (open_in (set xs i u))
+told-part core rs all count now xs globals i high s u told new o rise p l e is also t part = record {
+  rest = t.rest ++ owed_in globals (open_in (drop (i + 1) xs));
+  progress = told-next core rs all count now xs globals i high s u told new o rise p l e is also t;
+  end = blocked-more new t.rest (owed_in globals (open_in (drop (i + 1) xs)))
+      (some-left told.all new t.rest part t.end);
 }
 
-pub told-end : (core : Core) (rs : List Registry) (all : List Due) (count : ℕ) (now : Core) (ms : List Registry)
-    (globals : List Global) (i : ℕ) → Progress core rs all count now ms (owed_in globals (drop i ms)) → length ms ≤ i
-    → IsAnnounced core rs all (record { count = count; all = true }) now ms
-told-end core rs all count now ms globals i p l = record {
+-- how many events were told
+pub told-count : (core : Core) (rs : List Registry) (all : List Due) (count : ℕ) (now : Core) (xs : List Slot)
+    (globals : List Global) (i high : ℕ) (s u : Slot) (told : Announced) (new : Core) → IsOrdinary core.outbox
+    → RiseFrom 0 high rs → Progress core rs all count now (open_in xs) (owed_in globals (open_in (drop i xs)))
+    → i < length xs → s ≡ get_or xs i s → s.is_open ≡ true → u.is_open ≡ true
+    → (t : IsAnnounced now (s.registry ∷ []) (due_to globals s.registry) told new (u.registry ∷ []))
+    → count + told.count ≤ 16777216
+told-count core rs all count now xs globals i high s u told new o rise p l e is also t =
+    count-small core rs all (count + told.count) new (open_in (set xs i u)) _ o
+    (told-next core rs all count now xs globals i high s u told new o rise p l e is also t)
+
+-- a slot that is closed is passed over
+pub told-none : (core : Core) (rs : List Registry) (all : List Due) (count : ℕ) (now : Core) (xs : List Slot)
+    (globals : List Global) (i : ℕ) (s : Slot)
+    → Progress core rs all count now (open_in xs) (owed_in globals (open_in (drop i xs)))
+    → i < length xs → s ≡ get_or xs i s → s.is_open ≡ false
+    → Progress core rs all count now (open_in xs) (owed_in globals (open_in (drop (i + 1) xs)))
+told-none core rs all count now xs globals i s p l e is =
+    subst (λ (ms : List Registry). Progress core rs all count now (open_in xs) (owed_in globals ms))
+    (drop-closed xs i s l e is) p
+
+pub told-end : (core : Core) (rs : List Registry) (all : List Due) (count : ℕ) (now : Core) (xs : List Slot)
+    (globals : List Global) (i : ℕ)
+    → Progress core rs all count now (open_in xs) (owed_in globals (open_in (drop i xs))) → length xs ≤ i
+    → IsAnnounced core rs all (record { count = count; all = true }) now (open_in xs)
+told-end core rs all count now xs globals i p l = record {
   rest = [];
-  progress = subst (λ (list : List Registry). Progress core rs all count now ms (owed_in globals list))
-      (drop_all i ms l) p;
+  progress = subst (λ (list : List Slot). Progress core rs all count now (open_in xs) (owed_in globals (open_in list)))
+      (drop_all i xs l) p;
   end = refl;
 }
 

@@ -1,12 +1,12 @@
 -- Telling one registry, name by name.
-use Rattle.std.proofs.Common.{◌≡◌, ℕ, ◌+◌, ◌<◌, ◌≤◌, Bool, true, false, List, [], ◌∷◌, ◌++◌, length}
-use Rattle.std.proofs.Common.{drop, get_or, refl, sym, subst, ◌∙◌, ap, arith, inl, inr}
+use Rattle.std.proofs.Common.{◌≡◌, ℕ, ◌+◌, ◌<◌, true, false, List, [], ◌∷◌, ◌++◌, length}
+use Rattle.std.proofs.Common.{drop, get_or, sym, subst, arith}
 use Rattle.wl_message.specs.Outgoing.{room_of}
 use Rattle.wl_object_map.specs.declared.object.Object.{Object}
 use Rattle.wl_objects.specs.Writing.{message_len}
 use Rattle.wl_connection.specs.Core.{Core, IsOrdinary}
 use Rattle.wl_server.specs.State.{Global, Registry}
-use Rattle.wl_server.specs.Announcing.{Due, Owing, Removal, Telling, owed_opcode, owings}
+use Rattle.wl_server.specs.Announcing.{Due, Owing, Removal, Telling, owings}
 use Rattle.wl_server.specs.Announcing.{owes_removal, owes_telling, marked, values_of}
 use Rattle.wl_server.specs.Tellings.{Progress, IsAnnounced, IsWritten, dues_for}
 use Rattle.wl_server.proofs.OwedByRegistry.{owings-skip, owings-take, removals-behind, tellings-behind}

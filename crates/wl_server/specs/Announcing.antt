@@ -1,5 +1,5 @@
 -- What the open registries are owed.
-use Rattle.std.specs.Prelude.{◌≡◌, ℕ, suc, ◌+◌, ◌≤◌, Bool, true, not, ◌&&◌, nat_eq, if◌then◌else◌}
+use Rattle.std.specs.Prelude.{ℕ, suc, ◌+◌, ◌≤◌, Bool, not, ◌&&◌, nat_eq, if◌then◌else◌}
 use Rattle.std.specs.Prelude.{List, [], ◌∷◌, ◌++◌, length, take, map, Some}
 use Rattle.std.specs.Option.{option_map_or}
 use Rattle.wl_wire.specs.declared.kind.Iface.{Iface}
@@ -105,13 +105,6 @@ marked_in due (registry ∷ registries) =
 abbrev pub all_marked : List Due → List Registry → List Registry
 all_marked [] registries = registries
 all_marked (due ∷ dues) registries = all_marked dues (marked_in due registries)
-
--- Where it is known of registries that they are owed nothing, it was known of these before, and they
--- are owed no more since.
-abbrev pub KeepsSettled : Bool → List Registry → Bool → List Registry → Type 0
-KeepsSettled before registries after left = after ≡ true
-    → (before ≡ true) × ((globals : List Global) → owed_in globals registries ≡ []
-    → owed_in globals left ≡ [])
 
 -- The server after the first of the owed events were written, and marked as told or removed.
 abbrev pub after_announce : State → ℕ → State

@@ -11,3 +11,5 @@ pub mod Tellings
 pub mod Errors
 pub mod Spelled
 pub mod Lent
+pub mod Slots
+pub mod Words

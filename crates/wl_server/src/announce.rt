@@ -1,16 +1,19 @@
 //! What a server writes to its client's registries: wl_registry.global and global_remove.
-ghost use Rattle.std.specs.Prelude.{◌≡◌, ◌≤◌, ◌∷◌, [], false, true, IfErr, IfOk, length};
+ghost use Rattle.std.specs.Prelude.{◌≡◌, ◌≤◌, ◌∷◌, [], false, true, IfErr, IfOk, length, take};
 ghost use Rattle.wl_wire.specs.Spelling.{IsText};
 ghost use Rattle.wl_objects.specs.declared.error.SendError.TheVariants as refusals;
 ghost use Rattle.wl_connection.specs.Core.{IsOrdinary};
-ghost use Rattle.wl_server.specs.State.{RiseFrom};
 ghost use Rattle.wl_server.specs.Registries.{HasRegistries};
 ghost use Rattle.wl_server.specs.Announcing.{Fitting, Removal, Telling, after_announce, due_to};
 ghost use Rattle.wl_server.specs.Announcing.{name_at, owed_in};
 ghost use Rattle.wl_server.specs.Tellings.{IsAnnounced, IsWritten};
+ghost use Rattle.wl_server.specs.Words.{AreWithdrawn};
+ghost use Rattle.wl_server.specs.Slots.{SlotsRise, open_in, past_of, settled_in};
 
-use crate::globals::Advertised;
-use crate::registry::OpenRegistry;
+use crate::globals::{Advertised, withdrawn_names};
+use crate::marks::{Marks, WORD_LEN};
+use crate::open_registries::OpenRegistries;
+use crate::registry::{OpenRegistry, Slot};
 use crate::server::Server;
 use wl_connection::Core;
 use wl_objects::{Arg, SendError, Table};
@@ -76,64 +79,125 @@ fn write_global<T: Table>(
     true
 }
 
-/// Writes to one registry what it is owed, as far as it fits.
+/// Writes to one registry what it is owed, as far as it fits. Passes at once over 64 names where it
+/// is owed nothing of these.
 fn announce_to<T: Table>(
     core: &mut Core<'_, T>,
     globals: &[Advertised],
+    withdrawn: &Marks,
     registry: &mut OpenRegistry,
 ) -> Announced
     requires few { length globals.now ≤ 1024 }
+    requires withdrawn { AreWithdrawn globals.now withdrawn.now }
     requires ordinary { IsOrdinary core.old.outbox }
     ensures told { IsAnnounced core.old (registry.old ∷ []) (due_to globals.now registry.old) result
         core.new (registry.new ∷ []) }
+    ensures object { registry.new.object ≡ registry.old.object }
     ensures settled { result.all ≡ true → due_to globals.now registry.new ≡ [] }
 {
     let mut count = 0;
-    'removals: for (place, global) in globals.iter().enumerate() {
+    let mut place = 0;
+    'removals: while place < globals.len() {
+        if place % WORD_LEN == 0 && registry.owes_no_removal(withdrawn, place / WORD_LEN) {
+            place += WORD_LEN;
+            continue;
+        }
         let name = place as u32 + 1;
-        if registry.owes_removal(name, *global) {
+        if registry.owes_removal(name, globals[place]) {
             if !write_global_remove(core, registry.object.id, name) {
                 return Announced { count, all: false };
             }
             registry.mark_removed(name);
             count += 1;
         }
+        place += 1;
     }
-    'tellings: for (place, global) in globals.iter().enumerate() {
+    place = 0;
+    'tellings: while place < globals.len() {
+        if place % WORD_LEN == 0 && registry.owes_no_telling(withdrawn, place / WORD_LEN) {
+            place += WORD_LEN;
+            continue;
+        }
         let name = place as u32 + 1;
-        if registry.owes_telling(name, *global) {
-            if !write_global(core, registry.object.id, name, *global) {
+        let global = globals[place];
+        if registry.owes_telling(name, global) {
+            if !write_global(core, registry.object.id, name, global) {
                 return Announced { count, all: false };
             }
             registry.mark_told(name);
             count += 1;
         }
+        place += 1;
     }
     Announced { count, all: true }
 }
 
-/// Writes to registries, whose births rise, what they are owed, as far as it fits.
+/// Writes to the registries of slots what they are owed, as far as it fits, from a place on. The
+/// place moves behind the registries that are then owed nothing.
+fn announce_from<T: Table>(
+    core: &mut Core<'_, T>,
+    globals: &[Advertised],
+    withdrawn: &Marks,
+    slots: &mut [Slot],
+    settled: &mut usize,
+) -> Announced
+    requires few { length globals.now ≤ 1024 }
+    requires withdrawn { AreWithdrawn globals.now withdrawn.now }
+    requires ordinary { IsOrdinary core.old.outbox }
+    requires rising { SlotsRise 0 slots.old }
+    requires within { settled.old ≤ length slots.old }
+    requires settled { owed_in globals.now (open_in (take settled.old slots.old)) ≡ [] }
+    ensures told { IsAnnounced core.old (open_in slots.old)
+        (owed_in globals.now (open_in slots.old)) result core.new (open_in slots.new) }
+    ensures rising { SlotsRise 0 slots.new }
+    ensures within { settled.new ≤ length slots.new }
+    ensures settled { owed_in globals.now (open_in (take settled.new slots.new)) ≡ [] }
+    ensures past { past_of slots.new ≡ past_of slots.old }
+    ensures count { length (open_in slots.new) ≡ length (open_in slots.old) }
+{
+    let mut count = 0;
+    'places: for place in *settled..slots.len() {
+        if slots[place].is_open {
+            let told = announce_to(core, globals, withdrawn, &mut slots[place].registry);
+            count += told.count;
+            if !told.all {
+                return Announced { count, all: false };
+            }
+        }
+        *settled = place + 1;
+    }
+    Announced { count, all: true }
+}
+
+/// Writes to the open registries what they are owed, as far as it fits. Passes over those that are
+/// known to be owed nothing.
 fn announce_to_all<T: Table>(
     core: &mut Core<'_, T>,
     globals: &[Advertised],
-    registries: &mut [OpenRegistry],
+    registries: &mut OpenRegistries<T::Alloc>,
 ) -> Announced
     requires few { length globals.now ≤ 1024 }
     requires ordinary { IsOrdinary core.old.outbox }
-    requires rising { RiseFrom 0 core.old.view.births registries.old }
-    ensures told { IsAnnounced core.old registries.old
-        (owed_in globals.now registries.old) result core.new registries.new }
-    ensures settled { result.all ≡ true → owed_in globals.now registries.new ≡ [] }
+    requires settled { owed_in globals.now (settled_in registries.old) ≡ [] }
+    ensures told { IsAnnounced core.old registries.old.list
+        (owed_in globals.now registries.old.list) result core.new registries.new.list }
+    ensures settled { owed_in globals.now (settled_in registries.new) ≡ [] }
+    ensures past { registries.new.past ≡ registries.old.past }
 {
-    let mut count = 0;
-    'registries: for registry in registries.iter_mut() {
-        let told = announce_to(core, globals, registry);
-        count += told.count;
-        if !told.all {
-            return Announced { count, all: false };
-        }
+    if registries.settled == registries.slots.len() {
+        return Announced {
+            count: 0,
+            all: true,
+        };
     }
-    Announced { count, all: true }
+    let withdrawn = withdrawn_names(globals);
+    announce_from(
+        core,
+        globals,
+        &withdrawn,
+        &mut registries.slots,
+        &mut registries.settled,
+    )
 }
 
 impl<'t, T: Table> Server<'t, T> {
@@ -154,11 +218,7 @@ impl<'t, T: Table> Server<'t, T> {
         if self.end.core.failed {
             return Err(SendError::Failed);
         }
-        if self.settled {
-            return Ok(0);
-        }
         let told = announce_to_all(&mut self.end.core, &self.globals, &mut self.registries);
-        self.settled = told.all;
         Ok(told.count)
     }
 }

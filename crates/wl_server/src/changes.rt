@@ -1,5 +1,5 @@
 //! The changes that a request makes at a server: among its objects, and its open registries.
-ghost use Rattle.std.specs.Prelude.{◌≡◌, ◌≢◌, Some, None, IsTrue, OnOk, true, false, OnErr};
+ghost use Rattle.std.specs.Prelude.{◌≡◌, ◌≢◌, ◌≤◌, Some, None, IsTrue, OnOk, false, OnErr};
 ghost use Rattle.std.specs.Option.{option_map_or};
 ghost use Rattle.wl_sigs.specs.Fixed.{registry};
 ghost use Rattle.wl_object_map.specs.View.{look};
@@ -7,12 +7,12 @@ ghost use Rattle.wl_objects.specs.Messages.{opens, same_iface};
 ghost use Rattle.wl_connection.specs.Core.{with_view};
 ghost use Rattle.wl_connection.specs.Sending.{delete_id_len, fits};
 ghost use Rattle.wl_server.specs.Requests.{registries_after};
-ghost use Rattle.wl_server.specs.Announcing.{KeepsSettled};
-ghost use Rattle.wl_server.specs.Registries.{IsFreshId, IsSound, without_registry, registry_birth};
+ghost use Rattle.wl_server.specs.Slots.{KeepsSettled};
+ghost use Rattle.wl_server.specs.Registries.{IsFreshId, IsSound};
 ghost use Rattle.wl_server.specs.Steps.{HasRow, core_without, registries_without};
 
-use crate::registry::OpenRegistry;
-use std::alloc::{AllocError, Allocator};
+use crate::open_registries::OpenRegistries;
+use std::alloc::AllocError;
 use wl_connection::Core;
 use wl_objects::{NewObject, Object, REGISTRY, Table};
 
@@ -28,24 +28,24 @@ pub(crate) struct Change {
 /// Opens the object that a request makes, if it makes one, with this birth.
 pub(crate) fn open_new_object<T: Table>(
     core: &mut Core<'_, T>,
-    registries: &mut Vec<OpenRegistry, T::Alloc>,
-    settled: &mut bool,
+    registries: &mut OpenRegistries<T::Alloc>,
     made: Option<NewObject>,
     birth: u64,
 ) -> Result<(), AllocError>
-    requires { birth ≡ core.old.view.births }
+    requires birth { birth ≡ core.old.view.births }
+    requires past { registries.old.past ≤ core.old.view.births }
     ensures core { OnOk result (core.new ≡ with_view core.old (opens core.old.view made)) }
     ensures registries { OnOk result
-        (registries.new.items ≡ registries_after core.old registries.old.items made) }
+        (registries.new.list ≡ registries_after core.old registries.old.list made) }
     ensures err { OnErr result
-        ((core.new ≡ core.old) × (registries.new.items ≡ registries.old.items)) }
+        ((core.new ≡ core.old) × (registries.new.list ≡ registries.old.list)) }
     ensures wants { OnErr result (made ≢ None) }
     ensures fresh { OnOk result (IsFreshId core.old.view made) }
-    ensures settled { KeepsSettled settled.old registries.old.items settled.new
-        registries.new.items }
+    ensures settled { KeepsSettled registries.old registries.new }
+    ensures past { registries.new.past ≤ core.new.view.births }
 {
     match made {
-        Some(made) => open_object(core, registries, settled, made, birth),
+        Some(made) => open_object(core, registries, made, birth),
         None => Ok(()),
     }
 }
@@ -54,29 +54,26 @@ pub(crate) fn open_new_object<T: Table>(
 /// changes.
 fn open_object<T: Table>(
     core: &mut Core<'_, T>,
-    registries: &mut Vec<OpenRegistry, T::Alloc>,
-    settled: &mut bool,
+    registries: &mut OpenRegistries<T::Alloc>,
     made: NewObject,
     birth: u64,
 ) -> Result<(), AllocError>
-    requires { birth ≡ core.old.view.births }
+    requires birth { birth ≡ core.old.view.births }
+    requires past { registries.old.past ≤ core.old.view.births }
     ensures core { OnOk result (core.new ≡ with_view core.old (opens core.old.view (Some made))) }
     ensures registries { OnOk result
-        (registries.new.items ≡ registries_after core.old registries.old.items (Some made)) }
+        (registries.new.list ≡ registries_after core.old registries.old.list (Some made)) }
     ensures err { OnErr result
-        ((core.new ≡ core.old) × (registries.new.items ≡ registries.old.items)) }
+        ((core.new ≡ core.old) × (registries.new.list ≡ registries.old.list)) }
     ensures fresh { OnOk result (IsFreshId core.old.view (Some made)) }
-    ensures settled { KeepsSettled settled.old registries.old.items settled.new
-        registries.new.items }
+    ensures settled { KeepsSettled registries.old registries.new }
+    ensures past { registries.new.past ≤ core.new.view.births }
 {
     if made.iface == REGISTRY {
         let object = Object { id: made.id, birth };
-        registries.reserve(1)?;
+        registries.reserve()?;
         match core.open_at(made) {
-            Ok(_) => {
-                *settled = false;
-                registries.push_reserved(OpenRegistry::new(object));
-            }
+            Ok(_) => registries.push_reserved(object),
             Err(_) => return Err(AllocError),
         }
     } else if core.open_at(made).is_err() {
@@ -88,21 +85,23 @@ fn open_object<T: Table>(
 /// Closes an object that a request destroys, and writes its delete_id.
 pub(crate) fn close_object<T: Table>(
     core: &mut Core<'_, T>,
-    registries: &mut Vec<OpenRegistry, T::Alloc>,
+    registries: &mut OpenRegistries<T::Alloc>,
     object: Object,
 )
     requires row { HasRow core.old.view object }
     requires not_display { object.id ≢ 1 }
     requires room { IsTrue (fits core.old.outbox delete_id_len 0) }
-    requires sound { IsSound core.old.view registries.old.items }
+    requires sound { IsSound core.old.view registries.old.list }
     ensures core { core.new ≡ core_without (Some object) core.old }
-    ensures registries { registries.new.items
-        ≡ registries_without (Some object) registries.old.items }
+    ensures registries { registries.new.list
+        ≡ registries_without (Some object) registries.old.list }
+    ensures settled { KeepsSettled registries.old registries.new }
+    ensures past { registries.new.past ≤ registries.old.past }
 {
     let is_registry = is_registry(core, object.id);
     core.delete_object(object.id);
     if is_registry {
-        remove_registry(registries, object.birth);
+        registries.remove(object.birth);
     }
 }
 
@@ -115,12 +114,4 @@ fn is_registry<T: Table>(core: &Core<'_, T>, id: u32) -> bool
         Some(entry) => entry.iface == REGISTRY,
         None => false,
     }
-}
-
-/// Takes out the registry of this birth.
-fn remove_registry<A: Allocator + Drop>(registries: &mut Vec<OpenRegistry, A>, birth: u64)
-    ensures { registries.new.items
-        ≡ without_registry registry_birth true birth registries.old.items }
-{
-    registries.retain(|registry| registry.object.birth != birth);
 }

@@ -1,10 +1,12 @@
 //! The globals that a server advertises.
-ghost use Rattle.std.specs.Prelude.{◌≡◌, OnOk, OnErr, true};
+ghost use Rattle.std.specs.Prelude.{◌≡◌, ◌≤◌, OnOk, OnErr, true, length};
 ghost use Rattle.wl_connection.specs.Outcomes.{AnswersOrMemory, refusal_in};
 ghost use Rattle.wl_server.specs.State.{global_of};
 ghost use Rattle.wl_server.specs.Calls.{add_answer, after_withdraw, can_be_global, version_in};
 ghost use Rattle.wl_server.specs.Calls.{with_global, withdraw_refusal};
+ghost use Rattle.wl_server.specs.Words.{AreWithdrawn};
 
+use crate::marks::Marks;
 use crate::server::Server;
 use std::error::Error;
 use std::fmt::{self, Display, Formatter};
@@ -94,7 +96,7 @@ impl<'t, T: Table> Server<'t, T> {
         };
         match self.globals.push(global) {
             Ok(()) => {
-                self.settled = false;
+                self.registries.unsettle();
                 Ok(count as u32 + 1)
             }
             Err(_) => Err(GlobalError::Memory),
@@ -113,7 +115,7 @@ impl<'t, T: Table> Server<'t, T> {
         }
         match global_of(&self.globals, name) {
             Some(global) if global.present => {
-                self.settled = false;
+                self.registries.unsettle();
                 self.globals[name as usize - 1] = Advertised {
                     present: false,
                     ..global
@@ -144,4 +146,18 @@ pub(crate) fn global_of(globals: &[Advertised], name: u32) -> Option<Advertised>
 {
     let place = name.checked_sub(1)?;
     globals.get(place as usize).copied()
+}
+
+/// The names of the withdrawn ones among these globals.
+pub(crate) fn withdrawn_names(globals: &[Advertised]) -> Marks
+    requires { length globals.now ≤ 1024 }
+    ensures { AreWithdrawn globals.now result }
+{
+    let mut withdrawn = Marks::new();
+    'places: for (place, global) in globals.iter().enumerate() {
+        if !global.present {
+            withdrawn.set(place as u32 + 1);
+        }
+    }
+    withdrawn
 }

@@ -9,6 +9,7 @@ mod faults;
 mod globals;
 mod laws;
 mod marks;
+mod open_registries;
 mod outline;
 mod pending;
 mod read_all;

@@ -1,11 +1,12 @@
 //! Marks of the names of globals, a bit for each.
-ghost use Rattle.std.specs.Prelude.{◌≡◌, ◌≤◌, ◌<◌, true, false, replicate};
+ghost use Rattle.std.specs.Prelude.{◌≡◌, ◌≤◌, ◌<◌, ◌+◌, ◌*◌, ◌==◌, ℕ, true, false, replicate};
+ghost use Rattle.std.specs.Int.{bit_at};
 ghost use Rattle.wl_server.specs.State.{mark_of, with_mark};
 
 use std::marker::Model;
 
 /// How many marks a word has.
-const WORD_LEN: usize = 64;
+pub(crate) const WORD_LEN: usize = 64;
 
 /// How many words have a mark for each name, of which there are 1,024.
 const WORD_COUNT: usize = 16;
@@ -52,5 +53,14 @@ impl Marks {
     {
         let place = name as usize - 1;
         self.words[place / WORD_LEN] |= 1 << (place % WORD_LEN);
+    }
+
+    /// The marks of 64 names, of which the first is 64 times `word` and 1: a bit for each, the
+    /// lowest first.
+    pub(crate) fn word(&self, word: usize) -> u64
+        requires { word < 16 }
+        ensures { (k : ℕ) → k < 64 → (bit_at result k == 1) ≡ mark_of self.now (64 * word + k + 1) }
+    {
+        self.words[word]
     }
 }

@@ -1,11 +1,11 @@
 //! How a server reads the requests that come in.
-ghost use Rattle.std.specs.Prelude.{◌≡◌, ◌≢◌, None, Some, [], OnOk, IfOk, IfSome, OnErr};
+ghost use Rattle.std.specs.Prelude.{◌≡◌, ◌≢◌, ◌≤◌, None, Some, [], OnOk, IfOk, IfSome, OnErr};
 ghost use Rattle.std.specs.Borrow.{sem};
 ghost use Rattle.std.specs.Io.BufRead.{Rests};
 ghost use Rattle.wl_object_map.specs.View.{look};
 ghost use Rattle.wl_connection.specs.Outcomes.{unless_memory};
 ghost use Rattle.wl_server.specs.Registries.{IsSound};
-ghost use Rattle.wl_server.specs.Announcing.{KeepsSettled};
+ghost use Rattle.wl_server.specs.Slots.{KeepsSettled};
 ghost use Rattle.wl_server.specs.Requests.{after_next, IsLentNext, IsServerNext};
 ghost use Rattle.wl_server.specs.Seen.{lent_in, lent_report, lent_request_in, report_in};
 ghost use Rattle.wl_server.specs.Seen.{report_of, request_in};
@@ -17,8 +17,8 @@ ghost use Rattle.wl_server.specs.Lent.{server_row};
 use crate::changes::{Change, close_object, open_new_object};
 use crate::faults::report_fault;
 use crate::globals::Advertised;
+use crate::open_registries::OpenRegistries;
 use crate::pending::{PendingRequest, find};
-use crate::registry::OpenRegistry;
 use crate::report::{OwnedRequest, OwnedRequestWithEntry, Request, RequestWithEntry};
 use crate::server::Server;
 use std::alloc::AllocError;
@@ -40,12 +40,7 @@ impl<'t, T: Table> Server<'t, T> {
             (λ server. server ≡ unless_memory self.old (after_next self.old) (lent_in result))) }
         ensures answer { IsLentNext self.old (lent_in result) }
     {
-        match read(
-            &mut self.end,
-            &mut self.registries,
-            &mut self.settled,
-            &self.globals,
-        )? {
+        match read(&mut self.end, &mut self.registries, &self.globals)? {
             Some(request) => Ok(Some(lend(&self.end, request))),
             None => Ok(None),
         }
@@ -62,12 +57,7 @@ impl<'t, T: Table> Server<'t, T> {
         ensures entry { IfOk result (λ read. IfSome read (λ told.
             look self.old.core.view told.request.target.id ≡ Some told.entry)) }
     {
-        match read(
-            &mut self.end,
-            &mut self.registries,
-            &mut self.settled,
-            &self.globals,
-        )? {
+        match read(&mut self.end, &mut self.registries, &self.globals)? {
             Some(request) => Ok(Some(RequestWithEntry {
                 request: lend(&self.end, request),
                 entry: request.entry,
@@ -86,7 +76,6 @@ impl<'t, T: Table> Server<'t, T> {
         match read_owned(
             &mut self.end,
             &mut self.registries,
-            &mut self.settled,
             &self.globals,
             &self.alloc,
         )? {
@@ -109,7 +98,6 @@ impl<'t, T: Table> Server<'t, T> {
         read_owned(
             &mut self.end,
             &mut self.registries,
-            &mut self.settled,
             &self.globals,
             &self.alloc,
         )
@@ -120,28 +108,28 @@ impl<'t, T: Table> Server<'t, T> {
 /// last.
 fn read<T: Table>(
     end: &mut Endpoint<'_, T>,
-    registries: &mut Vec<OpenRegistry, T::Alloc>,
-    settled: &mut bool,
+    registries: &mut OpenRegistries<T::Alloc>,
     globals: &[Advertised],
 ) -> Result<Option<PendingRequest>, NextError>
-    requires { IsSound end.old.core.view registries.old.items }
-    ensures answer { IsLentNext (whole_state end.old.core globals.now registries.old.items)
+    requires sound { IsSound end.old.core.view registries.old.list }
+    requires past { registries.old.past ≤ end.old.core.view.births }
+    ensures answer { IsLentNext (whole_state end.old.core globals.now registries.old.list)
         (taken_in end.new.core end.new.args result) }
-    ensures state { whole_state end.new.core globals.now registries.new.items
-        ≡ unless_memory (whole_state end.old.core globals.now registries.old.items)
-        (after_next (whole_state end.old.core globals.now registries.old.items))
+    ensures state { whole_state end.new.core globals.now registries.new.list
+        ≡ unless_memory (whole_state end.old.core globals.now registries.old.list)
+        (after_next (whole_state end.old.core globals.now registries.old.list))
         (taken_in end.new.core end.new.args result) }
-    ensures sound { IsSound end.new.core.view registries.new.items }
+    ensures sound { IsSound end.new.core.view registries.new.list }
     ensures entry { IfOk result (λ read. IfSome read (λ request.
         look end.old.core.view request.outline.target.id ≡ Some request.entry)) }
-    ensures settled { KeepsSettled settled.old registries.old.items settled.new
-        registries.new.items }
+    ensures settled { KeepsSettled registries.old registries.new }
+    ensures past { registries.new.past ≤ end.new.core.view.births }
 {
     let request = match find_or_fail(end, globals)? {
         Some(request) => request,
         None => return Ok(None),
     };
-    match take_request(end, registries, settled, &request) {
+    match take_request(end, registries, &request) {
         Ok(()) => Ok(Some(request)),
         Err(_) => Err(NextError::Memory),
     }
@@ -150,23 +138,23 @@ fn read<T: Table>(
 /// Reads the next request at an end, copies its report, and takes it.
 fn read_owned<T: Table>(
     end: &mut Endpoint<'_, T>,
-    registries: &mut Vec<OpenRegistry, T::Alloc>,
-    settled: &mut bool,
+    registries: &mut OpenRegistries<T::Alloc>,
     globals: &[Advertised],
     alloc: &T::Alloc,
 ) -> Result<Option<OwnedRequestWithEntry<T::Alloc>>, NextError>
-    requires { IsSound end.old.core.view registries.old.items }
-    ensures answer { IsServerNext (whole_state end.old.core globals.now registries.old.items)
+    requires sound { IsSound end.old.core.view registries.old.list }
+    requires past { registries.old.past ≤ end.old.core.view.births }
+    ensures answer { IsServerNext (whole_state end.old.core globals.now registries.old.list)
         (request_in result) }
-    ensures state { whole_state end.new.core globals.now registries.new.items
-        ≡ unless_memory (whole_state end.old.core globals.now registries.old.items)
-        (after_next (whole_state end.old.core globals.now registries.old.items))
+    ensures state { whole_state end.new.core globals.now registries.new.list
+        ≡ unless_memory (whole_state end.old.core globals.now registries.old.list)
+        (after_next (whole_state end.old.core globals.now registries.old.list))
         (request_in result) }
-    ensures sound { IsSound end.new.core.view registries.new.items }
+    ensures sound { IsSound end.new.core.view registries.new.list }
     ensures entry { IfOk result (λ read. IfSome read (λ told.
         look end.old.core.view told.request.target.id ≡ Some told.entry)) }
-    ensures settled { KeepsSettled settled.old registries.old.items settled.new
-        registries.new.items }
+    ensures settled { KeepsSettled registries.old registries.new }
+    ensures past { registries.new.past ≤ end.new.core.view.births }
 {
     let request = match find_or_fail(end, globals)? {
         Some(request) => request,
@@ -176,7 +164,7 @@ fn read_owned<T: Table>(
         Ok(report) => report,
         Err(_) => return Err(NextError::Memory),
     };
-    match take_request(end, registries, settled, &request) {
+    match take_request(end, registries, &request) {
         Ok(()) => Ok(Some(OwnedRequestWithEntry {
             request: report,
             entry: request.entry,
@@ -241,33 +229,27 @@ fn copy<T: Table>(
 /// that it destroys. If there is no memory for the object that it makes, nothing changes.
 fn take_request<T: Table>(
     end: &mut Endpoint<'_, T>,
-    registries: &mut Vec<OpenRegistry, T::Alloc>,
-    settled: &mut bool,
+    registries: &mut OpenRegistries<T::Alloc>,
     request: &PendingRequest,
 ) -> Result<(), AllocError>
     requires can { CanTake end.old.core (pending_in end.old.core end.old.args request.now) }
-    requires sound { IsSound end.old.core.view registries.old.items }
+    requires sound { IsSound end.old.core.view registries.old.list }
+    requires past { registries.old.past ≤ end.old.core.view.births }
     ensures args { end.new.args ≡ end.old.args }
     ensures core { OnOk result (end.new.core
         ≡ core_by end.old.core (pending_in end.old.core end.old.args request.now)) }
-    ensures registries { OnOk result (registries.new.items
-        ≡ registries_by end.old.core registries.old.items
+    ensures registries { OnOk result (registries.new.list
+        ≡ registries_by end.old.core registries.old.list
         (pending_in end.old.core end.old.args request.now)) }
     ensures err { OnErr result
-        ((end.new.core ≡ end.old.core) × (registries.new.items ≡ registries.old.items)) }
+        ((end.new.core ≡ end.old.core) × (registries.new.list ≡ registries.old.list)) }
     ensures wants { OnErr result (request.now.change.made ≢ None) }
-    ensures sound { OnOk result (IsSound end.new.core.view registries.new.items) }
-    ensures settled { KeepsSettled settled.old registries.old.items settled.new
-        registries.new.items }
+    ensures sound { OnOk result (IsSound end.new.core.view registries.new.list) }
+    ensures settled { KeepsSettled registries.old registries.new }
+    ensures past { registries.new.past ≤ end.new.core.view.births }
 {
     let Change { made, ended } = request.change;
-    open_new_object(
-        &mut end.core,
-        registries,
-        settled,
-        made,
-        request.outline.birth,
-    )?;
+    open_new_object(&mut end.core, registries, made, request.outline.birth)?;
     // Nothing is allocated from here on.
     end.core.pass(request.size, request.tokens);
     if let Some(object) = ended {

@@ -2,6 +2,7 @@
 ghost use Rattle.std.specs.Prelude.{◌≡◌, ◌≤◌, ◌<◌, true};
 ghost use Rattle.wl_server.specs.State.{mark_of, untold, with_mark};
 ghost use Rattle.wl_server.specs.Announcing.{owes_removal, owes_telling};
+ghost use Rattle.wl_server.specs.Words.{OwesNoRemoval, OwesNoTelling};
 
 use crate::globals::Advertised;
 use crate::marks::Marks;
@@ -53,6 +54,23 @@ impl OpenRegistry {
         global.present && !self.told.has(name)
     }
 
+    /// Whether the registry is owed no removal of the 64 names of a word, where the names of the
+    /// withdrawn globals are marked.
+    pub(crate) fn owes_no_removal(&self, withdrawn: &Marks, word: usize) -> bool
+        requires { word < 16 }
+        ensures { result ≡ true → OwesNoRemoval self.now withdrawn.now word }
+    {
+        self.told.word(word) & withdrawn.word(word) & !self.removed.word(word) == 0
+    }
+
+    /// Whether the registry is owed no global of the 64 names of a word.
+    pub(crate) fn owes_no_telling(&self, withdrawn: &Marks, word: usize) -> bool
+        requires { word < 16 }
+        ensures { result ≡ true → OwesNoTelling self.now withdrawn.now word }
+    {
+        self.told.word(word) | withdrawn.word(word) == u64::MAX
+    }
+
     /// Marks a name as told of its removal.
     pub(crate) fn mark_removed(&mut self, name: u32)
         requires { (0 < name) × (name ≤ 1024) }
@@ -70,4 +88,11 @@ impl OpenRegistry {
     {
         self.told.set(name);
     }
+}
+
+/// A registry of a client, open or closed.
+#[derive(Debug, Drop)]
+pub(crate) struct Slot {
+    pub(crate) registry: OpenRegistry,
+    pub(crate) is_open: bool,
 }

@@ -4,7 +4,7 @@ ghost use Rattle.wl_message.specs.Arrived.{AreSizes};
 ghost use Rattle.wl_server.specs.State.{new_state};
 
 use crate::globals::Advertised;
-use crate::registry::OpenRegistry;
+use crate::open_registries::OpenRegistries;
 use std::alloc::AllocError;
 use std::marker::Model;
 use wl_connection::{Core, Endpoint};
@@ -21,19 +21,17 @@ pub struct Server<'t, T: Table> {
     pub(crate) alloc: T::Alloc,
     /// In the order of their names.
     pub(crate) globals: Vec<Advertised, T::Alloc>,
-    /// In the order of their births.
-    pub(crate) registries: Vec<OpenRegistry, T::Alloc>,
-    /// Whether it is known that the registries are owed nothing.
-    pub(crate) settled: bool,
+    pub(crate) registries: OpenRegistries<T::Alloc>,
 }
 
 impl<'t, T: Table> Model for Server<'t, T> {
-    ghost use Rattle.std.specs.Prelude.{◌≡◌, ◌≤◌, [], true, length};
+    ghost use Rattle.std.specs.Prelude.{◌≡◌, ◌≤◌, [], length};
     ghost use Rattle.std.specs.Coded.{codes};
     ghost use Rattle.wl_object_map.specs.View.{view_code};
     ghost use Rattle.wl_server.specs.State.{State};
     ghost use Rattle.wl_server.specs.Registries.{HasRegistries, BirthsAreOnce};
     ghost use Rattle.wl_server.specs.Announcing.{owed_in};
+    ghost use Rattle.wl_server.specs.Slots.{settled_in};
 
     ghost Value = { State };
 
@@ -42,14 +40,15 @@ impl<'t, T: Table> Model for Server<'t, T> {
     ghost view = { λ s. record {
       core = s.end.core;
       globals = s.globals.items;
-      registries = s.registries.items;
+      registries = s.registries.list;
     } };
 
     ghost invariant = { λ s. record {
       few : length s.globals.items ≤ 1024;
-      registries : HasRegistries s.end.core.view s.registries.items;
+      registries : HasRegistries s.end.core.view s.registries.list;
       births : BirthsAreOnce s.end.core.view;
-      settled : s.settled ≡ true → owed_in s.globals.items s.registries.items ≡ [];
+      past : s.registries.past ≤ s.end.core.view.births;
+      settled : owed_in s.globals.items (settled_in s.registries) ≡ [];
     } };
 }
 
@@ -60,14 +59,13 @@ impl<'t, T: Table> Server<'t, T> {
         ensures { IfOk result (λ server. server ≡ new_state tables.now sizes) }
     {
         let globals = Vec::new(alloc.clone()?);
-        let registries = Vec::new(alloc.clone()?);
+        let registries = OpenRegistries::new(alloc.clone()?);
         let core = Core::new(alloc.clone()?, tables, sizes)?;
         Ok(Server {
             end: Endpoint::new(core),
             alloc,
             globals,
             registries,
-            settled: true,
         })
     }
 }

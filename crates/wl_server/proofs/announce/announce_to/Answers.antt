@@ -1,4 +1,4 @@
-use Rattle.std.proofs.Common.{◌≡◌, ◌+◌, ℕ, true, List, [], ◌∷◌, ◌++◌, length, refl, sym, subst, ap}
+use Rattle.std.proofs.Common.{◌≡◌, ◌+◌, ◌*◌, ◌/◌, ℕ, true, false, List, [], ◌∷◌, ◌++◌, length, refl, sym, subst, ap}
 use Rattle.std.proofs.Common.{◌∙◌, arith}
 use Rattle.wl_object_map.specs.declared.object.Object.{Object}
 use Rattle.wl_connection.specs.Core.{Core}
@@ -6,8 +6,10 @@ use Rattle.wl_server.specs.State.{Registry, mark_of}
 use Rattle.wl_server.specs.Announcing.{Owing, marked, Removal, Telling, due_to, owings, owes_removal, owes_telling}
 use Rattle.wl_server.specs.Tellings.{IsWritten, Progress, dues_for}
 use Rattle.wl_server.proofs.TellingGoesOn.{begun, count-small}
-use Rattle.wl_server.proofs.OwedByRegistry.{owings-end}
-use Rattle.wl_server.proofs.Settled.{NoneOf, none-next, none-yet, nothing-due, removal-settled, removals-stay}
+use Rattle.wl_server.proofs.OwedByRegistry.{owings-end, owings-skip-all}
+use Rattle.wl_server.proofs.WordByWord.{removal-none, telling-none}
+use Rattle.wl_server.proofs.Settled.{NoneOf, none-next, none-skip}
+use Rattle.wl_server.proofs.Settled.{none-yet, nothing-due, removal-settled, removals-stay}
 use Rattle.wl_server.proofs.Settled.{telling-settled}
 use Rattle.wl_server.proofs.Tells.{Adding, Removing, along, removal-skipped, removal-next}
 use Rattle.wl_server.proofs.Tells.{removal-told, telling-skipped, telling-next, telling-told}
@@ -42,8 +44,8 @@ pub removals-preserved : goal.removals-preserved
 removals-preserved g c =
     elim c.if-owes_removal.branch [
       | then-owes_removal+else-not-write_global_remove w ↦ (
-          let own : c.registry.inside.object.id ≡ c.args.registry.now.object.id =
-          ap (λ (r : Registry). r.object.id) c.registry.view_is
+          let own : c.registry-in-removals.inside.object.id ≡ c.args.registry.now.object.id =
+          ap (λ (r : Registry). r.object.id) c.registry-in-removals.view_is
           ∙ ap (λ (o : Object). o.id) c.removals.invariant.object in
           record {
             object = ap (λ (r : Registry). r.object) (w.registry-is ∙ w.mark_removed.ensures.set)
@@ -209,3 +211,40 @@ removals-init g c = record {
   progress = begun c.args.core.now (c.args.registry.now ∷ []) (due_to c.args.globals.now c.args.registry.now);
   clear = none-yet (owes_removal c.args.registry.now) c.args.globals.now;
 }
+
+pub removals-preserved-then-owes_no_removal : goal.removals-preserved-then-owes_no_removal
+removals-preserved-then-owes_no_removal g c =
+    let globals = c.args.globals.now in
+    let place = c.removals.place in
+    let registry = c.removals.registry in
+    let first : place ≡ 64 * (place / 64) = omega (arith, c.if-place-eq0.true) in
+    let none = removal-none registry globals c.args.withdrawn.now place (place / 64) c.requires.withdrawn
+    (c.owes_no_removal.ensures c.if-owes_no_removal.true) first in
+    record {
+      object = c.removals.invariant.object;
+      progress = subst (λ (list : List Owing). Progress c.args.core.now (c.args.registry.now ∷ [])
+          (due_to globals c.args.registry.now) c.removals.count c.removals.core (registry ∷ [])
+          (dues_for c.args.registry.now.object (list ++ owings (owes_telling registry) Telling 1 globals)))
+          (owings-skip-all (owes_removal registry) (λ name _. Removal name) place 64 globals
+          (record { iface = record { 0 = 0 }; version = 0; present = false }) none) c.removals.invariant.progress;
+      clear = none-skip (owes_removal registry) globals place 64 c.removals.invariant.clear none;
+    }
+
+pub tellings-preserved-then-owes_no_telling : goal.tellings-preserved-then-owes_no_telling
+tellings-preserved-then-owes_no_telling g c =
+    let globals = c.args.globals.now in
+    let place = c.tellings.place in
+    let registry = c.tellings.registry in
+    let first : place ≡ 64 * (place / 64) = omega (arith, c.if-place-eq0-2.true) in
+    let none = telling-none registry globals c.args.withdrawn.now place (place / 64) c.requires.withdrawn
+    (c.owes_no_telling.ensures c.if-owes_no_telling.true) first in
+    record {
+      object = c.tellings.invariant.object;
+      progress = subst (λ (list : List Owing). Progress c.args.core.now (c.args.registry.now ∷ [])
+          (due_to globals c.args.registry.now) c.tellings.count c.tellings.core (registry ∷ [])
+          (dues_for c.args.registry.now.object list))
+          (owings-skip-all (owes_telling registry) Telling place 64 globals
+          (record { iface = record { 0 = 0 }; version = 0; present = false }) none) c.tellings.invariant.progress;
+      clear = c.tellings.invariant.clear;
+      told = none-skip (owes_telling registry) globals place 64 c.tellings.invariant.told none;
+    }

@@ -1,4 +1,4 @@
-use Rattle.std.proofs.Common.{◌≡◌, [], ◌∷◌, length}
+use Rattle.std.proofs.Common.{◌≡◌, ◌-◌, [], ◌∷◌, length}
 use Rattle.wl_server.specs.Announcing.{due_to, owes_removal, owes_telling}
 use Rattle.wl_server.proofs.Settled.{NoneOf}
 use Rattle.wl_server.proofs.Tells.{Adding, Removing}
@@ -20,3 +20,9 @@ invariant-tellings g l = record {
   clear : NoneOf (owes_removal l.registry) l.globals (length l.globals);
   told : NoneOf (owes_telling l.registry) l.globals l.place;
 }
+
+abbrev pub decreases-removals : goal.decreases-removals
+decreases-removals g l = length l.globals - l.place
+
+abbrev pub decreases-tellings : goal.decreases-tellings
+decreases-tellings g l = length l.globals - l.place

@@ -9,7 +9,7 @@ use Rattle.wl_server.proofs.receive.read.Goals as goal
 pub returns-in_err-request-clause-state : goal.returns-in_err-request-clause-state
 returns-in_err-request-clause-state g c =
     let same : c.from_residual.result ≡ err c.in_err-request.field-0.0 = search rules in
-    rw same (err-left c.args.end.now.core c.find_or_fail.new.end.core c.args.globals.now c.args.registries.now.items
+    rw same (err-left c.args.end.now.core c.find_or_fail.new.end.core c.args.globals.now c.args.registries.now.list
     c.in_err-request.field-0.0 c.in_err-request.ensures.answer c.in_err-request.ensures.core)
 
 pub returns-in-Ok-clause-answer : goal.returns-in-Ok-clause-answer
@@ -18,7 +18,7 @@ returns-in-Ok-clause-answer g c =
     let args = c.find_or_fail.new.end.args in
     let p = c.in-Some.request in
     let step = pending_in core args p in
-    let state : State = whole_state core c.args.globals.now c.args.registries.now.items in
+    let state : State = whole_state core c.args.globals.now c.args.registries.now.list in
     let answer : ok (Some step) ≡ checked_front state = rw c.in-Some.is at c.in_ok-request.ensures.answer in
     let now : c.take_request.new.end.core ≡ core_by core step =
     c.in-Ok.ensures.core ∙ ap (λ (k : Core). core_by k (pending_in k args p)) c.in_ok-request.ensures.core in
@@ -32,21 +32,21 @@ returns-in-Ok-clause-state g c =
     let args = c.find_or_fail.new.end.args in
     let p = c.in-Some.request in
     let step = pending_in core args p in
-    let registries = c.args.registries.now.items in
+    let registries = c.args.registries.now.list in
     let answer : ok (Some step) ≡ checked_front (whole_state core c.args.globals.now registries) =
     rw c.in-Some.is at c.in_ok-request.ensures.answer in
     let now : c.take_request.new.end.core ≡ core_by core step =
     c.in-Ok.ensures.core ∙ ap (λ (k : Core). core_by k (pending_in k args p)) c.in_ok-request.ensures.core in
-    let left : c.take_request.new.registries.items ≡ registries_by core registries step =
+    let left : c.take_request.new.registries.list ≡ registries_by core registries step =
     c.in-Ok.ensures.registries ∙ ap (λ (k : Core). registries_by k registries (pending_in k args p))
     c.in_ok-request.ensures.core in
-    taken-left core c.take_request.new.end.core c.args.globals.now registries c.take_request.new.registries.items step
+    taken-left core c.take_request.new.end.core c.args.globals.now registries c.take_request.new.registries.list step
     answer now left
 
 pub returns-in-Err-clause-answer : goal.returns-in-Err-clause-answer
 returns-in-Err-clause-answer g c =
     let core = c.args.end.now.core in
     let step = pending_in core c.find_or_fail.new.end.args c.in-Some.request in
-    let state : State = whole_state core c.args.globals.now c.args.registries.now.items in
+    let state : State = whole_state core c.args.globals.now c.args.registries.now.list in
     let answer : ok (Some step) ≡ checked_front state = rw c.in-Some.is at c.in_ok-request.ensures.answer in
     opens-one state step answer c.in-Err.ensures.wants

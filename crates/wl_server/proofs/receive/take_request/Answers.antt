@@ -1,15 +1,12 @@
-use Rattle.std.proofs.Common.{◌≡◌, List, [], sym, ap, subst, ◌∙◌, rules}
+use Rattle.std.proofs.Common.{◌≡◌, sym, ap, subst, ◌∙◌, arith, rules}
 use Rattle.std.specs.Prelude.{IsTrue}
 use Rattle.wl_objects.specs.Messages.{opens}
 use Rattle.wl_message.specs.Outgoing.{Outgoing}
 use Rattle.wl_connection.specs.Core.{Core, past, with_view}
 use Rattle.wl_connection.specs.Sending.{delete_id_len, fits}
-use Rattle.wl_server.specs.State.{Registry}
-use Rattle.wl_server.specs.Announcing.{owed_in}
 use Rattle.wl_server.specs.Steps.{core_by, core_without, pending_in, registries_by, registries_without}
 use Rattle.wl_server.proofs.Closings.{row_opened, sound_opened}
 use Rattle.wl_server.proofs.Registries.{sound_now}
-use Rattle.wl_server.proofs.Settled.{owed-without}
 use Rattle.wl_server.proofs.receive.take_request.Goals as goal
 
 pub close_object-requires-clause-row : goal.close_object-requires-clause-row
@@ -29,7 +26,7 @@ close_object-requires-clause-sound g c =
     let opened = c.in_ok-open_new_object.ensures in
     let view : c.pass.new.self.view ≡ opens core.view made =
     ap (λ (k : Core). k.view) c.pass.ensures ∙ ap (λ (k : Core). k.view) opened.core in
-    sound_opened core c.pass.new.self c.args.registries.now.items c.open_new_object.new.registries.items made view
+    sound_opened core c.pass.new.self c.args.registries.now.list c.open_new_object.new.registries.list made view
     opened.registries opened.fresh c.requires.sound
 
 pub close_object-requires-clause-not_display : goal.close_object-requires-clause-not_display
@@ -45,7 +42,7 @@ close_object-requires-clause-room g c =
 pub returns-in-Some-clause-sound : goal.returns-in-Some-clause-sound
 returns-in-Some-clause-sound g c =
     let core = c.args.end.now.core in
-    let registries = c.args.registries.now.items in
+    let registries = c.args.registries.now.list in
     let request = c.args.request.now in
     let step = pending_in core c.args.end.now.args request in
     let opened = c.in_ok-open_new_object.ensures in
@@ -53,30 +50,35 @@ returns-in-Some-clause-sound g c =
     request.tokens = search rules in
     let now : c.close_object.new.core ≡ core_by core step =
     c.close_object.ensures.core ∙ (λ i. core_without (sym c.in-Some.is i) (passed i)) in
-    let left : c.close_object.new.registries.items ≡ registries_by core registries step =
+    let left : c.close_object.new.registries.list ≡ registries_by core registries step =
     c.close_object.ensures.registries ∙ (λ i. registries_without (sym c.in-Some.is i) (opened.registries i)) in
-    sound_now core c.close_object.new.core registries c.close_object.new.registries.items step c.requires.can now left
+    sound_now core c.close_object.new.core registries c.close_object.new.registries.list step c.requires.can now left
     opened.fresh c.requires.sound
 
 pub returns-in_default-clause-sound : goal.returns-in_default-clause-sound
 returns-in_default-clause-sound g c =
     let core = c.args.end.now.core in
-    let registries = c.args.registries.now.items in
+    let registries = c.args.registries.now.list in
     let request = c.args.request.now in
     let step = pending_in core c.args.end.now.args request in
     let opened = c.in_ok-open_new_object.ensures in
     let passed : c.pass.new.self ≡ past (with_view core (opens core.view request.change.made)) request.size
     request.tokens = search rules in
     let now : c.pass.new.self ≡ core_by core step = (λ i. core_without (sym c.in_default.is i) (passed i)) in
-    let left : c.open_new_object.new.registries.items ≡ registries_by core registries step =
+    let left : c.open_new_object.new.registries.list ≡ registries_by core registries step =
     (λ i. registries_without (sym c.in_default.is i) (opened.registries i)) in
-    sound_now core c.pass.new.self registries c.open_new_object.new.registries.items step c.requires.can now left
+    sound_now core c.pass.new.self registries c.open_new_object.new.registries.list step c.requires.can now left
     opened.fresh c.requires.sound
 
 pub returns-in-Some-clause-settled : goal.returns-in-Some-clause-settled
-returns-in-Some-clause-settled g c = λ t.
-    let opened = c.in_ok-open_new_object.ensures.settled t in (
-      opened.0,
-      λ globals none. subst (λ (rs : List Registry). owed_in globals rs ≡ []) (sym c.close_object.ensures.registries)
-          (owed-without globals c.in-Some.object.birth c.open_new_object.new.registries.items (opened.1 globals none)),
-    )
+returns-in-Some-clause-settled g c = λ globals none.
+    c.close_object.ensures.settled globals (c.in_ok-open_new_object.ensures.settled globals none)
+
+pub returns-in-Some-clause-past : goal.returns-in-Some-clause-past
+returns-in-Some-clause-past g c = omega (
+  arith,
+  c.close_object.ensures.past,
+  c.in_ok-open_new_object.ensures.past,
+  ap (λ (k : Core). k.view.births) c.pass.ensures,
+  ap (λ (k : Core). k.view.births) c.close_object.ensures.core,
+)

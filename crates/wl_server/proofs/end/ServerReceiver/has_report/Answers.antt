@@ -14,7 +14,7 @@ returns-clause-yes g c t =
     let state : State = record {
       core = c.self.inside.end.core;
       globals = c.self.inside.globals.items;
-      registries = c.self.inside.registries.items;
+      registries = c.self.inside.registries.list;
     } in
     let lives : state.core.failed ≡ false = ap (λ (s : State). s.core.failed) c.self.view_is ∙ c.requires in
     elim c.match-find.branch [

@@ -1,4 +1,4 @@
-use Rattle.std.proofs.Common.{◌≡◌, List, sym, subst}
+use Rattle.std.proofs.Common.{◌≡◌, ◌≤◌, ℕ, List, sym, subst}
 use Rattle.std.specs.Prelude.{Result, IfOk, OnOk, OnErr}
 use Rattle.std.specs.declared.result.Result.TheVariants.{Ok, Err}
 use Rattle.wl_sigs.specs.Valid.{Valid}
@@ -27,14 +27,22 @@ births_by object (Ok x) before now ok err b = subst (λ (k : Core). BirthsAreOnc
     (births_closed before.view object.id b)
 births_by object (Err why) before now ok err b = subst (λ (k : Core). BirthsAreOnce k.view) (sym err) b
 
+past_by : {X E : Type 0} (past : ℕ) (object : Object) (r : Result X E) (before now : Core)
+    → OnOk r (now ≡ after_drop before object) → OnErr r (now ≡ before) → past ≤ before.view.births
+    → past ≤ now.view.births
+past_by past object (Ok x) before now ok err h = subst (λ (k : Core). past ≤ k.view.births) (sym ok) h
+past_by past object (Err why) before now ok err h = subst (λ (k : Core). past ≤ k.view.births) (sym err) h
+
 pub invariant_of-self : goal.invariant_of-self
 invariant_of-self g c =
     let e = c.close_dropped.ensures in
     record {
       few = c.self.invariant.few;
-      registries = has_by c.self.inside.registries.items c.args.object c.close_dropped.result c.self.inside.end.core
+      registries = has_by c.self.inside.registries.list c.args.object c.close_dropped.result c.self.inside.end.core
           c.close_dropped.new.core e.answer e.ok e.err e.valid c.self.invariant.registries;
       births = births_by c.args.object c.close_dropped.result c.self.inside.end.core c.close_dropped.new.core e.ok e.err
           c.self.invariant.births;
+      past = past_by c.self.inside.registries.past c.args.object c.close_dropped.result c.self.inside.end.core
+          c.close_dropped.new.core e.ok e.err c.self.invariant.past;
       settled = c.self.invariant.settled;
     }

@@ -1,9 +1,8 @@
-use Rattle.std.proofs.Common.{◌≡◌, List, rules, refl, sym, ap, subst, ◌∙◌, arith, []}
+use Rattle.std.proofs.Common.{rules, sym, ap, subst, ◌∙◌, arith, []}
 use Rattle.wl_sigs.specs.Fixed.{display}
 use Rattle.wl_object_map.specs.View.{View, opening}
 use Rattle.wl_object_map.specs.Sounds.{Sound-opening}
 use Rattle.wl_connection.specs.Core.{Core}
-use Rattle.wl_server.specs.State.{Registry}
 use Rattle.wl_server.specs.Announcing.{owed_in}
 use Rattle.wl_server.specs.Registries.{HasRegistries, BirthsAreOnce}
 use Rattle.wl_server.proofs.Registries.{has_none, births_of_sound}
@@ -17,9 +16,9 @@ invariant_of-result g c =
     let view = ap (λ (k : Core). k.view) (c.new-2.ensures ∙ c.in_ok-core.ensures) in
     record {
       few = grind (arith, c.new-globals.ensures.items);
-      registries = subst (HasRegistries c.new-2.result.core.view) (sym c.new-registries.ensures.items)
+      registries = subst (HasRegistries c.new-2.result.core.view) (sym c.new-registries.ensures.list)
           (subst (λ (v : View). HasRegistries v []) (sym view) has_none);
       births = subst BirthsAreOnce (sym view) (births_of_sound (opening display) (Sound-opening display));
-      settled = λ t. subst (λ (rs : List Registry). owed_in c.new-globals.result.items rs ≡ [])
-          (sym c.new-registries.ensures.items) refl;
+      past = omega (arith, c.new-registries.ensures.past);
+      settled = ap (owed_in c.new-globals.result.items) c.new-registries.ensures.settled;
     }

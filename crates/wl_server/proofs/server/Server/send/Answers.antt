@@ -1,4 +1,4 @@
-use Rattle.std.proofs.Common.{◌≡◌, sym, subst}
+use Rattle.std.proofs.Common.{◌≡◌, ◌≤◌, sym, subst}
 use Rattle.std.specs.Prelude.{Result, IfOk, OnOk, OnErr}
 use Rattle.std.specs.declared.result.Result.TheVariants.{Ok, Err}
 use Rattle.wl_sigs.specs.Valid.{Valid}
@@ -7,7 +7,7 @@ use Rattle.wl_objects.specs.Writing.{given}
 use Rattle.wl_connection.specs.Core.{Core}
 use Rattle.wl_connection.specs.Sending.{after_send}
 use Rattle.wl_server.specs.Registries.{HasRegistries, BirthsAreOnce}
-use Rattle.wl_server.proofs.Registries.{has_sent, births_sent}
+use Rattle.wl_server.proofs.Registries.{births_sent, has_sent, past_sent}
 use Rattle.wl_server.proofs.server.Server.send.Goals as goal
 
 -- what held of the end before holds of it after, where it does after an accepted call
@@ -26,12 +26,16 @@ invariant_of-self g c =
     let e = c.send.ensures in
     record {
       few = c.self.invariant.few;
-      registries = by_result (λ (k : Core). HasRegistries k.view c.self.inside.registries.items) c.send.result core now
+      registries = by_result (λ (k : Core). HasRegistries k.view c.self.inside.registries.list) c.send.result core now
           sent e.ok e.err e.valid
-          (λ v is. has_sent core now c.self.inside.registries.items c.args.target c.args.opcode list v is
+          (λ v is. has_sent core now c.self.inside.registries.list c.args.target c.args.opcode list v is
           c.self.invariant.registries) c.self.invariant.registries;
       births = by_result (λ (k : Core). BirthsAreOnce k.view) c.send.result core now sent e.ok e.err e.valid
           (λ v is. births_sent core now c.args.target c.args.opcode list v is c.self.invariant.births)
           c.self.invariant.births;
+      past = by_result (λ (k : Core). c.self.inside.registries.past ≤ k.view.births) c.send.result core now sent e.ok
+          e.err e.valid
+          (λ v is. past_sent core now c.self.inside.registries.past c.args.target c.args.opcode list v is
+          c.self.invariant.past) c.self.invariant.past;
       settled = c.self.invariant.settled;
     }

@@ -1,0 +1,390 @@
+-- Slots of registries: what each change of them makes of the open ones.
+use Rattle.std.proofs.Common.{◌≡◌, ◌≢◌, ℕ, zero, suc, ◌+◌, ◌<◌, ◌≤◌, Bool, true, false, List, [], ◌∷◌, ◌++◌}
+use Rattle.std.proofs.Common.{length, length-append, take, drop, get_or, set, map, refl, sym, ap, subst, ◌∙◌, arith}
+use Rattle.std.proofs.Common.{add-one, drop-cons, inl, inr}
+use Rattle.std.specs.Prelude.{nat_eq, max, Result}
+use Rattle.std.specs.declared.result.Result.TheVariants.{Ok, Err}
+use Rattle.std.specs.Ordering.{MatchOrdering, nat_cmp, ordering_index}
+use Rattle.std.specs.Cmp.{ranks}
+use Rattle.std.specs.List.Sorted.{IsBinarySearchResult}
+use Rattle.std.specs.List.{filter, count_by}
+use Rattle.std.proofs.lemmas.Bool.{cases_lt, eq-eqb, ne_eqb}
+use Rattle.std.proofs.lemmas.Bool.Decides.{nat_tests}
+use Rattle.std.proofs.lemmas.List.{get_or_default, length-map, map-append, take-append-drop, take_at}
+use Rattle.std.proofs.lemmas.List.{take_more, take_more_set}
+use Rattle.std.proofs.Common.{append_assoc}
+use Rattle.std.proofs.lemmas.List.Elements.{filter-append}
+use Rattle.std.proofs.lemmas.List.Sums.{length-filter}
+use Rattle.wl_server.specs.declared.registry.Slot.{Slot}
+use Rattle.wl_server.specs.State.{Global, Registry, RiseFrom}
+use Rattle.wl_server.specs.Registries.{registry_birth, without_registry}
+use Rattle.wl_server.specs.Announcing.{Due, due_to, owed_in}
+use Rattle.wl_server.specs.Slots.{SlotsRise, open_in, past_of}
+
+abbrev pub birth_in : Slot → ℕ
+birth_in slot = slot.registry.object.birth
+
+abbrev pub is_open : Slot → Bool
+is_open slot = slot.is_open
+
+-- what holds where a slot is open, and where it is closed
+either-way : (P : Type 0) (s : Slot) → (s.is_open ≡ true → P) → (s.is_open ≡ false → P) → P
+either-way P s f h = by_test s.is_open refl
+  where
+    by_test : (b : Bool) → s.is_open ≡ b → P
+    by_test true e = f e
+    by_test false e = h e
+
+-- ---- the open ones, slot by slot
+
+pub open-first : (s : Slot) (xs : List Slot) → s.is_open ≡ true → open_in (s ∷ xs) ≡ s.registry ∷ open_in xs
+open-first s xs e = rw e refl
+
+pub closed-first : (s : Slot) (xs : List Slot) → s.is_open ≡ false → open_in (s ∷ xs) ≡ open_in xs
+closed-first s xs e = rw e refl
+
+pub open-append : (xs ys : List Slot) → open_in (xs ++ ys) ≡ open_in xs ++ open_in ys
+open-append xs ys = ap (map (λ (s : Slot). s.registry)) (filter-append is_open xs ys)
+    ∙ map-append (λ (s : Slot). s.registry) (filter is_open xs) (filter is_open ys)
+
+-- those of the first slots are the first
+pub take-open : (k : ℕ) (xs : List Slot) → take (length (open_in (take k xs))) (open_in xs) ≡ open_in (take k xs)
+take-open k xs =
+    ap (take (length (open_in (take k xs))))
+    (ap open_in (sym (take-append-drop k xs)) ∙ open-append (take k xs) (drop k xs))
+    ∙ take_at (open_in (take k xs)) (open_in (drop k xs)) (length (open_in (take k xs))) refl
+
+-- ---- births
+
+rise-from : (low least : ℕ) (xs : List Slot) → least ≤ low → SlotsRise low xs → SlotsRise least xs
+rise-from low least [] h r = tt
+rise-from low least (x ∷ xs) h r = (omega (arith, h, r.0), r.1)
+
+pub rise-push : (low : ℕ) (xs : List Slot) (s : Slot) → SlotsRise low xs → low ≤ birth_in s → past_of xs ≤ birth_in s
+    → SlotsRise low (xs ++ s ∷ [])
+rise-push low [] s r l p = (l, tt)
+rise-push low (x ∷ xs) s r l p =
+    (r.0, rise-push (suc (birth_in x)) xs s r.1 (omega (arith, p)) (omega (arith, p)))
+
+pub past-push : (xs : List Slot) (s : Slot) → past_of xs ≤ birth_in s → past_of (xs ++ s ∷ []) ≡ birth_in s + 1
+past-push [] s p = omega arith
+past-push (x ∷ xs) s p = let more = past-push xs s (omega (arith, p)) in omega (arith, more, p)
+
+-- a slot is changed, but not its birth
+pub rise-set : (low : ℕ) (xs : List Slot) (i : ℕ) (s t : Slot) → SlotsRise low xs → s ≡ get_or xs i s
+    → birth_in t ≡ birth_in s → SlotsRise low (set xs i t)
+rise-set low [] i s t r e b = tt
+rise-set low (x ∷ xs) zero s t r e b =
+    let same : birth_in t ≡ birth_in x = b ∙ ap birth_in e in
+    (subst (λ (n : ℕ). low ≤ n) (sym same) r.0, subst (λ (n : ℕ). SlotsRise (suc n) xs) (sym same) r.1)
+rise-set low (x ∷ xs) (suc i) s t r e b = (r.0, rise-set (suc (birth_in x)) xs i s t r.1 e b)
+
+pub past-set : (xs : List Slot) (i : ℕ) (s t : Slot) → s ≡ get_or xs i s → birth_in t ≡ birth_in s
+    → past_of (set xs i t) ≡ past_of xs
+past-set [] i s t e b = refl
+past-set (x ∷ xs) zero s t e b = ap (λ (n : ℕ). max (suc n) (past_of xs)) (b ∙ ap birth_in e)
+past-set (x ∷ xs) (suc i) s t e b = ap (max (suc (birth_in x))) (past-set xs i s t e b)
+
+-- ---- a registry is closed
+
+not-below : (birth low : ℕ) (xs : List Slot) → SlotsRise low xs → birth < low
+    → without_registry registry_birth true birth (open_in xs) ≡ open_in xs
+not-below birth low [] r l = refl
+not-below birth low (x ∷ xs) r l =
+    let more = not-below birth (suc (birth_in x)) xs r.1 (omega (arith, l, r.0)) in
+    let other : nat_eq (birth_in x) birth ≡ false = ne_eqb (birth_in x) birth (λ f. omega (arith, f, l, r.0)) in
+    either-way (without_registry registry_birth true birth (open_in (x ∷ xs)) ≡ open_in (x ∷ xs)) x
+    (λ o. rw (o, other) (ap (λ (l : List Registry). x.registry ∷ l) more))
+    (λ o. rw o more)
+
+at-least : (low : ℕ) (xs : List Slot) (i : ℕ) (s : Slot) → SlotsRise low xs → i < length xs → s ≡ get_or xs i s
+    → low ≤ birth_in s
+at-least low [] i s r l e = absurd (omega (arith, l))
+at-least low (x ∷ xs) zero s r l e = subst (λ (n : ℕ). low ≤ n) (ap birth_in (sym e)) r.0
+at-least low (x ∷ xs) (suc i) s r l e =
+    let more = at-least (suc (birth_in x)) xs i s r.1 (omega (arith, l)) e in omega (arith, more, r.0)
+
+-- the slot in place i, open or closed, has this birth, and no other has
+pub without-closed : (birth low : ℕ) (xs : List Slot) (i : ℕ) (s t : Slot) → SlotsRise low xs → i < length xs
+    → s ≡ get_or xs i s → birth_in s ≡ birth → t.is_open ≡ false
+    → open_in (set xs i t) ≡ without_registry registry_birth true birth (open_in xs)
+without-closed birth low [] i s t r l e b c = absurd (omega (arith, l))
+without-closed birth low (x ∷ xs) zero s t r l e b c =
+    let same : birth_in x ≡ birth = ap birth_in (sym e) ∙ b in
+    let rest : open_in xs ≡ without_registry registry_birth true birth (open_in xs) =
+    sym (not-below birth (suc (birth_in x)) xs r.1 (omega (arith, same))) in
+    either-way (open_in (t ∷ xs) ≡ without_registry registry_birth true birth (open_in (x ∷ xs))) x
+    (λ o. rw (c, o, eq-eqb (birth_in x) birth same) rest)
+    (λ o. rw (c, o) rest)
+without-closed birth low (x ∷ xs) (suc i) s t r l e b c =
+    let more = without-closed birth (suc (birth_in x)) xs i s t r.1 (omega (arith, l)) e b c in
+    let behind : birth_in x < birth =
+    omega (arith, at-least (suc (birth_in x)) xs i s r.1 (omega (arith, l)) e, b) in
+    let other : nat_eq (birth_in x) birth ≡ false = ne_eqb (birth_in x) birth (λ f. omega (arith, f, behind)) in
+    either-way (open_in (x ∷ set xs i t) ≡ without_registry registry_birth true birth (open_in (x ∷ xs))) x
+    (λ o. rw (o, other) (ap (λ (l : List Registry). x.registry ∷ l) more))
+    (λ o. rw o more)
+
+-- where no slot has this birth, nothing is taken out
+pub without-other : (birth : ℕ) (xs : List Slot)
+    → ((k : ℕ) (x : Slot) → k < length xs → x ≡ get_or xs k x → birth_in x ≢ birth)
+    → open_in xs ≡ without_registry registry_birth true birth (open_in xs)
+without-other birth [] f = refl
+without-other birth (x ∷ xs) f =
+    let more = without-other birth xs (λ k y l e. f (suc k) y (omega (arith, l)) e) in
+    let other : nat_eq (birth_in x) birth ≡ false = ne_eqb (birth_in x) birth (f 0 x (omega arith) refl) in
+    either-way (open_in (x ∷ xs) ≡ without_registry registry_birth true birth (open_in (x ∷ xs))) x
+    (λ o. rw (o, other) (ap (λ (l : List Registry). x.registry ∷ l) more))
+    (λ o. rw o more)
+
+pub fewer-open : (xs : List Slot) (i : ℕ) (s t : Slot) → i < length xs → s ≡ get_or xs i s → s.is_open ≡ true
+    → t.is_open ≡ false → length (open_in (set xs i t)) + 1 ≡ length (open_in xs)
+fewer-open [] i s t l e o c = absurd (omega (arith, l))
+fewer-open (x ∷ xs) zero s t l e o c =
+    let there : x.is_open ≡ true = ap is_open (sym e) ∙ o in rw (c, there) (omega arith)
+fewer-open (x ∷ xs) (suc i) s t l e o c =
+    let more = fewer-open xs i s t (omega (arith, l)) e o c in
+    either-way (length (open_in (x ∷ set xs i t)) + 1 ≡ length (open_in (x ∷ xs))) x
+    (λ k. rw k (omega (arith, more)))
+    (λ k. rw k more)
+
+-- ---- what is settled
+
+no-parts : (xs ys : List Due) → xs ++ ys ≡ [] → (xs ≡ []) × (ys ≡ [])
+no-parts [] ys e = (refl, e)
+no-parts (x ∷ xs) ys e = absurd (cc e)
+
+-- a slot's registry is owed nothing, where it is open, and nor are the next
+settled-first : (globals : List Global) (x : Slot) (xs ys : List Slot)
+    → (owed_in globals (open_in xs) ≡ [] → owed_in globals (open_in ys) ≡ [])
+    → owed_in globals (open_in (x ∷ xs)) ≡ [] → owed_in globals (open_in (x ∷ ys)) ≡ []
+settled-first globals x xs ys f h =
+    either-way (owed_in globals (open_in (x ∷ ys)) ≡ []) x
+    (λ o. (let parts = no-parts (due_to globals x.registry) (owed_in globals (open_in xs))
+    (ap (owed_in globals) (sym (open-first x xs o)) ∙ h) in
+    ap (owed_in globals) (open-first x ys o) ∙ (λ j. parts.0 j ++ f parts.1 j)))
+    (λ o. ap (owed_in globals) (closed-first x ys o) ∙ f (ap (owed_in globals) (sym (closed-first x xs o)) ∙ h))
+
+settled-rest : (globals : List Global) (x : Slot) (xs : List Slot) → owed_in globals (open_in (x ∷ xs)) ≡ []
+    → owed_in globals (open_in xs) ≡ []
+settled-rest globals x xs h =
+    either-way (owed_in globals (open_in xs) ≡ []) x
+    (λ o. (no-parts (due_to globals x.registry) (owed_in globals (open_in xs))
+    (ap (owed_in globals) (sym (open-first x xs o)) ∙ h)).1)
+    (λ o. ap (owed_in globals) (sym (closed-first x xs o)) ∙ h)
+
+pub settled-closed : (globals : List Global) (k : ℕ) (xs : List Slot) (i : ℕ) (t : Slot) → t.is_open ≡ false
+    → owed_in globals (open_in (take k xs)) ≡ [] → owed_in globals (open_in (take k (set xs i t))) ≡ []
+settled-closed globals zero xs i t c h = refl
+settled-closed globals (suc k) [] i t c h = refl
+settled-closed globals (suc k) (x ∷ xs) zero t c h =
+    ap (owed_in globals) (closed-first t (take k xs) c) ∙ settled-rest globals x (take k xs) h
+settled-closed globals (suc k) (x ∷ xs) (suc i) t c h =
+    settled-first globals x (take k xs) (take k (set xs i t)) (settled-closed globals k xs i t c) h
+
+-- the same of a part of the open registries
+pub settled-shut : (globals : List Global) (k : ℕ) (xs : List Slot) (i : ℕ) (t : Slot) → t.is_open ≡ false
+    → owed_in globals (take (length (open_in (take k xs))) (open_in xs)) ≡ []
+    → owed_in globals (take (length (open_in (take k (set xs i t)))) (open_in (set xs i t))) ≡ []
+settled-shut globals k xs i t c h =
+    ap (owed_in globals) (take-open k (set xs i t))
+    ∙ settled-closed globals k xs i t c (ap (owed_in globals) (sym (take-open k xs)) ∙ h)
+
+-- ---- the closed slots are taken out
+
+kept-first : (x : Slot) (xs : List Slot) → x.is_open ≡ true → filter is_open (x ∷ xs) ≡ x ∷ filter is_open xs
+kept-first x xs o = rw o refl
+
+again-first : (x : Slot) (xs : List Slot) → x.is_open ≡ true → filter is_open xs ≡ xs
+    → filter is_open (x ∷ xs) ≡ x ∷ xs
+again-first x xs o h = kept-first x xs o ∙ ap (λ (l : List Slot). x ∷ l) h
+
+pub open-again : (xs : List Slot) → filter is_open (filter is_open xs) ≡ filter is_open xs
+open-again [] = refl
+open-again (x ∷ xs) =
+    let more = open-again xs in
+    either-way (filter is_open (filter is_open (x ∷ xs)) ≡ filter is_open (x ∷ xs)) x
+    (λ o. ap (filter is_open) (kept-first x xs o) ∙ again-first x (filter is_open xs) o more ∙ sym (kept-first x xs o))
+    (λ o. rw o more)
+
+pub open-kept : (xs : List Slot) → open_in (filter is_open xs) ≡ open_in xs
+open-kept xs = ap (map (λ (s : Slot). s.registry)) (open-again xs)
+
+pub length-open : (xs : List Slot) → length (open_in xs) ≡ length (filter is_open xs)
+length-open xs = length-map (filter is_open xs) (λ (s : Slot). s.registry)
+
+pub settled-kept : (k : ℕ) (xs : List Slot)
+    → open_in (take (count_by is_open (take k xs)) (filter is_open xs)) ≡ open_in (take k xs)
+settled-kept k xs =
+    let parts : filter is_open xs ≡ filter is_open (take k xs) ++ filter is_open (drop k xs) =
+    ap (filter is_open) (sym (take-append-drop k xs)) ∙ filter-append is_open (take k xs) (drop k xs) in
+    let front : take (count_by is_open (take k xs)) (filter is_open xs) ≡ filter is_open (take k xs) =
+    ap (take (count_by is_open (take k xs))) parts
+    ∙ take_at (filter is_open (take k xs)) (filter is_open (drop k xs)) (count_by is_open (take k xs))
+    (length-filter is_open (take k xs)) in
+    ap open_in front ∙ open-kept (take k xs)
+
+pub few-kept : (k : ℕ) (xs : List Slot) → count_by is_open (take k xs) ≤ length (filter is_open xs)
+few-kept k xs =
+    let parts : length (filter is_open xs) ≡ length (filter is_open (take k xs)) + length (filter is_open (drop k xs)) =
+    ap (λ (l : List Slot). length (filter is_open l)) (sym (take-append-drop k xs))
+    ∙ ap length (filter-append is_open (take k xs) (drop k xs))
+    ∙ length-append (filter is_open (take k xs)) (filter is_open (drop k xs)) in
+    omega (arith, parts, length-filter is_open (take k xs))
+
+pub rise-kept : (low : ℕ) (xs : List Slot) → SlotsRise low xs → SlotsRise low (filter is_open xs)
+rise-kept low [] r = tt
+rise-kept low (x ∷ xs) r =
+    let more = rise-kept (suc (birth_in x)) xs r.1 in
+    either-way (SlotsRise low (filter is_open (x ∷ xs))) x
+    (λ o. rw o (r.0, more))
+    (λ o. rw o (rise-from (suc (birth_in x)) low (filter is_open xs) (omega (arith, r.0)) more))
+
+pub past-kept : (xs : List Slot) → past_of (filter is_open xs) ≤ past_of xs
+past-kept [] = omega arith
+past-kept (x ∷ xs) =
+    let more = past-kept xs in
+    either-way (past_of (filter is_open (x ∷ xs)) ≤ past_of (x ∷ xs)) x
+    (λ o. rw o (omega (arith, more)))
+    (λ o. rw o (omega (arith, more)))
+
+-- ---- where a birth is looked for
+
+higher : (birth a b : ℕ) → a ≤ b → ordering_index (nat_cmp a birth) ≤ ordering_index (nat_cmp b birth)
+higher birth a b l = grind (arith, nat_tests)
+
+rising : (low : ℕ) (xs : List Slot) (i j : ℕ) (d : Slot) → SlotsRise low xs → i ≤ j → j < length xs
+    → birth_in (get_or xs i d) ≤ birth_in (get_or xs j d)
+rising low [] i j d r l m = absurd (omega (arith, m))
+rising low (x ∷ xs) zero zero d r l m = omega arith
+rising low (x ∷ xs) zero (suc j) d r l m =
+    let behind : suc (birth_in x) ≤ birth_in (get_or xs j d) =
+    at-least (suc (birth_in x)) xs j (get_or xs j d) r.1 (omega (arith, m))
+    (sym (get_or_default xs j (get_or xs j d) d (omega (arith, m)))) in omega (arith, behind)
+rising low (x ∷ xs) (suc i) zero d r l m = absurd (omega (arith, l))
+rising low (x ∷ xs) (suc i) (suc j) d r l m =
+    rising (suc (birth_in x)) xs i j d r.1 (omega (arith, l)) (omega (arith, m))
+
+-- a slot that was read twice
+pub same-slot : (xs : List Slot) (i : ℕ) (s u : Slot) → i < length xs → s ≡ get_or xs i s → u ≡ get_or xs i u → s ≡ u
+same-slot xs i s u l e d = e ∙ get_or_default xs i s u l ∙ sym d
+
+-- what the search for a birth answers
+abbrev pub IsAnswer : ℕ → List Slot → Result ℕ ℕ → Type 0
+IsAnswer birth xs r = IsBinarySearchResult (λ s. nat_cmp (birth_in s) birth) xs r
+
+pub found : (birth : ℕ) (xs : List Slot) (i : ℕ) (s : Slot) → IsAnswer birth xs (Ok i) → s ≡ get_or xs i s
+    → birth_in s ≡ birth
+found birth xs i s h e =
+    ap birth_in e ∙ subst (λ o. MatchOrdering o (birth_in (get_or xs i s) < birth)
+    (birth_in (get_or xs i s) ≡ birth) (birth < birth_in (get_or xs i s)))
+    (h s) (ranks (birth_in (get_or xs i s)) birth)
+
+pub not-found : (birth low : ℕ) (xs : List Slot) (i : ℕ) → SlotsRise low xs → IsAnswer birth xs (Err i)
+    → open_in xs ≡ without_registry registry_birth true birth (open_in xs)
+not-found birth low xs i r h =
+    let parted = h (λ a b d l m. higher birth (birth_in (get_or xs a d)) (birth_in (get_or xs b d))
+    (rising low xs a b d r l m)) in
+    without-other birth xs (λ k x l e same. elim (cases_lt k i) as (λ _. ⊥) [
+      | inl before ↦ (let less = subst (λ o. MatchOrdering o (birth_in (get_or xs k x) < birth)
+          (birth_in (get_or xs k x) ≡ birth) (birth < birth_in (get_or xs k x)))
+          (parted.0 k x (omega arith) before) (ranks (birth_in (get_or xs k x)) birth) in
+          omega (arith, less, ap birth_in e, same))
+      | inr behind ↦ (let more = subst (λ o. MatchOrdering o (birth_in (get_or xs k x) < birth)
+          (birth_in (get_or xs k x) ≡ birth) (birth < birth_in (get_or xs k x)))
+          (parted.1 k x behind l) (ranks (birth_in (get_or xs k x)) birth) in
+          omega (arith, more, ap birth_in e, same))
+    ])
+
+-- ---- a registry is told
+
+-- how many of the slots before a place are open
+abbrev pub before : ℕ → List Slot → ℕ
+before i xs = length (open_in (take i xs))
+
+pub rise-open : (low high : ℕ) (xs : List Slot) → SlotsRise low xs → low ≤ high → past_of xs ≤ high
+    → RiseFrom low high (open_in xs)
+rise-open low high [] r l p = l
+rise-open low high (x ∷ xs) r l p =
+    let rest = rise-open (suc (birth_in x)) high xs r.1 (omega (arith, p)) (omega (arith, p)) in
+    let more =
+    rise-open low high xs (rise-from (suc (birth_in x)) low xs (omega (arith, r.0)) r.1) l (omega (arith, p)) in
+    either-way (RiseFrom low high (open_in (x ∷ xs))) x (λ o. rw o (r.0, rest)) (λ o. rw o more)
+
+-- the open slot in place i is that of the registry behind those before it
+pub open-place : (xs : List Slot) (i : ℕ) (s : Slot) → i < length xs → s ≡ get_or xs i s → s.is_open ≡ true
+    → before i xs < length (open_in xs)
+open-place [] i s l e o = absurd (omega (arith, l))
+open-place (x ∷ xs) zero s l e o = let there : x.is_open ≡ true = ap is_open (sym e) ∙ o in rw there (omega arith)
+open-place (x ∷ xs) (suc i) s l e o =
+    let more = open-place xs i s (omega (arith, l)) e o in
+    either-way (before (suc i) (x ∷ xs) < length (open_in (x ∷ xs))) x
+    (λ k. rw k (omega (arith, more))) (λ k. rw k more)
+
+pub open-is : (xs : List Slot) (i : ℕ) (s : Slot) → i < length xs → s ≡ get_or xs i s → s.is_open ≡ true
+    → s.registry ≡ get_or (open_in xs) (before i xs) s.registry
+open-is [] i s l e o = absurd (omega (arith, l))
+open-is (x ∷ xs) zero s l e o =
+    let there : x.is_open ≡ true = ap is_open (sym e) ∙ o in rw there (ap (λ (y : Slot). y.registry) e)
+open-is (x ∷ xs) (suc i) s l e o =
+    let more = open-is xs i s (omega (arith, l)) e o in
+    either-way (s.registry ≡ get_or (open_in (x ∷ xs)) (before (suc i) (x ∷ xs)) s.registry) x
+    (λ k. rw k more) (λ k. rw k more)
+
+pub open-set : (xs : List Slot) (i : ℕ) (s t : Slot) → i < length xs → s ≡ get_or xs i s → s.is_open ≡ true
+    → t.is_open ≡ true → open_in (set xs i t) ≡ set (open_in xs) (before i xs) t.registry
+open-set [] i s t l e o u = absurd (omega (arith, l))
+open-set (x ∷ xs) zero s t l e o u =
+    let there : x.is_open ≡ true = ap is_open (sym e) ∙ o in rw (there, u) refl
+open-set (x ∷ xs) (suc i) s t l e o u =
+    let more = open-set xs i s t (omega (arith, l)) e o u in
+    either-way (open_in (x ∷ set xs i t) ≡ set (open_in (x ∷ xs)) (before (suc i) (x ∷ xs)) t.registry) x
+    (λ k. rw k (ap (λ (l : List Registry). x.registry ∷ l) more)) (λ k. rw k more)
+
+drop-next : (xs : List Slot) (i : ℕ) (s : Slot) → i < length xs → s ≡ get_or xs i s
+    → drop i xs ≡ s ∷ drop (i + 1) xs
+drop-next xs i s l e = rw (drop-cons xs i s l, ← e, add-one) refl
+
+pub drop-open : (xs : List Slot) (i : ℕ) (s : Slot) → i < length xs → s ≡ get_or xs i s → s.is_open ≡ true
+    → open_in (drop i xs) ≡ s.registry ∷ open_in (drop (i + 1) xs)
+drop-open xs i s l e o = ap open_in (drop-next xs i s l e) ∙ open-first s (drop (i + 1) xs) o
+
+pub drop-closed : (xs : List Slot) (i : ℕ) (s : Slot) → i < length xs → s ≡ get_or xs i s → s.is_open ≡ false
+    → open_in (drop i xs) ≡ open_in (drop (i + 1) xs)
+drop-closed xs i s l e o = ap open_in (drop-next xs i s l e) ∙ closed-first s (drop (i + 1) xs) o
+
+owed-append : (globals : List Global) (rs ms : List Registry)
+    → owed_in globals (rs ++ ms) ≡ owed_in globals rs ++ owed_in globals ms
+owed-append globals [] ms = refl
+owed-append globals (r ∷ rs) ms =
+    ap (λ (l : List Due). due_to globals r ++ l) (owed-append globals rs ms)
+    ∙ sym (append_assoc (due_to globals r) (owed_in globals rs) (owed_in globals ms))
+
+-- what is owed is owed behind the settled slots
+pub owed-behind : (globals : List Global) (k : ℕ) (xs : List Slot) → owed_in globals (open_in (take k xs)) ≡ []
+    → owed_in globals (open_in xs) ≡ owed_in globals (open_in (drop k xs))
+owed-behind globals k xs none =
+    ap (owed_in globals) (ap open_in (sym (take-append-drop k xs)) ∙ open-append (take k xs) (drop k xs))
+    ∙ owed-append globals (open_in (take k xs)) (open_in (drop k xs))
+    ∙ ap (λ (l : List Due). l ++ owed_in globals (open_in (drop k xs))) none
+
+-- the next slot is settled: it is closed, or its registry was told all
+pub settled-past : (globals : List Global) (xs : List Slot) (i : ℕ) (s : Slot) → i < length xs → s ≡ get_or xs i s
+    → s.is_open ≡ false → owed_in globals (open_in (take i xs)) ≡ []
+    → owed_in globals (open_in (take (i + 1) xs)) ≡ []
+settled-past globals xs i s l e o none =
+    ap (λ (k : List Slot). owed_in globals (open_in k)) (take_more xs i s l)
+    ∙ (ap (owed_in globals) (open-append (take i xs) (get_or xs i s ∷ [])
+    ∙ ap (λ (y : Slot). open_in (take i xs) ++ open_in (y ∷ [])) (sym e)
+    ∙ ap (λ (k : List Registry). open_in (take i xs) ++ k) (closed-first s [] o))
+    ∙ owed-append globals (open_in (take i xs)) [] ∙ ap (λ (l : List Due). l ++ []) none)
+
+pub settled-told : (globals : List Global) (xs : List Slot) (i : ℕ) (t : Slot) → i < length xs → t.is_open ≡ true
+    → owed_in globals (open_in (take i xs)) ≡ [] → due_to globals t.registry ≡ []
+    → owed_in globals (open_in (take (i + 1) (set xs i t))) ≡ []
+settled-told globals xs i t l o none due =
+    ap (λ (k : List Slot). owed_in globals (open_in k)) (take_more_set xs i t l)
+    ∙ (ap (owed_in globals) (open-append (take i xs) (t ∷ [])
+    ∙ ap (λ (k : List Registry). open_in (take i xs) ++ k) (open-first t [] o))
+    ∙ owed-append globals (open_in (take i xs)) (t.registry ∷ [])
+    ∙ (λ j. none j ++ (due j ++ [])))

@@ -1,0 +1,110 @@
+-- The marks of 64 names at a time.
+use Rattle.std.proofs.Common.{◌≡◌, ◌≢◌, ℕ, zero, suc, ◌+◌, ◌-◌, ◌*◌, ◌/◌, ◌%◌, ◌^◌, ◌<◌, ◌≤◌, ◌==◌, Bool, true, false}
+use Rattle.std.proofs.Common.{List, length, get_or, refl, sym, ap, ◌∙◌, arith}
+use Rattle.std.specs.Prelude.{not, ◌&&◌, max, min, replicate, slice_get, unwrap_or, Option}
+use Rattle.std.specs.Int.{bit_at, bit_not, w64}
+use Rattle.std.specs.Int.RustNames.{bit_or}
+use lib.Bits.{bit_and}
+use Rattle.std.proofs.lemmas.Bool.{eqb-true, eqb-false}
+use Rattle.std.proofs.lemmas.Nat.Bits.{bit_at_and, bit_at_not, bit_at_ones, bit_at_or, bit_at-lt, bit_at-zero}
+use Rattle.wl_server.specs.Bits.{bits}
+use Rattle.wl_server.specs.State.{Global, Registry, mark_of}
+use Rattle.wl_server.specs.Announcing.{owes_removal, owes_telling}
+use Rattle.wl_server.specs.Words.{AreWithdrawn, OwesNoRemoval, OwesNoTelling}
+use Rattle.wl_server.proofs.Words.{bits_get}
+
+pub word-mark : (ws : List ℕ) (word k : ℕ) → word < 16 → k < 64
+    → (bit_at (get_or ws word 0) k == 1) ≡ mark_of (bits 1024 0 ws) (64 * word + k + 1)
+word-mark ws word k h l =
+    let place = 64 * word + k in
+    let at : 64 * word + k + 1 - 1 ≡ place = omega arith in
+    let there : (0 + place) / 64 ≡ word = omega (arith, l) in
+    let bit : (0 + place) % 64 ≡ k = omega (arith, l) in
+    sym (ap (λ (n : ℕ). unwrap_or (slice_get (bits 1024 0 ws) n) false) at
+    ∙ ap (λ (o : Option Bool). unwrap_or o false) (bits_get 1024 0 place ws (omega (arith, h, l)))
+    ∙ (λ i. bit_at (get_or ws (there i) 0) (bit i) == 1))
+
+-- what three bits say
+none-of : (x y z : ℕ) → min (min x y) (1 - z) ≡ 0 → z < 2 → (((x == 1) && (y == 1)) && not (z == 1)) ≡ false
+none-of x y z h l = by_test (x == 1) (y == 1) (z == 1) refl refl refl
+  where
+    by_test : (a b c : Bool) → (x == 1) ≡ a → (y == 1) ≡ b → (z == 1) ≡ c → ((a && b) && not c) ≡ false
+    by_test true true false d e f =
+        absurd (omega (arith, h, l, eqb-true x 1 d, eqb-true y 1 e, ends z l (eqb-false z 1 f)))
+      where
+        ends : (n : ℕ) → n < 2 → n ≢ 1 → n ≡ 0
+        ends zero m ne = refl
+        ends (suc zero) m ne = absurd (ne refl)
+        ends (suc (suc n)) m ne = absurd (omega (arith, m))
+    by_test true true true d e f = refl
+    by_test true false c d e f = refl
+    by_test false b c d e f = refl
+
+pub no-removal : (t w d k : ℕ) → d < 2 ^ 64 → k < 64 → bit_and (bit_and t w) (bit_not w64 d) ≡ 0
+    → (((bit_at t k == 1) && (bit_at w k == 1)) && not (bit_at d k == 1)) ≡ false
+no-removal t w d k small l none =
+    none-of (bit_at t k) (bit_at w k) (bit_at d k)
+    (omega (
+      arith,
+      bit_at_and (bit_and t w) (bit_not w64 d) k,
+      bit_at_and t w k,
+      bit_at_not w64 d k small l,
+      ap (λ (n : ℕ). bit_at n k) none,
+      bit_at-zero k,
+    )) (bit_at-lt d k)
+
+either-of : (x y : ℕ) → max x y ≡ 1 → x < 2 → y < 2 → (not (y == 1) && not (x == 1)) ≡ false
+either-of x y h l m = by_test (x == 1) (y == 1) refl refl
+  where
+    by_test : (a b : Bool) → (x == 1) ≡ a → (y == 1) ≡ b → (not b && not a) ≡ false
+    by_test false false d e = absurd (both x y h (eqb-false x 1 d) (eqb-false y 1 e))
+      where
+        both : (n p : ℕ) → max n p ≡ 1 → n ≢ 1 → p ≢ 1 → ⊥
+        both zero zero k ne nor = omega (arith, k)
+        both zero (suc p) k ne nor = nor (omega (arith, k))
+        both (suc n) zero k ne nor = ne (omega (arith, k))
+        both (suc zero) (suc p) k ne nor = ne refl
+        both (suc (suc n)) (suc p) k ne nor = omega (arith, k)
+    by_test true true d e = refl
+    by_test true false d e = refl
+    by_test false true d e = refl
+
+pub no-telling : (t w k : ℕ) → k < 64 → bit_or t w ≡ 2 ^ 64 - 1
+    → (not (bit_at w k == 1) && not (bit_at t k == 1)) ≡ false
+no-telling t w k l all =
+    either-of (bit_at t k) (bit_at w k)
+    (omega (arith, bit_at_or t w k, ap (λ (n : ℕ). bit_at n k) all, bit_at_ones 64 k l)) (bit_at-lt t k)
+    (bit_at-lt w k)
+
+pub unmarked : (n k : ℕ) → unwrap_or (slice_get (replicate n false) k) false ≡ false
+unmarked zero k = refl
+unmarked (suc n) zero = refl
+unmarked (suc n) (suc k) = unmarked n k
+
+-- ---- what a registry is owed
+
+-- of the 64 globals from this place on a registry is owed no removal
+pub removal-none : (r : Registry) (globals : List Global) (withdrawn : List Bool) (i word : ℕ)
+    → AreWithdrawn globals withdrawn → OwesNoRemoval r withdrawn word → i ≡ 64 * word → (k : ℕ) (x : Global) → i ≤ k
+    → k < i + 64 → k < length globals → x ≡ get_or globals k x → owes_removal r (k + 1) x ≡ false
+removal-none r globals withdrawn i word are none first k x least less there e =
+    let at : k + 1 ≡ 64 * word + (k - i) + 1 = omega (arith, first, least) in
+    ap (λ (b : Bool). (mark_of r.told (k + 1) && b) && not (mark_of r.removed (k + 1))) (sym (are k x there e))
+    ∙ (ap (λ (n : ℕ). (mark_of r.told n && mark_of withdrawn n) && not (mark_of r.removed n)) at
+    ∙ none (k - i) (omega (arith, less, least)))
+
+twice-not : (b : Bool) → not (not b) ≡ b
+twice-not true = refl
+twice-not false = refl
+
+-- and no telling
+pub telling-none : (r : Registry) (globals : List Global) (withdrawn : List Bool) (i word : ℕ)
+    → AreWithdrawn globals withdrawn → OwesNoTelling r withdrawn word → i ≡ 64 * word → (k : ℕ) (x : Global) → i ≤ k
+    → k < i + 64 → k < length globals → x ≡ get_or globals k x → owes_telling r (k + 1) x ≡ false
+telling-none r globals withdrawn i word are none first k x least less there e =
+    let at : k + 1 ≡ 64 * word + (k - i) + 1 = omega (arith, first, least) in
+    let present : x.present ≡ not (mark_of withdrawn (k + 1)) =
+    sym (twice-not x.present) ∙ ap not (sym (are k x there e)) in
+    ap (λ (b : Bool). b && not (mark_of r.told (k + 1))) present
+    ∙ (ap (λ (n : ℕ). not (mark_of withdrawn n) && not (mark_of r.told n)) at
+    ∙ none (k - i) (omega (arith, less, least)))

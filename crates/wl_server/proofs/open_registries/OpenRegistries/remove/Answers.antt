@@ -1,0 +1,155 @@
+use Rattle.std.proofs.Common.{◌≡◌, ◌+◌, ◌<◌, ◌≤◌, ℕ, true, false, List, length, take, set, get_or, refl, sym, ap}
+use Rattle.std.proofs.Common.{subst, ◌∙◌, arith, rules, length-set}
+use Rattle.std.specs.Prelude.{Result}
+use Rattle.std.specs.declared.result.Result.TheVariants.{Ok, Err}
+use Rattle.std.proofs.lemmas.List.{set-get_or}
+use Rattle.std.proofs.lemmas.Fn.{always_returns_same}
+use Rattle.wl_server.specs.declared.registry.Slot.{Slot}
+use Rattle.wl_server.specs.State.{Registry}
+use Rattle.wl_server.specs.Registries.{registry_birth, without_registry}
+use Rattle.wl_server.specs.Announcing.{owed_in}
+use Rattle.wl_server.specs.Slots.{KeptRegistries, SlotsRise, open_in, settled_in}
+use Rattle.wl_server.proofs.Slots.{IsAnswer, birth_in, fewer-open, found, not-found, past-set, rise-set, same-slot}
+use Rattle.wl_server.proofs.Slots.{settled-shut, without-closed}
+use Rattle.wl_server.proofs.open_registries.OpenRegistries.remove.Goals as goal
+
+-- what holds of the slots once one of them is closed
+shut-keeps : (slots : List Slot) (closed settled place : ℕ) (slot other : Slot) → SlotsRise 0 slots
+    → closed + length (open_in slots) ≡ length slots → settled ≤ length slots → place < length slots
+    → slot ≡ get_or slots place slot → other ≡ get_or slots place other → other.is_open ≡ true
+    → record {
+      rising : SlotsRise 0 (set slots place (record { registry = slot.registry; is_open = false }));
+      closed : closed + 1 + length (open_in (set slots place (record { registry = slot.registry; is_open = false })))
+          ≡ length (set slots place (record { registry = slot.registry; is_open = false }));
+      settled : settled ≤ length (set slots place (record { registry = slot.registry; is_open = false }));
+    }
+shut-keeps slots closed settled place slot other rising count front within here there is =
+    let shut : Slot = record { registry = slot.registry; is_open = false } in
+    let was : slot.is_open ≡ true =
+    ap (λ (s : Slot). s.is_open) (same-slot slots place slot other within here there) ∙ is in
+    record {
+      rising = rise-set 0 slots place slot shut rising here refl;
+      closed = omega (
+        arith,
+        count,
+        fewer-open slots place slot shut within here was refl,
+        length-set slots place shut,
+      );
+      settled = omega (arith, front, length-set slots place shut);
+    }
+
+pub returns-in_default-clause-list : goal.returns-in_default-clause-list
+returns-in_default-clause-list g c =
+    let slots = c.self.inside.slots.items in
+    let birth = c.args.birth in
+    let answer : IsAnswer birth slots (Err c.in_default.field-0) =
+    subst (λ (r : Result ℕ ℕ). IsAnswer birth slots r) c.in_default.is
+    (subst (λ (l : List Slot). IsAnswer birth l c.binary_search_by_key-found.result) c.deref.ensures.value
+    (c.binary_search_by_key-found.ensures.position birth_in (always_returns_same _ _ _ (λ a r f' k. search rules)))) in
+    subst (λ (rs : List Registry). rs ≡ without_registry registry_birth true birth rs)
+    (ap (λ (k : KeptRegistries). k.list) c.self.view_is)
+    (not-found birth 0 slots c.in_default.field-0 c.self.invariant.rising answer)
+
+pub returns-then-not-index-clause-list : goal.returns-then-not-index-clause-list
+returns-then-not-index-clause-list g c =
+    let slots = c.self.inside.slots.items in
+    let birth = c.args.birth in
+    let place = c.in-Ok.place in
+    let slot = c.index.result.now in
+    let answer : IsAnswer birth slots (Ok place) =
+    subst (λ (r : Result ℕ ℕ). IsAnswer birth slots r) c.in-Ok.is
+    (subst (λ (l : List Slot). IsAnswer birth l c.binary_search_by_key-found.result) c.deref.ensures.value
+    (c.binary_search_by_key-found.ensures.position birth_in (always_returns_same _ _ _ (λ a r f' k. search rules)))) in
+    let within : place < length slots = omega (arith, c.in-Ok.ensures.bound, ap length c.deref.ensures.value) in
+    let same : set slots place slot ≡ slots = ap (set slots place) c.index.ensures ∙ set-get_or slots place slot in
+    subst (λ (rs : List Registry). rs ≡ without_registry registry_birth true birth rs)
+    (ap (λ (k : KeptRegistries). k.list) c.self.view_is)
+    (ap open_in (sym same) ∙ without-closed birth 0 slots place slot slot c.self.invariant.rising within
+    c.index.ensures (found birth slots place slot answer c.index.ensures) c.if-not-index.true)
+
+pub invariant_of-self : goal.invariant_of-self
+invariant_of-self g c =
+    let slots = c.self.inside.slots.items in
+    let within : c.in-Ok.place < length slots =
+    omega (arith, c.in-Ok.ensures.bound, ap length c.deref.ensures.value) in
+    shut-keeps slots c.self.inside.closed c.self.inside.settled c.in-Ok.place c.index_mut.result.now
+    c.index.result.now c.self.invariant.rising c.self.invariant.closed c.self.invariant.settled within
+    c.index_mut.ensures.value c.index.ensures c.if-not-index.false
+
+pub invariant_of-self-else-self-len : goal.invariant_of-self-else-self-len
+invariant_of-self-else-self-len g c =
+    let slots = c.self.inside.slots.items in
+    let within : c.in-Ok.place < length slots =
+    omega (arith, c.in-Ok.ensures.bound, ap length c.deref.ensures.value) in
+    shut-keeps slots c.self.inside.closed c.self.inside.settled c.in-Ok.place c.index_mut.result.now
+    c.index.result.now c.self.invariant.rising c.self.invariant.closed c.self.invariant.settled within
+    c.index_mut.ensures.value c.index.ensures c.if-not-index.false
+
+pub returns-then-self-len-clause-list : goal.returns-then-self-len-clause-list
+returns-then-self-len-clause-list g c =
+    let slots = c.self.inside.slots.items in
+    let birth = c.args.birth in
+    let place = c.in-Ok.place in
+    let slot = c.index_mut.result.now in
+    let answer : IsAnswer birth slots (Ok place) =
+    subst (λ (r : Result ℕ ℕ). IsAnswer birth slots r) c.in-Ok.is
+    (subst (λ (l : List Slot). IsAnswer birth l c.binary_search_by_key-found.result) c.deref.ensures.value
+    (c.binary_search_by_key-found.ensures.position birth_in (always_returns_same _ _ _ (λ a r f' k. search rules)))) in
+    let within : place < length slots = omega (arith, c.in-Ok.ensures.bound, ap length c.deref.ensures.value) in
+    c.compact.ensures.list
+    ∙ without-closed birth 0 slots place slot (record { registry = slot.registry; is_open = false })
+    c.self.invariant.rising within c.index_mut.ensures.value
+    (found birth slots place slot answer c.index_mut.ensures.value) refl
+    ∙ ap (λ (k : KeptRegistries). without_registry registry_birth true birth k.list) c.self.view_is
+
+pub returns-then-self-len-clause-settled : goal.returns-then-self-len-clause-settled
+returns-then-self-len-clause-settled g c globals none =
+    let slots = c.self.inside.slots.items in
+    let shut : Slot = record { registry = c.index_mut.result.now.registry; is_open = false } in
+    (λ i. owed_in globals (take (c.compact.ensures.settled i) (c.compact.ensures.list i)))
+    ∙ settled-shut globals c.self.inside.settled slots c.in-Ok.place shut refl
+    (ap (λ (k : KeptRegistries). owed_in globals (settled_in k)) c.self.view_is ∙ none)
+
+pub returns-then-self-len-clause-past : goal.returns-then-self-len-clause-past
+returns-then-self-len-clause-past g c =
+    let slots = c.self.inside.slots.items in
+    let shut : Slot = record { registry = c.index_mut.result.now.registry; is_open = false } in
+    omega (
+      arith,
+      c.compact.ensures.past,
+      past-set slots c.in-Ok.place c.index_mut.result.now shut c.index_mut.ensures.value refl,
+      ap (λ (k : KeptRegistries). k.past) c.self.view_is,
+    )
+
+pub returns-else-self-len-clause-list : goal.returns-else-self-len-clause-list
+returns-else-self-len-clause-list g c =
+    let slots = c.self.inside.slots.items in
+    let birth = c.args.birth in
+    let place = c.in-Ok.place in
+    let slot = c.index_mut.result.now in
+    let answer : IsAnswer birth slots (Ok place) =
+    subst (λ (r : Result ℕ ℕ). IsAnswer birth slots r) c.in-Ok.is
+    (subst (λ (l : List Slot). IsAnswer birth l c.binary_search_by_key-found.result) c.deref.ensures.value
+    (c.binary_search_by_key-found.ensures.position birth_in (always_returns_same _ _ _ (λ a r f' k. search rules)))) in
+    let within : place < length slots = omega (arith, c.in-Ok.ensures.bound, ap length c.deref.ensures.value) in
+    without-closed birth 0 slots place slot (record { registry = slot.registry; is_open = false })
+    c.self.invariant.rising within c.index_mut.ensures.value
+    (found birth slots place slot answer c.index_mut.ensures.value) refl
+    ∙ ap (λ (k : KeptRegistries). without_registry registry_birth true birth k.list) c.self.view_is
+
+pub returns-else-self-len-clause-settled : goal.returns-else-self-len-clause-settled
+returns-else-self-len-clause-settled g c globals none =
+    let slots = c.self.inside.slots.items in
+    let shut : Slot = record { registry = c.index_mut.result.now.registry; is_open = false } in
+    settled-shut globals c.self.inside.settled slots c.in-Ok.place shut refl
+    (ap (λ (k : KeptRegistries). owed_in globals (settled_in k)) c.self.view_is ∙ none)
+
+pub returns-else-self-len-clause-past : goal.returns-else-self-len-clause-past
+returns-else-self-len-clause-past g c =
+    let slots = c.self.inside.slots.items in
+    let shut : Slot = record { registry = c.index_mut.result.now.registry; is_open = false } in
+    omega (
+      arith,
+      past-set slots c.in-Ok.place c.index_mut.result.now shut c.index_mut.ensures.value refl,
+      ap (λ (k : KeptRegistries). k.past) c.self.view_is,
+    )

@@ -1,0 +1,38 @@
+-- How a server keeps its open registries.
+use Rattle.std.specs.Prelude.{◌≡◌, ℕ, suc, ◌≤◌, max, List, [], ◌∷◌, map, take}
+use Rattle.std.specs.List.{filter}
+use Rattle.wl_server.specs.declared.registry.Slot.{Slot}
+use Rattle.wl_server.specs.State.{Global, Registry}
+use Rattle.wl_server.specs.Announcing.{owed_in}
+
+-- The open registries, how many of them, from the first on, are known to be owed nothing, a number
+-- that is above the births of all registries that were kept, and for how many more there is room.
+pub record KeptRegistries : Type 0 where
+  pub list : List Registry
+  pub settled : ℕ
+  pub past : ℕ
+  pub room : ℕ
+
+-- the registries of the slots that are open
+abbrev pub open_in : List Slot → List Registry
+open_in slots = map (λ slot. slot.registry) (filter (λ slot. slot.is_open) slots)
+
+-- the slots' births rise, from a number on
+abbrev pub SlotsRise : ℕ → List Slot → Type 0
+SlotsRise low [] = Unit {0}
+SlotsRise low (slot ∷ slots) =
+    (low ≤ slot.registry.object.birth) × SlotsRise (suc slot.registry.object.birth) slots
+
+-- the least number that is above their births
+abbrev pub past_of : List Slot → ℕ
+past_of [] = 0
+past_of (slot ∷ slots) = max (suc slot.registry.object.birth) (past_of slots)
+
+-- what is known to be owed nothing
+abbrev pub settled_in : KeptRegistries → List Registry
+settled_in kept = take kept.settled kept.list
+
+-- where nothing was owed to what was settled before, nothing is owed to what is settled after
+abbrev pub KeepsSettled : KeptRegistries → KeptRegistries → Type 0
+KeepsSettled before after = (globals : List Global) → owed_in globals (settled_in before) ≡ []
+    → owed_in globals (settled_in after) ≡ []

@@ -1,0 +1,132 @@
+//! The open registries of a server's client, by rising births.
+ghost use Rattle.std.specs.Prelude.{◌≡◌, ◌≤◌, ◌<◌, ◌+◌, ◌∷◌, ◌++◌, [], true, OnOk};
+ghost use Rattle.std.specs.List.{count_by};
+ghost use Rattle.wl_server.specs.State.{untold};
+ghost use Rattle.wl_server.specs.Registries.{registry_birth, without_registry};
+ghost use Rattle.wl_server.specs.Slots.{KeepsSettled, settled_in};
+
+use crate::registry::{OpenRegistry, Slot};
+use std::alloc::{AllocError, Allocator};
+use std::marker::Model;
+use wl_objects::Object;
+
+/// The open registries of a client. One that is closed keeps its slot until more than half of the
+/// slots are closed, and then all these go at once: on average a closing costs no more beside many
+/// registries than beside few.
+#[derive(Drop)]
+pub(crate) struct OpenRegistries<A: Allocator> {
+    /// By rising births.
+    pub(crate) slots: Vec<Slot, A>,
+    /// How many slots are closed.
+    closed: usize,
+    /// The registries of so many slots, from the first on, are known to be owed nothing.
+    pub(crate) settled: usize,
+}
+
+impl<A: Allocator> Model for OpenRegistries<A> {
+    ghost use Rattle.std.specs.Prelude.{◌≡◌, ◌≤◌, ◌+◌, ◌-◌, length, take, vec_capacity};
+    ghost use Rattle.wl_server.specs.Slots.{KeptRegistries, SlotsRise, open_in, past_of};
+
+    ghost Value = { KeptRegistries };
+
+    ghost view = { λ s. record {
+      list = open_in s.slots.items;
+      settled = length (open_in (take s.settled s.slots.items));
+      past = past_of s.slots.items;
+      room = vec_capacity s.slots - length s.slots.items;
+    } };
+
+    ghost invariant = { λ s. record {
+      rising : SlotsRise 0 s.slots.items;
+      closed : s.closed + length (open_in s.slots.items) ≡ length s.slots.items;
+      settled : s.settled ≤ length s.slots.items;
+    } };
+}
+
+/// How many slots are open.
+fn count_open(slots: &[Slot]) -> usize
+    ensures { result ≡ count_by (λ slot. slot.is_open) slots.now }
+{
+    slots.iter().filter(|slot| slot.is_open).count()
+}
+
+impl<A: Allocator + Drop> OpenRegistries<A> {
+    /// No registries, and room for none.
+    pub(crate) fn new(alloc: A) -> Self
+        ensures list { result.list ≡ [] }
+        ensures settled { settled_in result ≡ [] }
+        ensures past { result.past ≡ 0 }
+    {
+        OpenRegistries {
+            slots: Vec::new(alloc),
+            closed: 0,
+            settled: 0,
+        }
+    }
+
+    /// Makes room for one more. Where there is no memory nothing changes.
+    pub(crate) fn reserve(&mut self) -> Result<(), AllocError>
+        ensures list { self.new.list ≡ self.old.list }
+        ensures settled { KeepsSettled self.old self.new }
+        ensures past { self.new.past ≡ self.old.past }
+        ensures room { OnOk result (0 < self.new.room) }
+    {
+        self.slots.reserve(1)
+    }
+
+    /// Puts a registry that was told nothing yet behind the others. Allocates nothing.
+    pub(crate) fn push_reserved(&mut self, object: Object)
+        requires room { 0 < self.old.room }
+        requires past { self.old.past ≤ object.birth }
+        ensures list { self.new.list ≡ self.old.list ++ untold object ∷ [] }
+        ensures settled { KeepsSettled self.old self.new }
+        ensures past { self.new.past ≡ object.birth + 1 }
+    {
+        self.slots.push_reserved(Slot {
+            registry: OpenRegistry::new(object),
+            is_open: true,
+        });
+    }
+
+    /// From now on each registry may be owed something.
+    pub(crate) fn unsettle(&mut self)
+        ensures list { self.new.list ≡ self.old.list }
+        ensures settled { settled_in self.new ≡ [] }
+        ensures past { self.new.past ≡ self.old.past }
+    {
+        self.settled = 0;
+    }
+
+    /// Takes out the registry of this birth. Allocates nothing.
+    pub(crate) fn remove(&mut self, birth: u64)
+        ensures list { self.new.list ≡ without_registry registry_birth true birth self.old.list }
+        ensures settled { KeepsSettled self.old self.new }
+        ensures past { self.new.past ≤ self.old.past }
+    {
+        let found = self
+            .slots
+            .binary_search_by_key(&birth, |slot| slot.registry.object.birth);
+        let Ok(place) = found else {
+            return;
+        };
+        if !self.slots[place].is_open {
+            return;
+        }
+        self.slots[place].is_open = false;
+        self.closed += 1;
+        if self.closed > self.slots.len() / 2 {
+            self.compact();
+        }
+    }
+
+    /// Takes out the slots that are closed.
+    fn compact(&mut self)
+        ensures list { self.new.list ≡ self.old.list }
+        ensures settled { self.new.settled ≡ self.old.settled }
+        ensures past { self.new.past ≤ self.old.past }
+    {
+        self.settled = count_open(&self.slots[..self.settled]);
+        self.slots.retain(|slot| slot.is_open);
+        self.closed = 0;
+    }
+}
