@@ -1,4 +1,4 @@
-//! A session that goes on and on takes no more memory.
+//! A session that goes on and on takes no more memory, nor one behind a huge piece.
 use linked_list_allocator::LocalHeap;
 use std::alloc::AllocError;
 use std::test::Fail;
@@ -42,5 +42,43 @@ fn a_long_session_takes_no_more_memory(rt: HostRuntime) -> Result<(), Fail> {
     };
     assert!(rt; verdict == lawful);
     assert_eq!(rt; heap.used(), 0);
+    Ok(())
+}
+
+/// wl_display.get_registry with new id 2.
+const GET_REGISTRY: [u8; 12] = [1, 0, 0, 0, 1, 0, 12, 0, 2, 0, 0, 0];
+
+/// wl_registry.global of wl_output.
+const GLOBAL: [u8; 32] = [
+    2, 0, 0, 0, 0, 0, 32, 0, 1, 0, 0, 0, 10, 0, 0, 0, b'w', b'l', b'_', b'o', b'u', b't', b'p',
+    b'u', b't', 0, 0, 0, 1, 0, 0, 0,
+];
+
+const GLOBALS: u64 = 2_000;
+
+/// How much memory an inspector takes behind a small piece, before a huge one and after it.
+fn taken(heap: &LocalHeap, tables: &Tables, huge: &[u8]) -> Result<(usize, usize), AllocError> {
+    let mut inspector = Inspector::new(heap, tables, Limit::USUAL)?;
+    inspector.pass(Direction::ToServer, &GET_REGISTRY, 0)?;
+    inspector.pass(Direction::ToClient, &GLOBAL, 0)?;
+    let before = heap.used();
+    inspector.pass(Direction::ToClient, &GLOBAL[..7], 0)?;
+    inspector.pass(Direction::ToClient, huge, 0)?;
+    inspector.pass(Direction::ToClient, &GLOBAL[7..], 0)?;
+    Ok((before, heap.used()))
+}
+
+#[test]
+fn a_huge_piece_takes_no_memory_for_good(rt: HostRuntime) -> Result<(), Fail> {
+    let tables = Tables::core(rt.alloc())?;
+    let heap = LocalHeap::new(rt.alloc(), 1_048_576)?;
+    let mut huge = Vec::new(rt.alloc());
+    huge.extend_from_slice(&GLOBAL[7..])?;
+    for _ in 0..GLOBALS {
+        huge.extend_from_slice(&GLOBAL)?;
+    }
+    huge.extend_from_slice(&GLOBAL[..7])?;
+    let (before, after) = taken(&heap, &tables, huge.as_slice())?;
+    assert_eq!(rt; before, after);
     Ok(())
 }

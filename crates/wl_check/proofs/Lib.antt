@@ -19,6 +19,6 @@ pub mod OneListOfPieces
 pub mod Verdicts
 pub mod Outcomes
 pub mod PrintedSoFar
-pub mod Copies
+pub mod Undone
+pub mod Versions
 pub mod ReadyPiece
-pub mod Slots

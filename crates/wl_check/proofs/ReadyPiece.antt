@@ -12,38 +12,44 @@ use Rattle.wl_check.specs.declared.session_state.SessionState.{SessionState}
 use Rattle.wl_check.specs.declared.session_state.Output.{Output}
 use Rattle.wl_check.specs.declared.frames.Stream.{Stream}
 use Rattle.wl_check.specs.declared.scanning.Scanner.{Scanner}
-use Rattle.wl_check.specs.Copied.{AreSameBytes}
-use Rattle.wl_check.specs.SessionState.{is_going, end_in, Along, HasCome, IsAfter, IsReady}
+use Rattle.wl_check.specs.SessionState.{is_going, end_in, Along, HasCome, IsAfter, IsReady, IsStream}
 use Rattle.wl_check.specs.Merged.{same_direction}
-use Rattle.wl_check.proofs.Copies.{IsCopy, after_copied}
 use Rattle.wl_check.proofs.SessionByPiece.{after_client, after_server, along_client, along_server}
 
 abbrev scanner : {A : Type 0} → SessionState A → Stream A → Stream A → Scanner A
 scanner c server client = record { state = c; to_server = server; to_client = client }
 
+-- a stream that has the bytes and the counts of another
+pub record AreSameBytes {A : Type 0} (stream copy : Stream A) : Type 0 where
+  pub bytes : copy.bytes.items ≡ stream.bytes.items
+  pub len : copy.len ≡ stream.len
+  pub tokens : copy.tokens ≡ stream.tokens
+
 same_stream : {A : Type 0} (s : Stream A) → AreSameBytes s s
 same_stream s = record { bytes = refl; len = refl; tokens = refl }
 
--- with streams of the same bytes
-same_but : {A : Type 0} (c : SessionState A) (s t x y : Stream A) → AreSameBytes s t → AreSameBytes x y
-    → IsCopy (scanner c s x) (scanner c t y)
-same_but c s t x y server client = record {
-  known = record { objects = refl; used = refl; globals = refl; taken_to_server = refl; taken_to_client = refl };
-  counted_to_server = refl;
-  counted_to_client = refl;
-  count = refl;
-  text = refl;
-  status = refl;
-  to_server = server;
-  to_client = client;
+stream_same : {A : Type 0} (limit : ℕ) (d : Direction) (ps : List Piece) (c : SessionState A) (s t : Stream A)
+    → AreSameBytes s t → IsStream limit d ps c s → IsStream limit d ps c t
+stream_same limit d ps c s t same h = record {
+  len = same.len ∙ h.len;
+  tokens = same.tokens ∙ h.tokens;
+  left = λ going. (let x = h.left going in record {
+    rest_is = x.rest_is ∙ sym same.bytes;
+    place = x.place;
+    is_bad = x.is_bad;
+  });
 }
 
 -- what comes in no piece changes nothing
 pub still_after : {A : Type 0} (limit : ℕ) (tables : List Interface) (o : Output) (ps : List Piece) (c : SessionState A)
     (s t x y : Stream A) → AreSameBytes s t → AreSameBytes x y
     → IsAfter limit tables o ps (scanner c s x) → IsAfter limit tables o ps (scanner c t y)
-still_after limit tables o ps c s t x y server client h =
-    after_copied limit tables o ps (scanner c s x) (scanner c t y) (same_but c s t x y server client) h
+still_after limit tables o ps c s t x y server client h = record {
+  judged = h.judged;
+  all = h.all;
+  to_server = stream_same limit ToServer ps c s t server h.to_server;
+  to_client = stream_same limit ToClient ps c x y client h.to_client;
+}
 
 pub when_none : {X P : Type 0} (found : Option X) → ((x : X) → found ≡ Some x → ⊥) → IfNone found P → P
 when_none None never h = h
@@ -107,8 +113,7 @@ judged_server {A = A} limit tables o a s n after (Ok x) is along going other = �
       len = r.len_to_client;
       tokens = r.tokens_to_client;
     } in
-    after_copied limit tables o (ps ++ p ∷ []) (scanner n after b.to_client) (scanner n after s.to_client)
-    (same_but n after after b.to_client s.to_client (same_stream after) client) done
+    still_after limit tables o (ps ++ p ∷ []) n after after b.to_client s.to_client (same_stream after) client done
 judged_server {A = A} limit tables o a s n after (Err e) is along going other = tt
 
 pub judged_client : {A E : Type 0} (limit : ℕ) (tables : List Interface) (o : Output) (a : Appended) (s : Scanner A)
@@ -133,6 +138,5 @@ judged_client {A = A} limit tables o a s n after (Ok x) is along going other = �
       len = r.len_to_server;
       tokens = r.tokens_to_server;
     } in
-    after_copied limit tables o (ps ++ p ∷ []) (scanner n b.to_server after) (scanner n s.to_server after)
-    (same_but n b.to_server s.to_server after after server (same_stream after)) done
+    still_after limit tables o (ps ++ p ∷ []) n b.to_server s.to_server after after server (same_stream after) done
 judged_client {A = A} limit tables o a s n after (Err e) is along going other = tt

@@ -1,3 +1,4 @@
+pub mod Held
 pub mod Merged
 pub mod Changes
 pub mod Places
@@ -7,6 +8,5 @@ pub mod Seen
 pub mod Trace
 pub mod SessionState
 pub mod Text
-pub mod Copied
 pub mod Printed
 pub mod Inspected

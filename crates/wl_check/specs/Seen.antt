@@ -1,9 +1,5 @@
 -- What the code's own types stand for.
 use Rattle.std.specs.Prelude.{ℕ, ◌+◌, get_or, if◌then◌else◌, Option, Some, None, List}
-use Rattle.std.specs.declared.cmp.Ordering.{Ordering}
-use Rattle.std.specs.Ordering.{nat_cmp, ordering_then}
-use Rattle.std.specs.BTreeMap.{get}
-use Rattle.std.specs.Option.{unwrap_or}
 use Rattle.std.specs.declared.result.Result.{Result}
 use Rattle.std.specs.declared.result.Result.TheVariants.{Ok, Err}
 use Rattle.wl_message.specs.Cut.{Front, More, Bad, Whole}
@@ -16,6 +12,7 @@ use Rattle.wl_objects.specs.declared.reading.Received.{Received}
 use Rattle.wl_objects.specs.Seen.{received_of}
 use Rattle.wl_sigs.specs.Tables.{Interface}
 use Rattle.wl_check.specs.Changes.{Call, changes}
+use Rattle.wl_check.specs.Held.{held_version}
 use Rattle.wl_check.specs.Places.{KnownAtPlace}
 use Rattle.wl_check.specs.declared.frames.FramedMessage.{FramedMessage}
 use Rattle.wl_check.specs.declared.progress.Progress.{Progress}
@@ -28,19 +25,15 @@ size_of More = None
 size_of (Bad size) = Some size
 size_of (Whole size) = Some size
 
--- the order of names and interfaces
-abbrev pub pair_cmp : ℕ × ℕ → ℕ × ℕ → Ordering
-pair_cmp a b = ordering_then (nat_cmp a.0 b.0) (nat_cmp a.1 b.1)
-
 abbrev pub taken_of_direction : {A : Type 0} → KnownState A → Direction → ℕ
 taken_of_direction k ToServer = k.taken_to_server
 taken_of_direction k ToClient = k.taken_to_client
 
 abbrev pub known_in : {A : Type 0} → KnownState A → KnownAtPlace
 known_in k = record {
-  object = λ id. get_or k.objects.items id None;
+  object = λ id. get_or k.held.objects id None;
   used = k.used;
-  advertised_version = λ name iface. unwrap_or (get pair_cmp k.globals (name, iface)) 0;
+  advertised_version = λ name iface. held_version k.held (name, iface);
   taken = taken_of_direction k;
 }
 

@@ -9,6 +9,7 @@ use Rattle.wl_recording.specs.declared.piece.Direction.{Direction}
 use Rattle.wl_recording.specs.declared.piece.Direction.TheVariants.{ToServer, ToClient}
 use Rattle.wl_recording.specs.declared.piece.Appended.{Appended}
 use Rattle.wl_recording.specs.Piece.{IsAppended, Piece}
+use Rattle.wl_check.specs.declared.session_state.Numbers.{Numbers}
 use Rattle.wl_check.specs.declared.session_state.SessionState.{SessionState}
 use Rattle.wl_check.specs.declared.session_state.Output.{Output}
 use Rattle.wl_check.specs.declared.session_state.SessionStatus.{SessionStatus}
@@ -19,6 +20,7 @@ use Rattle.wl_check.specs.declared.progress.Progress.{Progress}
 use Rattle.wl_check.specs.declared.progress.Tally.{Tally}
 use Rattle.wl_check.specs.declared.scanning.Scanner.{Scanner}
 use Rattle.wl_check.specs.Changes.{Call}
+use Rattle.wl_check.specs.Held.{Held}
 use Rattle.wl_check.specs.Merged.{Cutting, cutting, cut, framed, merged, same_direction}
 use Rattle.wl_check.specs.Merged.{stream_of, piece_tokens}
 use Rattle.wl_check.specs.Places.{known, IsFirst}
@@ -205,3 +207,34 @@ pub record IsReady {A : Type 0} (limit : ℕ) (tables : List Interface) (o : Out
   pub tokens_to_client : s.to_client.tokens ≡ before.to_client.tokens
   pub appended_is : IsAppended p appended before.to_server.bytes.items s.to_server.bytes.items
       before.to_client.bytes.items s.to_client.bytes.items
+
+-- ---- a state that memory running out goes back to
+
+-- all of a state but what is held and what was written
+abbrev pub numbers_in : {A : Type 0} → SessionState A → Numbers
+numbers_in c = record {
+  used = c.progress.known.used;
+  taken_to_server = c.progress.known.taken_to_server;
+  taken_to_client = c.progress.known.taken_to_client;
+  to_server = c.progress.to_server;
+  to_client = c.progress.to_client;
+  count = c.count;
+  status = c.status;
+}
+
+-- a state in which this is held instead, and these are the numbers
+abbrev pub gone_back : {A : Type 0} → Held → Numbers → SessionState A → SessionState A
+gone_back held n c = record c {
+  progress = record {
+    known = record {
+      held = held;
+      used = n.used;
+      taken_to_server = n.taken_to_server;
+      taken_to_client = n.taken_to_client;
+    };
+    to_server = n.to_server;
+    to_client = n.to_client;
+  };
+  count = n.count;
+  status = n.status;
+}

@@ -1,17 +1,19 @@
 //! The messages that a piece completes, judged and printed as it passes.
 ghost use Rattle.std.specs.Prelude.{◌≡◌, ◌≤◌, ◌∷◌, ◌++◌, ℕ, List, [], true, drop, length};
-ghost use Rattle.std.specs.Prelude.{OnOk, IfOk};
+ghost use Rattle.std.specs.Prelude.{OnOk, OnErr, IfOk};
 ghost use Rattle.wl_recording.specs.Piece.{Piece};
 ghost use Rattle.wl_sigs.specs.Tables.{Interface};
 ghost use Rattle.wl_sigs.specs.Valid.{Valid};
 ghost use Rattle.wl_check.specs.declared.session_state.Output.TheVariants.{Nothing};
+ghost use Rattle.wl_check.specs.Held.{undone_by};
 ghost use Rattle.wl_check.specs.SessionState.{is_going, AllJudged, Along, Comes, CutFollows};
 ghost use Rattle.wl_check.specs.SessionState.{IsAfter, IsJudged, OthersStay, WentOn};
 ghost use Rattle.wl_check.specs.Printed.{piece_of, AreOwnLines, PrintsOn};
 ghost use Rattle.wl_check.specs.Session.{session_of, IsVerdictOf, Session};
 
-use crate::frames::{FramedMessage, Stream, remove_front, size_in_front};
+use crate::frames::{FramedMessage, Stream, size_in_front};
 use crate::judging::judge;
+use crate::overwritten::UndoList;
 use crate::scanning::Scanner;
 use crate::session_state::{Output, SessionState, SessionStatus};
 use crate::verdict::Verdict;
@@ -28,6 +30,7 @@ fn print_next<A: Allocator + Clone>(
     tables: &Tables,
     limit: Limit,
     lines: &mut Vec<u8, A>,
+    undo: &mut UndoList<A>,
 ) -> Result<(), AllocError>
     requires valid { Valid tables.now }
     requires comes { ∥ ((s : Session)
@@ -42,6 +45,9 @@ fn print_next<A: Allocator + Clone>(
     ensures on { OnOk result (is_going state.new.status ≡ true
         → WentOn limit.bytes frame.now state.old state.new) }
     ensures other { OnOk result (OthersStay frame.now.direction state.old state.new) }
+    ensures text { state.new.text ≡ state.old.text }
+    ensures undone { undone_by undo.new state.new.progress.known.held
+        ≡ undone_by undo.old state.old.progress.known.held }
 {
     let known = &state.progress.known;
     let changes = match judge(tables, known, bytes, frame, limit, lines, Output::Lines)? {
@@ -52,7 +58,7 @@ fn print_next<A: Allocator + Clone>(
         }
     };
     let place = state.count + 1;
-    state.progress.advance(place, frame, &changes)?;
+    state.progress.advance(place, frame, &changes, undo)?;
     state.count = place;
     if changes.is_error {
         state.status = SessionStatus::Ended;
@@ -62,7 +68,7 @@ fn print_next<A: Allocator + Clone>(
 
 /// Judges the messages that stand whole in these bytes of a direction, appends their lines, and
 /// returns where the bytes of the next begin. One that breaks a rule or ends the session is the
-/// last.
+/// last, and there is no next behind it.
 fn print_all<A: Allocator + Clone>(
     state: &mut SessionState<A>,
     bytes: &[u8],
@@ -71,6 +77,7 @@ fn print_all<A: Allocator + Clone>(
     tables: &Tables,
     limit: Limit,
     lines: &mut Vec<u8, A>,
+    undo: &mut UndoList<A>,
 ) -> Result<usize, AllocError>
     requires valid { Valid tables.now }
     requires follows { ∥ ((s : Session)
@@ -85,6 +92,9 @@ fn print_all<A: Allocator + Clone>(
         → PrintsOn tables.now s state.old.count state.new.count lines.old.items
         lines.new.items) }
     ensures other { OnOk result (OthersStay direction state.old state.new) }
+    ensures text { state.new.text ≡ state.old.text }
+    ensures undone { undone_by undo.new state.new.progress.known.held
+        ≡ undone_by undo.old state.old.progress.known.held }
 {
     let mut place = 0;
     'messages: loop {
@@ -98,16 +108,120 @@ fn print_all<A: Allocator + Clone>(
             size,
             tokens,
         };
-        print_next(state, rest, &frame, tables, limit, lines)?;
+        print_next(state, rest, &frame, tables, limit, lines, undo)?;
         if !state.is_open() {
-            return Ok(place);
+            return Ok(bytes.len());
         }
         place += size as usize;
     }
 }
 
+/// The bytes from a place on, in no more memory than they take.
+fn rest_of<A: Allocator + Clone>(bytes: Vec<u8, A>, place: usize) -> Result<Vec<u8, A>, AllocError>
+    requires { place ≤ length bytes.items }
+    ensures { IfOk result (λ rest. rest.items ≡ drop place bytes.items) }
+{
+    if place == 0 {
+        return Ok(bytes);
+    }
+    let mut rest = Vec::new(bytes.allocator().clone()?);
+    rest.extend_from_slice(&bytes[place..])?;
+    Ok(rest)
+}
+
+/// Judges the messages that these bytes of a direction complete, behind those that were kept of it,
+/// appends their lines, and returns what is left.
+fn print_bytes<A: Allocator + Clone>(
+    state: &mut SessionState<A>,
+    kept: &Vec<u8, A>,
+    bytes: &[u8],
+    direction: Direction,
+    tokens: u128,
+    tables: &Tables,
+    limit: Limit,
+    lines: &mut Vec<u8, A>,
+    undo: &mut UndoList<A>,
+) -> Result<Vec<u8, A>, AllocError>
+    requires valid { Valid tables.now }
+    requires follows { ∥ ((s : Session) × CutFollows limit.bytes tables.now s Nothing state.old
+        direction tokens (kept.now.items ++ bytes.now)) ∥₁ }
+    ensures judged { IfOk result (λ left. (s : Session)
+        → CutFollows limit.bytes tables.now s Nothing state.old direction tokens
+        (kept.now.items ++ bytes.now)
+        → AllJudged limit.bytes tables.now s Nothing state.new direction left.items) }
+    ensures lines { OnOk result ((s : Session)
+        → CutFollows limit.bytes tables.now s Nothing state.old direction tokens
+        (kept.now.items ++ bytes.now)
+        → PrintsOn tables.now s state.old.count state.new.count lines.old.items
+        lines.new.items) }
+    ensures other { OnOk result (OthersStay direction state.old state.new) }
+    ensures text { state.new.text ≡ state.old.text }
+    ensures undone { undone_by undo.new state.new.progress.known.held
+        ≡ undone_by undo.old state.old.progress.known.held }
+{
+    let mut all = Vec::new(kept.allocator().clone()?);
+    if kept.is_empty() {
+        let place = print_all(state, bytes, direction, tokens, tables, limit, lines, undo)?;
+        all.extend_from_slice(&bytes[place..])?;
+        return Ok(all);
+    }
+    all.extend_from_slice(kept.as_slice())?;
+    all.extend_from_slice(bytes)?;
+    let place = print_all(
+        state,
+        all.as_slice(),
+        direction,
+        tokens,
+        tables,
+        limit,
+        lines,
+        undo,
+    )?;
+    rest_of(all, place)
+}
+
+/// The same, but where memory runs out, the state is as it was.
+fn print_or_go_back<A: Allocator + Clone>(
+    state: &mut SessionState<A>,
+    kept: &Vec<u8, A>,
+    bytes: &[u8],
+    direction: Direction,
+    tokens: u128,
+    tables: &Tables,
+    limit: Limit,
+    lines: &mut Vec<u8, A>,
+) -> Result<Vec<u8, A>, AllocError>
+    requires valid { Valid tables.now }
+    requires follows { ∥ ((s : Session) × CutFollows limit.bytes tables.now s Nothing state.old
+        direction tokens (kept.now.items ++ bytes.now)) ∥₁ }
+    ensures judged { IfOk result (λ left. (s : Session)
+        → CutFollows limit.bytes tables.now s Nothing state.old direction tokens
+        (kept.now.items ++ bytes.now)
+        → AllJudged limit.bytes tables.now s Nothing state.new direction left.items) }
+    ensures lines { OnOk result ((s : Session)
+        → CutFollows limit.bytes tables.now s Nothing state.old direction tokens
+        (kept.now.items ++ bytes.now)
+        → PrintsOn tables.now s state.old.count state.new.count lines.old.items
+        lines.new.items) }
+    ensures other { OnOk result (OthersStay direction state.old state.new) }
+    ensures err { OnErr result (state.new ≡ state.old) }
+{
+    let numbers = state.numbers();
+    let mut undo = UndoList::On(Vec::new(kept.allocator().clone()?));
+    match print_bytes(
+        state, kept, bytes, direction, tokens, tables, limit, lines, &mut undo,
+    ) {
+        Ok(left) => Ok(left),
+        Err(error) => {
+            state.go_back(numbers, &mut undo);
+            Err(error)
+        }
+    }
+}
+
 /// Judges the messages that a piece of a direction completes, and appends their lines. It keeps
 /// what is left, unless the session has ended or a message broke a rule; then it only counts.
+/// Where memory runs out, nothing has changed.
 fn print_stream<A: Allocator + Clone>(
     state: &mut SessionState<A>,
     stream: &mut Stream<A>,
@@ -133,6 +247,8 @@ fn print_stream<A: Allocator + Clone>(
     ensures going { OnOk result (is_going state.new.status ≡ true
         → is_going state.old.status ≡ true) }
     ensures other { OnOk result (OthersStay direction state.old state.new) }
+    ensures state { OnErr result (state.new ≡ state.old) }
+    ensures stream { OnErr result (stream.new ≡ stream.old) }
 {
     // More than these numbers count does not fit into any memory.
     let Some(len) = stream.len.checked_add(bytes.len()) else {
@@ -141,26 +257,29 @@ fn print_stream<A: Allocator + Clone>(
     let Some(tokens) = stream.tokens.checked_add(tokens as u128) else {
         return Err(AllocError);
     };
-    stream.len = len;
-    stream.tokens = tokens;
     if !state.is_open() {
+        stream.len = len;
+        stream.tokens = tokens;
         return Ok(());
     }
-    stream.bytes.extend_from_slice(bytes)?;
-    let place = print_all(
+    let left = print_or_go_back(
         state,
-        stream.bytes.as_slice(),
+        &stream.bytes,
+        bytes,
         direction,
         tokens,
         tables,
         limit,
         lines,
     )?;
-    remove_front(&mut stream.bytes, place);
+    stream.bytes = left;
+    stream.len = len;
+    stream.tokens = tokens;
     Ok(())
 }
 
-/// Judges the messages that a piece completes, and appends their lines.
+/// Judges the messages that a piece completes, and appends their lines. Where memory runs out,
+/// nothing has changed.
 pub(crate) fn print_piece<A: Allocator + Clone>(
     scanner: &mut Scanner<A>,
     direction: Direction,
@@ -182,6 +301,7 @@ pub(crate) fn print_piece<A: Allocator + Clone>(
         → IsAfter limit.bytes tables.now Nothing ps scanner.old
         → AreOwnLines limit.bytes tables.now ps (piece_of direction bytes.now tokens)
         lines.new.items) }
+    ensures err { OnErr result (scanner.new ≡ scanner.old) }
 {
     match direction {
         Direction::ToServer => print_stream(

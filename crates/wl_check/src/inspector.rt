@@ -5,7 +5,6 @@ ghost use Rattle.wl_sigs.specs.Tables.{Interface};
 ghost use Rattle.wl_check.specs.declared.session_state.Output.TheVariants.{Nothing};
 ghost use Rattle.wl_check.specs.SessionState.{IsAfter};
 
-use crate::copying::copy_of;
 use crate::inspecting::{print_piece, verdict_on};
 use crate::scanning::Scanner;
 use crate::verdict::Verdict;
@@ -66,10 +65,9 @@ impl<'t, A: Allocator + Clone> Inspector<'t, A> {
     {
         // That tables are valid is what each of their calls says.
         let _version = self.tables.version(DISPLAY);
-        let mut scanner = copy_of(&self.scanner)?;
         let mut lines = Vec::new(self.lines.allocator().clone()?);
         print_piece(
-            &mut scanner,
+            &mut self.scanner,
             direction,
             bytes,
             tokens,
@@ -77,7 +75,6 @@ impl<'t, A: Allocator + Clone> Inspector<'t, A> {
             self.limit,
             &mut lines,
         )?;
-        self.scanner = scanner;
         self.lines = lines;
         Ok(())
     }

@@ -7,13 +7,14 @@
 
 mod changes;
 mod checking;
-mod copying;
 mod frames;
+mod holdings;
 mod inspecting;
 mod inspector;
 mod judging;
 mod known;
 pub mod laws;
+mod overwritten;
 mod progress;
 mod scanning;
 mod session_state;

@@ -2,6 +2,7 @@
 ghost use Rattle.std.specs.Prelude.{◌≡◌, ◌+◌, ◌-◌, ◌^◌, ◌<◌, ◌≤◌, OnOk, IfOk};
 ghost use Rattle.wl_recording.specs.declared.piece.Direction.TheVariants.{ToServer, ToClient};
 ghost use Rattle.wl_check.specs.declared.verdict.Verdict.TheVariants.{Broken, Lawful};
+ghost use Rattle.wl_check.specs.Held.{undone_by};
 ghost use Rattle.wl_check.specs.Places.{IsFirst, IsKnownBehind};
 ghost use Rattle.wl_sigs.specs.Valid.{Valid};
 ghost use Rattle.wl_check.specs.Seen.{known_in, no_tally, tally_after, tally_in};
@@ -9,6 +10,7 @@ ghost use Rattle.wl_check.specs.Seen.{known_in, no_tally, tally_after, tally_in}
 use crate::changes::MessageChanges;
 use crate::frames::FramedMessage;
 use crate::known::KnownState;
+use crate::overwritten::UndoList;
 use crate::verdict::Verdict;
 use std::alloc::{AllocError, Allocator, Global};
 use wl_objects::Fault;
@@ -70,6 +72,7 @@ impl<A: Allocator + Clone> Progress<A> {
         place: u64,
         frame: &FramedMessage,
         changes: &MessageChanges,
+        undo: &mut UndoList<A>,
     ) -> Result<(), AllocError>
         requires taken_to_server { self.old.known.taken_to_server + 2 ^ 64 < 2 ^ 128 }
         requires taken_to_client { self.old.known.taken_to_client + 2 ^ 64 < 2 ^ 128 }
@@ -86,8 +89,10 @@ impl<A: Allocator + Clone> Progress<A> {
             (self.new.known.taken_to_server < self.old.known.taken_to_server + 2 ^ 64) }
         ensures few_to_client { OnOk result
             (self.new.known.taken_to_client < self.old.known.taken_to_client + 2 ^ 64) }
+        ensures undone { undone_by undo.new self.new.known.held
+            ≡ undone_by undo.old self.old.known.held }
     {
-        self.known.apply(place, changes)?;
+        self.known.apply(place, changes, undo)?;
         self.to_server = tally_after(Direction::ToServer, frame, self.to_server);
         self.to_client = tally_after(Direction::ToClient, frame, self.to_client);
         Ok(())

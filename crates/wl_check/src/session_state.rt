@@ -1,14 +1,16 @@
 //! A session's messages, judged one after another.
-ghost use Rattle.std.specs.Prelude.{◌≡◌, ◌≤◌, ◌++◌, ◌^◌, ◌<◌, ℕ, true, false, drop, length, OnOk};
+ghost use Rattle.std.specs.Prelude.{◌≡◌, ◌≤◌, ◌++◌, ◌^◌, ◌<◌, ℕ, true, false, drop, length, OnOk, Some};
 ghost use Rattle.std.specs.Prelude.{IfOk};
 ghost use Rattle.wl_sigs.specs.Valid.{Valid};
+ghost use Rattle.wl_check.specs.Held.{undone_by, Held};
 ghost use Rattle.wl_check.specs.SessionState.{is_going, AllJudged, Comes, CutFollows, IsUnread};
-ghost use Rattle.wl_check.specs.SessionState.{IsJudged, OthersStay, WentOn};
+ghost use Rattle.wl_check.specs.SessionState.{gone_back, numbers_in, IsJudged, OthersStay, WentOn};
 ghost use Rattle.wl_check.specs.Session.{Session};
 
 use crate::frames::{FramedMessage, size_in_front};
 use crate::judging::judge;
-use crate::progress::Progress;
+use crate::overwritten::UndoList;
+use crate::progress::{Progress, Tally};
 use std::alloc::{AllocError, Allocator, Global};
 use wl_message::Limit;
 use wl_objects::Fault;
@@ -44,6 +46,18 @@ pub(crate) struct SessionState<A: Allocator = Global> {
     /// What was written of them.
     pub text: Vec<u8, A>,
     pub status: SessionStatus,
+}
+
+/// All of a state but what is held and what was written.
+#[derive(Clone, Copy)]
+pub(crate) struct Numbers {
+    used: u32,
+    taken_to_server: u128,
+    taken_to_client: u128,
+    to_server: Tally,
+    to_client: Tally,
+    count: u64,
+    status: SessionStatus,
 }
 
 impl<A: Allocator + Clone> SessionState<A> {
@@ -128,7 +142,8 @@ impl<A: Allocator + Clone> SessionState<A> {
             }
         };
         let place = self.count + 1;
-        self.progress.advance(place, frame, &changes)?;
+        self.progress
+            .advance(place, frame, &changes, &mut UndoList::Off)?;
         self.count = place;
         if changes.is_error {
             self.status = SessionStatus::Ended;
@@ -146,5 +161,42 @@ impl<A: Allocator> SessionState<A> {
             SessionStatus::Open => true,
             SessionStatus::Ended | SessionStatus::Broken(..) => false,
         }
+    }
+
+    /// All but what is held and what was written.
+    pub(crate) fn numbers(&self) -> Numbers
+        ensures { result ≡ numbers_in self.now }
+    {
+        let Progress {
+            known,
+            to_server,
+            to_client,
+        } = &self.progress;
+        Numbers {
+            used: known.used,
+            taken_to_server: known.taken_to_server,
+            taken_to_client: known.taken_to_client,
+            to_server: *to_server,
+            to_client: *to_client,
+            count: self.count,
+            status: self.status,
+        }
+    }
+
+    /// Goes back to where these were the numbers, and all was held as it was before what was
+    /// written down.
+    pub(crate) fn go_back(&mut self, numbers: Numbers, undo: &mut UndoList<A>)
+        ensures { (held : Held) → undone_by undo.old self.old.progress.known.held ≡ Some held
+            → self.new ≡ gone_back held numbers self.old }
+    {
+        let known = &mut self.progress.known;
+        known.held.undo(undo);
+        known.used = numbers.used;
+        known.taken_to_server = numbers.taken_to_server;
+        known.taken_to_client = numbers.taken_to_client;
+        self.progress.to_server = numbers.to_server;
+        self.progress.to_client = numbers.to_client;
+        self.count = numbers.count;
+        self.status = numbers.status;
     }
 }

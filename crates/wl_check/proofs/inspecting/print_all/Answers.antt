@@ -48,7 +48,7 @@ returns-then-not-is_open-clause-judged g c s h =
     (comes_next c.args.limit.bytes c.args.tables.now s Nothing c.messages.state c.args.direction c.args.tokens
     c.in-Some.size c.tally.result.end (drop p b)
     (c.messages.invariant.follows s h) some (ap (λ t. t.end) c.tally.ensures)) in
-    closed c.args.limit.bytes c.args.tables.now s Nothing c.print_next.new.state c.args.direction (drop p b)
+    closed c.args.limit.bytes c.args.tables.now s Nothing c.print_next.new.state c.args.direction _
     (c.in_ok-print_next.ensures.judged s comes) (sym c.is_open.ensures ∙ c.if-not-is_open.true)
 
 pub returns-then-not-is_open-clause-lines : goal.returns-then-not-is_open-clause-lines
@@ -115,4 +115,6 @@ messages-preserved g c =
           c.in-Some.size c.tally.result.end (drop p b) (c.messages.invariant.follows s h) some here) in
           c.in_ok-print_next.ensures.lines s comes earlier (c.messages.invariant.lines s h earlier e));
       other = λ x e. c.in_ok-print_next.ensures.other x e ∙ c.messages.invariant.other x e;
+      text = c.print_next.ensures.text ∙ c.messages.invariant.text;
+      undone = c.print_next.ensures.undone ∙ c.messages.invariant.undone;
     }

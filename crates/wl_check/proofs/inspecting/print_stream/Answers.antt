@@ -1,4 +1,4 @@
-use Rattle.std.proofs.Common.{◌+◌, ◌∷◌, ◌++◌, List, ℕ, [], sym, ap, ◌∙◌, drop, arith}
+use Rattle.std.proofs.Common.{◌∷◌, ◌++◌, [], refl, sym, ◌∙◌, arith}
 use Rattle.std.proofs.Math.Logic.{∥∥₁_map}
 use Rattle.wl_check.specs.declared.session_state.Output.TheVariants.{Nothing}
 use Rattle.wl_check.specs.Printed.{piece_of}
@@ -16,8 +16,8 @@ returns-then-not-is_open-clause-along g c ps h =
     (piece_of c.args.direction c.args.bytes.now c.args.tokens) c.args.state.now c.args.stream.now _ h
     (sym c.is_open.ensures ∙ c.if-not-is_open.true) len.1 tokens.1
 
-pub print_all-requires-clause-follows : goal.print_all-requires-clause-follows
-print_all-requires-clause-follows g c =
+pub print_or_go_back-requires-clause-follows : goal.print_or_go_back-requires-clause-follows
+print_or_go_back-requires-clause-follows g c =
     let one = c.checked_add.ensures in
     let two = c.checked_add-2.ensures in
     let len = rw c.in-Some.is at one in
@@ -26,10 +26,9 @@ print_all-requires-clause-follows g c =
     ∥∥₁_map c.requires.along (λ x. (
       session_of c.args.limit.bytes (x.0 ++ p ∷ []),
       follows_piece c.args.limit.bytes c.args.tables.now Nothing x.0 p c.args.state.now c.args.stream.now c.in-Some.len
-          c.in-Some-checked_add.tokens c.as_slice.result.now
+          c.in-Some-checked_add.tokens _
           x.1 (sym c.is_open.ensures ∙ c.if-not-is_open.false) len.1
-          (let is = len.1 in let less = len.0 in omega (arith, is, less)) tokens.1
-          (c.as_slice.ensures.value ∙ c.in_ok-extend_from_slice.ensures.items),
+          (let is = len.1 in let less = len.0 in omega (arith, is, less)) tokens.1 refl,
     ))
 
 pub returns-clause-along : goal.returns-clause-along
@@ -41,14 +40,12 @@ returns-clause-along g c ps h =
     let p = piece_of c.args.direction c.args.bytes.now c.args.tokens in
     let follows =
     follows_piece c.args.limit.bytes c.args.tables.now Nothing ps p c.args.state.now c.args.stream.now c.in-Some.len
-    c.in-Some-checked_add.tokens c.as_slice.result.now
+    c.in-Some-checked_add.tokens _
     h (sym c.is_open.ensures ∙ c.if-not-is_open.false) len.1
-    (let is = len.1 in let less = len.0 in omega (arith, is, less)) tokens.1
-    (c.as_slice.ensures.value ∙ c.in_ok-extend_from_slice.ensures.items) in
-    along_piece c.args.limit.bytes c.args.tables.now Nothing ps p c.args.state.now c.print_all.new.state
-    c.args.stream.now _ (drop c.in_ok-place.place c.as_slice.result.now)
-    h (c.in_ok-place.ensures.judged (session_of c.args.limit.bytes (ps ++ p ∷ [])) follows) len.1 tokens.1
-    (c.remove_front.ensures ∙ ap (λ (b : List ℕ). drop c.in_ok-place.place b) (sym c.as_slice.ensures.value))
+    (let is = len.1 in let less = len.0 in omega (arith, is, less)) tokens.1 refl in
+    along_piece c.args.limit.bytes c.args.tables.now Nothing ps p c.args.state.now c.print_or_go_back.new.state
+    c.args.stream.now _ c.in_ok-left.left.items
+    h (c.in_ok-left.ensures.judged (session_of c.args.limit.bytes (ps ++ p ∷ [])) follows) len.1 tokens.1 refl
 
 pub returns-clause-lines : goal.returns-clause-lines
 returns-clause-lines g c ps h =
@@ -59,8 +56,7 @@ returns-clause-lines g c ps h =
     let p = piece_of c.args.direction c.args.bytes.now c.args.tokens in
     let follows =
     follows_piece c.args.limit.bytes c.args.tables.now Nothing ps p c.args.state.now c.args.stream.now c.in-Some.len
-    c.in-Some-checked_add.tokens c.as_slice.result.now
+    c.in-Some-checked_add.tokens _
     h (sym c.is_open.ensures ∙ c.if-not-is_open.false) len.1
-    (let is = len.1 in let less = len.0 in omega (arith, is, less)) tokens.1
-    (c.as_slice.ensures.value ∙ c.in_ok-extend_from_slice.ensures.items) in
-    λ earlier e. c.in_ok-place.ensures.lines (session_of c.args.limit.bytes (ps ++ p ∷ [])) follows earlier e
+    (let is = len.1 in let less = len.0 in omega (arith, is, less)) tokens.1 refl in
+    λ earlier e. c.in_ok-left.ensures.lines (session_of c.args.limit.bytes (ps ++ p ∷ [])) follows earlier e

@@ -1,4 +1,4 @@
-use Rattle.std.proofs.Common.{◌+◌, ◌∷◌, ◌++◌, List, ℕ, [], sym, ap, subst, ◌∙◌, drop, arith}
+use Rattle.std.proofs.Common.{◌∷◌, ◌++◌, List, ℕ, [], sym, ap, subst, ◌∙◌, drop, arith}
 use Rattle.wl_recording.specs.declared.piece.Direction.{Direction}
 use Rattle.wl_check.specs.SessionState.{AllJudged, CutFollows}
 use Rattle.wl_check.specs.Session.{session_of}

@@ -1,0 +1,46 @@
+-- The objects that are held and the globals that were advertised, and how what was overwritten is
+-- put back.
+use Rattle.std.specs.Prelude.{ℕ, List, [], ◌∷◌, set, take, Option, Some, None}
+use Rattle.std.specs.BTreeMap.{is_at}
+use Rattle.std.specs.Map.{lookup, remove_entry, set_value}
+use Rattle.std.specs.Option.{unwrap_or}
+use Rattle.std.specs.declared.cmp.Ordering.{Ordering}
+use Rattle.std.specs.Ordering.{nat_cmp, ordering_then}
+use Rattle.wl_object_map.specs.declared.object.Entry.{Entry}
+use Rattle.wl_check.specs.declared.overwritten.Overwritten.{Overwritten}
+use Rattle.wl_check.specs.declared.overwritten.Overwritten.TheVariants.{Object, Global}
+use Rattle.wl_check.specs.declared.overwritten.UndoList.{UndoList}
+use Rattle.wl_check.specs.declared.overwritten.UndoList.TheVariants.{Off, On}
+
+-- what stands at each id, and the greatest advertised version for each name and interface
+pub record Held : Type 0 where
+  pub objects : List (Option Entry)
+  pub globals : List ((ℕ × ℕ) × ℕ)
+
+-- the order of names and interfaces
+abbrev pub pair_cmp : ℕ × ℕ → ℕ × ℕ → Ordering
+pair_cmp a b = ordering_then (nat_cmp a.0 b.0) (nat_cmp a.1 b.1)
+
+-- the greatest version that was advertised for a name and an interface, or 0
+abbrev pub held_version : Held → ℕ × ℕ → ℕ
+held_version held key = unwrap_or (lookup (is_at (pair_cmp key)) held.globals) 0
+
+-- what was overwritten stands where it stood: an object, and of the slots those that there were; a
+-- version, or none
+abbrev pub put_back : Overwritten → Held → Held
+put_back (Object id entry slots) held =
+    record held { objects = take slots (set held.objects id entry) }
+put_back (Global key None) held =
+    record held { globals = remove_entry (is_at (pair_cmp key)) held.globals }
+put_back (Global key (Some version)) held =
+    record held { globals = set_value (is_at (pair_cmp key)) held.globals version }
+
+-- all that was overwritten is put back, the last first
+abbrev pub undone : List Overwritten → Held → Held
+undone [] held = held
+undone (one ∷ later) held = put_back one (undone later held)
+
+-- the same by a list that may be off
+abbrev pub undone_by : {A : Type 0} → UndoList A → Held → Option Held
+undone_by Off held = None
+undone_by (On list) held = Some (undone list.items held)

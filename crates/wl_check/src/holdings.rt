@@ -1,0 +1,300 @@
+//! The objects that are held and the globals that were advertised.
+ghost use Rattle.std.specs.Prelude.{◌≡◌, ℕ, ◌+◌, ◌-◌, ◌<◌, ◌++◌, ◌∷◌, [], OnOk, OnErr, IfOk, cond};
+ghost use Rattle.std.specs.Prelude.{get_or, length, nat_eq, option_map, replicate, set, take};
+ghost use Rattle.std.specs.Prelude.{Some, None};
+ghost use Rattle.std.specs.BTreeMap.{is_at};
+ghost use Rattle.std.specs.Map.{set_value};
+ghost use Rattle.wl_object_map.specs.declared.object.State.TheVariants.{Live};
+ghost use Rattle.wl_check.specs.declared.overwritten.Overwritten.TheVariants.{Object};
+ghost use Rattle.wl_check.specs.Held.{pair_cmp, put_back, held_version, Held};
+ghost use Rattle.wl_check.specs.Held.{undone, undone_by};
+ghost use Rattle.wl_check.specs.Places.{as_zombie, made_entry, frees, is_id, is_made, new_of};
+ghost use Rattle.wl_check.specs.Places.{advertised_once};
+
+use crate::changes::AdvertisedGlobal;
+use crate::overwritten::{Overwritten, UndoList};
+use std::alloc::{AllocError, Allocator, Global};
+use std::collections::BTreeMap;
+use std::marker::Model;
+use wl_object_map::DISPLAY_ID;
+use wl_objects::{Entry, NewObject, State};
+
+/// The objects that are held, where those that are ending are zombies, and the globals that were
+/// advertised. Whatever changes them writes down what it overwrites, so that `undo` can put all
+/// back, also where memory runs out in the midst of it.
+#[derive(Drop)]
+pub(crate) struct Holdings<A: Allocator = Global> {
+    /// What stands at each id. Ids are used in their order, so no more slots are kept than were
+    /// used.
+    objects: Vec<Option<Entry>, A>,
+    /// For each name and each interface of the tables, the greatest advertised version.
+    globals: BTreeMap<(u32, u16), u32, A>,
+}
+
+impl<A: Allocator> Model for Holdings<A> {
+    ghost use Rattle.wl_check.specs.Held.{Held};
+
+    ghost Value = { Held };
+
+    ghost view = { λ h. record {
+      objects = h.objects.items;
+      globals = h.globals.entries;
+    } };
+}
+
+/// What stands at an id.
+fn slot_of(objects: &[Option<Entry>], id: u32) -> Option<Entry>
+    ensures { result ≡ get_or objects.now id None }
+{
+    match objects.get(id as usize) {
+        Some(slot) => *slot,
+        None => None,
+    }
+}
+
+/// Makes slots up to an id, if they are not there.
+fn reach<A: Allocator>(objects: &mut Vec<Option<Entry>, A>, id: u32) -> Result<(), AllocError>
+    ensures items { OnOk result (objects.new.items
+        ≡ objects.old.items ++ replicate (id + 1 - length objects.old.items) None) }
+    ensures err { OnErr result (objects.new.items ≡ objects.old.items) }
+    ensures room { OnOk result (id < length objects.new.items) }
+{
+    let len = id as usize + 1;
+    if objects.len() < len {
+        objects.resize(len, None)?;
+    }
+    Ok(())
+}
+
+/// Writes over what stands at an id, for which a slot is made if there is none.
+fn write_slot<A: Allocator>(
+    objects: &mut Vec<Option<Entry>, A>,
+    id: u32,
+    entry: Option<Entry>,
+) -> Result<(), AllocError>
+    ensures entry { OnOk result ((other : ℕ) → get_or objects.new.items other None
+        ≡ cond (nat_eq id other) entry (get_or objects.old.items other None)) }
+    ensures back { take (length objects.old.items)
+        (set objects.new.items id (get_or objects.old.items id None)) ≡ objects.old.items }
+{
+    reach(objects, id)?;
+    objects[id as usize] = entry;
+    Ok(())
+}
+
+/// Puts back what stood at an id, and of the slots the first so many.
+fn put_back_slot<A: Allocator>(
+    objects: &mut Vec<Option<Entry>, A>,
+    id: u32,
+    entry: Option<Entry>,
+    slots: usize,
+)
+    ensures { objects.new.items ≡ take slots (set objects.old.items id entry) }
+{
+    if (id as usize) < objects.len() {
+        objects[id as usize] = entry;
+    }
+    objects.truncate(slots);
+}
+
+/// Writes the version of a global that is there.
+fn set_version<A: Allocator>(
+    globals: &mut BTreeMap<(u32, u16), u32, A>,
+    key: (u32, u16),
+    version: u32,
+)
+    ensures { globals.new.entries ≡ set_value (is_at (pair_cmp key)) globals.old.entries version }
+{
+    if let Some(there) = globals.get_mut(&key) {
+        *there = version;
+    }
+}
+
+impl<A: Allocator + Clone> Holdings<A> {
+    /// wl_display alone, and no globals.
+    pub(crate) fn new(alloc: &A, display: Entry) -> Result<Self, AllocError>
+        ensures objects { IfOk result (λ h. h.objects ≡ None ∷ Some display ∷ []) }
+        ensures globals { IfOk result (λ h. h.globals ≡ []) }
+    {
+        let mut objects = Vec::new(alloc.clone()?);
+        objects.push(None)?;
+        objects.push(Some(display))?;
+        Ok(Holdings {
+            objects,
+            globals: BTreeMap::new(alloc.clone()?),
+        })
+    }
+
+    /// Remembers a global that an event advertises.
+    pub(crate) fn remember_global(
+        &mut self,
+        global: &AdvertisedGlobal,
+        undo: &mut UndoList<A>,
+    ) -> Result<(), AllocError>
+        ensures versions { OnOk result ((key : ℕ × ℕ) → held_version self.new key
+            ≡ advertised_once global.now key.0 key.1 (held_version self.old key)) }
+        ensures objects { self.new.objects ≡ self.old.objects }
+        ensures undone { undone_by undo.new self.new ≡ undone_by undo.old self.old }
+    {
+        let key = (global.name, global.iface.0);
+        let version = self.globals.get(&key).copied();
+        undo.write_down(Overwritten::Global { key, version })?;
+        let greatest = global.version.max(version.unwrap_or(0));
+        self.globals.insert(key, greatest)?;
+        Ok(())
+    }
+}
+
+impl<A: Allocator> Holdings<A> {
+    /// The object that is held with this id.
+    pub(crate) fn object(&self, id: u32) -> Option<Entry>
+        ensures { result ≡ get_or self.now.objects id None }
+    {
+        slot_of(self.objects.as_slice(), id)
+    }
+
+    /// The greatest version that an event advertised for a name and an interface, or 0.
+    pub(crate) fn version(&self, key: (u32, u16)) -> u32
+        ensures { result ≡ held_version self.now key }
+    {
+        self.globals.get(&key).copied().unwrap_or(0)
+    }
+
+    /// How many slots there are.
+    fn slots(&self) -> usize
+        ensures { result ≡ length self.now.objects }
+    {
+        self.objects.len()
+    }
+
+    /// Writes over what stands at an id, for which a slot is made if there is none.
+    fn write(&mut self, id: u32, entry: Option<Entry>) -> Result<(), AllocError>
+        ensures entry { OnOk result ((other : ℕ) → get_or self.new.objects other None
+            ≡ cond (nat_eq id other) entry (get_or self.old.objects other None)) }
+        ensures globals { self.new.globals ≡ self.old.globals }
+        ensures back { put_back (Object id (get_or self.old.objects id None)
+            (length self.old.objects)) self.new ≡ self.old }
+    {
+        write_slot(&mut self.objects, id, entry)
+    }
+
+    /// Writes over what stands at an id, as `write` does, and writes down what stood there.
+    fn put(
+        &mut self,
+        id: u32,
+        entry: Option<Entry>,
+        undo: &mut UndoList<A>,
+    ) -> Result<(), AllocError>
+        ensures entry { OnOk result ((other : ℕ) → get_or self.new.objects other None
+            ≡ cond (nat_eq id other) entry (get_or self.old.objects other None)) }
+        ensures globals { self.new.globals ≡ self.old.globals }
+        ensures undone { undone_by undo.new self.new ≡ undone_by undo.old self.old }
+    {
+        undo.write_down(Overwritten::Object {
+            id,
+            entry: self.object(id),
+            slots: self.slots(),
+        })?;
+        self.write(id, entry)
+    }
+
+    /// Frees an id, unless it is that of wl_display.
+    pub(crate) fn free(&mut self, id: Option<u32>, undo: &mut UndoList<A>) -> Result<(), AllocError>
+        ensures freed { OnOk result ((other : ℕ) → get_or self.new.objects other None
+            ≡ cond (frees id other) None (get_or self.old.objects other None)) }
+        ensures globals { self.new.globals ≡ self.old.globals }
+        ensures undone { undone_by undo.new self.new ≡ undone_by undo.old self.old }
+    {
+        match id {
+            Some(id) if id != DISPLAY_ID && self.object(id).is_some() => self.put(id, None, undo),
+            _ => Ok(()),
+        }
+    }
+
+    /// Makes a zombie of an object.
+    pub(crate) fn make_zombie(
+        &mut self,
+        id: Option<u32>,
+        undo: &mut UndoList<A>,
+    ) -> Result<(), AllocError>
+        ensures ending { OnOk result ((other : ℕ) → get_or self.new.objects other None
+            ≡ cond (is_id id other) (option_map as_zombie (get_or self.old.objects other None))
+            (get_or self.old.objects other None)) }
+        ensures globals { self.new.globals ≡ self.old.globals }
+        ensures undone { undone_by undo.new self.new ≡ undone_by undo.old self.old }
+    {
+        let Some(id) = id else {
+            return Ok(());
+        };
+        let Some(entry) = self.object(id) else {
+            return Ok(());
+        };
+        let ending = Entry {
+            state: State::Zombie,
+            ..entry
+        };
+        self.put(id, Some(ending), undo)
+    }
+
+    /// Opens an object that was made at a place.
+    pub(crate) fn open(
+        &mut self,
+        place: u64,
+        made: Option<NewObject>,
+        undo: &mut UndoList<A>,
+    ) -> Result<(), AllocError>
+        ensures opened { OnOk result ((other : ℕ) → get_or self.new.objects other None
+            ≡ cond (is_made made other) (Some (made_entry place Live (new_of made)))
+            (get_or self.old.objects other None)) }
+        ensures globals { self.new.globals ≡ self.old.globals }
+        ensures undone { undone_by undo.new self.new ≡ undone_by undo.old self.old }
+    {
+        let Some(new) = made else {
+            return Ok(());
+        };
+        let entry = Entry {
+            birth: place,
+            iface: new.iface,
+            version: new.version,
+            state: State::Live,
+        };
+        self.put(new.id, Some(entry), undo)
+    }
+
+    /// Puts back what was overwritten at one place.
+    fn put_back(&mut self, before: Overwritten)
+        ensures { self.new ≡ put_back before self.old }
+    {
+        match before {
+            Overwritten::Object { id, entry, slots } => {
+                put_back_slot(&mut self.objects, id, entry, slots)
+            }
+            Overwritten::Global {
+                key,
+                version: Some(version),
+            } => set_version(&mut self.globals, key, version),
+            Overwritten::Global { key, version: None } => {
+                self.globals.remove(&key);
+            }
+        }
+    }
+
+    /// Puts back all of a list, the last first.
+    fn put_back_all(&mut self, list: &mut Vec<Overwritten, A>)
+        ensures { self.new ≡ undone list.old.items self.old }
+    {
+        'undone: while let Some(before) = list.pop() {
+            self.put_back(before);
+        }
+    }
+
+    /// Puts back all that was written down.
+    pub(crate) fn undo(&mut self, undo: &mut UndoList<A>)
+        ensures { (held : Held) → undone_by undo.old self.old ≡ Some held → self.new ≡ held }
+    {
+        match undo {
+            UndoList::Off => {}
+            UndoList::On(list) => self.put_back_all(list),
+        }
+    }
+}
