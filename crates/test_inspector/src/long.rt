@@ -82,3 +82,33 @@ fn a_huge_piece_takes_no_memory_for_good(rt: HostRuntime) -> Result<(), Fail> {
     assert_eq!(rt; before, after);
     Ok(())
 }
+
+/// How much memory an inspector takes, before a piece that wants more than there is and after it.
+fn taken_by_refused(
+    heap: &LocalHeap,
+    tables: &Tables,
+    huge: &[u8],
+) -> Result<Option<(usize, usize)>, AllocError> {
+    let mut inspector = Inspector::new(heap, tables, Limit::USUAL)?;
+    inspector.pass(Direction::ToServer, &GET_REGISTRY, 0)?;
+    let before = heap.used();
+    let passed = inspector.pass(Direction::ToServer, huge, 0);
+    if passed.is_ok() {
+        return Ok(None);
+    }
+    Ok(Some((before, heap.used())))
+}
+
+#[test]
+fn a_refused_piece_takes_no_memory_for_good(rt: HostRuntime) -> Result<(), Fail> {
+    let tables = Tables::core(rt.alloc())?;
+    let heap = LocalHeap::new(rt.alloc(), 65_536)?;
+    let mut huge = Vec::new(rt.alloc());
+    for number in 0..1_000u32 {
+        let [a, b, c, d] = number.saturating_add(3).to_le_bytes();
+        huge.extend_from_slice(&[1, 0, 0, 0, 0, 0, 12, 0, a, b, c, d])?;
+    }
+    let taken = taken_by_refused(&heap, &tables, huge.as_slice())?;
+    assert!(rt; matches!(taken, Some((before, after)) if after <= before));
+    Ok(())
+}

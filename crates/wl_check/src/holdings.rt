@@ -288,13 +288,17 @@ impl<A: Allocator> Holdings<A> {
         }
     }
 
-    /// Puts back all that was written down.
+    /// Puts back all that was written down. Room that was made for more objects is given back, where
+    /// there is memory to move the others to.
     pub(crate) fn undo(&mut self, undo: &mut UndoList<A>)
         ensures { (held : Held) → undone_by undo.old self.old ≡ Some held → self.new ≡ held }
     {
         match undo {
             UndoList::Off => {}
-            UndoList::On(list) => self.put_back_all(list),
+            UndoList::On(list) => {
+                self.put_back_all(list);
+                self.objects.shrink_to_fit();
+            }
         }
     }
 }
