@@ -19,6 +19,7 @@ use crate::session_state::{Output, SessionState, SessionStatus};
 use crate::verdict::Verdict;
 use std::alloc::{AllocError, Allocator};
 use wl_message::Limit;
+use wl_objects::ParsedArgs;
 use wl_recording::Direction;
 use wl_sigs::Tables;
 
@@ -50,7 +51,17 @@ fn print_next<A: Allocator + Clone>(
         ≡ undone_by undo.old state.old.progress.known.held }
 {
     let known = &state.progress.known;
-    let changes = match judge(tables, known, bytes, frame, limit, lines, Output::Lines)? {
+    let judged = judge(
+        &mut ParsedArgs::new(),
+        tables,
+        known,
+        bytes,
+        frame,
+        limit,
+        lines,
+        Output::Lines,
+    )?;
+    let changes = match judged {
         Ok(changes) => changes,
         Err(fault) => {
             state.status = SessionStatus::Broken(*frame, fault);

@@ -39,8 +39,10 @@ pub(crate) fn side_of(direction: Direction) -> Side
 }
 
 /// Judges the message of a frame, which begins these bytes: what it does, or the first rule that it
-/// breaks. What is wanted of a message that keeps the rules is appended to the text.
+/// breaks. What is wanted of a message that keeps the rules is appended to the text. Its arguments
+/// are read into those of the message before.
 pub(crate) fn judge<A: Allocator>(
+    args: &mut ParsedArgs,
     tables: &Tables,
     known: &KnownState<A>,
     bytes: &[u8],
@@ -65,6 +67,7 @@ pub(crate) fn judge<A: Allocator>(
     }
     let body = &bytes[8..frame.size as usize];
     judge_message(
+        args,
         tables,
         known,
         frame,
@@ -77,6 +80,7 @@ pub(crate) fn judge<A: Allocator>(
 
 /// Judges a whole message, its header and what stands behind that.
 fn judge_message<A: Allocator>(
+    args: &mut ParsedArgs,
     tables: &Tables,
     known: &KnownState<A>,
     frame: &FramedMessage,
@@ -97,16 +101,7 @@ fn judge_message<A: Allocator>(
     let side = side_of(direction);
     let lookup = ReaderLookup { known, direction };
     let waiting = frame.tokens.saturating_sub(known.taken(direction));
-    let mut args = ParsedArgs::new();
-    let received = receive(
-        &mut args,
-        tables,
-        side,
-        &lookup,
-        header,
-        body,
-        count(waiting),
-    );
+    let received = receive(args, tables, side, &lookup, header, body, count(waiting));
     let message = match received {
         Ok(message) => message,
         Err(fault) => return Ok(Err(fault)),

@@ -17,6 +17,7 @@ use crate::session_state::{Output, SessionState, SessionStatus};
 use crate::verdict::Verdict;
 use std::alloc::{AllocError, Allocator, Global};
 use wl_message::Limit;
+use wl_objects::ParsedArgs;
 use wl_recording::{Appended, Direction, Passed, PieceReader, RecordingError};
 use wl_sigs::Tables;
 
@@ -38,6 +39,7 @@ fn judge_piece<A: Allocator + Clone>(
     tables: &Tables,
     limit: Limit,
     output: Output,
+    args: &mut ParsedArgs,
 ) -> Result<(), AllocError>
     requires valid { Valid tables.now }
     requires come { (ps : List Piece) × (p : Piece)
@@ -69,6 +71,7 @@ fn judge_piece<A: Allocator + Clone>(
         tables,
         limit,
         output,
+        args,
     )?;
     remove_front(&mut stream.bytes, place);
     Ok(())
@@ -96,6 +99,7 @@ impl<A: Allocator + Clone> Scanner<A> {
         tables: &Tables,
         limit: Limit,
         output: Output,
+        args: &mut ParsedArgs,
     ) -> Result<(), AllocError>
         requires valid { Valid tables.now }
         requires ready { (ps : List Piece) × (p : Piece)
@@ -112,6 +116,7 @@ impl<A: Allocator + Clone> Scanner<A> {
                 tables,
                 limit,
                 output,
+                args,
             ),
             Direction::ToClient => judge_piece(
                 &mut self.state,
@@ -120,6 +125,7 @@ impl<A: Allocator + Clone> Scanner<A> {
                 tables,
                 limit,
                 output,
+                args,
             ),
         }
     }
@@ -164,9 +170,10 @@ pub(crate) fn scan<A: Allocator + Clone>(
         (λ r. IsVerdictOf tables.now (session_of limit.bytes (map recorded_piece pieces.now)) r.1) }
 {
     let mut scanner = Scanner::new(alloc, tables)?;
+    let mut args = ParsedArgs::new();
     'pieces: for piece in pieces {
         let appended = piece.append_to(&mut scanner.to_server.bytes, &mut scanner.to_client.bytes)?;
-        scanner.judge(&appended, tables, limit, output)?;
+        scanner.judge(&appended, tables, limit, output, &mut args)?;
     }
     Ok(scanner.finish())
 }
@@ -186,12 +193,13 @@ pub(crate) fn scan_text<A: Allocator + Clone>(
         (λ e. (e ≡ Memory) ⊎ ((n : ℕ) × (e ≡ BadLine n) × IsFirstBad text.now n)) }
 {
     let mut scanner = Scanner::new(alloc, tables)?;
+    let mut args = ParsedArgs::new();
     let mut reader = PieceReader::new(text);
     'pieces: while let Some(piece) = reader.append_next(
         &mut scanner.to_server.bytes,
         &mut scanner.to_client.bytes,
     )? {
-        scanner.judge(&piece, tables, limit, output)?;
+        scanner.judge(&piece, tables, limit, output, &mut args)?;
     }
     Ok(scanner.finish())
 }

@@ -13,7 +13,7 @@ use crate::overwritten::UndoList;
 use crate::progress::{Progress, Tally};
 use std::alloc::{AllocError, Allocator, Global};
 use wl_message::Limit;
-use wl_objects::Fault;
+use wl_objects::{Fault, ParsedArgs};
 use wl_recording::Direction;
 use wl_sigs::Tables;
 
@@ -84,6 +84,7 @@ impl<A: Allocator + Clone> SessionState<A> {
         tables: &Tables,
         limit: Limit,
         output: Output,
+        args: &mut ParsedArgs,
     ) -> Result<usize, AllocError>
         requires valid { Valid tables.now }
         requires follows { (s : Session)
@@ -106,7 +107,7 @@ impl<A: Allocator + Clone> SessionState<A> {
                 size,
                 tokens,
             };
-            self.judge_next(rest, &frame, tables, limit, output)?;
+            self.judge_next(rest, &frame, tables, limit, output, args)?;
             if !self.is_open() {
                 return Ok(place);
             }
@@ -122,6 +123,7 @@ impl<A: Allocator + Clone> SessionState<A> {
         tables: &Tables,
         limit: Limit,
         output: Output,
+        args: &mut ParsedArgs,
     ) -> Result<(), AllocError>
         requires valid { Valid tables.now }
         requires comes { (s : Session)
@@ -134,7 +136,16 @@ impl<A: Allocator + Clone> SessionState<A> {
         ensures other { OnOk result (OthersStay frame.now.direction self.old self.new) }
     {
         let known = &self.progress.known;
-        let changes = match judge(tables, known, bytes, frame, limit, &mut self.text, output)? {
+        let changes = match judge(
+            args,
+            tables,
+            known,
+            bytes,
+            frame,
+            limit,
+            &mut self.text,
+            output,
+        )? {
             Ok(changes) => changes,
             Err(fault) => {
                 self.status = SessionStatus::Broken(*frame, fault);

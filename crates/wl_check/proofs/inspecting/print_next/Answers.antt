@@ -57,7 +57,7 @@ pub returns-in-Err-clause-judged : goal.returns-in-Err-clause-judged
 returns-in-Err-clause-judged g c s h =
     let front = judged_front c.args.limit.bytes c.args.tables.now
     (known_in c.args.state.now.progress.known) c.args.bytes.now c.args.frame.now in
-    let is = found_fault c.args.tables.now front c.in-Err.fault (sym c.in-Err.is ∙ c.in_ok-changes.ensures.changes) in
+    let is = found_fault c.args.tables.now front c.in-Err.fault (sym c.in-Err.is ∙ c.in_ok-judged.ensures.changes) in
     judged_broken c.args.limit.bytes c.args.tables.now s Nothing c.args.state.now _ c.args.frame.now c.args.bytes.now
     c.in-Err.fault h is refl refl
 
@@ -65,10 +65,10 @@ pub returns-in-Err-clause-lines : goal.returns-in-Err-clause-lines
 returns-in-Err-clause-lines g c s h =
     let known = known_in c.args.state.now.progress.known in
     let front = judged_front c.args.limit.bytes c.args.tables.now known c.args.bytes.now c.args.frame.now in
-    let is = found_fault c.args.tables.now front c.in-Err.fault (sym c.in-Err.is ∙ c.in_ok-changes.ensures.changes) in
+    let is = found_fault c.args.tables.now front c.in-Err.fault (sym c.in-Err.is ∙ c.in_ok-judged.ensures.changes) in
     prints_none c.args.tables.now s c.args.state.now.count c.args.lines.now.items c.judge.new.text.items
     (no_more c.args.tables.now known Lines c.args.lines.now.items c.judge.new.text.items front c.in-Err.fault is
-    c.in_ok-changes.ensures.text)
+    c.in_ok-judged.ensures.text)
 
 pub returns-then-changes-clause-judged : goal.returns-then-changes-clause-judged
 returns-then-changes-clause-judged g c s h =
@@ -76,7 +76,7 @@ returns-then-changes-clause-judged g c s h =
     let known = known_in c.args.state.now.progress.known in
     let front = judged_front c.args.limit.bytes c.args.tables.now known c.args.bytes.now c.args.frame.now in
     let found = found_call c.args.tables.now known Lines front c.in-Ok.changes c.args.lines.now.items
-    c.judge.new.text.items (sym c.in-Ok.is ∙ c.in_ok-changes.ensures.changes) c.in_ok-changes.ensures.text in
+    c.judge.new.text.items (sym c.in-Ok.is ∙ c.in_ok-judged.ensures.changes) c.in_ok-judged.ensures.text in
     let good = size_good c.args.limit.bytes c.args.tables.now known c.args.bytes.now c.args.frame.now found.call
     (is_size c.args.limit.bytes c.args.frame.now.size) refl found.is in
     judged_end c.args.limit.bytes c.args.tables.now s Nothing c.args.state.now _ c.args.frame.now c.args.bytes.now
@@ -99,7 +99,7 @@ returns-then-changes-clause-lines g c s h =
     let known = known_in c.args.state.now.progress.known in
     let front = judged_front c.args.limit.bytes c.args.tables.now known c.args.bytes.now c.args.frame.now in
     let found = found_call c.args.tables.now known Lines front c.in-Ok.changes c.args.lines.now.items
-    c.judge.new.text.items (sym c.in-Ok.is ∙ c.in_ok-changes.ensures.changes) c.in_ok-changes.ensures.text in
+    c.judge.new.text.items (sym c.in-Ok.is ∙ c.in_ok-judged.ensures.changes) c.in_ok-judged.ensures.text in
     prints_line c.args.tables.now s c.args.state.now.count found.call c.args.state.now.progress c.args.lines.now.items
     c.judge.new.text.items
     (next_is c.args.limit.bytes c.args.tables.now s Nothing c.args.state.now c.args.frame.now c.args.bytes.now
@@ -111,7 +111,7 @@ returns-else-changes-clause-judged g c s h =
     let known = known_in c.args.state.now.progress.known in
     let front = judged_front c.args.limit.bytes c.args.tables.now known c.args.bytes.now c.args.frame.now in
     let found = found_call c.args.tables.now known Lines front c.in-Ok.changes c.args.lines.now.items
-    c.judge.new.text.items (sym c.in-Ok.is ∙ c.in_ok-changes.ensures.changes) c.in_ok-changes.ensures.text in
+    c.judge.new.text.items (sym c.in-Ok.is ∙ c.in_ok-judged.ensures.changes) c.in_ok-judged.ensures.text in
     let good = size_good c.args.limit.bytes c.args.tables.now known c.args.bytes.now c.args.frame.now found.call
     (is_size c.args.limit.bytes c.args.frame.now.size) refl found.is in
     judged_on c.args.limit.bytes c.args.tables.now s Nothing c.args.state.now _ c.args.frame.now c.args.bytes.now
@@ -134,7 +134,7 @@ returns-else-changes-clause-lines g c s h =
     let known = known_in c.args.state.now.progress.known in
     let front = judged_front c.args.limit.bytes c.args.tables.now known c.args.bytes.now c.args.frame.now in
     let found = found_call c.args.tables.now known Lines front c.in-Ok.changes c.args.lines.now.items
-    c.judge.new.text.items (sym c.in-Ok.is ∙ c.in_ok-changes.ensures.changes) c.in_ok-changes.ensures.text in
+    c.judge.new.text.items (sym c.in-Ok.is ∙ c.in_ok-judged.ensures.changes) c.in_ok-judged.ensures.text in
     prints_line c.args.tables.now s c.args.state.now.count found.call c.args.state.now.progress c.args.lines.now.items
     c.judge.new.text.items
     (next_is c.args.limit.bytes c.args.tables.now s Nothing c.args.state.now c.args.frame.now c.args.bytes.now
