@@ -53,6 +53,7 @@ fn slot_of(objects: &[Option<Entry>], id: u32) -> Option<Entry>
 }
 
 /// Makes slots up to an id, if they are not there.
+#[inline(always)]
 fn reach<A: Allocator>(objects: &mut Vec<Option<Entry>, A>, id: u32) -> Result<(), AllocError>
     ensures items { OnOk result (objects.new.items
         ≡ objects.old.items ++ replicate (id + 1 - length objects.old.items) None) }
@@ -67,6 +68,7 @@ fn reach<A: Allocator>(objects: &mut Vec<Option<Entry>, A>, id: u32) -> Result<(
 }
 
 /// Writes over what stands at an id, for which a slot is made if there is none.
+#[inline(always)]
 fn write_slot<A: Allocator>(
     objects: &mut Vec<Option<Entry>, A>,
     id: u32,
@@ -168,6 +170,7 @@ impl<A: Allocator> Holdings<A> {
     }
 
     /// Writes over what stands at an id, for which a slot is made if there is none.
+    #[inline(always)]
     fn write(&mut self, id: u32, entry: Option<Entry>) -> Result<(), AllocError>
         ensures entry { OnOk result ((other : ℕ) → get_or self.new.objects other None
             ≡ cond (nat_eq id other) entry (get_or self.old.objects other None)) }
@@ -179,6 +182,7 @@ impl<A: Allocator> Holdings<A> {
     }
 
     /// Writes over what stands at an id, as `write` does, and writes down what stood there.
+    #[inline(always)]
     fn put(
         &mut self,
         id: u32,
@@ -199,6 +203,7 @@ impl<A: Allocator> Holdings<A> {
     }
 
     /// Frees an id, unless it is that of wl_display.
+    #[inline(always)]
     pub(crate) fn free(&mut self, id: Option<u32>, undo: &mut UndoList<A>) -> Result<(), AllocError>
         ensures freed { OnOk result ((other : ℕ) → get_or self.new.objects other None
             ≡ cond (frees id other) None (get_or self.old.objects other None)) }
@@ -212,6 +217,7 @@ impl<A: Allocator> Holdings<A> {
     }
 
     /// Makes a zombie of an object.
+    #[inline(always)]
     pub(crate) fn make_zombie(
         &mut self,
         id: Option<u32>,
@@ -237,6 +243,7 @@ impl<A: Allocator> Holdings<A> {
     }
 
     /// Opens an object that was made at a place.
+    #[inline(always)]
     pub(crate) fn open(
         &mut self,
         place: u64,

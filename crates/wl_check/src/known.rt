@@ -50,6 +50,7 @@ impl<A: Allocator + Clone> KnownState<A> {
 
     /// What is known behind a message that stands at a place. Where memory runs out, a part of the
     /// changes may have been applied to what is held, as the undo list says if there is one.
+    #[inline(always)]
     pub(crate) fn apply(
         &mut self,
         place: u64,

@@ -31,6 +31,7 @@ pub(crate) enum UndoList<A: Allocator = Global> {
 
 impl<A: Allocator> UndoList<A> {
     /// Writes down what is about to be overwritten.
+    #[inline(always)]
     pub(crate) fn write_down(&mut self, before: Overwritten) -> Result<(), AllocError>
         ensures ok { OnOk result ((old new : Held) → put_back before new ≡ old
             → undone_by self.new new ≡ undone_by self.old old) }

@@ -67,6 +67,7 @@ impl<A: Allocator + Clone> Progress<A> {
     }
 
     /// Goes past a message that stands at a place.
+    #[inline(always)]
     pub(crate) fn advance(
         &mut self,
         place: u64,
