@@ -127,7 +127,7 @@ fn print_all<A: Allocator + Clone>(
     }
 }
 
-/// The bytes from a place on, in no more memory than they take.
+/// The bytes from a place on. Those before it leave no room behind.
 fn rest_of<A: Allocator + Clone>(bytes: Vec<u8, A>, place: usize) -> Result<Vec<u8, A>, AllocError>
     requires { place ≤ length bytes.items }
     ensures { IfOk result (λ rest. rest.items ≡ drop place bytes.items) }
