@@ -1,8 +1,10 @@
 -- A line tells one piece at most.
 use Rattle.std.proofs.Common.{◌≡◌, ◌≢◌, ℕ, ◌<◌, true, List, [], ◌∷◌, ◌++◌, length, slice_index}
 use Rattle.std.proofs.Common.{refl, sym, ap, subst, ◌∙◌, arith}
-use Rattle.std.specs.Prelude.{codes, Ok, Option, Some, None, MatchOption}
-use Rattle.std.specs.List.{All}
+use Rattle.std.specs.Prelude.{codes, Ok, Option, Some, None, MatchOption, nat_eq}
+use Rattle.std.specs.List.{All, list_any}
+use Rattle.std.proofs.lemmas.Bool.{eqb-true}
+use Rattle.std.proofs.lemmas.List.Folds.{Any-from_list_any}
 use Rattle.std.proofs.lemmas.List.Elements.{All-head, All-tail, All-cons, All-nil, All-weaker}
 use Rattle.hex.specs.Hex.{decode_of, is_hex_digit}
 use Rattle.hex.proofs.HexLemmas.{decode_of-ok, decode_of-same}
@@ -51,6 +53,12 @@ bytes_no_space digits bytes spelled = elim spelled [
       (λ byte digit space. let P : ℕ → Type 0 = λ b. is_hex_digit b ≡ true
       in let no : is_hex_digit 32 ≡ true = subst P space digit in cc no) digits (decode_of-ok digits bytes is).1
 ]
+
+-- nor is one found there
+pub no_space_found : (digits bytes : List ℕ) → SpellsBytes digits bytes → list_any (λ b. nat_eq b 32) digits ≡ true → ⊥
+no_space_found digits bytes spelled found =
+    let at = Any-from_list_any (λ (b : ℕ). nat_eq b 32) digits found in
+    bytes_no_space digits bytes spelled at.0 at.1 at.2 (at.3 ∙ eqb-true at.1 32 at.4)
 
 -- what stands for tokens begins with a space, if it is not empty
 pub tokens_at_space : (count : List ℕ) (tokens : ℕ) → SpellsTokens count tokens → AtSpace count

@@ -192,12 +192,12 @@ fn append_digits<A: Allocator>(
         [] => Ok(None),
         [b'-'] => Ok(Some(0)),
         _ if digits.len() % 2 != 0 => Ok(None),
-        _ => {
-            if append_bytes(digits, bytes)? {
-                Ok(Some(digits.len() / 2))
-            } else {
-                Ok(None)
-            }
-        }
+        _ => match append_bytes(digits, bytes) {
+            Ok(true) => Ok(Some(digits.len() / 2)),
+            Ok(false) => Ok(None),
+            // A space is no digit, with room for the bytes or without.
+            Err(AllocError) if digits.contains(&b' ') => Ok(None),
+            Err(e) => Err(e),
+        },
     }
 }
