@@ -6,12 +6,14 @@ use Rattle.wl_server.specs.State.{Global, Registry}
 use Rattle.wl_server.specs.Announcing.{owed_in}
 
 -- The open registries, how many of them, from the first on, are known to be owed nothing, a number
--- that is above the births of all registries that were kept, and for how many more there is room.
+-- that is above the births of all registries that were kept, for how many more there is room, and how
+-- many that are closed still take room.
 pub record KeptRegistries : Type 0 where
   pub list : List Registry
   pub settled : ℕ
   pub past : ℕ
   pub room : ℕ
+  pub closed : ℕ
 
 -- the registries of the slots that are open
 abbrev pub open_in : List Slot → List Registry

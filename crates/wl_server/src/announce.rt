@@ -79,8 +79,8 @@ fn write_global<T: Table>(
     true
 }
 
-/// Writes to one registry what it is owed, as far as it fits. Passes at once over 64 names where it
-/// is owed nothing of these.
+/// Writes to one registry what it is owed, as far as it fits. Passes at once over 64 names where no
+/// global_remove of these is owed, and over 64 that all have globals where no global is owed.
 fn announce_to<T: Table>(
     core: &mut Core<'_, T>,
     globals: &[Advertised],

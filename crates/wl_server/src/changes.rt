@@ -51,7 +51,7 @@ pub(crate) fn open_new_object<T: Table>(
 }
 
 /// Opens an object, and where it is a registry makes room for it. Where there is no memory nothing
-/// changes.
+/// opens, and the open registries are the same.
 fn open_object<T: Table>(
     core: &mut Core<'_, T>,
     registries: &mut OpenRegistries<T::Alloc>,

@@ -1,5 +1,5 @@
 //! The open registries of a server's client, by rising births.
-ghost use Rattle.std.specs.Prelude.{◌≡◌, ◌≤◌, ◌<◌, ◌+◌, ◌∷◌, ◌++◌, [], true, OnOk};
+ghost use Rattle.std.specs.Prelude.{◌≡◌, ◌≤◌, ◌<◌, ◌+◌, ◌∷◌, ◌++◌, [], true, OnOk, OnErr};
 ghost use Rattle.std.specs.List.{count_by};
 ghost use Rattle.wl_server.specs.State.{untold};
 ghost use Rattle.wl_server.specs.Registries.{registry_birth, without_registry};
@@ -11,8 +11,8 @@ use std::marker::Model;
 use wl_objects::Object;
 
 /// The open registries of a client. One that is closed keeps its slot until more than half of the
-/// slots are closed, and then all these go at once: on average a closing costs no more beside many
-/// registries than beside few.
+/// slots are closed, or there is no memory for a new one, and then all these go at once: on average
+/// a closing costs no more beside many registries than beside few.
 #[derive(Drop)]
 pub(crate) struct OpenRegistries<A: Allocator> {
     /// By rising births.
@@ -34,6 +34,7 @@ impl<A: Allocator> Model for OpenRegistries<A> {
       settled = length (open_in (take s.settled s.slots.items));
       past = past_of s.slots.items;
       room = vec_capacity s.slots - length s.slots.items;
+      closed = s.closed;
     } };
 
     ghost invariant = { λ s. record {
@@ -64,14 +65,23 @@ impl<A: Allocator + Drop> OpenRegistries<A> {
         }
     }
 
-    /// Makes room for one more. Where there is no memory nothing changes.
+    /// Makes room for one more. Where there is no memory, the slots that are closed give theirs; it
+    /// fails only where none is.
     pub(crate) fn reserve(&mut self) -> Result<(), AllocError>
         ensures list { self.new.list ≡ self.old.list }
         ensures settled { KeepsSettled self.old self.new }
-        ensures past { self.new.past ≡ self.old.past }
+        ensures past { self.new.past ≤ self.old.past }
         ensures room { OnOk result (0 < self.new.room) }
+        ensures err { OnErr result (self.old.closed ≡ 0) }
     {
-        self.slots.reserve(1)
+        if self.slots.reserve(1).is_ok() {
+            return Ok(());
+        }
+        if self.closed == 0 {
+            return Err(AllocError);
+        }
+        self.compact();
+        Ok(())
     }
 
     /// Puts a registry that was told nothing yet behind the others. Allocates nothing.
@@ -119,11 +129,12 @@ impl<A: Allocator + Drop> OpenRegistries<A> {
         }
     }
 
-    /// Takes out the slots that are closed.
+    /// Takes out the slots that are closed. Allocates nothing, and keeps their room.
     fn compact(&mut self)
         ensures list { self.new.list ≡ self.old.list }
         ensures settled { self.new.settled ≡ self.old.settled }
         ensures past { self.new.past ≤ self.old.past }
+        ensures room { self.new.room ≡ self.old.room + self.old.closed }
     {
         self.settled = count_open(&self.slots[..self.settled]);
         self.slots.retain(|slot| slot.is_open);

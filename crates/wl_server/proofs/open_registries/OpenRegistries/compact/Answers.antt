@@ -49,3 +49,20 @@ returns-clause-past g c =
     filter_same _ _ _ (λ x b f' k. search rules) _ _ c.retain.ensures.filtered in
     let past : past_of slots ≡ c.args.self.now.past = ap (λ (k : KeptRegistries). k.past) c.self.view_is in
     omega (arith, ap past_of kept, past-kept slots, past)
+
+pub returns-clause-room : goal.returns-clause-room
+returns-clause-room g c =
+    let slots = c.self.inside.slots.items in
+    let kept : c.retain.new.self.items ≡ filter is_open slots =
+    filter_same _ _ _ (λ x b f' k. search rules) _ _ c.retain.ensures.filtered in
+    omega (
+      arith,
+      ap length kept,
+      length-open slots,
+      c.self.invariant.closed,
+      c.self.inside.slots.ok.0,
+      c.self.inside.slots.ok.1,
+      c.retain.ensures.capacity,
+      ap (λ (k : KeptRegistries). k.room) c.self.view_is,
+      ap (λ (k : KeptRegistries). k.closed) c.self.view_is,
+    )
