@@ -176,6 +176,17 @@ struct waywire_tables {
 /* The blocks of the tables that this thread makes; null where it makes none. */
 static __thread struct block *making;
 
+/* The least that this thread asks for at a time: while a piece passes, so much that its lines grow in few
+ * steps; else 0. */
+static __thread size_t least;
+
+enum { LEAST_OF_PIECE = 256 };
+
+static size_t at_least(size_t size)
+{
+	return size < least ? least : size;
+}
+
 static void *linked(struct block *block, struct block *before)
 {
 	block->before = before;
@@ -199,7 +210,7 @@ static struct block *unlinked(void *at)
 void *memory_malloc(size_t size)
 {
 	if (!making)
-		return malloc(size);
+		return malloc(at_least(size));
 	struct block *block = malloc(sizeof *block + size);
 	return block ? linked(block, making) : NULL;
 }
@@ -207,7 +218,7 @@ void *memory_malloc(size_t size)
 void *memory_realloc(void *at, size_t size)
 {
 	if (!making)
-		return realloc(at, size);
+		return realloc(at, at_least(size));
 	struct block *block = unlinked(at), *before = block->before;
 	struct block *moved = realloc(block, sizeof *block + size);
 	void *kept = linked(moved ? moved : block, before);
@@ -760,7 +771,10 @@ waywire_status waywire_inspector_pass(waywire_inspector *inspector, waywire_send
 	waywire_status status = slice(&bytes, length, 1);
 	if (status)
 		return status;
-	return waywire_c_inspector_pass(&inspector->handle, sender, bytes, length, token_count);
+	least = LEAST_OF_PIECE;
+	status = waywire_c_inspector_pass(&inspector->handle, sender, bytes, length, token_count);
+	least = 0;
+	return status;
 }
 
 waywire_status waywire_inspector_lines(const waywire_inspector *inspector, const char **lines,
