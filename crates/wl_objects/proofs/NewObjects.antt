@@ -8,7 +8,7 @@ use Rattle.wl_wire.specs.declared.kind.Kind.TheVariants as kinds
 use Rattle.wl_wire.specs.Argument.{Argument}
 use Rattle.wl_sigs.specs.Tables.{Interface}
 use Rattle.wl_objects.specs.declared.new_object.NewObject.{NewObject}
-use Rattle.wl_objects.specs.Messages.{is_new, made, made_by}
+use Rattle.wl_objects.specs.Messages.{is_new_id_kind, made, made_by}
 
 pub made-next : (tables : List Interface) (version i : ℕ) (ks : List Kind) (k : Kind) (left more : List Argument)
     (v : Argument) → i < length ks → left ≡ v ∷ more
@@ -32,7 +32,7 @@ made-end tables version i ks left p = rw (drop_all i ks p) refl
 
 -- ---- kinds that make nothing
 
-made_by-other : (tables : List Interface) (version : ℕ) (kind : Kind) (value : Argument) → is_new kind ≡ false
+made_by-other : (tables : List Interface) (version : ℕ) (kind : Kind) (value : Argument) → is_new_id_kind kind ≡ false
     → made_by tables version kind value ≡ None
 made_by-other tables version kinds.Int value e = refl
 made_by-other tables version kinds.Uint value e = refl
@@ -48,12 +48,12 @@ made-empty tables version [] = refl
 made-empty tables version (kind ∷ ks) = refl
 
 skip-one : (tables : List Interface) (version : ℕ) (kind : Kind) (ks : List Kind) (values : List Argument)
-    → is_new kind ≡ false → made tables version (kind ∷ ks) values ≡ made tables version ks (drop 1 values)
+    → is_new_id_kind kind ≡ false → made tables version (kind ∷ ks) values ≡ made tables version ks (drop 1 values)
 skip-one tables version kind ks [] e = sym (made-empty tables version ks)
 skip-one tables version kind ks (value ∷ values) e = rw (made_by-other tables version kind value e) refl
 
 pub made-skip : (tables : List Interface) (version i : ℕ) (ks : List Kind) (k : Kind) (values : List Argument)
-    → i < length ks → is_new (get_or ks i k) ≡ false
+    → i < length ks → is_new_id_kind (get_or ks i k) ≡ false
     → made tables version (drop i ks) (drop i values) ≡ made tables version (drop (i + 1) ks) (drop (i + 1) values)
 made-skip tables version i ks k values p e =
     let behind : drop 1 (drop i values) ≡ drop (i + 1) values = drop-drop 1 i values in

@@ -21,7 +21,7 @@ use Rattle.wl_objects.specs.Seen.{got, got_values}
 use Rattle.wl_objects.specs.Parsed.{AreParsed, Both, all_of, all_parsed, parsed_argument, behind_those}
 use Rattle.wl_objects.specs.Parsed.{both, both_of, is_fd, made_of, made_of_one, made_unless}
 use Rattle.wl_objects.specs.Parsed.{place_after, place_behind, reported_in, reported_of, spelled_in}
-use Rattle.wl_objects.specs.Parsed.{token_at, with_token, IsNumber, is_int, is_uint, is_fixed}
+use Rattle.wl_objects.specs.Parsed.{token_at, with_token, IsParsedNumber, is_int, is_uint, is_fixed}
 
 pub one-ok : (r : Reader) (place n : ℕ) (v : Argument) (f : Option Fault) (x : Both) → Ok x ≡ made_unless r place v f
     → Ok (x, n) ≡ made_of_one r place (unless f (v, n))
@@ -49,7 +49,7 @@ same-fixed false = refl
 
 -- a number that was read first is what the general way reads
 pub number-one : (r q : Reader) (i place birth : ℕ) (k : Kind) (bytes body : List ℕ) (p : ParsedArg)
-    → nat_lt (length bytes) 4 ≡ false → IsNumber k bytes p
+    → nat_lt (length bytes) 4 ≡ false → IsParsedNumber k bytes p
     → Ok (both_of body birth p, 4) ≡ made_of_one r place
     (value_or_fault q i k (reading (forgiving_kind q.forgives k) bytes))
 number-one r q i place birth k bytes body p long (is_int e) = rw (same-int q.forgives, long, e) refl
@@ -60,7 +60,7 @@ pub number-long : (start : ℕ) (body : List ℕ) → start + 4 ≤ length body
     → nat_lt (length (drop start body)) 4 ≡ false
 number-long start body h = le-ltb (length (drop start body)) 4 (rw length-drop (omega (arith, h)))
 
-pub number-place : (k : Kind) (bytes : List ℕ) (p : ParsedArg) (place : ℕ) → IsNumber k bytes p
+pub number-place : (k : Kind) (bytes : List ℕ) (p : ParsedArg) (place : ℕ) → IsParsedNumber k bytes p
     → place_behind p place ≡ place
 number-place k bytes p place (is_int e) = refl
 number-place k bytes p place (is_uint e) = refl

@@ -164,13 +164,13 @@ abbrev pub place_behind : ParsedArg → ℕ → ℕ
 place_behind parsed place = if is_fd parsed then place + 1 else place
 
 -- a number, and its kind, that the first four bytes are
-pub data IsNumber : Kind → List ℕ → ParsedArg → Type 0 where
+pub data IsParsedNumber : Kind → List ℕ → ParsedArg → Type 0 where
   is_int : {z : ℤ} {bytes : List ℕ} → z ≡ signed (number_at bytes)
-      → IsNumber kinds.Int bytes (parsed_as.Int z)
+      → IsParsedNumber kinds.Int bytes (parsed_as.Int z)
   is_uint : {n : ℕ} {bytes : List ℕ} → n ≡ number_at bytes
-      → IsNumber kinds.Uint bytes (parsed_as.Uint n)
+      → IsParsedNumber kinds.Uint bytes (parsed_as.Uint n)
   is_fixed : {z : fixed.Fixed} {bytes : List ℕ} → units z ≡ signed (number_at bytes)
-      → IsNumber kinds.Fixed bytes (parsed_as.Fixed z)
+      → IsParsedNumber kinds.Fixed bytes (parsed_as.Fixed z)
 
 -- the bytes of a text lie behind the first word
 pub record LiesBehind (bytes text : List ℕ) : Type 0 where

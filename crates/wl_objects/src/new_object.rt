@@ -1,7 +1,7 @@
 //! The object that a message makes.
 ghost use Rattle.std.specs.Prelude.{◌≡◌};
 ghost use Rattle.wl_wire.specs.Argument.{lent};
-ghost use Rattle.wl_objects.specs.Messages.{is_new, made, made_by};
+ghost use Rattle.wl_objects.specs.Messages.{is_new_id_kind, made, made_by};
 
 use crate::values::Values;
 use wl_sigs::Tables;
@@ -43,7 +43,7 @@ pub fn made_by_message(
 
 /// Whether an argument of this kind is a new object.
 fn is_new(kind: Kind) -> bool
-    ensures { result ≡ is_new kind }
+    ensures { result ≡ is_new_id_kind kind }
 {
     matches!(&kind, Kind::New(_))
 }

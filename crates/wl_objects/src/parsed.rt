@@ -7,7 +7,7 @@ ghost use Rattle.wl_objects.specs.Reading.{arguments_at, forgiving, value_or_fau
 ghost use Rattle.wl_objects.specs.Reading.{named, object_fault, value_fault};
 ghost use Rattle.wl_objects.specs.Parsed.{AreParsed, Lies, parsed_argument, made_of, made_of_one};
 ghost use Rattle.wl_objects.specs.Parsed.{made_unless, parsed_object, one_in, parsed_in};
-ghost use Rattle.wl_objects.specs.Parsed.{parsed_one, body_part, IsNumber};
+ghost use Rattle.wl_objects.specs.Parsed.{parsed_one, body_part, IsParsedNumber};
 ghost use Rattle.wl_objects.specs.Parsed.{place_behind, placed_of, spelled_in, whole_in};
 
 use crate::args::in_state;
@@ -247,7 +247,7 @@ fn parse<L: Lookup>(
 fn read_number(kind: Kind, body: &[u8], start: usize) -> Option<ParsedArg>
     requires { start ≤ length body.now }
     ensures { IfSome result (λ number. (start + 4 ≤ length body.now)
-        × IsNumber kind (drop start body.now) number) }
+        × IsParsedNumber kind (drop start body.now) number) }
 {
     if body.len() - start < 4 {
         return None;
