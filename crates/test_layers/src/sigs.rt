@@ -233,10 +233,10 @@ fn refused_in_turn(alloc: Global) -> Result<Option<u64>, AllocError> {
     Ok(None)
 }
 
-// One for the interfaces, and for each interface and each message one for its name and one for each
-// of its lists that is not empty.
+// One for the interfaces, for each interface one for each side that has messages, and one for each
+// list of more than 4 kinds. No name is longer than 30 bytes.
 #[test]
 fn the_core_tables_are_refused_each_allocation_in_turn(rt: HostRuntime) -> Result<(), Fail> {
-    assert_eq!(rt; refused_in_turn(rt.alloc())?, Some(229));
+    assert_eq!(rt; refused_in_turn(rt.alloc())?, Some(36));
     Ok(())
 }

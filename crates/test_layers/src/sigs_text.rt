@@ -217,6 +217,6 @@ fn a_reading_is_refused_each_allocation_in_turn(rt: HostRuntime) -> Result<(), F
             break;
         }
     }
-    assert!(rt; met > 229);
+    assert!(rt; met > 36);
     Ok(())
 }

@@ -1,3 +1,4 @@
+pub mod Stored
 pub mod Tables
 pub mod Fixed
 pub mod Core

@@ -7,6 +7,7 @@ ghost use Rattle.wl_sigs.specs.Tables.{has_destroying_event, message_of, message
 ghost use Rattle.wl_sigs.specs.Written.{message_written, interface_written};
 
 use crate::core_interfaces::{CoreInterface, CoreMessage};
+use crate::name::Name;
 use crate::signature::{Destroys, Side, Signature};
 use std::alloc::{AllocError, Allocator, Global};
 use std::collections::BTreeMap;
@@ -16,7 +17,7 @@ use wl_interface_text::{WrittenInterface, WrittenMessage};
 /// One interface of the tables.
 #[derive(Debug, Drop)]
 pub(crate) struct Entry<A: Allocator = Global> {
-    name: Vec<u8, A>,
+    name: Name<A>,
     version: u32,
     requests: Vec<Signature<A>, A>,
     events: Vec<Signature<A>, A>,
@@ -27,8 +28,10 @@ impl<A: Allocator> Model for Entry<A> {
 
     ghost Value = { Interface };
 
+    ghost use Rattle.wl_sigs.specs.Stored.{name_bytes};
+
     ghost view = { λ i. record {
-      name = i.name.items;
+      name = name_bytes i.name;
       version = i.version;
       requests = i.requests.items;
       events = i.events.items;
@@ -83,7 +86,7 @@ impl<A: Allocator + Clone + Drop> Entry<A> {
         ensures { IfOk result (λ i. i ≡ interface_written interface.now) }
     {
         Ok(Entry {
-            name: Vec::from_slice(alloc.clone()?, interface.name)?,
+            name: Name::from_slice(alloc, interface.name)?,
             version: interface.version,
             requests: signatures_of(alloc, interface.requests)?,
             events: signatures_of(alloc, interface.events)?,
@@ -95,7 +98,7 @@ impl<A: Allocator + Clone + Drop> Entry<A> {
         ensures { IfOk result (λ i. i ≡ self.now) }
     {
         Ok(Entry {
-            name: Vec::from_slice(alloc.clone()?, self.name())?,
+            name: Name::from_slice(alloc, self.name())?,
             version: self.version,
             requests: copies_of(alloc, self.requests.as_slice())?,
             events: copies_of(alloc, self.events.as_slice())?,
@@ -113,7 +116,7 @@ impl<A: Allocator + Clone + Drop> Entry<A> {
         ensures { IfOk result (λ i. i ≡ interface_placed (place_in places.now) past interface.now) }
     {
         Ok(Entry {
-            name: Vec::from_slice(alloc.clone()?, interface.name)?,
+            name: Name::from_slice(alloc, interface.name)?,
             version: interface.version,
             requests: placed_signatures(alloc, places, past, interface.requests.as_slice())?,
             events: placed_signatures(alloc, places, past, interface.events.as_slice())?,

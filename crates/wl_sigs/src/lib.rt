@@ -7,8 +7,11 @@
 
 mod core_interfaces;
 pub mod event;
+mod front;
 mod interface;
+mod kinds;
 mod laws;
+mod name;
 mod places;
 pub mod request;
 mod rules;

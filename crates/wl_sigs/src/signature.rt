@@ -1,17 +1,18 @@
 //! What the tables say of one message.
 ghost use Rattle.std.specs.Prelude.{◌≡◌, ℕ, ◌<◌, List, IfOk, unwrap_or};
-ghost use Rattle.wl_sigs.specs.Joined.{kind_placed, destroys_of, message_placed};
+ghost use Rattle.wl_sigs.specs.Joined.{destroys_of, message_placed};
 ghost use Rattle.wl_sigs.specs.Places.{place_in};
 ghost use Rattle.wl_sigs.specs.Tables.{destroys_one};
 ghost use Rattle.wl_sigs.specs.Written.{message_written};
 
 use crate::core_interfaces::CoreMessage;
-use crate::places::place_in;
+use crate::kinds::Kinds;
+use crate::name::Name;
 use std::alloc::{AllocError, Allocator, Global};
 use std::collections::BTreeMap;
 use std::marker::Model;
-use wl_interface_text::{WrittenKind, WrittenMessage};
-use wl_wire::{Iface, Kind};
+use wl_interface_text::WrittenMessage;
+use wl_wire::Kind;
 
 /// What a message destroys.
 #[derive(Clone, Copy, Debug, PartialEq, Eq)]
@@ -48,9 +49,9 @@ pub enum Side {
 /// The signature of a request or an event.
 #[derive(Debug, Drop)]
 pub struct Signature<A: Allocator = Global> {
-    name: Vec<u8, A>,
+    name: Name<A>,
     since: u32,
-    kinds: Vec<Kind, A>,
+    kinds: Kinds<A>,
     destroys: Destroys,
 }
 
@@ -59,10 +60,12 @@ impl<A: Allocator> Model for Signature<A> {
 
     ghost Value = { MessageSignature };
 
+    ghost use Rattle.wl_sigs.specs.Stored.{name_bytes, kinds_listed};
+
     ghost view = { λ s. record {
-      name = s.name.items;
+      name = name_bytes s.name;
       since = s.since;
-      kinds = s.kinds.items;
+      kinds = kinds_listed s.kinds;
       destroys = s.destroys;
     } };
 }
@@ -83,6 +86,7 @@ impl<A: Allocator> Signature<A> {
     }
 
     /// The kinds of its arguments, in order.
+    #[inline]
     pub fn kinds(&self) -> &[Kind]
         ensures { result.now ≡ self.now.kinds }
     {
@@ -102,9 +106,9 @@ impl<A: Allocator + Clone + Drop> Signature<A> {
         ensures { IfOk result (λ s. s ≡ message_written message.now) }
     {
         Ok(Signature {
-            name: Vec::from_slice(alloc.clone()?, message.name)?,
+            name: Name::from_slice(alloc, message.name)?,
             since: message.since,
-            kinds: Vec::from_slice(alloc.clone()?, message.kinds)?,
+            kinds: Kinds::from_slice(alloc, message.kinds)?,
             destroys: message.destroys,
         })
     }
@@ -114,9 +118,9 @@ impl<A: Allocator + Clone + Drop> Signature<A> {
         ensures { IfOk result (λ s. s ≡ self.now) }
     {
         Ok(Signature {
-            name: Vec::from_slice(alloc.clone()?, self.name())?,
+            name: Name::from_slice(alloc, self.name())?,
             since: self.since,
-            kinds: Vec::from_slice(alloc.clone()?, self.kinds())?,
+            kinds: Kinds::from_slice(alloc, self.kinds())?,
             destroys: self.destroys,
         })
     }
@@ -131,14 +135,10 @@ impl<A: Allocator + Clone + Drop> Signature<A> {
         requires { (name : List ℕ) → unwrap_or (place_in places.now name) past < 65536 }
         ensures { IfOk result (λ s. s ≡ message_placed (place_in places.now) past message.now) }
     {
-        let mut kinds = Vec::with_capacity(alloc.clone()?, message.kinds.len())?;
-        for kind in &message.kinds {
-            kinds.push(kind_placed(places, past, kind))?;
-        }
         Ok(Signature {
-            name: Vec::from_slice(alloc.clone()?, message.name)?,
+            name: Name::from_slice(alloc, message.name)?,
             since: message.since,
-            kinds,
+            kinds: Kinds::placed(alloc, places, past, message.kinds.as_slice())?,
             destroys: destroys_of(message.destroys),
         })
     }
@@ -152,28 +152,5 @@ fn destroys_of(target: bool) -> Destroys
         Destroys::Target
     } else {
         Destroys::Nothing
-    }
-}
-
-// The kind of an argument with the place of its interface, or `past` where its name has none.
-fn kind_placed<A: Allocator>(
-    places: &BTreeMap<&[u8], usize, A>,
-    past: usize,
-    k: &WrittenKind,
-) -> Kind
-    requires { (name : List ℕ) → unwrap_or (place_in places.now name) past < 65536 }
-    ensures { result ≡ kind_placed (place_in places.now) past k.now }
-{
-    let iface = match k.iface {
-        Some(name) => {
-            let place = place_in(places, name).unwrap_or(past);
-            Some(Iface(place as u16))
-        }
-        None => None,
-    };
-    match k.kind {
-        Kind::Obj { null, .. } => Kind::Obj { null, iface },
-        Kind::New(_) => Kind::New(iface),
-        kind => kind,
     }
 }

@@ -1,0 +1,132 @@
+//! The kinds of a message's arguments.
+ghost use Rattle.std.specs.Prelude.{◌≡◌, ◌≤◌, ◌<◌, ℕ, List, IfOk, length, map, take, unwrap_or};
+ghost use Rattle.wl_sigs.specs.Joined.{kind_placed};
+ghost use Rattle.wl_sigs.specs.Stored.{kinds_listed};
+ghost use Rattle.wl_sigs.specs.Places.{place_in};
+
+use crate::front::Front;
+use crate::places::place_in;
+use std::alloc::{AllocError, Allocator, Global};
+use std::collections::BTreeMap;
+use std::fmt::{self, Debug, Formatter};
+use std::mem::size_of;
+use wl_interface_text::WrittenKind;
+use wl_wire::{Iface, Kind};
+
+/// How many kinds lie in the value itself. Most messages have no more arguments, and with their
+/// count and a mark these fit in the 32 bytes that a vector with a mark takes.
+const FEW_KINDS: usize = 4;
+
+const _: () = prove!(size_of::<Kinds>() == 32);
+
+/// The kinds of a message's arguments, in order.
+#[derive(Drop)]
+pub(crate) enum Kinds<A: Allocator = Global> {
+    /// In the value itself.
+    Few(Front<Kind, FEW_KINDS>),
+    /// In memory of their own.
+    Many(Vec<Kind, A>),
+}
+
+impl<A: Allocator> Kinds<A> {
+    #[inline]
+    pub(crate) fn as_slice(&self) -> &[Kind]
+        ensures { result.now ≡ kinds_listed self.now }
+    {
+        match self {
+            Kinds::Few(kinds) => kinds.as_slice(),
+            Kinds::Many(kinds) => kinds.as_slice(),
+        }
+    }
+}
+
+impl<A: Allocator + Clone + Drop> Kinds<A> {
+    /// A copy of kinds. It asks for memory only where they are many.
+    pub(crate) fn from_slice(alloc: &A, kinds: &[Kind]) -> Result<Self, AllocError>
+        ensures { IfOk result (λ kept. kinds_listed kept ≡ kinds.now) }
+    {
+        if kinds.len() > FEW_KINDS {
+            return Ok(Kinds::Many(Vec::from_slice(alloc.clone()?, kinds)?));
+        }
+        Ok(Kinds::Few(Front::from_slice(Kind::Int, kinds)))
+    }
+
+    /// The kinds of the arguments of a text's message, with the places of the interfaces that they
+    /// name.
+    pub(crate) fn placed(
+        alloc: &A,
+        places: &BTreeMap<&[u8], usize, A>,
+        past: usize,
+        kinds: &[WrittenKind],
+    ) -> Result<Self, AllocError>
+        requires { (name : List ℕ) → unwrap_or (place_in places.now name) past < 65536 }
+        ensures { IfOk result (λ kept.
+            kinds_listed kept ≡ map (kind_placed (place_in places.now) past) kinds.now) }
+    {
+        if kinds.len() > FEW_KINDS {
+            return Ok(Kinds::Many(many_placed(alloc, places, past, kinds)?));
+        }
+        Ok(Kinds::Few(few_placed(places, past, kinds)))
+    }
+}
+
+impl<A: Allocator> Debug for Kinds<A> {
+    fn fmt<W: fmt::Write>(&self, f: &mut Formatter<W>) -> fmt::Result {
+        self.as_slice().fmt(f)
+    }
+}
+
+fn few_placed<A: Allocator>(
+    places: &BTreeMap<&[u8], usize, A>,
+    past: usize,
+    kinds: &[WrittenKind],
+) -> Front<Kind, FEW_KINDS>
+    requires places { (name : List ℕ) → unwrap_or (place_in places.now name) past < 65536 }
+    requires few { length kinds.now ≤ 4 }
+    ensures { result ≡ map (kind_placed (place_in places.now) past) kinds.now }
+{
+    let mut placed = [Kind::Int; FEW_KINDS];
+    'kinds: for (place, kind) in kinds.iter().enumerate() {
+        placed[place] = kind_placed(places, past, kind);
+    }
+    Front::of(placed, kinds.len())
+}
+
+fn many_placed<A: Allocator + Clone + Drop>(
+    alloc: &A,
+    places: &BTreeMap<&[u8], usize, A>,
+    past: usize,
+    kinds: &[WrittenKind],
+) -> Result<Vec<Kind, A>, AllocError>
+    requires { (name : List ℕ) → unwrap_or (place_in places.now name) past < 65536 }
+    ensures { IfOk result (λ v. v.items ≡ map (kind_placed (place_in places.now) past) kinds.now) }
+{
+    let mut placed = Vec::with_capacity(alloc.clone()?, kinds.len())?;
+    'kinds: for kind in kinds {
+        placed.push(kind_placed(places, past, kind))?;
+    }
+    Ok(placed)
+}
+
+// The kind of an argument with the place of its interface, or `past` where its name has none.
+fn kind_placed<A: Allocator>(
+    places: &BTreeMap<&[u8], usize, A>,
+    past: usize,
+    k: &WrittenKind,
+) -> Kind
+    requires { (name : List ℕ) → unwrap_or (place_in places.now name) past < 65536 }
+    ensures { result ≡ kind_placed (place_in places.now) past k.now }
+{
+    let iface = match k.iface {
+        Some(name) => {
+            let place = place_in(places, name).unwrap_or(past);
+            Some(Iface(place as u16))
+        }
+        None => None,
+    };
+    match k.kind {
+        Kind::Obj { null, .. } => Kind::Obj { null, iface },
+        Kind::New(_) => Kind::New(iface),
+        kind => kind,
+    }
+}

@@ -1,0 +1,53 @@
+//! The name of an interface or of a message.
+ghost use Rattle.std.specs.Prelude.{◌≡◌, IfOk};
+ghost use Rattle.wl_sigs.specs.Stored.{name_bytes};
+
+use crate::front::Front;
+use std::alloc::{AllocError, Allocator, Global};
+use std::fmt::{self, Debug, Formatter};
+use std::mem::size_of;
+
+/// How many bytes of a name lie in the value itself: with their count and a mark they take the 32
+/// bytes that a vector with a mark takes. Few names of protocols are longer.
+const SHORT_NAME: usize = 30;
+
+const _: () = prove!(size_of::<Name>() == 32);
+
+/// The bytes of a name.
+#[derive(Drop)]
+pub(crate) enum Name<A: Allocator = Global> {
+    /// In the value itself.
+    Short(Front<u8, SHORT_NAME>),
+    /// In memory of its own.
+    Long(Vec<u8, A>),
+}
+
+impl<A: Allocator> Name<A> {
+    #[inline]
+    pub(crate) fn as_slice(&self) -> &[u8]
+        ensures { result.now ≡ name_bytes self.now }
+    {
+        match self {
+            Name::Short(bytes) => bytes.as_slice(),
+            Name::Long(bytes) => bytes.as_slice(),
+        }
+    }
+}
+
+impl<A: Allocator + Clone + Drop> Name<A> {
+    /// A copy of a name. It asks for memory only where the name is long.
+    pub(crate) fn from_slice(alloc: &A, name: &[u8]) -> Result<Self, AllocError>
+        ensures { IfOk result (λ kept. name_bytes kept ≡ name.now) }
+    {
+        if name.len() > SHORT_NAME {
+            return Ok(Name::Long(Vec::from_slice(alloc.clone()?, name)?));
+        }
+        Ok(Name::Short(Front::from_slice(0, name)))
+    }
+}
+
+impl<A: Allocator> Debug for Name<A> {
+    fn fmt<W: fmt::Write>(&self, f: &mut Formatter<W>) -> fmt::Result {
+        self.as_slice().fmt(f)
+    }
+}
