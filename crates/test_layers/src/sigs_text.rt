@@ -150,6 +150,53 @@ fn texts_are_refused_at_the_first_line_for_the_least_rule(rt: HostRuntime) -> Re
     Ok(())
 }
 
+// How many requests a text has, and the places of two of them that have one name.
+static REPEATED: [(u32, u32, u32); 14] = [
+    (2, 0, 1),
+    (15, 0, 14),
+    (16, 0, 1),
+    (16, 0, 15),
+    (16, 7, 8),
+    (16, 14, 15),
+    (17, 0, 1),
+    (17, 0, 15),
+    (17, 0, 16),
+    (17, 7, 8),
+    (17, 15, 16),
+    (18, 1, 17),
+    (40, 0, 39),
+    (40, 19, 20),
+];
+
+/// Adds an interface with so many requests, of which one has the name of another.
+fn put_repeated(text: &mut String, count: u32, named: u32, again: u32) -> Result<(), AllocError> {
+    writeln!(text, "interface of_{count} 1")?;
+    for place in 0..count {
+        let number = if place == again { named } else { place };
+        writeln!(text, "request request_{number}")?;
+    }
+    Ok(())
+}
+
+// A name stands once on a side, of few messages and of many.
+#[test]
+fn a_repeated_name_is_refused_where_it_stands_again(rt: HostRuntime) -> Result<(), Fail> {
+    let core = Tables::core(rt.alloc())?;
+    for (count, named, again) in &REPEATED {
+        let mut text = String::new(rt.alloc());
+        put_repeated(&mut text, *count, *again, *again)?;
+        assert!(rt; core.read_more(text.as_bytes()).is_ok());
+        text.clear();
+        put_repeated(&mut text, *count, *named, *again)?;
+        let fault = TableFault::BadTable {
+            line: *again as usize + 2,
+            rule: 1,
+        };
+        assert!(rt; is_refused_as(&core, text.as_str(), fault));
+    }
+    Ok(())
+}
+
 /// Adds interfaces of 256 requests each, up to this number.
 fn put_interfaces(text: &mut String, most: u32) -> Result<(), AllocError> {
     for number in 0..most {

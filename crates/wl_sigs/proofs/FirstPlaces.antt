@@ -2,20 +2,22 @@
 use Rattle.std.proofs.Common.{◌≡◌, ℕ, ◌+◌, ◌<◌, ◌≤◌, ◌==◌, true, false, cond, List, [], ◌∷◌, ◌++◌}
 use Rattle.std.proofs.Common.{length, get_or, take, refl, sym, ap, ◌∙◌, subst, Some, None, Option}
 use Rattle.std.proofs.Common.{Bool, bytes_eq, arith}
-use Rattle.std.specs.Prelude.{nat_lt, map}
-use Rattle.std.specs.List.{position_or_len}
+use Rattle.std.specs.Prelude.{nat_lt, map, option_map, ◌||◌}
+use Rattle.std.specs.List.{position_or_len, list_any}
+use Rattle.std.specs.Option.{option_map_or}
 use Rattle.std.proofs.lemmas.List.{map_more, length-append, length-map, length-take-le}
 use Rattle.std.proofs.lemmas.List.Folds.{position_or_len_push}
 use Rattle.std.proofs.lemmas.List.Sums.{prefix_len-le-length}
 use Rattle.std.proofs.lemmas.Bool.Decides.{nat_tests}
 use Rattle.std.proofs.lemmas.Bool.{lt-ltb}
 use Rattle.std.proofs.lemmas.List.Quantifiers.{position-Some}
-use Rattle.std.proofs.lemmas.Option.{slice_get_within, slice_get-get_or}
+use Rattle.std.proofs.lemmas.Option.{slice_get_within, slice_get-get_or, slice_get-map}
 use Rattle.std.specs.Prelude.{not, slice_get, is_some}
 use Rattle.std.proofs.Common.{zero, suc}
 use Rattle.std.proofs.lemmas.Slice.Eq.{bytes_eq-Decides}
 use denote.Ref.{Bor}
 use Rattle.wl_sigs.specs.Joined.{first_place}
+use Rattle.wl_sigs.specs.Broken.{is_first}
 
 -- the place of a name once one more stands behind the others
 abbrev pub with_name : Option ℕ → Bool → ℕ → Option ℕ
@@ -144,3 +146,39 @@ first_place-of (first ∷ more) name q at =
     (bytes_eq-Decides (get_or names (position_or_len same names) first) name).0 p.1 in
     (position_or_len same names, found, slice_get-get_or names (position_or_len same names) first p.0 ∙ ap Some is)
 first_place-of [] name q at = cc at
+
+-- where a name stands, it stands for the first time if it does not stand before
+first_at : {X : Type 0} (f : X → List ℕ) (xs : List X) (name : List ℕ) (k : ℕ)
+    → option_map f (slice_get xs k) ≡ Some name
+    → (position_or_len (λ other. bytes_eq other name) (map f xs) == k)
+    ≡ not (list_any (λ x. bytes_eq (f x) name) (take k xs))
+first_at f [] name k at = cc at
+first_at f (x ∷ xs) name zero at =
+    let same : f x ≡ name = cc in
+    by_test (bytes_eq (f x) name) ((bytes_eq-Decides (f x) name).1 same)
+  where
+    by_test : (same : Bool) → same ≡ true
+        → (cond (not same) (1 + position_or_len (λ other. bytes_eq other name) (map f xs)) 0 == 0) ≡ true
+    by_test true e = refl
+    by_test false e = cc e
+first_at f (x ∷ xs) name (suc k) at =
+    by_test (bytes_eq (f x) name) (position_or_len (λ other. bytes_eq other name) (map f xs)) _
+    (first_at f xs name k at)
+  where
+    by_test : (same : Bool) (n : ℕ) (is_before : Bool) → (n == k) ≡ not is_before
+        → (cond (not same) (1 + n) 0 == suc k) ≡ not (same || is_before)
+    by_test true n is_before rest = grind (arith, nat_tests)
+    by_test false n is_before rest = grind (arith, nat_tests)
+
+pub is_first-new : {X : Type 0} (f : X → List ℕ) (xs : List X) (name : List ℕ) (k : ℕ)
+    → option_map f (slice_get xs k) ≡ Some name
+    → is_first (first_place (map f xs)) name k ≡ not (list_any (λ x. bytes_eq (f x) name) (take k xs))
+is_first-new f xs name k at =
+    let same : List ℕ → Bool = λ other. bytes_eq other name in
+    let stands : slice_get (map f xs) k ≡ Some name = slice_get-map f xs k ∙ at in
+    let le = first_before same (map f xs) k name stands ((bytes_eq-Decides name name).1 refl) in
+    let within = slice_get_within (map f xs) k name stands in
+    let found : first_place (map f xs) name ≡ Some (position_or_len same (map f xs)) =
+    ap (λ b. cond b (Some (position_or_len same (map f xs))) None)
+    (lt-ltb (position_or_len same (map f xs)) (length (map f xs)) (omega (arith, le, within))) in
+    ap (λ place. option_map_or (λ first. first == k) place false) found ∙ first_at f xs name k at

@@ -1,5 +1,5 @@
 -- Maps from names to places.
-use Rattle.std.specs.Prelude.{◌≡◌, ℕ, List, Option}
+use Rattle.std.specs.Prelude.{◌≡◌, ℕ, List, Option, Some}
 use Rattle.std.specs.BTreeMap.{BTreeMap, get_by}
 use Rattle.std.specs.Cmp.Lexicographic.{slice_cmp}
 use Rattle.std.specs.Ordering.{nat_cmp}
@@ -16,3 +16,8 @@ place_in places name = get_by (λ k. slice_cmp nat_cmp name k.now) places
 abbrev pub ArePlaces : (List ℕ → Option ℕ) → List Interface → List WrittenInterface → Type 0
 ArePlaces place tables written =
     (name : List ℕ) → place name ≡ first_place (all_names tables written) name
+
+-- where places are kept, they are the first places of the names
+abbrev pub AreFirst : Option (List ℕ → Option ℕ) → List (List ℕ) → Type 0
+AreFirst places names =
+    (place : List ℕ → Option ℕ) → places ≡ Some place → (name : List ℕ) → place name ≡ first_place names name

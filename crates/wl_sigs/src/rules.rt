@@ -1,13 +1,15 @@
 //! The rules of valid tables, at the lines of a text.
 ghost use Rattle.std.specs.Prelude.{◌≡◌, ℕ, ◌+◌, ◌<◌, ◌≤◌, not, List, map, length, Some, None};
 ghost use Rattle.std.specs.Prelude.{option_map, option_copied, is_some, IfOk};
+ghost use Rattle.std.specs.Prelude.{Option, bytes_eq, slice_get};
 ghost use Rattle.std.specs.List.{list_all, list_any, count_by};
 ghost use Rattle.wl_sigs.specs.Broken.{is_first, is_object, makes_object, makes_unnamed, takes_any};
 ghost use Rattle.wl_sigs.specs.Broken.{takes_ended, names_missing, interface_rule, message_rule};
 ghost use Rattle.wl_sigs.specs.Broken.{names_objects, is_race_free, most_new, earlier, broken_at};
 ghost use Rattle.wl_sigs.specs.Broken.{messages_broken, side_broken, interface_broken};
 ghost use Rattle.wl_sigs.specs.Broken.{interfaces_broken, is_ended};
-ghost use Rattle.wl_sigs.specs.Places.{place_in};
+ghost use Rattle.wl_sigs.specs.Joined.{first_place};
+ghost use Rattle.wl_sigs.specs.Places.{place_in, AreFirst};
 ghost use Rattle.wl_sigs.specs.BrokenLines.{broken};
 ghost use Rattle.wl_sigs.specs.Rules.{is_name, is_name_byte, is_empty};
 
@@ -17,6 +19,10 @@ use std::alloc::{AllocError, Allocator};
 use std::collections::BTreeMap;
 use wl_interface_text::{WrittenInterface, WrittenKind, WrittenMessage, takes_interface};
 use wl_wire::Kind;
+
+/// The most messages of a side that are compared by name with those before them: of so few this
+/// takes fewer steps than a map of the names, and no memory.
+const FEW_MESSAGES: usize = 16;
 
 /// A line that breaks a rule, and the least rule that it breaks.
 #[derive(Clone, Copy)]
@@ -201,15 +207,16 @@ fn message_rule<'t, A: Allocator>(
     ended: &[bool],
     interface: &WrittenInterface<'t, A>,
     side: Side,
-    opcodes: &BTreeMap<&[u8], usize, A>,
+    is_first_named: bool,
     opcode: usize,
     message: &WrittenMessage<'t, A>,
 ) -> Option<u8>
-    ensures { result ≡ message_rule (place_in places.now) ended.now interface.now side
-        (place_in opcodes.now) opcode message.now }
+    ensures { (first : List ℕ → Option ℕ) → is_first_named ≡ is_first first message.now.name opcode
+        → result ≡ message_rule (place_in places.now) ended.now interface.now side first opcode
+        message.now }
 {
     let kinds = message.kinds.as_slice();
-    if !(is_name(message.name) && is_first(opcodes, message.name, opcode)) {
+    if !(is_name(message.name) && is_first_named) {
         Some(1)
     } else if !(opcode < 256 && kinds.len() <= 20) {
         Some(3)
@@ -249,6 +256,30 @@ fn broken_at(line: usize, rule: Option<u8>) -> Option<BrokenLine>
     Some(BrokenLine { line, rule })
 }
 
+// Whether a message of a name is among some.
+fn has_message<'n, A: Allocator>(messages: &[WrittenMessage<'n, A>], name: &[u8]) -> bool
+    ensures { result ≡ list_any (λ m. bytes_eq m.name name.now) messages.now }
+{
+    messages.iter().any(|message| message.name == name)
+}
+
+// Whether a message of a side is the first of its name, by the map of `opcodes_of`.
+fn is_first_message<'n, A: Allocator>(
+    opcodes: &Option<BTreeMap<&'n [u8], usize, A>>,
+    messages: &[WrittenMessage<'n, A>],
+    opcode: usize,
+    name: &[u8],
+) -> bool
+    requires stands { option_map (λ m. m.name) (slice_get messages.now opcode) ≡ Some name.now }
+    requires first { AreFirst (option_map place_in opcodes.now) (map (λ m. m.name) messages.now) }
+    ensures { result ≡ is_first (first_place (map (λ m. m.name) messages.now)) name.now opcode }
+{
+    match opcodes {
+        Some(opcodes) => is_first(opcodes, name, opcode),
+        None => !has_message(&messages[..opcode], name),
+    }
+}
+
 // The first message of one side of an interface that breaks a rule.
 fn side_broken<'n, A: Allocator + Clone + Drop>(
     alloc: &A,
@@ -261,14 +292,38 @@ fn side_broken<'n, A: Allocator + Clone + Drop>(
     ensures { IfOk result (λ found. option_map broken found
         ≡ side_broken (place_in places.now) ended.now interface.now side messages.now) }
 {
-    let names = message_names(alloc, messages)?;
-    let opcodes = places_of(alloc, names.as_slice())?;
+    let opcodes = opcodes_of(alloc, messages)?;
     let mut first = None;
     for (opcode, message) in messages.iter().enumerate() {
-        let rule = message_rule(places, ended, interface, side, &opcodes, opcode, message);
+        let is_first_named = is_first_message(&opcodes, messages, opcode, message.name);
+        let rule = message_rule(
+            places,
+            ended,
+            interface,
+            side,
+            is_first_named,
+            opcode,
+            message,
+        );
         first = earlier(first, broken_at(message.line, rule));
     }
     Ok(first)
+}
+
+// The first opcode of each name, where a side has many messages.
+fn opcodes_of<'n, A: Allocator + Clone + Drop>(
+    alloc: &A,
+    messages: &[WrittenMessage<'n, A>],
+) -> Result<Option<BTreeMap<&'n [u8], usize, A>>, AllocError>
+    ensures { IfOk result (λ opcodes.
+        AreFirst (option_map place_in opcodes) (map (λ m. m.name) messages.now)) }
+{
+    if messages.len() <= FEW_MESSAGES {
+        return Ok(None);
+    }
+    let names = message_names(alloc, messages)?;
+    let opcodes = places_of(alloc, names.as_slice())?;
+    Ok(Some(opcodes))
 }
 
 fn message_names<'n, A: Allocator + Clone + Drop>(

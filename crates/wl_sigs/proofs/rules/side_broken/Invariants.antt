@@ -1,5 +1,6 @@
-use Rattle.std.proofs.Common.{◌≡◌, take}
+use Rattle.std.proofs.Common.{◌≡◌, take, map}
 use Rattle.std.specs.Prelude.{option_map}
+use Rattle.wl_sigs.specs.Joined.{first_place}
 use Rattle.wl_sigs.specs.Broken.{message_rule, messages_broken}
 use Rattle.wl_sigs.specs.BrokenLines.{broken}
 use Rattle.wl_sigs.specs.Places.{place_in}
@@ -8,4 +9,4 @@ use Rattle.wl_sigs.proofs.rules.side_broken.Given as goal
 abbrev pub invariant-loop-opcode : goal.invariant-loop-opcode
 invariant-loop-opcode g l =
     option_map broken l.first ≡ messages_broken (message_rule (place_in l.places) l.ended l.interface l.side
-    (place_in l.opcodes)) 0 (take l.opcode l.messages)
+    (first_place (map (λ m. m.name) l.messages))) 0 (take l.opcode l.messages)
