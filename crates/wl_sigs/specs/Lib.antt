@@ -13,3 +13,4 @@ pub mod BrokenLines
 pub mod Outcome
 pub mod FirstBroken
 pub mod ByName
+pub mod NameHash

@@ -1,5 +1,6 @@
 //! An interface and its messages.
 ghost use Rattle.wl_sigs.specs.Joined.{message_placed, interface_placed};
+ghost use Rattle.wl_sigs.specs.NameHash.{name_hash};
 ghost use Rattle.wl_sigs.specs.Places.{place_in};
 ghost use Rattle.std.specs.Prelude.{◌≡◌, ℕ, ◌<◌, List, unwrap_or, IfOk, map, slice_get};
 ghost use Rattle.std.specs.Prelude.{option_copied, option_map, position, bytes_eq};
@@ -7,17 +8,22 @@ ghost use Rattle.wl_sigs.specs.Tables.{has_destroying_event, message_of, message
 ghost use Rattle.wl_sigs.specs.Written.{message_written, interface_written};
 
 use crate::core_interfaces::{CoreInterface, CoreMessage};
+use crate::hash::name_hash;
 use crate::name::Name;
 use crate::signature::{Destroys, Side, Signature};
+use crate::wanted::WantedName;
 use std::alloc::{AllocError, Allocator, Global};
 use std::collections::BTreeMap;
+use std::fmt::{self, Debug, Formatter};
 use std::marker::Model;
 use wl_interface_text::{WrittenInterface, WrittenMessage};
 
 /// One interface of the tables.
-#[derive(Debug, Drop)]
+#[derive(Drop)]
 pub(crate) struct Entry<A: Allocator = Global> {
     name: Name<A>,
+    /// `name_hash` of the name.
+    hash: u64,
     version: u32,
     requests: Vec<Signature<A>, A>,
     events: Vec<Signature<A>, A>,
@@ -28,6 +34,8 @@ impl<A: Allocator> Model for Entry<A> {
 
     ghost Value = { Interface };
 
+    ghost use Rattle.std.specs.Prelude.{◌≡◌};
+    ghost use Rattle.wl_sigs.specs.NameHash.{name_hash};
     ghost use Rattle.wl_sigs.specs.Stored.{name_bytes};
 
     ghost view = { λ i. record {
@@ -36,6 +44,20 @@ impl<A: Allocator> Model for Entry<A> {
       requests = i.requests.items;
       events = i.events.items;
     } };
+
+    ghost invariant = { λ i. i.hash ≡ name_hash (name_bytes i.name) };
+}
+
+// The hash is left out, since the name gives it.
+impl<A: Allocator + Debug> Debug for Entry<A> {
+    fn fmt<W: fmt::Write>(&self, f: &mut Formatter<W>) -> fmt::Result {
+        f.debug_struct("Entry")
+            .field("name", &self.name)
+            .field("version", &self.version)
+            .field("requests", &self.requests)
+            .field("events", &self.events)
+            .finish()
+    }
 }
 
 impl<A: Allocator> Entry<A> {
@@ -43,6 +65,13 @@ impl<A: Allocator> Entry<A> {
         ensures { result.now ≡ self.now.name }
     {
         self.name.as_slice()
+    }
+
+    /// Whether this is its name. Names are compared only where their hashes are equal.
+    pub(crate) fn has_name(&self, wanted: &WantedName<'_>) -> bool
+        ensures { result ≡ bytes_eq self.now.name wanted.now }
+    {
+        self.hash == wanted.hash() && self.name() == wanted.name()
     }
 
     pub(crate) fn version(&self) -> u32
@@ -87,6 +116,7 @@ impl<A: Allocator + Clone + Drop> Entry<A> {
     {
         Ok(Entry {
             name: Name::from_slice(alloc, interface.name)?,
+            hash: name_hash(interface.name),
             version: interface.version,
             requests: signatures_of(alloc, interface.requests)?,
             events: signatures_of(alloc, interface.events)?,
@@ -99,6 +129,7 @@ impl<A: Allocator + Clone + Drop> Entry<A> {
     {
         Ok(Entry {
             name: Name::from_slice(alloc, self.name())?,
+            hash: self.hash,
             version: self.version,
             requests: copies_of(alloc, self.requests.as_slice())?,
             events: copies_of(alloc, self.events.as_slice())?,
@@ -117,6 +148,7 @@ impl<A: Allocator + Clone + Drop> Entry<A> {
     {
         Ok(Entry {
             name: Name::from_slice(alloc, interface.name)?,
+            hash: name_hash(interface.name),
             version: interface.version,
             requests: placed_signatures(alloc, places, past, interface.requests.as_slice())?,
             events: placed_signatures(alloc, places, past, interface.events.as_slice())?,

@@ -8,6 +8,7 @@
 mod core_interfaces;
 pub mod event;
 mod front;
+mod hash;
 mod interface;
 mod kinds;
 mod laws;
@@ -17,6 +18,7 @@ pub mod request;
 mod rules;
 mod signature;
 mod tables;
+mod wanted;
 
 pub use laws::{
     first_broken_is_first, found_by_its_name, opcodes_are_of_their_names, texts_are_told,

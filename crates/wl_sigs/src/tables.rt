@@ -20,11 +20,16 @@ use crate::interface::Entry;
 use crate::places::places_of;
 use crate::rules::{BrokenLine, interfaces_broken};
 use crate::signature::{Side, Signature};
+use crate::wanted::WantedName;
 use std::alloc::{AllocError, Allocator, Global};
 use std::collections::BTreeMap;
 use std::marker::Model;
 use wl_interface_text::{TableFault, WrittenInterface, read_interfaces};
 use wl_wire::Iface;
+
+/// How long a name may be that is looked up by its hash, which takes time for each of its bytes. No
+/// name of tables is longer.
+const HASHED_NAME: usize = 256;
 
 /// Signature tables: interfaces, each at its place, with the signatures of their messages.
 ///
@@ -266,9 +271,14 @@ impl<A: Allocator + Clone + Drop> Tables<A> {
     }
 }
 
+// Longer than any name of tables, a name isn't hashed: its length alone tells it apart.
 fn place_in<A: Allocator>(entries: &[Entry<A>], name: &[u8]) -> Option<usize>
     ensures place { result ≡ position (λ i. bytes_eq i.name name.now) entries.now }
     ensures within { IfSome result (λ place. place < length entries.now) }
 {
-    entries.iter().position(|entry| entry.name() == name)
+    if name.len() > HASHED_NAME {
+        return entries.iter().position(|entry| entry.name() == name);
+    }
+    let wanted = WantedName::new(name);
+    entries.iter().position(|entry| entry.has_name(&wanted))
 }

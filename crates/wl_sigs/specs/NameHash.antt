@@ -1,0 +1,7 @@
+-- Hashes of names.
+use Rattle.std.specs.Prelude.{ℕ, List}
+use Rattle.std.specs.Hash.FoldHasher.{initial, write, finish}
+
+-- the hash that std's FoldHasher has of a name
+abbrev pub name_hash : List ℕ → ℕ
+name_hash name = finish (write initial name)

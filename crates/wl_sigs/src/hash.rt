@@ -1,0 +1,15 @@
+//! Hashes of names.
+ghost use Rattle.std.specs.Prelude.{◌≡◌};
+ghost use Rattle.wl_sigs.specs.NameHash.{name_hash};
+
+use std::hash::{FoldHasher, Hasher};
+
+/// The hash of a name. Whoever chooses names can choose such with one hash, so it tells only that
+/// two names differ.
+pub(crate) fn name_hash(name: &[u8]) -> u64
+    ensures { result ≡ name_hash name.now }
+{
+    let mut hasher = FoldHasher::default();
+    hasher.write(name);
+    hasher.finish()
+}
