@@ -15,9 +15,18 @@ use Rattle.std.proofs.lemmas.Option.{slice_get_within, slice_get-get_or, slice_g
 use Rattle.std.specs.Prelude.{not, slice_get, is_some}
 use Rattle.std.proofs.Common.{zero, suc}
 use Rattle.std.proofs.lemmas.Slice.Eq.{bytes_eq-Decides}
+use Rattle.std.specs.Prelude.{◌&&◌}
+use Rattle.std.specs.BTreeMap.{BTreeMap, Updates, get, get_by}
+use Rattle.std.specs.Cmp.{tied_then}
+use Rattle.std.specs.Cmp.Lexicographic.{slice_cmp}
+use Rattle.std.specs.Ordering.{is_eq, nat_cmp, ordering_then}
+use Rattle.std.proofs.lemmas.Cmp.{nat_cmp_total, tied_itself}
+use Rattle.std.proofs.lemmas.Map.Text.{is_eq-slice_cmp}
 use denote.Ref.{Bor}
 use Rattle.wl_sigs.specs.Joined.{first_place}
 use Rattle.wl_sigs.specs.Broken.{is_first}
+use Rattle.wl_sigs.specs.NameHash.{name_hash}
+use Rattle.wl_sigs.specs.Places.{place_in}
 
 -- the place of a name once one more stands behind the others
 abbrev pub with_name : Option ℕ → Bool → ℕ → Option ℕ
@@ -57,24 +66,57 @@ inserted places name q next none = by_test (bytes_eq name q) refl
         had_none (places q) (subst (λ n. is_some (places n) ≡ false) same none)
     by_test false is = stays (places q)
 
--- the same where the name had a place
-pub had_place : (places : List ℕ → Option ℕ) (name q : List ℕ) (next : ℕ) → is_some (places name) ≡ true
-    → places q ≡ with_name (places q) (bytes_eq name q) next
-had_place places name q next some = by_test (bytes_eq name q) refl
+-- the same where the name had a place, which is written back
+pub written_back : (places : List ℕ → Option ℕ) (name q : List ℕ) (next earlier : ℕ) → places name ≡ Some earlier
+    → cond (bytes_eq name q) (Some earlier) (cond (bytes_eq name q) (Some next) (places q))
+    ≡ with_name (places q) (bytes_eq name q) next
+written_back places name q next earlier had = by_test (bytes_eq name q) refl
   where
-    has_some : (o : Option ℕ) → is_some o ≡ true → o ≡ with_name o true next
-    has_some None e = cc e
-    has_some (Some place) e = refl
-
     stays : (o : Option ℕ) → o ≡ with_name o false next
     stays None = refl
     stays (Some place) = refl
 
-    by_test : (t : Bool) → bytes_eq name q ≡ t → places q ≡ with_name (places q) t next
+    by_test : (t : Bool) → bytes_eq name q ≡ t
+        → cond t (Some earlier) (cond t (Some next) (places q)) ≡ with_name (places q) t next
     by_test true is =
         let same : name ≡ q = (bytes_eq-Decides name q).0 is in
-        has_some (places q) (subst (λ n. is_some (places n) ≡ true) same some)
+        let has : places q ≡ Some earlier = subst (λ n. places n ≡ Some earlier) same had in
+        sym (ap (λ o. with_name o true next) has)
     by_test false is = stays (places q)
+
+-- a name compares as equal to another's key where the two are the same
+same_keys : (hash : List ℕ → ℕ) (a b : List ℕ)
+    → is_eq (ordering_then (nat_cmp (hash a) (hash b)) (slice_cmp nat_cmp a b)) ≡ bytes_eq a b
+same_keys hash a b =
+    sym (tied_then (nat_cmp (hash a) (hash b)) (slice_cmp nat_cmp a b))
+    ∙ ap (λ t. is_eq (nat_cmp (hash a) (hash b)) && t) (is_eq-slice_cmp a b)
+    ∙ second (is_eq (nat_cmp (hash a) (hash b))) (bytes_eq a b) (λ is.
+    let same : a ≡ b = (bytes_eq-Decides a b).0 is in
+    subst (λ n. is_eq (nat_cmp (hash a) (hash n)) ≡ true) same (ap is_eq (tied_itself nat_cmp_total (hash a))))
+  where
+    second : (x t : Bool) → (t ≡ true → x ≡ true) → (x && t) ≡ t
+    second true t both = refl
+    second false true both = both refl
+    second false false both = refl
+
+-- the places of names, once one name has another
+pub place_in-updates : (m n : BTreeMap (ℕ × Bor (List ℕ)) ℕ) (hash : ℕ) (name : Bor (List ℕ)) (w : Option ℕ)
+    → hash ≡ name_hash name.now
+    → Updates (λ x y. ordering_then (nat_cmp x.0 y.0) (slice_cmp nat_cmp x.1.now y.1.now)) m n (hash, name) w
+    → (q : List ℕ) → place_in n q ≡ cond (bytes_eq name.now q) w (place_in m q)
+place_in-updates m n hash name w is updates q =
+    updates.0 (name_hash q, record { ref_ptr = (0, 0); now = q })
+    ∙ ap (λ h. cond (is_eq (ordering_then (nat_cmp h (name_hash q)) (slice_cmp nat_cmp name.now q))) w
+    (place_in m q)) is
+    ∙ ap (λ t. cond t w (place_in m q)) (same_keys name_hash name.now q)
+
+-- the place of a name, by its hash
+pub place_in-get : (m : BTreeMap (ℕ × Bor (List ℕ)) ℕ) (hash : ℕ) (name : Bor (List ℕ))
+    → hash ≡ name_hash name.now
+    → get (λ x y. ordering_then (nat_cmp x.0 y.0) (slice_cmp nat_cmp x.1.now y.1.now)) m (hash, name)
+    ≡ place_in m name.now
+place_in-get m hash name is =
+    ap (λ h. get_by (λ y. ordering_then (nat_cmp h y.0) (slice_cmp nat_cmp name.now y.1.now)) m) is
 
 -- the step of a loop over names
 pub places-next : (names : List (Bor (List ℕ))) (k : ℕ) (d : Bor (List ℕ)) (old new : List ℕ → Option ℕ)

@@ -2,15 +2,21 @@
 use Rattle.std.specs.Prelude.{◌≡◌, ℕ, List, Option, Some}
 use Rattle.std.specs.BTreeMap.{BTreeMap, get_by}
 use Rattle.std.specs.Cmp.Lexicographic.{slice_cmp}
-use Rattle.std.specs.Ordering.{nat_cmp}
+use Rattle.std.specs.Ordering.{nat_cmp, ordering_then}
+use Rattle.std.specs.declared.cmp.Ordering.{Ordering}
 use denote.Ref.{Bor}
+use Rattle.wl_sigs.specs.NameHash.{name_hash}
 use Rattle.wl_sigs.specs.Tables.{Interface}
 use Rattle.wl_interface_text.specs.Text.{WrittenInterface}
 use Rattle.wl_sigs.specs.Joined.{all_names, first_place}
 
+-- how a name compares to a key: first by their hashes, then by the names
+abbrev pub name_cmp : List ℕ → ℕ × Bor (List ℕ) → Ordering
+name_cmp name key = ordering_then (nat_cmp (name_hash name) key.0) (slice_cmp nat_cmp name key.1.now)
+
 -- the place that the map has for a name
-abbrev pub place_in : BTreeMap (Bor (List ℕ)) ℕ → List ℕ → Option ℕ
-place_in places name = get_by (λ k. slice_cmp nat_cmp name k.now) places
+abbrev pub place_in : BTreeMap (ℕ × Bor (List ℕ)) ℕ → List ℕ → Option ℕ
+place_in places name = get_by (name_cmp name) places
 
 -- these are the first places of the names of the tables and of a text
 abbrev pub ArePlaces : (List ℕ → Option ℕ) → List Interface → List WrittenInterface → Type 0

@@ -10,10 +10,10 @@ ghost use Rattle.wl_sigs.specs.Written.{message_written, interface_written};
 use crate::core_interfaces::{CoreInterface, CoreMessage};
 use crate::hash::name_hash;
 use crate::name::Name;
+use crate::places::Places;
 use crate::signature::{Destroys, Side, Signature};
 use crate::wanted::WantedName;
 use std::alloc::{AllocError, Allocator, Global};
-use std::collections::BTreeMap;
 use std::fmt::{self, Debug, Formatter};
 use std::marker::Model;
 use wl_interface_text::{WrittenInterface, WrittenMessage};
@@ -137,11 +137,11 @@ impl<A: Allocator + Clone + Drop> Entry<A> {
     }
 
     /// An interface of a text, with the places of the interfaces that it names.
-    pub(crate) fn placed<'t>(
+    pub(crate) fn placed<'n>(
         alloc: &A,
-        places: &BTreeMap<&[u8], usize, A>,
+        places: &Places<'n, A>,
         past: usize,
-        interface: &WrittenInterface<'t, A>,
+        interface: &WrittenInterface<'n, A>,
     ) -> Result<Self, AllocError>
         requires { (name : List ℕ) → unwrap_or (place_in places.now name) past < 65536 }
         ensures { IfOk result (λ i. i ≡ interface_placed (place_in places.now) past interface.now) }
@@ -169,11 +169,11 @@ fn copies_of<A: Allocator + Clone + Drop>(
     Ok(copies)
 }
 
-fn placed_signatures<'t, A: Allocator + Clone + Drop>(
+fn placed_signatures<'n, A: Allocator + Clone + Drop>(
     alloc: &A,
-    places: &BTreeMap<&[u8], usize, A>,
+    places: &Places<'n, A>,
     past: usize,
-    messages: &[WrittenMessage<'t, A>],
+    messages: &[WrittenMessage<'n, A>],
 ) -> Result<Vec<Signature<A>, A>, AllocError>
     requires { (name : List ℕ) → unwrap_or (place_in places.now name) past < 65536 }
     ensures { IfOk result (λ v. v.items

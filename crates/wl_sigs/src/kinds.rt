@@ -5,9 +5,8 @@ ghost use Rattle.wl_sigs.specs.Stored.{kinds_listed};
 ghost use Rattle.wl_sigs.specs.Places.{place_in};
 
 use crate::front::Front;
-use crate::places::place_in;
+use crate::places::{Places, place_in};
 use std::alloc::{AllocError, Allocator, Global};
-use std::collections::BTreeMap;
 use std::fmt::{self, Debug, Formatter};
 use std::mem::size_of;
 use wl_interface_text::WrittenKind;
@@ -53,11 +52,11 @@ impl<A: Allocator + Clone + Drop> Kinds<A> {
 
     /// The kinds of the arguments of a text's message, with the places of the interfaces that they
     /// name.
-    pub(crate) fn placed(
+    pub(crate) fn placed<'n>(
         alloc: &A,
-        places: &BTreeMap<&[u8], usize, A>,
+        places: &Places<'n, A>,
         past: usize,
-        kinds: &[WrittenKind],
+        kinds: &[WrittenKind<'n>],
     ) -> Result<Self, AllocError>
         requires { (name : List ℕ) → unwrap_or (place_in places.now name) past < 65536 }
         ensures { IfOk result (λ kept.
@@ -76,10 +75,10 @@ impl<A: Allocator> Debug for Kinds<A> {
     }
 }
 
-fn few_placed<A: Allocator>(
-    places: &BTreeMap<&[u8], usize, A>,
+fn few_placed<'n, A: Allocator>(
+    places: &Places<'n, A>,
     past: usize,
-    kinds: &[WrittenKind],
+    kinds: &[WrittenKind<'n>],
 ) -> Front<Kind, FEW_KINDS>
     requires places { (name : List ℕ) → unwrap_or (place_in places.now name) past < 65536 }
     requires few { length kinds.now ≤ 4 }
@@ -92,11 +91,11 @@ fn few_placed<A: Allocator>(
     Front::of(placed, kinds.len())
 }
 
-fn many_placed<A: Allocator + Clone + Drop>(
+fn many_placed<'n, A: Allocator + Clone + Drop>(
     alloc: &A,
-    places: &BTreeMap<&[u8], usize, A>,
+    places: &Places<'n, A>,
     past: usize,
-    kinds: &[WrittenKind],
+    kinds: &[WrittenKind<'n>],
 ) -> Result<Vec<Kind, A>, AllocError>
     requires { (name : List ℕ) → unwrap_or (place_in places.now name) past < 65536 }
     ensures { IfOk result (λ v. v.items ≡ map (kind_placed (place_in places.now) past) kinds.now) }
@@ -109,11 +108,7 @@ fn many_placed<A: Allocator + Clone + Drop>(
 }
 
 // The kind of an argument with the place of its interface, or `past` where its name has none.
-fn kind_placed<A: Allocator>(
-    places: &BTreeMap<&[u8], usize, A>,
-    past: usize,
-    k: &WrittenKind,
-) -> Kind
+fn kind_placed<'n, A: Allocator>(places: &Places<'n, A>, past: usize, k: &WrittenKind<'n>) -> Kind
     requires { (name : List ℕ) → unwrap_or (place_in places.now name) past < 65536 }
     ensures { result ≡ kind_placed (place_in places.now) past k.now }
 {

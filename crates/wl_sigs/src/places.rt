@@ -4,32 +4,37 @@ ghost use Rattle.std.specs.Prelude.{if◌then◌else◌, is_some, bytes_eq};
 ghost use Rattle.wl_sigs.specs.Joined.{first_place};
 ghost use Rattle.wl_sigs.specs.Places.{place_in};
 
+use crate::hash::name_hash;
 use std::alloc::{AllocError, Allocator};
 use std::collections::BTreeMap;
+
+/// Places by the hashes of names and the names, so that names that begin alike are mostly told
+/// apart by one number.
+pub(crate) type Places<'n, A> = BTreeMap<(u64, &'n [u8]), usize, A>;
 
 /// The first place of each of the names.
 pub(crate) fn places_of<'n, A: Allocator + Clone + Drop>(
     alloc: &A,
     names: &[&'n [u8]],
-) -> Result<BTreeMap<&'n [u8], usize, A>, AllocError>
+) -> Result<Places<'n, A>, AllocError>
     ensures { IfOk result (λ places. (name : List ℕ)
         → place_in places name ≡ first_place (map (λ n. n.now) names.now) name) }
 {
     let mut places = BTreeMap::new(alloc.clone()?);
     for (place, name) in names.iter().enumerate() {
-        if !places.contains_key(*name) {
-            places.insert(*name, place)?;
+        let key = (name_hash(name), *name);
+        // A name that stands again keeps its first place: to write that back takes no memory.
+        if let Some(earlier) = places.insert(key, place)? {
+            places.insert(key, earlier)?;
         }
     }
     Ok(places)
 }
 
 /// The first place of a name.
-pub(crate) fn place_in<A: Allocator>(
-    places: &BTreeMap<&[u8], usize, A>,
-    name: &[u8],
-) -> Option<usize>
+pub(crate) fn place_in<'n, A: Allocator>(places: &Places<'n, A>, name: &'n [u8]) -> Option<usize>
     ensures { result ≡ place_in places.now name.now }
 {
-    places.get(name).copied()
+    let key = (name_hash(name), name);
+    places.get(&key).copied()
 }

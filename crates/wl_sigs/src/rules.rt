@@ -13,10 +13,9 @@ ghost use Rattle.wl_sigs.specs.Places.{place_in, AreFirst};
 ghost use Rattle.wl_sigs.specs.BrokenLines.{broken};
 ghost use Rattle.wl_sigs.specs.Rules.{is_name, is_name_byte, is_empty};
 
-use crate::places::{place_in, places_of};
+use crate::places::{Places, place_in, places_of};
 use crate::signature::Side;
 use std::alloc::{AllocError, Allocator};
-use std::collections::BTreeMap;
 use wl_interface_text::{WrittenInterface, WrittenKind, WrittenMessage, takes_interface};
 use wl_wire::Kind;
 
@@ -50,7 +49,7 @@ fn is_name(name: &[u8]) -> bool
 }
 
 // Whether a name stands first at a place.
-fn is_first<A: Allocator>(places: &BTreeMap<&[u8], usize, A>, name: &[u8], here: usize) -> bool
+fn is_first<'n, A: Allocator>(places: &Places<'n, A>, name: &'n [u8], here: usize) -> bool
     ensures { result ≡ is_first (place_in places.now) name.now here }
 {
     match place_in(places, name) {
@@ -92,10 +91,10 @@ fn is_ended(ended: &[bool], place: Option<usize>) -> bool
     }
 }
 
-fn takes_ended<A: Allocator>(
-    places: &BTreeMap<&[u8], usize, A>,
+fn takes_ended<'n, A: Allocator>(
+    places: &Places<'n, A>,
     ended: &[bool],
-    k: &WrittenKind,
+    k: &WrittenKind<'n>,
 ) -> bool
     ensures { result ≡ takes_ended (place_in places.now) ended.now k.now }
 {
@@ -105,7 +104,7 @@ fn takes_ended<A: Allocator>(
     }
 }
 
-fn names_missing<A: Allocator>(places: &BTreeMap<&[u8], usize, A>, k: &WrittenKind) -> bool
+fn names_missing<'n, A: Allocator>(places: &Places<'n, A>, k: &WrittenKind<'n>) -> bool
     ensures { result ≡ names_missing (place_in places.now) k.now }
 {
     match k.iface {
@@ -132,28 +131,38 @@ fn none_any(kinds: &[WrittenKind]) -> bool
     kinds.iter().all(|k| !takes_any(k))
 }
 
-fn none_ended<A: Allocator>(
-    places: &BTreeMap<&[u8], usize, A>,
+fn none_ended<'n, A: Allocator>(
+    places: &Places<'n, A>,
     ended: &[bool],
-    kinds: &[WrittenKind],
+    kinds: &[WrittenKind<'n>],
 ) -> bool
     ensures { result
         ≡ list_all (λ k. not (takes_ended (place_in places.now) ended.now k)) kinds.now }
 {
-    kinds.iter().all(|k| !takes_ended(places, ended, k))
+    'kinds: for k in kinds {
+        if takes_ended(places, ended, k) {
+            return false;
+        }
+    }
+    true
 }
 
-fn none_missing<A: Allocator>(places: &BTreeMap<&[u8], usize, A>, kinds: &[WrittenKind]) -> bool
+fn none_missing<'n, A: Allocator>(places: &Places<'n, A>, kinds: &[WrittenKind<'n>]) -> bool
     ensures { result ≡ list_all (λ k. not (names_missing (place_in places.now) k)) kinds.now }
 {
-    kinds.iter().all(|k| !names_missing(places, k))
+    'kinds: for k in kinds {
+        if names_missing(places, k) {
+            return false;
+        }
+    }
+    true
 }
 
 // The least rule that an interface at a place breaks by itself.
-fn interface_rule<'t, A: Allocator>(
-    places: &BTreeMap<&[u8], usize, A>,
+fn interface_rule<'n, A: Allocator>(
+    places: &Places<'n, A>,
     here: usize,
-    interface: &WrittenInterface<'t, A>,
+    interface: &WrittenInterface<'n, A>,
 ) -> Option<u8>
     ensures { result ≡ interface_rule (place_in places.now) here interface.now }
 {
@@ -186,12 +195,12 @@ fn names_objects<'t, A: Allocator>(side: Side, message: &WrittenMessage<'t, A>) 
     }
 }
 
-fn is_race_free<'t, A: Allocator>(
-    places: &BTreeMap<&[u8], usize, A>,
+fn is_race_free<'n, A: Allocator>(
+    places: &Places<'n, A>,
     ended: &[bool],
-    interface: &WrittenInterface<'t, A>,
+    interface: &WrittenInterface<'n, A>,
     side: Side,
-    message: &WrittenMessage<'t, A>,
+    message: &WrittenMessage<'n, A>,
 ) -> bool
     ensures { result ≡ is_race_free (place_in places.now) ended.now interface.now side message.now }
 {
@@ -202,14 +211,14 @@ fn is_race_free<'t, A: Allocator>(
 }
 
 // The least rule that a message of an interface breaks.
-fn message_rule<'t, A: Allocator>(
-    places: &BTreeMap<&[u8], usize, A>,
+fn message_rule<'n, A: Allocator>(
+    places: &Places<'n, A>,
     ended: &[bool],
-    interface: &WrittenInterface<'t, A>,
+    interface: &WrittenInterface<'n, A>,
     side: Side,
     is_first_named: bool,
     opcode: usize,
-    message: &WrittenMessage<'t, A>,
+    message: &WrittenMessage<'n, A>,
 ) -> Option<u8>
     ensures { (first : List ℕ → Option ℕ) → is_first_named ≡ is_first first message.now.name opcode
         → result ≡ message_rule (place_in places.now) ended.now interface.now side first opcode
@@ -265,10 +274,10 @@ fn has_message<'n, A: Allocator>(messages: &[WrittenMessage<'n, A>], name: &[u8]
 
 // Whether a message of a side is the first of its name, by the map of `opcodes_of`.
 fn is_first_message<'n, A: Allocator>(
-    opcodes: &Option<BTreeMap<&'n [u8], usize, A>>,
+    opcodes: &Option<Places<'n, A>>,
     messages: &[WrittenMessage<'n, A>],
     opcode: usize,
-    name: &[u8],
+    name: &'n [u8],
 ) -> bool
     requires stands { option_map (λ m. m.name) (slice_get messages.now opcode) ≡ Some name.now }
     requires first { AreFirst (option_map place_in opcodes.now) (map (λ m. m.name) messages.now) }
@@ -283,7 +292,7 @@ fn is_first_message<'n, A: Allocator>(
 // The first message of one side of an interface that breaks a rule.
 fn side_broken<'n, A: Allocator + Clone + Drop>(
     alloc: &A,
-    places: &BTreeMap<&'n [u8], usize, A>,
+    places: &Places<'n, A>,
     ended: &[bool],
     interface: &WrittenInterface<'n, A>,
     side: Side,
@@ -314,7 +323,7 @@ fn side_broken<'n, A: Allocator + Clone + Drop>(
 fn opcodes_of<'n, A: Allocator + Clone + Drop>(
     alloc: &A,
     messages: &[WrittenMessage<'n, A>],
-) -> Result<Option<BTreeMap<&'n [u8], usize, A>>, AllocError>
+) -> Result<Option<Places<'n, A>>, AllocError>
     ensures { IfOk result (λ opcodes.
         AreFirst (option_map place_in opcodes) (map (λ m. m.name) messages.now)) }
 {
@@ -343,7 +352,7 @@ fn message_names<'n, A: Allocator + Clone + Drop>(
 // The first line of an interface and its messages that breaks a rule.
 fn interface_broken<'n, A: Allocator + Clone + Drop>(
     alloc: &A,
-    places: &BTreeMap<&'n [u8], usize, A>,
+    places: &Places<'n, A>,
     ended: &[bool],
     here: usize,
     interface: &WrittenInterface<'n, A>,
@@ -374,7 +383,7 @@ fn interface_broken<'n, A: Allocator + Clone + Drop>(
 /// The first line of interfaces that breaks a rule, where the first interface stands at `from`.
 pub(crate) fn interfaces_broken<'n, A: Allocator + Clone + Drop>(
     alloc: &A,
-    places: &BTreeMap<&'n [u8], usize, A>,
+    places: &Places<'n, A>,
     ended: &[bool],
     from: usize,
     interfaces: &[WrittenInterface<'n, A>],

@@ -8,8 +8,8 @@ ghost use Rattle.wl_sigs.specs.Written.{message_written};
 use crate::core_interfaces::CoreMessage;
 use crate::kinds::Kinds;
 use crate::name::Name;
+use crate::places::Places;
 use std::alloc::{AllocError, Allocator, Global};
-use std::collections::BTreeMap;
 use std::marker::Model;
 use wl_interface_text::WrittenMessage;
 use wl_wire::Kind;
@@ -126,11 +126,11 @@ impl<A: Allocator + Clone + Drop> Signature<A> {
     }
 
     /// The signature of a message of a text, with the places of the interfaces that it names.
-    pub(crate) fn placed<'t>(
+    pub(crate) fn placed<'n>(
         alloc: &A,
-        places: &BTreeMap<&[u8], usize, A>,
+        places: &Places<'n, A>,
         past: usize,
-        message: &WrittenMessage<'t, A>,
+        message: &WrittenMessage<'n, A>,
     ) -> Result<Self, AllocError>
         requires { (name : List ℕ) → unwrap_or (place_in places.now name) past < 65536 }
         ensures { IfOk result (λ s. s ≡ message_placed (place_in places.now) past message.now) }

@@ -17,12 +17,11 @@ ghost use Rattle.wl_interface_text.specs.declared.fault.TableFault.TheVariants.{
 
 use crate::core_interfaces::{CORE, CoreInterface};
 use crate::interface::Entry;
-use crate::places::places_of;
+use crate::places::{Places, places_of};
 use crate::rules::{BrokenLine, interfaces_broken};
 use crate::signature::{Side, Signature};
 use crate::wanted::WantedName;
 use std::alloc::{AllocError, Allocator, Global};
-use std::collections::BTreeMap;
 use std::marker::Model;
 use wl_interface_text::{TableFault, WrittenInterface, read_interfaces};
 use wl_wire::Iface;
@@ -178,7 +177,7 @@ impl<A: Allocator + Clone + Drop> Tables<A> {
     fn places<'n>(
         &'n self,
         written: &[WrittenInterface<'n, A>],
-    ) -> Result<BTreeMap<&'n [u8], usize, A>, AllocError>
+    ) -> Result<Places<'n, A>, AllocError>
         ensures { IfOk result (λ places. ArePlaces (place_in places) self.now written.now) }
     {
         let names = self.all_names(written)?;
@@ -188,7 +187,7 @@ impl<A: Allocator + Clone + Drop> Tables<A> {
     // The first line of a text that breaks a rule, behind these tables.
     fn first_broken<'n>(
         &self,
-        places: &BTreeMap<&'n [u8], usize, A>,
+        places: &Places<'n, A>,
         written: &[WrittenInterface<'n, A>],
     ) -> Result<Option<BrokenLine>, AllocError>
         requires { ArePlaces (place_in places.now) self.now written.now }
@@ -202,10 +201,10 @@ impl<A: Allocator + Clone + Drop> Tables<A> {
     }
 
     // These tables followed by those of a text that breaks no rule.
-    fn joined(
+    fn joined<'n>(
         &self,
-        places: &BTreeMap<&[u8], usize, A>,
-        written: &[WrittenInterface<'_, A>],
+        places: &Places<'n, A>,
+        written: &[WrittenInterface<'n, A>],
     ) -> Result<Self, AllocError>
         requires places { ArePlaces (place_in places.now) self.now written.now }
         requires unbroken { first_broken self.now written.now ≡ None }
