@@ -28,6 +28,10 @@ use wl_sigs::{Destroys, Side, Tables};
 use wl_trace_line::write_line;
 use wl_wire::{Header, Iface, ValueRef};
 
+/// How many bytes are asked for at least where a line is to be appended: most lines have fewer, and
+/// so take one request.
+const LINE_ROOM: usize = 128;
+
 /// Requests go to the server, events to the client.
 pub(crate) fn side_of(direction: Direction) -> Side
     ensures { result ≡ side_of direction }
@@ -131,6 +135,7 @@ fn write<A: Allocator>(
     match output {
         Output::Nothing => Ok(()),
         Output::Lines => {
+            text.reserve(LINE_ROOM)?;
             let lookup = ReaderLookup { known, direction };
             let taken = known.taken(direction);
             write_line(text, tables, side_of(direction), &lookup, message, taken)
