@@ -177,7 +177,7 @@ struct waywire_tables {
 static __thread struct block *making;
 
 /* The least that this thread asks for at a time: while a piece passes, so much that its lines grow in few
- * steps; else 0. */
+ * steps, and that what they were comes back to the C library in blocks of few sizes; else 0. */
 static __thread size_t least;
 
 enum { LEAST_OF_PIECE = 256 };
