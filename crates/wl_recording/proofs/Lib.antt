@@ -1,5 +1,4 @@
 pub mod FillLemmas
-mod DigitLemmas
 mod PieceLemmas
 mod Progress
 pub mod TextLemmas

@@ -1,10 +1,8 @@
 -- A line tells one piece at most.
 use Rattle.std.proofs.Common.{◌≡◌, ◌≢◌, ℕ, ◌<◌, true, List, [], ◌∷◌, ◌++◌, length, slice_index}
 use Rattle.std.proofs.Common.{refl, sym, ap, subst, ◌∙◌, arith}
-use Rattle.std.specs.Prelude.{codes, Ok, Option, Some, None, MatchOption, nat_eq}
-use Rattle.std.specs.List.{All, list_any}
-use Rattle.std.proofs.lemmas.Bool.{eqb-true}
-use Rattle.std.proofs.lemmas.List.Folds.{Any-from_list_any}
+use Rattle.std.specs.Prelude.{codes, Result, Ok, Err, OnErr, Option, Some, None, MatchOption}
+use Rattle.std.specs.List.{All}
 use Rattle.std.proofs.lemmas.List.Elements.{All-head, All-tail, All-cons, All-nil, All-weaker}
 use Rattle.hex.specs.Hex.{decode_of, is_hex_digit}
 use Rattle.hex.proofs.HexLemmas.{decode_of-ok, decode_of-same}
@@ -54,12 +52,6 @@ bytes_no_space digits bytes spelled = elim spelled [
       in let no : is_hex_digit 32 ≡ true = subst P space digit in cc no) digits (decode_of-ok digits bytes is).1
 ]
 
--- nor is one found there
-pub no_space_found : (digits bytes : List ℕ) → SpellsBytes digits bytes → list_any (λ b. nat_eq b 32) digits ≡ true → ⊥
-no_space_found digits bytes spelled found =
-    let at = Any-from_list_any (λ (b : ℕ). nat_eq b 32) digits found in
-    bytes_no_space digits bytes spelled at.0 at.1 at.2 (at.3 ∙ eqb-true at.1 32 at.4)
-
 -- what stands for tokens begins with a space, if it is not empty
 pub tokens_at_space : (count : List ℕ) (tokens : ℕ) → SpellsTokens count tokens → AtSpace count
 tokens_at_space count tokens spelled = elim spelled [
@@ -70,15 +62,11 @@ tokens_at_space count tokens spelled = elim spelled [
 -- the parts of a line that tells a piece are those at its first space
 pub parts_of : (line rest front back : List ℕ) (direction : Direction) (piece : Piece) → (told : IsPiece line piece)
     → line ≡ sign direction ∷ 32 ∷ rest
-    → rest ≡ front ++ back
-    → ((digits count : List ℕ) (tokens : ℕ) → rest ≡ digits ++ count → SpellsTokens count tokens → NoSpace digits
-    → NoSpace front)
-    → AtSpace back → (told.digits ≡ front) × (told.count ≡ back)
+    → rest ≡ front ++ back → NoSpace front → AtSpace back → (told.digits ≡ front) × (told.count ≡ back)
 parts_of line rest front back direction piece told whole cut clean at =
-    let own : rest ≡ told.digits ++ told.count = let w = told.whole in cc in
-    let no_space = bytes_no_space _ _ told.bytes in
-    cut_once told.digits told.count front back no_space (tokens_at_space _ _ told.tokens)
-    (clean told.digits told.count piece.tokens own told.tokens no_space) at (sym own ∙ cut)
+    let same : told.digits ++ told.count ≡ front ++ back = let w = told.whole in cc in
+    cut_once told.digits told.count front back (bytes_no_space _ _ told.bytes)
+    (tokens_at_space _ _ told.tokens) clean at same
 
 -- two directions with one sign are the same
 pub one_direction : (d e : Direction) → sign d ≡ sign e → d ≡ e
@@ -136,7 +124,7 @@ same_pieces p q d b t =
 pub one_piece : (line : List ℕ) (p q : Piece) → IsPiece line p → IsPiece line q → p ≡ q
 one_piece line p q x y =
     let cut = parts_of line (y.digits ++ y.count) y.digits y.count q.direction p x y.whole refl
-    (λ digits count tokens whole spelled no_space. bytes_no_space _ _ y.bytes) (tokens_at_space _ _ y.tokens) in
+    (bytes_no_space _ _ y.bytes) (tokens_at_space _ _ y.tokens) in
     let signs : sign p.direction ≡ sign q.direction = let w = x.whole in let v = y.whole in cc in
     same_pieces p q (one_direction _ _ signs) (one_bytes y.digits p.bytes q.bytes (rw cut.0 at x.bytes) y.bytes)
     (one_count y.count p.tokens q.tokens (rw cut.1 at x.tokens) y.tokens)
@@ -157,3 +145,8 @@ skipped_tells_none line p skipped told = elim skipped [
 pub at_none : {X P : Type 0} (Q : X → Type 0) (o : Option X) → ((x : X) → o ≡ Some x → ⊥) → MatchOption o P Q → P
 at_none Q None never h = h
 at_none Q (Some x) never h = absurd (never x refl)
+
+-- what holds anyway holds of an error that is passed on
+pub on_err : {X E P : Type 0} (r : Result X E) → P → OnErr r P
+on_err (Ok x) holds = tt
+on_err (Err e) holds = holds

@@ -2,4 +2,3 @@ pub mod Piece
 pub mod Line
 pub mod Text
 pub mod Errors
-pub mod Digits

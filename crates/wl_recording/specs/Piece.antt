@@ -38,6 +38,11 @@ pub record IsAppended (piece : Piece) (appended : Appended)
   pub to_server : server_after ≡ server ++ own ToServer piece.direction piece.bytes
   pub to_client : client_after ≡ client ++ own ToClient piece.direction piece.bytes
 
+-- nothing was appended to the bytes of either direction
+abbrev pub AreAsBefore : List ℕ → List ℕ → List ℕ → List ℕ → Type 0
+AreAsBefore server server_after client client_after =
+    (server_after ≡ server) × (client_after ≡ client)
+
 -- a line can tell it: its bytes are below 256, and its tokens at most 65,535
 pub record IsTellable (piece : Piece) : Type 0 where
   pub bytes : IsBytes piece.bytes

@@ -1,83 +1,53 @@
-//! Hexadecimal digits, two at a time.
-ghost use Rattle.std.specs.Prelude.{◌≡◌, ◌≤◌, ◌%◌, ℕ, List, ◌++◌, Ok, length, IsTrue, IfOk};
-ghost use Rattle.hex.specs.Hex.{decode_of, hex_digit_value};
-ghost use Rattle.wl_recording.specs.Digits.{worth};
+//! Hexadecimal digits, two for each byte.
+ghost use Rattle.std.specs.Prelude.{◌≡◌, ℕ, List, ◌++◌, Ok, IsTrue, IsFalse, IfOk, OnErr};
+ghost use Rattle.std.specs.List.{list_all};
+ghost use Rattle.hex.specs.Hex.{decode_of, is_hex_digit};
 
 use std::alloc::{AllocError, Allocator};
 
-// What a table has in place of the value of a byte that is no digit. It is more than a byte.
-const NO_DIGIT: u16 = 256;
-
-// The value of each byte as the first of two digits.
-const FIRST: [u16; 256] = [
-    256, 256, 256, 256, 256, 256, 256, 256, 256, 256, 256, 256, 256, 256, 256, 256, 256, 256, 256,
-    256, 256, 256, 256, 256, 256, 256, 256, 256, 256, 256, 256, 256, 256, 256, 256, 256, 256, 256,
-    256, 256, 256, 256, 256, 256, 256, 256, 256, 256, 0, 16, 32, 48, 64, 80, 96, 112, 128, 144,
-    256, 256, 256, 256, 256, 256, 256, 160, 176, 192, 208, 224, 240, 256, 256, 256, 256, 256, 256,
-    256, 256, 256, 256, 256, 256, 256, 256, 256, 256, 256, 256, 256, 256, 256, 256, 256, 256, 256,
-    256, 160, 176, 192, 208, 224, 240, 256, 256, 256, 256, 256, 256, 256, 256, 256, 256, 256, 256,
-    256, 256, 256, 256, 256, 256, 256, 256, 256, 256, 256, 256, 256, 256, 256, 256, 256, 256, 256,
-    256, 256, 256, 256, 256, 256, 256, 256, 256, 256, 256, 256, 256, 256, 256, 256, 256, 256, 256,
-    256, 256, 256, 256, 256, 256, 256, 256, 256, 256, 256, 256, 256, 256, 256, 256, 256, 256, 256,
-    256, 256, 256, 256, 256, 256, 256, 256, 256, 256, 256, 256, 256, 256, 256, 256, 256, 256, 256,
-    256, 256, 256, 256, 256, 256, 256, 256, 256, 256, 256, 256, 256, 256, 256, 256, 256, 256, 256,
-    256, 256, 256, 256, 256, 256, 256, 256, 256, 256, 256, 256, 256, 256, 256, 256, 256, 256, 256,
-    256, 256, 256, 256, 256, 256, 256, 256, 256, 256, 256, 256, 256, 256, 256, 256, 256, 256, 256,
-    256, 256, 256, 256, 256, 256, 256, 256,
-];
-
-// The value of each byte as the second of two digits.
-const SECOND: [u16; 256] = [
-    256, 256, 256, 256, 256, 256, 256, 256, 256, 256, 256, 256, 256, 256, 256, 256, 256, 256, 256,
-    256, 256, 256, 256, 256, 256, 256, 256, 256, 256, 256, 256, 256, 256, 256, 256, 256, 256, 256,
-    256, 256, 256, 256, 256, 256, 256, 256, 256, 256, 0, 1, 2, 3, 4, 5, 6, 7, 8, 9, 256, 256, 256,
-    256, 256, 256, 256, 10, 11, 12, 13, 14, 15, 256, 256, 256, 256, 256, 256, 256, 256, 256, 256,
-    256, 256, 256, 256, 256, 256, 256, 256, 256, 256, 256, 256, 256, 256, 256, 256, 10, 11, 12, 13,
-    14, 15, 256, 256, 256, 256, 256, 256, 256, 256, 256, 256, 256, 256, 256, 256, 256, 256, 256,
-    256, 256, 256, 256, 256, 256, 256, 256, 256, 256, 256, 256, 256, 256, 256, 256, 256, 256, 256,
-    256, 256, 256, 256, 256, 256, 256, 256, 256, 256, 256, 256, 256, 256, 256, 256, 256, 256, 256,
-    256, 256, 256, 256, 256, 256, 256, 256, 256, 256, 256, 256, 256, 256, 256, 256, 256, 256, 256,
-    256, 256, 256, 256, 256, 256, 256, 256, 256, 256, 256, 256, 256, 256, 256, 256, 256, 256, 256,
-    256, 256, 256, 256, 256, 256, 256, 256, 256, 256, 256, 256, 256, 256, 256, 256, 256, 256, 256,
-    256, 256, 256, 256, 256, 256, 256, 256, 256, 256, 256, 256, 256, 256, 256, 256, 256, 256, 256,
-    256, 256, 256, 256, 256, 256, 256, 256, 256, 256, 256, 256, 256, 256, 256, 256, 256, 256, 256,
-    256, 256, 256,
-];
-
 /// Appends the bytes that these digits stand for, two digits of either case for each, and returns
-/// whether all are digits. Where one is none, what was appended says nothing.
+/// whether they stand for any. Where they do not, since one is no digit or their number is odd, it
+/// appends nothing and asks for no memory; where memory runs out, it appends nothing.
 pub fn append_bytes<A: Allocator>(digits: &[u8], bytes: &mut Vec<u8, A>) -> Result<bool, AllocError>
-    requires { length digits.now % 2 ≡ 0 }
     ensures read { IfOk result (λ are_digits. IsTrue are_digits
         → (more : List ℕ) × (bytes.new.items ≡ bytes.old.items ++ more)
         × (decode_of digits.now ≡ Ok more)) }
     ensures whole { IfOk result (λ are_digits. (more : List ℕ)
         → decode_of digits.now ≡ Ok more → IsTrue are_digits) }
+    ensures none { IfOk result (λ are_digits. IsFalse are_digits
+        → bytes.new.items ≡ bytes.old.items) }
+    ensures err { OnErr result (bytes.new.items ≡ bytes.old.items) }
+    ensures memory { OnErr result ((more : List ℕ) × (decode_of digits.now ≡ Ok more)) }
 {
+    let len = bytes.len();
     let count = digits.len() / 2;
-    bytes.reserve(count)?;
-    'pairs: for i in 0..count {
-        let value = first_value(digits[2 * i]) + second_value(digits[2 * i + 1]);
-        if value >= NO_DIGIT {
-            return Ok(false);
-        }
-        bytes.push_reserved(value as u8);
+    if bytes.capacity() - len < count && !are_digits(digits) {
+        return Ok(false);
     }
-    Ok(true)
+    bytes.resize(len + count, 0)?;
+    let is_decoded = hex::decode_to_slice(digits, bytes.slice_mut(len..)).is_ok();
+    if !is_decoded {
+        bytes.truncate(len);
+    }
+    Ok(is_decoded)
 }
 
-// What a byte is worth as the first of two digits.
-fn first_value(digit: u8) -> u16
-    ensures value { result ≡ worth 16 (hex_digit_value digit) }
-    ensures small { result ≤ 256 }
+// Whether these are digits, two for each byte.
+fn are_digits(digits: &[u8]) -> bool
+    ensures read { IsTrue result → (bytes : List ℕ) × (decode_of digits.now ≡ Ok bytes) }
+    ensures whole { (bytes : List ℕ) → decode_of digits.now ≡ Ok bytes → IsTrue result }
 {
-    FIRST[digit as usize]
+    digits.len() % 2 == 0 && are_hex_digits(digits)
 }
 
-// What a byte is worth as the second of two digits.
-fn second_value(digit: u8) -> u16
-    ensures value { result ≡ worth 1 (hex_digit_value digit) }
-    ensures small { result ≤ 256 }
+fn are_hex_digits(text: &[u8]) -> bool
+    ensures { result ≡ list_all is_hex_digit text.now }
 {
-    SECOND[digit as usize]
+    text.iter().all(|byte| is_hex_digit(*byte))
+}
+
+fn is_hex_digit(byte: u8) -> bool
+    ensures { result ≡ is_hex_digit byte }
+{
+    byte.is_ascii_hexdigit()
 }

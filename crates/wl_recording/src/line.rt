@@ -1,8 +1,8 @@
 //! Reading the lines of a recording.
-ghost use Rattle.std.specs.Prelude.{◌≡◌, ◌≢◌, ◌<◌, ◌≤◌, ℕ, List, ◌∷◌, ◌++◌, length, slice_index};
-ghost use Rattle.std.specs.Prelude.{IfOk, IfSome, MatchOption};
-ghost use Rattle.std.specs.List.{All};
-ghost use Rattle.wl_recording.specs.Piece.{IsAppended, Piece, own, recorded_piece};
+ghost use Rattle.std.specs.Prelude.{◌≡◌, ◌≢◌, ℕ, List, ◌∷◌, ◌++◌, length, IfOk, OnErr};
+ghost use Rattle.std.specs.Prelude.{IfSome, IfNone, MatchOption};
+ghost use Rattle.wl_recording.specs.Piece.{AreAsBefore, IsAppended, Piece, own};
+ghost use Rattle.wl_recording.specs.Piece.{recorded_piece};
 ghost use Rattle.wl_recording.specs.declared.piece.Direction.{Direction as Way};
 ghost use Rattle.wl_recording.specs.declared.piece.Direction.TheVariants.{ToServer, ToClient};
 ghost use Rattle.wl_recording.specs.Line.{IsPiece, SpellsBytes, SpellsTokens, sign};
@@ -10,16 +10,11 @@ ghost use Rattle.wl_recording.specs.Line.{IsPiece, SpellsBytes, SpellsTokens, si
 use crate::digits::append_bytes;
 use crate::piece::{Appended, Direction, Passed};
 use std::alloc::{AllocError, Allocator};
-use wl_line_text::decimal_number;
+use wl_line_text::{decimal_number, split_before};
 use wl_wire::Bytes;
 
 /// The most tokens that one piece can count.
 pub const MOST_TOKENS: u32 = 65_535;
-
-/// The least and the most bytes of a count of tokens: a space, a plus sign, and one to five digits.
-const LEAST_COUNT_LEN: usize = 3;
-
-const MOST_COUNT_LEN: usize = 7;
 
 /// A line in its parts.
 #[derive(Clone, Copy)]
@@ -48,16 +43,25 @@ pub fn read_piece<A: Allocator>(alloc: A, line: &[u8]) -> Result<Option<Passed<A
     }))
 }
 
-/// Appends the bytes of a line's piece to those of its direction, if the line is one.
+/// Appends the bytes of a line's piece to those of its direction, if the line is one. Where it is
+/// none, nothing is appended and no memory asked for; where memory runs out, nothing is appended.
 pub fn append_piece<A: Allocator>(
     line: &[u8],
     to_server: &mut Vec<u8, A>,
     to_client: &mut Vec<u8, A>,
 ) -> Result<Option<Appended>, AllocError>
-    ensures { IfOk result (λ found. MatchOption found ((piece : Piece) → IsPiece line.now piece → ⊥)
+    ensures appended { IfOk result (λ found. MatchOption found
+        ((piece : Piece) → IsPiece line.now piece → ⊥)
         (λ appended. (piece : Piece) × IsPiece line.now piece
         × IsAppended piece appended to_server.old.items to_server.new.items to_client.old.items
         to_client.new.items)) }
+    ensures none { IfOk result (λ found. IfNone found
+        (AreAsBefore to_server.old.items to_server.new.items to_client.old.items
+        to_client.new.items)) }
+    ensures err { OnErr result
+        (AreAsBefore to_server.old.items to_server.new.items to_client.old.items
+        to_client.new.items) }
+    ensures memory { OnErr result ((piece : Piece) × IsPiece line.now piece) }
 {
     let Some(parts) = parts_of(line) else {
         return Ok(None);
@@ -73,17 +77,25 @@ pub fn append_piece<A: Allocator>(
 }
 
 // Appends the bytes of a line's parts to those of their direction, if the digits stand for any, and
-// returns how many they are.
+// returns how many they are; else it appends nothing, as where memory runs out.
 fn append_parts<A: Allocator>(
     parts: &Parts<'_>,
     to_server: &mut Vec<u8, A>,
     to_client: &mut Vec<u8, A>,
 ) -> Result<Option<usize>, AllocError>
-    ensures { IfOk result (λ found. MatchOption found
+    ensures appended { IfOk result (λ found. MatchOption found
         ((more : List ℕ) → SpellsBytes parts.now.digits.now more → ⊥)
         (λ len. (more : List ℕ) × SpellsBytes parts.now.digits.now more × (length more ≡ len)
         × (to_server.new.items ≡ to_server.old.items ++ own ToServer parts.now.direction more)
         × (to_client.new.items ≡ to_client.old.items ++ own ToClient parts.now.direction more))) }
+    ensures none { IfOk result (λ found. IfNone found
+        (AreAsBefore to_server.old.items to_server.new.items to_client.old.items
+        to_client.new.items)) }
+    ensures err { OnErr result
+        (AreAsBefore to_server.old.items to_server.new.items to_client.old.items
+        to_client.new.items) }
+    ensures memory { OnErr result
+        ((more : List ℕ) × SpellsBytes parts.now.digits.now more) }
 {
     match parts.direction {
         Direction::ToServer => append_digits(parts.digits, to_server),
@@ -104,32 +116,13 @@ fn parts_of(line: &[u8]) -> Option<Parts<'_>>
         → SpellsBytes parts.digits.now piece.bytes) }
 {
     let (direction, rest) = strip_sign(line)?;
-    let (digits, count) = split_count(rest);
+    let (digits, count) = split_before(rest, b' ');
     let tokens = read_tokens(count)?;
     Some(Parts {
         direction,
         digits,
         tokens,
     })
-}
-
-// The rest of a line, cut before the first space among the few bytes at its end that can be a count
-// of tokens. Where a space stands before these, the line tells no piece.
-fn split_count(rest: &[u8]) -> (&[u8], &[u8])
-    ensures whole { rest.now ≡ result.0.now ++ result.1.now }
-    ensures front { (digits count : List ℕ) (tokens : ℕ) → rest.now ≡ digits ++ count
-        → SpellsTokens count tokens → All (λ byte. byte ≢ 32) digits
-        → All (λ byte. byte ≢ 32) result.0.now }
-    ensures rest { 0 < length result.1.now → slice_index result.1.now 0 ≡ 32 }
-{
-    let mut count = MOST_COUNT_LEN;
-    'counts: while count >= LEAST_COUNT_LEN {
-        if count <= rest.len() && rest[rest.len() - count] == b' ' {
-            return rest.split_at(rest.len() - count);
-        }
-        count -= 1;
-    }
-    (rest, &[])
 }
 
 // The direction whose sign and a space begin a line, and the rest of the line.
@@ -178,26 +171,28 @@ fn read_bytes<A: Allocator>(alloc: A, digits: &[u8]) -> Result<Option<Bytes<A>>,
 }
 
 // Appends the bytes that these digits stand for, if they stand for any, and returns how many these
-// are.
+// are; else it appends nothing, as where memory runs out.
 fn append_digits<A: Allocator>(
     digits: &[u8],
     bytes: &mut Vec<u8, A>,
 ) -> Result<Option<usize>, AllocError>
-    ensures { IfOk result (λ found. MatchOption found
+    ensures appended { IfOk result (λ found. MatchOption found
         ((more : List ℕ) → SpellsBytes digits.now more → ⊥)
         (λ len. (more : List ℕ) × SpellsBytes digits.now more × (length more ≡ len)
         × (bytes.new.items ≡ bytes.old.items ++ more))) }
+    ensures none { IfOk result (λ found. IfNone found (bytes.new.items ≡ bytes.old.items)) }
+    ensures err { OnErr result (bytes.new.items ≡ bytes.old.items) }
+    ensures memory { OnErr result ((more : List ℕ) × SpellsBytes digits.now more) }
 {
     match digits {
         [] => Ok(None),
         [b'-'] => Ok(Some(0)),
-        _ if digits.len() % 2 != 0 => Ok(None),
-        _ => match append_bytes(digits, bytes) {
-            Ok(true) => Ok(Some(digits.len() / 2)),
-            Ok(false) => Ok(None),
-            // A space is no digit, with room for the bytes or without.
-            Err(AllocError) if digits.contains(&b' ') => Ok(None),
-            Err(e) => Err(e),
-        },
+        _ => {
+            if append_bytes(digits, bytes)? {
+                Ok(Some(digits.len() / 2))
+            } else {
+                Ok(None)
+            }
+        }
     }
 }

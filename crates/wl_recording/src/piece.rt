@@ -1,7 +1,7 @@
 //! What passes between two ends.
-ghost use Rattle.std.specs.Prelude.{◌≡◌, ◌++◌, OnOk, IfOk};
+ghost use Rattle.std.specs.Prelude.{◌≡◌, ◌++◌, OnOk, OnErr, IfOk};
 ghost use Rattle.wl_recording.specs.declared.piece.Direction.TheVariants.{ToServer, ToClient};
-ghost use Rattle.wl_recording.specs.Piece.{IsAppended, own, recorded_piece};
+ghost use Rattle.wl_recording.specs.Piece.{AreAsBefore, IsAppended, own, recorded_piece};
 
 use std::alloc::{AllocError, Allocator, Global};
 use wl_wire::Bytes;
@@ -38,14 +38,17 @@ pub struct Appended {
 }
 
 impl<A: Allocator> Passed<A> {
-    /// Appends its bytes to those of its direction.
+    /// Appends its bytes to those of its direction. Where memory runs out, it appends nothing.
     pub fn append_to(
         &self,
         to_server: &mut Vec<u8, A>,
         to_client: &mut Vec<u8, A>,
     ) -> Result<Appended, AllocError>
-        ensures { IfOk result (λ appended. IsAppended (recorded_piece self.now) appended
+        ensures appended { IfOk result (λ appended. IsAppended (recorded_piece self.now) appended
             to_server.old.items to_server.new.items to_client.old.items to_client.new.items) }
+        ensures err { OnErr result
+            (AreAsBefore to_server.old.items to_server.new.items to_client.old.items
+            to_client.new.items) }
     {
         let bytes = self.bytes.as_slice();
         extend_own(self.direction, bytes, to_server, to_client)?;
@@ -68,6 +71,9 @@ fn extend_own<A: Allocator>(
         (to_server.new.items ≡ to_server.old.items ++ own ToServer direction bytes.now) }
     ensures to_client { OnOk result
         (to_client.new.items ≡ to_client.old.items ++ own ToClient direction bytes.now) }
+    ensures err { OnErr result
+        (AreAsBefore to_server.old.items to_server.new.items to_client.old.items
+        to_client.new.items) }
 {
     match direction {
         Direction::ToServer => to_server.extend_from_slice(bytes),

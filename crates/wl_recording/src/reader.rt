@@ -1,8 +1,8 @@
 //! The pieces of a text, one after another.
 ghost use Rattle.std.specs.Prelude.{◌≡◌, ℕ, ◌+◌, ◌^◌, ◌<◌, List, [], ◌∷◌, ◌++◌, ◌⊎◌, length};
-ghost use Rattle.std.specs.Prelude.{IfOk, IfErr, IfSome, IfNone, MatchOption};
+ghost use Rattle.std.specs.Prelude.{Err, IfOk, IfErr, OnErr, IfSome, IfNone, MatchOption};
 ghost use Rattle.wl_recording.specs.declared.recording.RecordingError.TheVariants.{BadLine, Memory};
-ghost use Rattle.wl_recording.specs.Piece.{IsAppended, Piece, recorded_piece};
+ghost use Rattle.wl_recording.specs.Piece.{AreAsBefore, IsAppended, Piece, recorded_piece};
 ghost use Rattle.wl_recording.specs.Text.{IsFirstBad, IsReached, IsReadUpTo, TextRecords};
 
 use crate::line::{append_piece, read_piece};
@@ -62,7 +62,9 @@ impl<'a> PieceReader<'a> {
     /// Reads on to the next piece, if there is one, and appends its bytes to those of its
     /// direction.
     ///
-    /// `BadLine` and `Memory` come as from `Recording::parse`; what was appended then says nothing.
+    /// `BadLine` and `Memory` come as from `Recording::parse`, and leave the bytes of both directions
+    /// as they were. `Memory` comes only at a line that is a piece: one that is none asks for no
+    /// memory. Either way the line is passed over.
     pub fn append_next<A: Allocator>(
         &mut self,
         to_server: &mut Vec<u8, A>,
@@ -82,6 +84,13 @@ impl<'a> PieceReader<'a> {
         ensures bad { IfErr result (λ e. (text : List ℕ) (pieces : List Piece)
             → IsReadUpTo text self.old.rest.now self.old.number pieces
             → (e ≡ Memory) ⊎ ((n : ℕ) × (e ≡ BadLine n) × IsFirstBad text n)) }
+        ensures refused { OnErr result
+            (AreAsBefore to_server.old.items to_server.new.items to_client.old.items
+            to_client.new.items) }
+        ensures memory { (text : List ℕ) (pieces : List Piece) → result ≡ Err Memory
+            → IsReadUpTo text self.old.rest.now self.old.number pieces
+            → (piece : Piece)
+            × IsReadUpTo text self.new.rest.now self.new.number (pieces ++ piece ∷ []) }
         ensures shorter { IfOk result (λ found. IfSome found
             (λ appended. length self.new.rest.now < length self.old.rest.now)) }
     {
