@@ -1,5 +1,5 @@
-//! A line that is refused leaves the bytes of both directions as they were, and one that is no piece
-//! is refused as such, whether there is memory for its bytes or not.
+//! A line that is refused leaves the bytes of both directions as they were, and one that is no
+//! piece is refused as such, whether there is memory for its bytes or not.
 use std::alloc::AllocError;
 use std::test::Fail;
 use test_allocator::RefusingAllocator;
@@ -42,7 +42,7 @@ struct Beginning {
     text: &'static [u8],
     /// How many pieces it tells.
     pieces: usize,
-    /// The place of a line behind it, counted from behind its last piece.
+    /// The number of the line behind it, counted from the end of its last piece.
     next_line: usize,
     to_server: &'static [u8],
     to_client: &'static [u8],
@@ -189,7 +189,10 @@ fn leaves_all(
     memory.refuse_none();
     let is_left = bytes.are(beginning.to_server, beginning.to_client);
     let (next, _) = bytes.append_first(behind);
-    let is_next = is_piece(&next) && bytes.to_client.as_slice().ends_with(b"\x0d\x0e");
+    let mut to_client = Vec::new(memory.clone()?);
+    to_client.extend_from_slice(beginning.to_client)?;
+    to_client.extend_from_slice(b"\x0d\x0e")?;
+    let is_next = is_piece(&next) && bytes.are(beginning.to_server, to_client.as_slice());
     Ok(is_bad_line_at(&refused, beginning.next_line) && asked == 0 && is_left && is_next)
 }
 
@@ -226,29 +229,77 @@ fn a_count_without_its_sign_is_passed_over(rt: HostRuntime) -> Result<(), Fail> 
     Ok(())
 }
 
-/// Whether a piece for which one allocation is refused leaves what was read before it, and is passed
-/// over; or whether it was read, where it asks for fewer.
-fn leaves_all_without_memory(memory: &RefusingAllocator, refused: u64) -> Result<bool, AllocError> {
+/// What became of a piece where one allocation was refused.
+#[derive(Clone, Copy, PartialEq, Eq)]
+enum Outcome {
+    /// It asks for fewer allocations, and was read.
+    Read,
+    /// It was refused, and what was read before it is as it was.
+    LeftAll,
+    Wrong,
+}
+
+/// Reads a piece beside bytes of both directions, where the allocation of this number is refused,
+/// and then one more.
+fn append_without_memory(
+    memory: &RefusingAllocator,
+    refused: u64,
+    text: &[u8],
+) -> Result<Outcome, AllocError> {
     let mut bytes = Bytes::new(memory)?;
     bytes.to_server.push(9)?;
     bytes.to_client.push(8)?;
     memory.refuse_nth(refused);
-    let (read, rest) = bytes.append_first(b"> 000102030405060708090a0b0c0d0e0f1011\n< 0d0e\n");
+    let (read, rest) = bytes.append_first(text);
     let has_refused = memory.has_refused();
     memory.refuse_none();
-    if !has_refused {
-        return Ok(is_piece(&read) && bytes.to_server.len() == 19);
+    if !has_refused && is_piece(&read) {
+        return Ok(Outcome::Read);
     }
     let is_left = is_out_of_memory(&read) && bytes.are(b"\x09", b"\x08");
     let (next, _) = bytes.append_first(rest);
-    Ok(is_left && is_piece(&next) && bytes.are(b"\x09", b"\x08\x0d\x0e"))
+    if is_left && is_piece(&next) && bytes.are(b"\x09", b"\x08\x0d\x0e") {
+        return Ok(Outcome::LeftAll);
+    }
+    Ok(Outcome::Wrong)
 }
 
 #[test]
 fn pieces_without_memory_leave_what_was_read(rt: HostRuntime) -> Result<(), Fail> {
     let memory = RefusingAllocator::new(rt.alloc())?;
-    for refused in 0..3u64 {
-        assert!(rt; leaves_all_without_memory(&memory, refused)?);
+    let to_server = b"> 000102030405060708090a0b0c0d0e0f1011\n< 0d0e\n";
+    let to_client = b"< 000102030405060708090a0b0c0d0e0f1011 +1\n< 0d0e\n";
+    assert!(rt; append_without_memory(&memory, 0, to_server)? == Outcome::LeftAll);
+    assert!(rt; append_without_memory(&memory, 1, to_server)? == Outcome::Read);
+    assert!(rt; append_without_memory(&memory, 0, to_client)? == Outcome::LeftAll);
+    assert!(rt; append_without_memory(&memory, 1, to_client)? == Outcome::Read);
+    Ok(())
+}
+
+/// Whether the pieces of a recording, each without memory, leave the bytes of both directions.
+fn are_left_by_pieces(memory: &RefusingAllocator, text: &[u8]) -> Result<bool, AllocError> {
+    let mut bytes = Bytes::new(memory)?;
+    bytes.to_server.push(9)?;
+    bytes.to_client.push(8)?;
+    let Ok(recording) = Recording::parse(memory.clone()?, text) else {
+        return Ok(false);
+    };
+    let mut are_refused = true;
+    for piece in recording.pieces() {
+        memory.refuse_nth(0);
+        let appended = piece.append_to(&mut bytes.to_server, &mut bytes.to_client);
+        are_refused = are_refused && appended.is_err();
     }
+    memory.refuse_none();
+    Ok(are_refused && bytes.are(b"\x09", b"\x08"))
+}
+
+#[test]
+fn pieces_that_passed_leave_what_was_read_where_memory_runs_out(
+    rt: HostRuntime,
+) -> Result<(), Fail> {
+    let memory = RefusingAllocator::new(rt.alloc())?;
+    let text = b"> 000102030405060708090a0b0c0d0e0f1011\n< 000102030405060708090a0b0c0d0e0f10\n";
+    assert!(rt; are_left_by_pieces(&memory, text)?);
     Ok(())
 }
