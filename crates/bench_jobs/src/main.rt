@@ -11,6 +11,7 @@ mod judging;
 mod messages;
 mod registries;
 mod session;
+mod signatures;
 mod spelling;
 mod table_texts;
 mod talking;

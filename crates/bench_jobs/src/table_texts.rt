@@ -2,6 +2,7 @@
 use crate::Amount;
 use crate::dice::Dice;
 use crate::digest::Digest;
+use crate::signatures::add_tables;
 use std::alloc::Global;
 use wl::{Side, Tables};
 
@@ -123,10 +124,11 @@ fn look_up(tables: &Tables, text: &mut Text, size: Size, digest: &mut Digest) ->
     Some(())
 }
 
-/// The tables with those of one text.
+/// The tables with those of one text: all that they hold, and what is looked up in them.
 fn read_one(core: &Tables, text: &mut Text, size: Size, digest: &mut Digest) -> Option<()> {
     text.write(size)?;
     let tables = core.read_more(&text.bytes).ok()?;
+    add_tables(digest, &tables);
     look_up(&tables, text, size, digest)
 }
 
