@@ -26,6 +26,11 @@ impl Dice {
         self.word().checked_rem(count).unwrap_or(0)
     }
 
+    /// A place in a list of this length; 0 where it is empty.
+    pub(crate) fn place(&mut self, len: usize) -> usize {
+        self.below(u32::try_from(len).unwrap_or(u32::MAX)) as usize
+    }
+
     /// A number from the first to the last of these.
     pub(crate) fn between(&mut self, first: u32, last: u32) -> u32 {
         let count = last.saturating_sub(first).saturating_add(1);

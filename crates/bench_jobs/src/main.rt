@@ -9,6 +9,8 @@ mod dice;
 mod digest;
 mod judging;
 mod messages;
+mod proportions;
+mod protocol_texts;
 mod registries;
 mod session;
 mod signatures;
@@ -61,6 +63,7 @@ fn run(
         "inspect" => judging::inspect(alloc, tables, amount, digest),
         "registries" => registries::serve(alloc, tables, amount, digest),
         "tables" => table_texts::read(alloc, amount, digest),
+        "protocols" => protocol_texts::read(alloc, amount, digest),
         _ => None,
     }
 }
