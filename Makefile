@@ -21,7 +21,7 @@ numbers := $(subst ., ,$(VERSION))
 MAJOR := $(word 1,$(numbers))
 
 proved = crates/waywire_c/out/libwaywire_c.a
-crates := $(shell top=. bash -c '. tools/programs.sh && crates_of waywire_c')
+crates := $(shell python3 tools/crates.py below waywire_c)
 sources := $(wildcard $(crates:%=crates/%/src/*.rt))
 archive = out/c/libwaywire.a
 # Versions of one major number are compatible; below 1, those of one minor number.
@@ -38,15 +38,15 @@ fill = sed 's|@UP@|$(call from,$(1),$(PREFIX))|; s|@LIBDIR@|$(call from,$(PREFIX
 	s|@INCLUDEDIR@|$(call from,$(PREFIX),$(INCLUDEDIR))|; s|@VERSION@|$(VERSION)|; \
 	s|@SONAME@|$(soname)|; s|@ABI@|$(abi)|'
 
-# The tool finds the texts of tables from its own folder: $(call inspect_with,FOLDER,TOOL) makes it so.
+# The tool finds the texts of tables, the tools for XML and the one that makes pages from its own folder:
+# $(call inspect_with,TABLES,TOOLS,PICTURE,TOOL) makes it so.
 inspect_with = $(CC) $(CFLAGS) -std=c99 -Wall -Wextra -Wpedantic -Iinclude -DWAYWIRE_TABLES='"$(1)"' \
-	c/inspect/*.c $(archive) -o $(2)
+	-DWAYWIRE_TOOLS='"$(2)"' -DWAYWIRE_PICTURE='"$(3)"' c/inspect/*.c $(archive) -o $(4)
 
 all: $(archive) $(shared) $(inspect)
 
 $(proved): $(sources)
 	tools/library-of-c
-	@touch $@
 
 include/waywire-version.h: $(numbered) Makefile
 	@printf '%s\n' '/* Made by make. */' '#define WAYWIRE_VERSION "$(VERSION)"' \
@@ -54,25 +54,24 @@ include/waywire-version.h: $(numbered) Makefile
 		'#define WAYWIRE_VERSION_MINOR $(word 2,$(numbers))' \
 		'#define WAYWIRE_VERSION_PATCH $(word 3,$(numbers))' > $@
 
-out/c/calls.o: c/waywire.c include/waywire.h include/waywire-version.h
+# The calls over the exports, without which they cannot be linked.
+calls = out/c/waywire-calls.o out/c/tables-calls.o out/c/inspector-calls.o out/c/line-calls.o
+
+out/c/%-calls.o: c/%.c c/calls.h include/waywire.h include/waywire-version.h
 	@mkdir -p out/c
 	$(CC) $(CFLAGS) -std=c99 -Wall -Wextra -Wpedantic -fPIC -Iinclude -c $< -o $@
 
-out/c/line.o: c/line.c include/waywire.h include/waywire-version.h
-	@mkdir -p out/c
-	$(CC) $(CFLAGS) -std=c99 -Wall -Wextra -Wpedantic -fPIC -Iinclude -c $< -o $@
-
-# The toolchain's memory, over what c/waywire.c has in place of `malloc`, `realloc` and `free`.
+# The toolchain's memory, over what c/tables.c has in place of `malloc`, `realloc` and `free`.
 out/c/memory.a: Makefile
 	@mkdir -p out/c
 	$(OBJCOPY) --redefine-sym malloc=memory_malloc --redefine-sym realloc=memory_realloc \
 		--redefine-sym free=memory_free $(KIT)/c/liblibc_c.a $@
 
 # One object of the calls, the exports and the memory, in which only the calls are global.
-out/c/waywire.o: $(proved) out/c/calls.o out/c/line.o out/c/memory.a
-	$(LD) -r --whole-archive $(proved) --no-whole-archive out/c/calls.o out/c/line.o out/c/memory.a \
+out/c/waywire.o: $(proved) $(calls) out/c/memory.a
+	$(LD) -r --whole-archive $(proved) --no-whole-archive $(calls) out/c/memory.a \
 		-o out/c/whole.o
-	nm -g --defined-only out/c/calls.o out/c/line.o | sed -n 's/.* T \(waywire_\)/\1/p' > out/c/calls.txt
+	nm -g --defined-only $(calls) | sed -n 's/.* T \(waywire_\)/\1/p' > out/c/calls.txt
 	$(OBJCOPY) --keep-global-symbols=out/c/calls.txt out/c/whole.o $@
 	@rm -f out/c/whole.o
 
@@ -85,8 +84,9 @@ $(shared): out/c/waywire.o
 	@ln -sf $(notdir $@) out/c/$(soname)
 	@ln -sf $(soname) out/c/libwaywire.so
 
-$(inspect): c/inspect/*.c c/inspect/inspect.h $(archive)
-	$(call inspect_with,$(call from,$(dir $@),examples/tables),$@)
+$(inspect): c/inspect/*.c c/inspect/*.h $(archive)
+	$(call inspect_with,$(call from,$(dir $@),examples/tables),$(call from,$(dir $@),tools),$(call \
+		from,$(dir $@),tools)/waywire-picture,$@)
 
 install: all
 	install -d $(DESTDIR)$(INCLUDEDIR) $(DESTDIR)$(LIBDIR)/pkgconfig $(DESTDIR)$(LIBDIR)/cmake/waywire \
@@ -103,15 +103,23 @@ install: all
 	done
 	chmod 644 $(DESTDIR)$(LIBDIR)/pkgconfig/waywire.pc $(DESTDIR)$(LIBDIR)/cmake/waywire/*.cmake
 	install -m 644 examples/tables/*.tables $(DESTDIR)$(DATADIR)/waywire/tables
-	install -m 644 docs/FORMATS.md $(DESTDIR)$(DATADIR)/doc/waywire
-	install -m 644 tools/protocol.py tools/reference.py tools/valid_tables.py tools/core.tables tools/core.xml \
+	install -m 644 LICENSE docs/FORMATS.md $(DESTDIR)$(DATADIR)/doc/waywire
+	install -m 644 tools/protocol.py tools/rust_stubs.py tools/table_text.py tools/valid_tables.py \
+		tools/core.tables tools/core.xml \
 		$(DESTDIR)$(DATADIR)/waywire/tools
 	for tool in tables-from-xml stubs-from-xml; do \
 		install -m 755 tools/$$tool $(DESTDIR)$(DATADIR)/waywire/tools && \
 		ln -sf $(call from,$(BINDIR),$(DATADIR)/waywire/tools)/$$tool $(DESTDIR)$(BINDIR)/waywire-$$tool; \
 	done
-	$(call inspect_with,$(call from,$(BINDIR),$(DATADIR)/waywire/tables),$(DESTDIR)$(BINDIR)/waywire-inspect)
+	$(call inspect_with,$(call from,$(BINDIR),$(DATADIR)/waywire/tables),$(call \
+		from,$(BINDIR),$(DATADIR)/waywire/tools),waywire-picture,$(DESTDIR)$(BINDIR)/waywire-inspect)
 	sed 's|@VERSION@|$(VERSION)|' c/inspect/waywire-inspect.1.in > $(DESTDIR)$(DATADIR)/man/man1/waywire-inspect.1
+	install -d $(DESTDIR)$(DATADIR)/waywire/tools/picture
+	install -m 644 tools/picture/* $(DESTDIR)$(DATADIR)/waywire/tools/picture
+	install -m 644 tools/picture_columns.py $(DESTDIR)$(DATADIR)/waywire/tools
+	install -m 755 tools/waywire-picture $(DESTDIR)$(DATADIR)/waywire/tools
+	ln -sf $(call from,$(BINDIR),$(DATADIR)/waywire/tools)/waywire-picture $(DESTDIR)$(BINDIR)
+	sed 's|@VERSION@|$(VERSION)|' tools/waywire-picture.1.in > $(DESTDIR)$(DATADIR)/man/man1/waywire-picture.1
 	if [ -x $(program) ]; then \
 		install -m 755 $(program) $(DESTDIR)$(BINDIR) && \
 		tools/man-page $(program) > $(DESTDIR)$(DATADIR)/man/man1/waywire.1 && \

@@ -4,13 +4,17 @@ that the one word names.
 
 surfaces: a client makes a surface, attaches nothing, commits and destroys it, again and again; each
 time the server frees its id. callbacks: one request, its event and the freeing of its id, again and
-again. objects: callbacks that are never answered, so that all stay. bytes: as callbacks, but each byte
-is a piece of its own.
+again. objects: callbacks that are never answered, so that all stay. server_objects: the server makes an
+object, and the client ends none of them, so that all stay; the tables are examples/tables/data-device.tables.
+server_ids: the server makes an object, names it and makes it again once the client has destroyed it; by the
+same tables. bytes: as callbacks, but each byte is a piece of its own.
 """
 import struct
 import sys
 
 MOST = 16 * 1024 * 1024
+# The first id of what a server makes.
+FIRST_OF_SERVER = 0xFF000000
 
 
 def word(number):
@@ -63,6 +67,33 @@ def objects():
         number += 1
 
 
+def device():
+    """A client binds a seat, a manager of data devices and asks for a device, which is the object 5."""
+    yield line(">", message(1, 1, word(2)))
+    for number, interface, version in ((3, "wl_seat", 1), (4, "wl_data_device_manager", 3)):
+        named = word(number), string(interface), word(version)
+        yield line("<", message(2, 0, *named))
+        yield line(">", message(2, 0, *named, word(number)))
+    yield line(">", message(4, 1, word(5), word(3)))
+
+
+def server_objects():
+    yield from device()
+    number = FIRST_OF_SERVER
+    while True:
+        yield line("<", message(5, 0, word(number)))
+        number += 1
+
+
+def server_ids():
+    yield from device()
+    offer = word(FIRST_OF_SERVER)
+    events = line("<", message(5, 0, offer), message(FIRST_OF_SERVER, 0, string("text/plain")), message(5, 5, offer))
+    request = line(">", message(FIRST_OF_SERVER, 2))
+    while True:
+        yield events + request
+
+
 def bytes_alone():
     for part in callbacks():
         sign, digits = part.split()
@@ -70,7 +101,8 @@ def bytes_alone():
             yield f"{sign} {digits[place:place + 2]}\n"
 
 
-KINDS = {"surfaces": surfaces, "callbacks": callbacks, "objects": objects, "bytes": bytes_alone}
+KINDS = {"surfaces": surfaces, "callbacks": callbacks, "objects": objects, "server_objects": server_objects,
+         "server_ids": server_ids, "bytes": bytes_alone}
 
 
 def main():

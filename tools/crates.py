@@ -1,22 +1,28 @@
-"""The crates of crates.txt: their kinds, what each stands on, and which files are out of layout."""
+"""The crates of crates.txt: their kinds, and which crates each one uses.
 
-import filecmp
+    python3 tools/crates.py below CRATE     prints all crates that it uses, lowest first, and itself last
+    python3 tools/crates.py chains CRATE    prints a line for each of these, with the crates that it names:
+                                            first the one with the longest chain of crates above it
+    python3 tools/crates.py uses CRATE      prints what it names: crates, and libraries of the toolchain
+    python3 tools/crates.py lines CRATE..   prints the lines of crates.txt for these crates
+
+This file alone reads crates.txt; scripts in shell ask it."""
+
 import os
 import re
-import shutil
-import subprocess
-import tempfile
+import sys
 from typing import NamedTuple
 
 TOP = os.path.dirname(os.path.dirname(os.path.realpath(__file__)))
 
 
 class Crate(NamedTuple):
-    """A crate: its name, the heading that it stands under, and the libraries that it names."""
+    """A crate: its name, the heading that it stands under, the libraries that it names, and its line."""
 
     name: str
     kind: str
     uses: list
+    line: str = ""
 
 
 def read(top=TOP):
@@ -32,7 +38,7 @@ def read(top=TOP):
             head, colon, uses = line.partition("#")[0].partition(":")
             if colon:
                 name = head.split()[0]
-                found[name] = Crate(name, kind, uses.split())
+                found[name] = Crate(name, kind, uses.split(), line.strip())
             before = line.strip()
     return found
 
@@ -52,6 +58,31 @@ def below(crates):
     return found
 
 
+def lowest_first(crates, name):
+    """Returns the names of all that a crate stands on, and its own last: each behind those below it."""
+    found = {}
+
+    def visit(name):
+        if name not in found and name in crates:
+            for it in crates[name].uses:
+                visit(it)
+            found[name] = None
+
+    visit(name)
+    return [*found]
+
+
+def longest_chain_first(crates, name):
+    """Returns the same names, the crate first: by how many of them stand above each, one on another."""
+    order = lowest_first(crates, name)[::-1]
+    above = dict.fromkeys(order, 0)
+    for one in order:
+        for it in crates[one].uses:
+            if it in above:
+                above[it] = max(above[it], above[one] + 1)
+    return sorted(order, key=lambda it: (-above[it], -order.index(it)))
+
+
 def nearest(crates):
     """Returns, for each crate, those that it names and does not stand on through another."""
     under = below(crates)
@@ -62,18 +93,23 @@ def nearest(crates):
     return found
 
 
-def files_below(folder):
-    return [f"{at}/{name}" for at, _, names in os.walk(folder) for name in names]
+def main(words):
+    crates = read()
+    if len(words) < 2 or not {*words[1:]} <= {*crates}:
+        print(__doc__.strip(), file=sys.stderr)
+        return 2
+    asked, name = words[:2]
+    if asked == "below":
+        print(*lowest_first(crates, name), sep="\n")
+    elif asked == "chains":
+        for one in longest_chain_first(crates, name):
+            print(one, *(it for it in crates[one].uses if it in crates))
+    elif asked == "uses":
+        print(*crates[name].uses, sep="\n")
+    elif asked == "lines":
+        print(*(crates[it].line for it in words[1:]), sep="\n")
+    return 0
 
 
-def out_of_layout(name):
-    """Returns the files of a crate that `rt fmt`, run on a copy of the crate, would change."""
-    folder = f"{TOP}/crates/{name}"
-    with tempfile.TemporaryDirectory() as room:
-        for part in ("src", "specs", "proofs"):
-            if os.path.isdir(f"{folder}/{part}"):
-                shutil.copytree(f"{folder}/{part}", f"{room}/{part}")
-        subprocess.run(["rt", "fmt"], cwd=room, stdin=subprocess.DEVNULL, capture_output=True, check=False)
-        names = [os.path.relpath(it, room) for it in files_below(room)]
-        _, *differ = filecmp.cmpfiles(room, folder, names, shallow=False)
-    return sorted(sum(differ, []))
+if __name__ == "__main__":
+    sys.exit(main(sys.argv[1:]))

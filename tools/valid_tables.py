@@ -3,8 +3,8 @@
 from typing import NamedTuple
 
 import protocol
-import reference
-from reference import Interface, Kind, Message
+import table_text
+from table_text import Interface, Kind, Message
 
 LETTERS = {
     "int": "i",
@@ -31,35 +31,45 @@ class LeftOut(NamedTuple):
         return f"{what}: left out, {self.why}"
 
 
-def message_of(message):
-    kinds = [Kind(LETTERS[it.type], it.null, it.interface) for it in message.args]
-    return Message(message.name, kinds, message.destroys, message.since)
+def kind_of(side, argument):
+    """The kind of an argument. What an event makes is `N`, where its interface is given."""
+    if side == "event" and argument.type == "new_id" and argument.interface is not None:
+        return Kind("N", interface=argument.interface)
+    return Kind(LETTERS[argument.type], argument.null, argument.interface)
 
 
-def interfaces_of(path):
-    """The interfaces of a file, as tables have them."""
+def message_of(side, message):
+    kinds = [kind_of(side, it) for it in message.args]
+    return Message(message.name, kinds, message.destroys, message.since, message.line)
+
+
+def check_changes(path, old, new):
+    """Raises `BadProtocol` where one of the messages that both versions of an interface have differs, or
+    the newer one lacks a message."""
+    for side in ("request", "event"):
+        olds, news = getattr(old, side), getattr(new, side)
+        for was, now in zip(olds, news):
+            if str(was) != str(now):
+                raise protocol.BadProtocol(
+                    f"{path}: line {now.line}: {new.name} {side} {now}: the core tables have {was}"
+                )
+        if len(news) < len(olds) and new.version > old.version:
+            raise protocol.BadProtocol(f"{path}: {new.name} has no {side} {olds[len(news)]}")
+
+
+def interfaces_of(path, is_checked=True):
+    """The interfaces of a file, as tables have them. Raises `BadProtocol`; if `is_checked`, also where the
+    file changes an interface of the core tables."""
+    core = {it.name: it for it in table_text.core_tables()}
     found = []
     for it in protocol.read(path).interfaces:
         interface = Interface(it.name, it.version)
-        interface.request = [message_of(one) for one in it.requests]
-        interface.event = [message_of(one) for one in it.events]
+        interface.request = [message_of("request", one) for one in it.requests]
+        interface.event = [message_of("event", one) for one in it.events]
+        if is_checked and it.name in core and it.name not in table_text.FIXED:
+            check_changes(path, core[it.name], interface)
         found.append(interface)
     return found
-
-
-def as_numbers(interfaces):
-    """Turns the new ids of events that name their interface into numbers. Returns these messages."""
-    turned = []
-    for interface in interfaces:
-        for message in interface.event:
-            kinds = [
-                Kind("u") if it.letter == "n" and it.interface is not None else it
-                for it in message.kinds
-            ]
-            if kinds != message.kinds:
-                message.kinds = kinds
-                turned.append(message)
-    return turned
 
 
 class Mending:
@@ -69,7 +79,8 @@ class Mending:
         self.interfaces = interfaces
         self.is_whole = is_whole
         self.left_out = []
-        self.core = reference.core_tables()
+        self.core = table_text.core_tables()
+        self.notes = []
 
     def remove(self, interface, why):
         self.left_out.append(LeftOut(interface, "", None, why))
@@ -94,7 +105,7 @@ class Mending:
             ]
             if not since or min(since) > interface.version:
                 return
-            if min(since) <= 1:
+            if min(since) <= 1 + self.version_in_core(interface):
                 self.remove(interface, "no version of it is whole")
                 return
             interface.version = min(since) - 1
@@ -106,17 +117,34 @@ class Mending:
                         break
 
     def first_break(self):
-        """What to mend next. An interface that is left out, or an event, may mend what others break;
-        so they come before requests."""
+        """What to mend next. An interface that is left out, or an event that destroys, may mend what
+        others break: so requests, and events that make an object, come last."""
         order = {None: 0, "event": 1, "request": 2}
-        found = reference.breaks(self.core, self.interfaces)
-        return min(found, key=lambda it: order[it[1]], default=None)
+        found = table_text.breaks(self.core, self.interfaces)
+        return min(found, key=lambda it: (order[it[1]], it[3] == 11), default=None)
+
+    def version_in_core(self, interface):
+        """The version that the core tables have of it, or 0."""
+        return next((it.version for it in self.core if it.name == interface.name), 0)
+
+    def extend(self, interface):
+        """Makes of a newer interface of the core what it adds; one that is not newer is left out."""
+        old = next(it for it in self.core if it.name == interface.name)
+        if interface.version <= old.version:
+            self.remove(interface, "the core tables have it")
+        elif interface.name in table_text.FIXED:
+            self.remove(interface, f"it is always the same; the file has version {interface.version}")
+            self.notes.append(self.left_out[-1])
+        else:
+            interface.extends = True
+            interface.request = interface.request[len(old.request) :]
+            interface.event = interface.event[len(old.event) :]
 
     def mend(self):
         core = {it.name for it in self.core}
         for interface in self.interfaces:
             if interface.name in core:
-                self.remove(interface, "the core tables have it")
+                self.extend(interface)
             elif interface.name == "wl_fixes":
                 self.remove(interface, "its destroy_registry destroys an argument")
         while (found := self.first_break()) is not None:
@@ -129,13 +157,12 @@ class Mending:
                     self.lower(interface)
 
 
-def lines_of(interfaces, left_out, turned):
-    """The lines of the text, with comments on messages that were turned or left out."""
+def lines_of(interfaces, left_out):
+    """The lines of the text, with comments on messages that were left out."""
     for interface in interfaces:
-        yield f"interface {interface.name} {interface.version}"
+        head = "extend" if interface.extends else "interface"
+        yield f"{head} {interface.name} {interface.version}"
         for side, message in interface.messages():
-            if any(it is message for it in turned):
-                yield f"# {message.name}: its new id stands as a uint"
             yield f"{side} {message}"
         for it in left_out:
             if it.interface is interface and it.message is not None:

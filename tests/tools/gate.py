@@ -1,0 +1,180 @@
+"""The tools that run proofs and tests: mutants, the timed gate and the quick look."""
+
+import contextlib
+import io
+import os
+import subprocess
+import sys
+import unittest
+import unittest.mock
+
+from checks import TOOLS, TOP, module_of, read
+import crates
+
+
+class Mutants(unittest.TestCase):
+    tool = module_of("tools/dev/mutants")
+    sources = {"src/lib.rt": "fn one() -> u8 {\n    1\n}\n\nfn two() -> u8 {\n    one() + 1\n}\n"}
+
+    def body(self, name, *pairs):
+        body = self.tool.Mutant(name)
+        body.pairs = [("src/lib.rt", old, new) for old, new in pairs]
+        body.function = self.tool.function_at(self.sources, "src/lib.rt", pairs[0][0])
+        return body
+
+    def test_names_of_functions(self):
+        self.assertEqual(self.body("a", ("    1\n", "    2\n")).function, ("lib", "one"))
+        self.assertEqual(self.body("b", ("one() + 1", "one()")).function, ("lib", "two"))
+        self.assertEqual(self.body("c", ("fn two() ->", "fn two() ->")).function, ("lib", "two"))
+
+    def test_a_text_stands_once(self):
+        self.assertIsNone(self.body("a", ("u8", "u16")).applied(self.sources))
+        self.assertIsNone(self.body("a", ("one() + 3", "3")).applied(self.sources))
+
+    def test_one_mutant_of_a_function_in_a_round(self):
+        first, second = self.body("a", ("    1\n", "    2\n")), self.body("b", ("    1\n}", "    3\n}"))
+        third = self.body("c", ("one() + 1", "one()"))
+        chosen, texts = self.tool.round_of([first, second, third], self.sources)
+        self.assertEqual([it.name for it in chosen], ["a", "c"])
+        self.assertIn("    2\n", texts["src/lib.rt"])
+        self.assertIn("    one()\n", texts["src/lib.rt"])
+
+    def test_a_function_is_refused_for_its_own_sake(self):
+        chosen = [self.body("a", ("    1\n", "    2\n")), self.body("c", ("one() + 1", "one()"))]
+        said = "fn low::one: not proved\nfn low::two: no proof: it calls `low::one`, which is not proved\n"
+        self.assertEqual([it.name for it in self.tool.refused_in(said, chosen)], ["a"])
+
+
+class TimedGate(unittest.TestCase):
+    tool = module_of("tools/dev/timed-gate")
+
+    def test_status_is_the_commands(self):
+        command = [sys.executable, f"{TOOLS}/dev/timed-gate", "sh", "-c", "exit 3"]
+        ran = subprocess.run(command, stdout=subprocess.PIPE, text=True)
+        self.assertEqual(ran.returncode, 3)
+        self.assertIn("processor minutes in", ran.stdout.split("\n")[-2])
+
+    def test_other_processes_are_not_counted(self):
+        self.assertIsNone(self.tool.part_of(f"/proc/{os.getpid()}"))
+
+    def test_no_row_without_a_figure(self):
+        """A crate of which a part was not timed is named, and the page has the marks of the figures."""
+        table = {"wl_line_text": {"proof": 1.0, "tests": 0.0, "mutants": 0.5}}
+        self.assertEqual(self.tool.lacking(table, ["wl_line_text"]), [])
+        self.assertEqual(self.tool.lacking(table, ["wl_line_text", "waywire"]), ["waywire (proof)"])
+        table["test_layers"] = {"proof": 1.0, "tests": 0.0, "mutants": 0.0}
+        self.assertEqual(self.tool.lacking(table, ["test_layers"]), ["test_layers (tests)"])
+        page = read("docs/GATE.md")
+        self.assertLess(page.index(self.tool.BEGINS), page.index(self.tool.ENDS))
+        self.assertNotIn("| ? |", page)
+
+    def test_rows(self):
+        table = {"b": dict.fromkeys(self.tool.PARTS, 1.0), "a": {"proof": 0.25, "tests": 0.0, "mutants": 0.0}}
+        found = self.tool.rows(table, ["a", "b"])[2:]
+        self.assertEqual(found[0], "| `a` | 0.2 | - | - | 0.2 |")
+        self.assertEqual(found[2], "| All | 1.2 | 1.0 | 1.0 | 3.2 |")
+
+
+class Quick(unittest.TestCase):
+    tool = module_of("tests/quick")
+
+    def test_what_the_prover_says_of_mutants(self):
+        said = (
+            "rt: wl_connection: 2 of its 3 must-fail edits were tried by an earlier run on this machine, and so on\n"
+            "rt: must-fail wl_connection/a.edit: refused, as it must be: src/end.rt:3:1: error\n"
+            "rt: must-fail wl_connection/b.edit: NOT REFUSED: the crate is still proved with this edit\n"
+            "rt: must-fail wl_connection/c.edit: refused, as it must be\n"
+        )
+        with contextlib.redirect_stdout(io.StringIO()) as output:
+            count = self.tool.Count()
+            self.tool.judge(said, 1, count, 0)
+        self.assertEqual((count.passed, count.failed), (2, 1))
+        self.assertIn("wl_connection/b.edit: NOT REFUSED", output.getvalue())
+
+    def test_lines_by_file(self):
+        found = self.tool.by_file(read("crates/test_scenes/stdout"))
+        words = read("crates/test_scenes/args").split()
+        self.assertEqual([*found], [it for it in words if it.endswith(".scenes")])
+        self.assertLess({*self.tool.LONG_SCENES}, {*found})
+
+    def test_tables_of_scenes(self):
+        found = self.tool.files_with_tables(["a.scenes", "t.tables", "b.scenes", "c.scenes"])
+        self.assertEqual(found, [["a.scenes"], ["t.tables", "b.scenes"], ["t.tables", "c.scenes"]])
+
+    def test_what_a_tool_counts(self):
+        for said, status, counted in (
+            ("1 passed, 0 failed\nskipped: a: b\n3 passed, 0 failed", 0, (3, 0)),
+            ("failed: c\n3 passed, 2 failed", 1, (3, 2)),
+            ("3 passed, 0 failed", 1, (3, 1)),
+            ("it stopped", 0, (0, 1)),
+        ):
+            with contextlib.redirect_stdout(io.StringIO()) as output:
+                count = self.tool.Count()
+                self.tool.tool(count, "a tool", "sh", "-c", f"echo '{said}'; exit {status}")
+            self.assertEqual((count.passed, count.failed), counted, said)
+            self.assertIn("a tool: ", output.getvalue())
+            self.assertEqual("skipped: a: b" in output.getvalue(), "skipped" in said)
+
+    def test_a_test_that_has_no_time_is_named(self):
+        late = "    checked: no-answer: the program did not end within the time limit\n    run=no-answer\n"
+        wrong = "    checked: ended status=101\n"
+        for why, counted, left in ((late, (1, 0), 1), (wrong, (1, 1), 0)):
+            said = f"test a::b ... FAILED\n{why}test a::c ... ok\n"
+            said += "test result: FAILED. 1 passed; 1 failed; 0 ignored; 0 filtered out\n"
+            with (
+                contextlib.redirect_stdout(io.StringIO()),
+                unittest.mock.patch.object(self.tool, "run", lambda *_, said=said: (1, said)),
+            ):
+                count = self.tool.Count()
+                self.tool.tests_of("test_layers", count)
+            self.assertEqual((count.passed, count.failed), counted)
+            self.assertEqual(["a::b" in it for it in count.left], [True] * left)
+
+    def ran(self, part, said):
+        """The commands that a part runs, of which each says this, and what it leaves out."""
+        commands = []
+
+        def run(_, *words):
+            commands.append(" ".join(words))
+            return int("not" in said and words[0] == "make"), f"{said}\n1 passed, 0 failed\n"
+
+        with (
+            contextlib.redirect_stdout(io.StringIO()),
+            unittest.mock.patch.object(self.tool, "run", run),
+            unittest.mock.patch.object(self.tool.shutil, "which", lambda _: "there"),
+        ):
+            count = self.tool.Count()
+            part(count)
+        return commands[1:], count.left
+
+    def test_what_is_built_is_tested(self):
+        """Over the proved program and the library for C more is run, and what is not run is named."""
+        tools = ["tests/check-program", "tests/compare", "tests/refuse-memory"]
+        program = "crates/waywire/out/waywire"
+        found = self.ran(self.tool.at_program, "waywire 1.0.0")
+        self.assertEqual(found, ([f"{it} {program}" for it in tools], []))
+        found, left = self.ran(self.tool.at_program, "this run is not proved")
+        self.assertEqual(found, [f"{it} {program}-unproved" for it in tools[:2]])
+        self.assertIn(tools[2], left[0])
+        found = self.ran(self.tool.at_library, "built")
+        self.assertEqual(found, ([f"tests/check-c {program}", "tests/check-rust", "tests/check-stubs",
+                                  "tests/check-picture"], []))
+        found, left = self.ran(self.tool.at_library, "not built")
+        self.assertEqual(found, ["tests/check-stubs Modules"])
+        self.assertIn("tests/check-c", left[0])
+
+    def test_no_crate_of_tests_is_forgotten(self):
+        found = crates.read()
+        with_tests, programs = self.tool.of_tests(found)
+        run = {*with_tests, *programs, "test_scenes"}
+        under = crates.below(found)
+        for it in found.values():
+            if it.kind == "tests":
+                self.assertTrue(it.name in run or any(it.name in under[one] for one in run), it.name)
+        self.assertLess({*self.tool.LONG_PROGRAMS}, {*programs})
+
+    def test_names(self):
+        command = [f"{TOP}/test", "quick", "wl_wire", "no_crate"]
+        ran = subprocess.run(command, capture_output=True, text=True, check=False)
+        self.assertEqual((ran.returncode, ran.stdout), (2, ""))
+        self.assertIn("no_crate", ran.stderr)

@@ -1,0 +1,173 @@
+"""What the pages link to, name and show, and what the linters say of the programs."""
+
+import glob
+import os
+import re
+import shutil
+import subprocess
+import unittest
+
+from checks import TOP, module_of, read
+
+
+class Pages(unittest.TestCase):
+    """What the pages link to and name is there."""
+
+    FOLDERS = ("", "crates", "docs", "tools")
+    # Files that a command makes, and words in the place of a name.
+    MADE = re.compile(r"(^|/)out/|^include/waywire-version\.h$")
+    STANDS_FOR = re.compile(r"[A-Z]{3,}")
+    PATH = re.compile(r"(\./)?\.?[a-z][\w.*+-]*(/[\w.*+-]+)+/?", re.ASCII)
+    FILE = re.compile(r"[\w-]+\.(antt|c|edit|h|md|py|rec|rt|run|scenes|svg|tables|txt)", re.ASCII)
+
+    def pages(self):
+        found = []
+        for folder in ("", "docs", "crates/*", "examples/*", "rust/*"):
+            found += glob.glob(f"{TOP}/{folder}/*.md")
+        return sorted(os.path.relpath(it, TOP) for it in found)
+
+    def test_links(self):
+        for page in self.pages():
+            for to in re.findall(r"\]\(([^)\s]+)\)", read(page)):
+                path = to.partition("#")[0]
+                if path and not re.match(r"\w+:", to):
+                    self.assertTrue(os.path.exists(f"{TOP}/{os.path.dirname(page)}/{path}"), f"{page}: {to}")
+
+    def test_file_names(self):
+        names = set()
+        for at, folders, files in os.walk(TOP):
+            folders[:] = [it for it in folders if it not in ("out", ".git")]
+            names.update(files)
+        places = [*self.FOLDERS, *(os.path.relpath(it, TOP) for it in glob.glob(f"{TOP}/crates/*"))]
+        for page in self.pages():
+            text = re.sub(r"(?s)```.*?```", "", read(page))
+            near = [*places, os.path.dirname(page)]
+            for word in " ".join(re.findall(r"`([^`\n]+)`", text)).split():
+                if self.MADE.search(word) or self.STANDS_FOR.search(word):
+                    continue
+                if self.PATH.fullmatch(word):
+                    word = word.removeprefix("./").rstrip("/")
+                    found = [glob.glob(f"{TOP}/{it}/{word}{end}") for it in near for end in ("", ".antt")]
+                    self.assertTrue(any(found), f"{page}: {word}")
+                elif self.FILE.fullmatch(word):
+                    self.assertIn(word, names, page)
+
+
+class Lint(unittest.TestCase):
+    """The programs in Python and shell have nothing that their linters speak of."""
+
+    def scripts(self, language, ending):
+        """The files whose first line names this language, or that end as its modules do."""
+        found = []
+        for folder in (".", ".ci", "bench", "bench/*", "tests", "tests/*", "tools", "tools/*"):
+            for path in glob.glob(f"{TOP}/{folder}/*"):
+                if os.path.isfile(path):
+                    with open(path, "rb") as file:
+                        first = file.readline()
+                    if first.startswith(b"#!") and language in first or path.endswith(ending):
+                        found.append(path)
+        self.assertTrue(found)
+        return found
+
+    def lint(self, words, language, ending):
+        if not shutil.which(words[0]):
+            self.skipTest(f"{words[0]} is not installed (tools/dev/install-packages)")
+        command = [*words, *self.scripts(language, ending)]
+        ran = subprocess.run(command, capture_output=True, text=True, cwd=TOP, check=False)
+        self.assertEqual((ran.stdout + ran.stderr, ran.returncode), ("", 0))
+
+    def test_python(self):
+        self.lint(["pyflakes3"], b"python", ".py")
+
+    def test_tools_need_no_tests(self):
+        """What users run imports nothing of tests/: `make install` leaves that folder out."""
+        of_tests = [os.path.basename(it).removesuffix(".py") for it in glob.glob(f"{TOP}/tests/*.py")]
+        imports = re.compile(rf"(?m)^\s*(?:import|from) (?:{'|'.join(of_tests)})\b")
+        for path in self.scripts(b"python", ".py"):
+            if path.startswith(f"{TOP}/tools/"):
+                with open(path, encoding="utf-8") as file:
+                    self.assertIsNone(imports.search(file.read()), path)
+
+    def test_shell(self):
+        self.lint(["shellcheck", "-x"], b"sh", ".sh")
+
+
+class FrontPage(unittest.TestCase):
+    """The worked example on the page of the crate `wl` is the program `hello`, and the README shows what the
+    program prints."""
+
+    def test_page_is_the_program(self):
+        with open(f"{TOP}/crates/wl/src/lib.rt", encoding="utf-8") as file:
+            page = [it[len("//!") :].removeprefix(" ") for it in file if it.startswith("//!")]
+        with open(f"{TOP}/crates/hello/src/main.rt", encoding="utf-8") as file:
+            program = file.read()
+        fences = [place for place, line in enumerate(page) if line.startswith("```")]
+        example = "".join(page[fences[0] + 1 : fences[1]])
+        self.assertEqual(program[program.index("ghost use") :], example)
+
+    # What the library's own crates call, which the page leaves out.
+    INNER = {("Args", "new"), ("End", "core"), ("Passed", "append_to"),
+             ("Recording", "fill_last"), ("Recording", "prepare")}
+
+    def test_calls(self):
+        """The page lists each call of the types that `wl` exports, with its signature."""
+        page = re.sub("(?m)^//! ?", "", read("crates/wl/src/lib.rt"))
+        calls = page.split("# The calls")[1].split("```text")[1].split("```")[0]
+        listed, owner = {}, ""
+        for text in re.split(r"\n(?=\w| *fn )", calls):
+            name = re.match(r"( *)fn (\w+)", text)
+            if name:
+                owner = owner if name[1] else ""
+                listed[owner, name[2]] = self.plain(text)
+            else:
+                owner = re.match(r"(?:trait )?(\w*)", text)[1]
+        exported = module_of("tools/dev/contracts").exports(f"{TOP}/crates/wl/src/lib.rt")[1]
+        wanted = {}
+        for path in glob.glob(f"{TOP}/crates/wl_*/src/*.rt"):
+            wanted.update(self.signatures(path, exported))
+        self.maxDiff = None
+        self.assertEqual(dict(sorted(listed.items())), dict(sorted(wanted.items())))
+
+    def signatures(self, path, exported):
+        """Returns the signatures of a file that are public and of these types, or of these names."""
+        contracts, found, owner = module_of("tools/dev/contracts"), {}, None
+        with open(path, encoding="utf-8") as file:
+            lines = file.read().split("\n")
+        for at, line in enumerate(lines):
+            if contracts.OWNER.match(line):
+                owner = None if line.endswith("{}") else contracts.owner_of(line)
+            elif line == "}":
+                owner = None
+            start = contracts.START.match(line)
+            if not start or not contracts.is_listed(start, owner, []):
+                continue
+            name = owner.name if owner else "", start[3]
+            if (name[0] or name[1]) not in exported or name in self.INNER:
+                continue
+            text = re.split(r"\n *(?:ensures|requires|where|//|\{)|\{\n|;\n", "\n".join(lines[at : at + 12]))[0]
+            found[name] = self.plain(text)
+        return found
+
+    def plain(self, signature):
+        text = " ".join(signature.split()).removesuffix(" {")
+        return re.sub(r"^(?:pub |final )*", "", text).replace("( ", "(").replace(", )", ")")
+
+    def test_readme_shows_what_is_stored(self):
+        with open(f"{TOP}/README.md", encoding="utf-8") as file:
+            readme = file.read()
+        self.assertLessEqual(len(readme.encode()), 10_496)
+        for case in ("trace_surface", "check_bad_new_id"):
+            with open(f"{TOP}/tests/runs/{case}.run", encoding="utf-8") as file:
+                run = file.read()
+            words = re.search("(?m)^words: (.*)$", run)[1]
+            output = re.sub("(?m)^  ", "", run.split("output:\n")[1])
+            shown = readme.split(f"$ ./waywire {words}\n")[1].split("\n", 1)[1]
+            self.assertTrue(shown.startswith(output), case)
+
+
+class ManPage(unittest.TestCase):
+    def test_statuses(self):
+        """The table of docs/FORMATS.md names each exit status, in order, and when it comes."""
+        found = module_of("tools/man-page").statuses()
+        self.assertEqual(list(found), ["0", "1", "2", "3", "4"])
+        self.assertEqual(found["4"], ["waywire: out of memory: memory ran out"])

@@ -1,0 +1,164 @@
+"""The crates as crates.txt lists them, their contracts and their definitions."""
+
+import glob
+import os
+import re
+import subprocess
+import sys
+import tempfile
+import textwrap
+import unittest
+
+from checks import TOOLS, TOP, module_of, read
+import crates
+
+
+class Crates(unittest.TestCase):
+    """crates.txt, and the picture that is drawn of it."""
+
+    def test_each_kind_has_a_heading(self):
+        found = crates.read()
+        self.assertEqual({it.kind for it in found.values()}, {"library", "theory", "program", "tests"})
+        self.assertEqual(sorted(found), sorted(os.listdir(f"{TOP}/crates")))
+
+    def test_lowest_first(self):
+        """A crate stands below those of its kind that it stands on."""
+        found = crates.read()
+        order = [*found]
+        for name, under in crates.below(found).items():
+            for low in under:
+                if found[low].kind == found[name].kind:
+                    self.assertLess(order.index(low), order.index(name), f"{name} stands on {low}")
+
+    def test_picture(self):
+        found = crates.read()
+        drawn = "\n".join(module_of("tools/dev/draw-crates").drawn(found)) + "\n"
+        self.assertEqual(read("docs/crates.svg"), drawn, "run tools/dev/draw-crates >docs/crates.svg")
+        for name in found:
+            self.assertIn(f">{name}</text>", drawn)
+
+    def test_nearest(self):
+        found = {it.name: it for it in (crates.Crate("a", "", []), crates.Crate("b", "", ["a"]))}
+        found["c"] = crates.Crate("c", "", ["a", "b", "std"])
+        self.assertEqual(crates.nearest(found), {"a": [], "b": ["a"], "c": ["b"]})
+
+    def test_orders(self):
+        """A crate comes behind those below it; or before, first the one with the most above it in a chain."""
+        uses = {"d": [], "a": [], "b": ["a"], "c": ["b", "d", "std"], "other": ["a"]}
+        found = {name: crates.Crate(name, "", below) for name, below in uses.items()}
+        self.assertEqual(crates.lowest_first(found, "c"), ["a", "b", "d", "c"])
+        self.assertEqual(crates.longest_chain_first(found, "c"), ["a", "b", "d", "c"])
+
+    def test_asked_by_shell(self):
+        def said(*words):
+            return subprocess.run([sys.executable, f"{TOOLS}/crates.py", *words], capture_output=True, text=True)
+
+        self.assertEqual(said("below", "wl_sigs").stdout.split()[-1], "wl_sigs")
+        self.assertEqual(said("chains", "wl_sigs").stdout.splitlines()[-1].split()[0], "wl_sigs")
+        self.assertIn("core", said("uses", "waywire_c").stdout.split())
+        line = said("lines", "waywire_c", "wl_wire").stdout.splitlines()[0]
+        self.assertTrue(line.startswith("waywire_c staticlib: ") and line in read("crates.txt").splitlines())
+        self.assertEqual(said("below", "no_crate").returncode, 2)
+
+
+class Contracts(unittest.TestCase):
+    """docs/CONTRACTS.md, the list of clauses."""
+
+    def test_page(self):
+        written = "\n".join(module_of("tools/dev/contracts").page()) + "\n"
+        self.assertEqual(read("docs/CONTRACTS.md"), written, "run tools/dev/contracts >docs/CONTRACTS.md")
+
+    def test_functions(self):
+        """Each sort of line, of a crate that has them all."""
+        found = self.lines(
+            """
+            pub trait Box {
+                /// Its size. Never 0.
+                fn size(&self) -> u32
+                    requires { IsOpen self }
+                    ensures some { (a : Row)
+                        → Fits a };
+
+                /// Whether it has none.
+                final fn is_empty(&self) -> bool {
+                    false
+                }
+            }
+
+            impl<'a, T: Drop> Box for Tin<'a, T> {
+                fn size(&self) -> u32 {
+                    4
+                }
+            }
+
+            impl fmt::Display for Tin<'_> {
+                ghost output = { Some tin_text };
+
+                fn fmt(&self) {}
+            }
+
+            impl Error for Tin<'_> {}
+
+            /// Opens it
+            /// by hand.
+            ///
+            /// Slowly.
+            #[inline]
+            pub fn open()
+                ensures* state { let {x = tin_row} Closed }
+                ensures { true }
+            {}
+
+            pub fn hidden() {}
+
+            fn private() {}
+            """
+        )
+        self.assertEqual(
+            found,
+            [
+                "- `Box::size`: Its size. Requires *unnamed* (IsOpen); ensures `some` (Fits)",
+                "- `Box::is_empty`: Whether it has none.",
+                "- `Tin: Display`: Ensures `output` (tin_text)",
+                "- **law** `open`: Opens it by hand. Ensures `state` (HasLid), *unnamed*",
+            ],
+        )
+
+    def lines(self, source):
+        """Returns the lines of a crate whose laws.rt has this source."""
+        with tempfile.TemporaryDirectory() as top:
+            for folder in ("src", "specs"):
+                os.makedirs(f"{top}/crates/tins/{folder}")
+            uses = "ghost use Rattle.tins.specs.Lids.{IsOpen, Row, Fits, tin_row, tin_text, HasLid as Closed};\n"
+            for name, text in (
+                ("src/laws.rt", uses + textwrap.dedent(source)),
+                ("src/lib.rt", "mod laws;\n\npub use laws::{\n    Box, Tin, open,\n};\n"),
+                ("specs/Lids.antt", "pub record Row : Type 0 where\nabbrev pub Fits : Row → Type 0\n"),
+            ):
+                with open(f"{top}/crates/tins/{name}", "w", encoding="utf-8") as file:
+                    file.write(text)
+            contracts = module_of("tools/dev/contracts")
+            found = contracts.modules(top, "tins", {"tins": None}, contracts.value_types(top))
+        return [contracts.written(it) for listed in found.values() for it in listed]
+
+
+class Definitions(unittest.TestCase):
+    """The names of the definitions in specs/."""
+
+    defines = re.compile(r"(?:(?:abbrev|unfoldable|pub|record|data) )+(?!use |mod )([^\s:({]+)")
+    ends = ["wl_client", "wl_server"]
+
+    def test_one_name_for_one_thing(self):
+        """What both ends have of a kind has one name in both, and no other name stands twice."""
+        places = {}
+        for path in sorted(glob.glob(f"{TOP}/crates/*/specs/*.antt")):
+            with open(path, encoding="utf-8") as file:
+                names = {m.group(1) for m in map(self.defines.match, file) if m}
+            for name in names:
+                places.setdefault(name, []).append(os.path.relpath(path, f"{TOP}/crates"))
+        twice = {
+            name: files
+            for name, files in places.items()
+            if len(files) > 1 and [file.split("/")[0] for file in files] != self.ends
+        }
+        self.assertEqual(twice, {})

@@ -1,0 +1,72 @@
+"""The texts of tables in examples/tables, beside their page and the files that they are made of."""
+
+import contextlib
+import glob
+import io
+import os
+import re
+import unittest
+
+from checks import TOP, joined_tables, module_of, read
+import protocol
+import protocol_files
+import table_text
+
+
+class Texts(unittest.TestCase):
+    """The texts in examples/tables."""
+
+    missing = "the package is not installed (tools/dev/install-packages)"
+
+    def texts(self):
+        """Each text by its name."""
+        paths = sorted(glob.glob("examples/tables/*.tables", root_dir=TOP))
+        return {os.path.basename(it).removesuffix(".tables"): read(it) for it in paths}
+
+    def test_valid(self):
+        """Each with those whose interfaces it names, and all together, in any order."""
+        texts, core = self.texts(), table_text.core_tables()
+        for name, its in texts.items():
+            its += "".join(texts[it] for it in protocol_files.PROTOCOLS[name].names)
+            self.assertGreater(len(table_text.read_more(core, its.encode())), len(core), name)
+        joined = table_text.read_more(core, joined_tables())
+        others = table_text.read_more(core, "".join(reversed(texts.values())).encode())
+        self.assertEqual(len(joined), len(others))
+        made = [it for one in joined for it in one.event if any(kind.letter == "N" for kind in it.kinds)]
+        self.assertEqual(len(made), 19)
+
+    def test_page(self):
+        """The page has a row for each text, with the versions that the text has, and those to join it with."""
+        rows = dict(re.findall(r"(?m)^\| `([a-z0-9-]+)\.tables` \| (.*) \|$", read("examples/tables/README.md")))
+        texts = self.texts()
+        self.assertEqual(sorted(rows), sorted(texts))
+        self.assertEqual(sorted(texts), sorted(protocol_files.PROTOCOLS))
+        for name, row in rows.items():
+            versions = {it.version for it in table_text.parse_tables(texts[name].encode())}
+            said = re.search(r", ([0-9]+(?:(?:, | and )[0-9]+)*) \|", f"{row} |")[1]
+            self.assertEqual({*map(int, re.findall("[0-9]+", said))}, versions, name)
+            named = re.findall(r"`([a-z0-9-]+)\.tables`", row)
+            self.assertEqual(named, [*protocol_files.PROTOCOLS[name].names], name)
+
+    def test_made_of_the_files(self):
+        """Each text is what the tool makes of its file, where that version of the package is installed."""
+        files, tool, others = protocol_files.found(), module_of("tools/dev/make-tables"), []
+        for name, stored in self.texts().items():
+            if name not in files or stored.splitlines()[0] != f"# {tool.first_line(name)}":
+                others.append(name)
+                continue
+            with contextlib.redirect_stderr(io.StringIO()):
+                made = tool.text_of(name, files)
+            self.assertEqual(made, stored, f"run tools/dev/make-tables {name}")
+        if others:
+            self.skipTest(f"{', '.join(others)}: {self.missing} in that version")
+
+    def test_each_file_is_read(self):
+        """Each file of a package has a text, or the page says why it has none."""
+        if not protocol_files.found():
+            self.skipTest(self.missing)
+        page = read("examples/tables/README.md")
+        for package, path in protocol_files.without_text():
+            self.assertIn(path, protocol_files.WITHOUT_TEXT.get(package, []))
+            self.assertIn(f"`{os.path.basename(path)}`", page)
+            protocol.read(os.path.join(protocol_files.folder(package), path))
