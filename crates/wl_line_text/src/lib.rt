@@ -1,4 +1,4 @@
-//! Texts that are made of lines: how they are cut into lines, and the numbers that stand in them.
+//! Texts that are made of lines: how they are cut into lines, and the numbers in them.
 #![tactic(auto)]
 
 mod lines;

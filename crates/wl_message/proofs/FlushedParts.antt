@@ -6,15 +6,14 @@ use Rattle.std.specs.Io.KnownBytes.{Appends, Keeps}
 use Rattle.std.specs.List.{AllByRecursion}
 use Rattle.std.proofs.lemmas.List.{length-take, append-nil, drop-append-le, drop-drop}
 use Rattle.std.proofs.Math.Seq.{take-add}
-use Rattle.wl_message.specs.declared.marks.Reach.{Reach}
 use Rattle.wl_message.specs.declared.amounts.Amounts.{Amounts}
 use Rattle.wl_message.specs.declared.streams.FlushError.TheVariants.{Io, NeedsTokens}
 use Rattle.wl_message.specs.Outgoing.{QueuedMessage, Outgoing, all_bytes, all_tokens, begun, newly_begun}
-use Rattle.wl_message.specs.Outgoing.{going_bytes, MayGo, Goes, goes, waiting_bytes, after_taking}
-use Rattle.wl_message.specs.Marks.{ReachesRoom, Kept, outgoing, IsKept}
+use Rattle.wl_message.specs.Outgoing.{MayGo, Goes, goes, waiting_bytes, after_taking}
+use Rattle.wl_message.specs.Marks.{Kept, outgoing, IsKept}
 use Rattle.wl_message.specs.Streams.{Flushes, FirstHasTokens, NextHasTokens}
 use Rattle.wl_message.proofs.WhatGoes.{begun_none, begun_some, goes_goes}
-use Rattle.wl_message.proofs.PartedQueue.{Leaves, leaves, some_messages}
+use Rattle.wl_message.proofs.PartedQueue.{some_messages}
 use Rattle.wl_message.proofs.TakenInStep.{passes, bytes_append, tokens_append}
 use Rattle.wl_message.proofs.Steps.{side}
 
@@ -86,18 +85,13 @@ newly_more o a b =
     ]
 
 -- what may go without tokens goes whole
-pub goes_all : (o : Outgoing) (n : ℕ) → MayGo o n 0 n → going_bytes o n 0 ≡ n
-unfolding goes
+pub goes_all : (o : Outgoing) (n : ℕ) → MayGo o n 0 n → (goes o n 0).bytes ≡ n
 goes_all o n may =
     let g = goes_goes o n 0 in
     omega (arith, g.longest n may, g.may.within)
 
 all_goes : (o : Outgoing) (n : ℕ) → MayGo o n 0 n → Goes o n 0 (record { bytes = n; tokens = 0 })
 all_goes o n may = record { may = may; longest = λ k m. m.within; with_tokens = omega (arith, may.tokens_within) }
-
-pub skip_leaves : (h : Kept) (n : ℕ) (r : Reach) → IsKept h → MayGo (outgoing h) n 0 n → ReachesRoom (outgoing h) n 0 r
-    → Leaves h n 0 r.begun r.left
-skip_leaves h n r i may g = leaves h n 0 n 0 r i g (omega (arith, g.bytes, goes_all (outgoing h) n may)) (omega arith)
 
 -- the rest of what waits is what waits then
 pub waiting_after : (o : Outgoing) (n : ℕ) → MayGo o n 0 n → waiting_bytes (after_taking o n) ≡ drop n (waiting_bytes o)

@@ -3,7 +3,7 @@ use Rattle.std.proofs.Common.{◌≡◌, ℕ, ◌+◌, ◌-◌, ◌<◌, ◌≤�
 use Rattle.std.proofs.Common.{length, take, drop, refl, sym, ap, subst, ◌∙◌, arith}
 use Rattle.std.proofs.Common.{ltb}
 use Rattle.std.proofs.lemmas.Bool.Decides.{nat_tests}
-use Rattle.std.proofs.lemmas.List.{take-append-le, length-take, drop_all}
+use Rattle.std.proofs.lemmas.List.{append-nil, take-append-le, length-append, length-take, length-take-le, drop_all}
 use Rattle.std.proofs.Math.Seq.{take-add, take-append-add}
 use Rattle.wl_wire.specs.Word.{header_bytes}
 use Rattle.wl_wire.specs.declared.header.Header.{Header}
@@ -85,8 +85,9 @@ pub header_alone : (xs : List ℕ) → drop 8 (take 8 xs) ≡ []
 header_alone xs = drop_all 8 (take 8 xs) (omega (arith, length-take 8 xs))
 
 -- the front of two lists, one after the other, ends in the first
-pub front_in_first : {X : Type 0} (a b c : List X) (n : ℕ) → a ++ b ≡ c → n ≤ length a → take n a ≡ take n c
-front_in_first a b c n e h = sym (take-append-le n a b h) ∙ ap (take n) e
+pub front_in_first : {X : Type 0} (a b c : List X) (n : ℕ) → a ++ b ≡ c → n ≤ length a
+    → take n a ++ take 0 b ≡ take n c
+front_in_first a b c n e h = append-nil (take n a) ∙ sym (take-append-le n a b h) ∙ ap (take n) e
 
 -- or goes past it
 pub front_past_first : {X : Type 0} (a b c : List X) (n : ℕ) → a ++ b ≡ c → length a ≤ n
@@ -94,3 +95,7 @@ pub front_past_first : {X : Type 0} (a b c : List X) (n : ℕ) → a ++ b ≡ c 
 front_past_first a b c n e h =
     let k : length a + (n - length a) ≡ n = omega (arith, h) in
     sym (take-append-add a b (n - length a)) ∙ ap (λ (m : ℕ). take m (a ++ b)) k ∙ ap (take n) e
+
+-- how long two parts of a front are together
+pub parts_len : {X : Type 0} (a b c : List X) (n : ℕ) → a ++ b ≡ take n c → n ≤ length c → length a + length b ≡ n
+parts_len a b c n e h = sym (length-append a b) ∙ ap length e ∙ length-take-le n c h

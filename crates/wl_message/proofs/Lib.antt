@@ -7,5 +7,4 @@ pub mod Steps
 pub mod FlushedParts
 pub mod Limits
 pub mod Waiting
-pub mod Rounds
 pub mod Peeked

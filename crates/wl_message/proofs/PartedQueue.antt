@@ -6,13 +6,14 @@ use Rattle.std.specs.List.{AllByRecursion}
 use Rattle.std.proofs.lemmas.List.{length-take, append-nil, take-append-drop, take-append-le}
 use Rattle.std.proofs.lemmas.List.{drop-append-le, drop-drop, drop-take, take_all}
 use Rattle.std.proofs.Math.Seq.{take-add}
+use Rattle.wl_message.specs.declared.marks.Leaving.{Leaving}
 use Rattle.wl_message.specs.declared.marks.Mark.{Mark}
 use Rattle.wl_message.specs.declared.marks.Reach.{Reach}
 use Rattle.wl_message.specs.Outgoing.{QueuedMessage, queued, Outgoing, all_bytes, all_tokens, begun}
 use Rattle.wl_message.specs.Outgoing.{newly_begun, going_bytes, goes, waiting_bytes, waiting_tokens}
 use Rattle.wl_message.specs.Outgoing.{with_message, with_error, after_taking}
-use Rattle.wl_message.specs.Marks.{reach, ReachesRoom, parted, lens, token_counts, Kept, outgoing, IsKept}
-use Rattle.wl_message.proofs.WhatGoes.{begun_front, marks_of, reaches}
+use Rattle.wl_message.specs.Marks.{reach, parted, lens, token_counts, Kept, outgoing, IsKept, IsLeaving}
+use Rattle.wl_message.proofs.WhatGoes.{begun_front, marks_of, goes_goes, reaches, ReachesRoom}
 
 -- ---- marks
 
@@ -299,6 +300,38 @@ reaches_kept h b t first r i f e =
     }))
     (λ d. l d - sym f' d) g
 
+-- what leaves, by how far the messages that are not begun go
+abbrev pub leaving : Kept → ℕ → ℕ → ℕ → Reach → Leaving
+leaving h b t first r = record {
+  taken = record { bytes = b - r.bytes; tokens = t - r.tokens };
+  begun = r.begun;
+  left = h.left - first + r.left;
+}
+
+-- that is what goes
+pub record GoesOut (o : Outgoing) (b t : ℕ) (l : Leaving) : Type 0 where
+  pub taken : l.taken ≡ goes o b t
+  pub leaving : IsLeaving o l
+
+pub goes_out : (h : Kept) (b t first : ℕ) (r : Reach) → IsKept h → first ≡ min b h.left
+    → r ≡ reach (b - first) t 0 h.marks → GoesOut (outgoing h) b t (leaving h b t first r)
+unfolding goes
+goes_out h b t first r i f e =
+    let o = outgoing h in
+    let g = reaches_kept h b t first r i f e in
+    let n_is : b - r.bytes ≡ going_bytes o b t = omega (arith, g.bytes) in
+    let tokens_is : t - r.tokens ≡ length (all_tokens (newly_begun o (going_bytes o b t))) = omega (arith, g.tokens) in
+    record {
+      taken = λ d. record { bytes = n_is d; tokens = tokens_is d };
+      leaving = record {
+        there = subst (λ (n : ℕ). n ≤ length (waiting_bytes o)) (sym n_is) (goes_goes o b t).may.there;
+        tokens = tokens_is ∙ ap (λ (n : ℕ). length (all_tokens (newly_begun o n))) (sym n_is);
+        begun = g.begun ∙ ap (λ (n : ℕ). length (newly_begun o n)) (sym n_is);
+        left = subst (λ (n : ℕ). h.left - first + r.left + n ≡ length (o.left ++ all_bytes (newly_begun o n)))
+            (sym n_is) g.left;
+      };
+    }
+
 -- the outbox once n bytes and k tokens are gone
 abbrev pub kept_after : Kept → ℕ → ℕ → ℕ → ℕ → Kept
 kept_after h n k begun left = record h {
@@ -311,29 +344,29 @@ kept_after h n k begun left = record h {
 }
 
 -- how much goes, and what that leaves
-pub record Leaves (h : Kept) (n k begun left : ℕ) : Type 0 where
-  pub bytes : n ≤ length h.bytes
-  pub tokens : k ≤ length h.tokens
-  pub marks : begun ≤ length h.marks
-  pub after : outgoing (kept_after h n k begun left) ≡ after_taking (outgoing h) n
-  pub kept : IsKept (kept_after h n k begun left)
+pub record Leaves (h : Kept) (l : Leaving) : Type 0 where
+  pub bytes : l.taken.bytes ≤ length h.bytes
+  pub tokens : l.taken.tokens ≤ length h.tokens
+  pub marks : l.begun ≤ length h.marks
+  pub after : outgoing (kept_after h l.taken.bytes l.taken.tokens l.begun l.left)
+      ≡ after_taking (outgoing h) l.taken.bytes
+  pub kept : IsKept (kept_after h l.taken.bytes l.taken.tokens l.begun l.left)
 
-pub leaves : (h : Kept) (b t n k : ℕ) (r : Reach) → IsKept h → ReachesRoom (outgoing h) b t r → n ≡ b - r.bytes
-    → k ≡ t - r.tokens → Leaves h n k r.begun r.left
-leaves h b t n k r i g en ek =
+pub leaves : (h : Kept) (r : Leaving) → IsKept h → IsLeaving (outgoing h) r → Leaves h r
+leaves h r i g =
     let p = kept_parts h i in
     let o = outgoing h in
     let l : ℕ = h.left in
     let j : ℕ = r.begun in
+    let n : ℕ = r.taken.bytes in
+    let k : ℕ = r.taken.tokens in
     let ms = parted h.marks (drop l h.bytes) h.tokens in
     let s = split j h.marks (drop l h.bytes) h.tokens p in
     let size : ℕ = lens (take j h.marks) in
     let count : ℕ = token_counts (take j h.marks) in
-    let n_is : n ≡ going_bytes o b t = omega (arith, en, g.bytes) in
     let begun_is : newly_begun o n ≡ take j ms =
-    ap (λ (q : ℕ). newly_begun o q) n_is ∙ begun_front (going_bytes o b t - length o.left) ms
-    ∙ ap (λ (q : ℕ). take q ms) (sym g.begun) in
-    let begun_len : length (newly_begun o n) ≡ j = ap (λ (q : ℕ). length (newly_begun o q)) n_is ∙ sym g.begun in
+    begun_front (n - length o.left) ms ∙ ap (λ (q : ℕ). take q ms) (sym g.begun) in
+    let begun_len : length (newly_begun o n) ≡ j = sym g.begun in
     let bytes_are : all_bytes (newly_begun o n) ≡ take size (drop l h.bytes) =
     ap (λ (m : List QueuedMessage). all_bytes m) begun_is ∙ s.bytes in
     let tokens_are : all_tokens (newly_begun o n) ≡ take count h.tokens =
@@ -344,18 +377,15 @@ leaves h b t n k r i g en ek =
     ap (λ (q : List ℕ). length q) bytes_are ∙ omega (arith, length-take size (drop l h.bytes), p.bytes, size_within) in
     let tokens_len : length (all_tokens (newly_begun o n)) ≡ count =
     ap (λ (q : List ℕ). length q) tokens_are ∙ omega (arith, length-take count h.tokens, p.tokens, count_within) in
-    let reached : r.left + n ≡ length (o.left ++ all_bytes (newly_begun o n)) =
-    subst (λ (q : ℕ). r.left + q ≡ length (o.left ++ all_bytes (newly_begun o q))) (sym n_is) g.left in
     let ends : l + size ≡ n + r.left = omega (
       arith,
-      reached,
+      g.left,
       length-append o.left
           (all_bytes (newly_begun o n)),
       left_len h i,
       bytes_len,
     ) in
-    let k_is : k ≡ count =
-    omega (arith, ek, g.tokens, ap (λ (q : ℕ). length (all_tokens (newly_begun o q))) n_is, tokens_len) in
+    let k_is : k ≡ count = g.tokens ∙ tokens_len in
     let front : drop n (take l h.bytes ++ all_bytes (newly_begun o n)) ≡ take r.left (drop n h.bytes) =
     ap (λ (q : List ℕ). drop n (take l h.bytes ++ q)) bytes_are ∙ ap (drop n) (sym (take-add l size h.bytes))
     ∙ ap (λ (q : ℕ). drop n (take q h.bytes)) ends ∙ drop-take n r.left h.bytes in
@@ -399,14 +429,6 @@ leaves h b t n k r i g en ek =
         no_error = λ e. let z = i.no_error e in omega (arith, z);
       };
     }
-
-pub is_taken : (o : Outgoing) (b t : ℕ) (r : Reach) → ReachesRoom o b t r
-    → record { bytes = b - r.bytes; tokens = t - r.tokens } ≡ goes o b t
-unfolding goes
-is_taken o b t r g =
-    let p : b - r.bytes ≡ going_bytes o b t = omega (arith, g.bytes) in
-    let q : t - r.tokens ≡ length (all_tokens (newly_begun o (going_bytes o b t))) = omega (arith, g.tokens) in
-    λ d. record { bytes = p d; tokens = q d }
 
 -- ---- an outbox in which nothing waits
 

@@ -9,7 +9,7 @@ use Rattle.wl_message.specs.declared.marks.Reach.{Reach}
 use Rattle.wl_message.specs.declared.amounts.Amounts.{Amounts}
 use Rattle.wl_message.specs.Outgoing.{QueuedMessage, Outgoing, all_bytes, all_tokens, begun, going}
 use Rattle.wl_message.specs.Outgoing.{newly_begun, going_bytes, Goes, goes}
-use Rattle.wl_message.specs.Marks.{reach, ReachesRoom}
+use Rattle.wl_message.specs.Marks.{reach}
 
 -- ---- the messages begun
 
@@ -224,6 +224,13 @@ pub agrees : (ms : List QueuedMessage) (b t n : ℕ) → AllByRecursion (λ m. 0
 agrees [] b t n h = agrees_none [] b t n
 agrees (m ∷ ms) b t n h =
     agrees_at m ms b t n _ _ _ _ _ refl refl refl h.0 (agrees ms (b - length m.bytes) (t - length m.tokens) (n + 1) h.1)
+
+-- what goes into a room for b bytes and t tokens, told by what is left of it
+pub record ReachesRoom (o : Outgoing) (b t : ℕ) (r : Reach) : Type 0 where
+  pub bytes : r.bytes + going_bytes o b t ≡ b
+  pub tokens : r.tokens + length (all_tokens (newly_begun o (going_bytes o b t))) ≡ t
+  pub begun : r.begun ≡ length (newly_begun o (going_bytes o b t))
+  pub left : r.left + going_bytes o b t ≡ length (o.left ++ all_bytes (newly_begun o (going_bytes o b t)))
 
 -- with what is left of the message begun last
 pub reaches : (o : Outgoing) (b t : ℕ) (r : Reach) → AllByRecursion (λ m. 0 < length m.bytes) o.messages

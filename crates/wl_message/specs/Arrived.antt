@@ -8,6 +8,7 @@ use Rattle.wl_message.specs.declared.amounts.Sizes.{Sizes}
 use Rattle.wl_message.specs.declared.inbox.BadSize.{BadSize}
 use Rattle.wl_message.specs.declared.inbox.Frame.{Frame}
 use Rattle.wl_message.specs.declared.limit.Limit.{Limit}
+use Rattle.wl_message.specs.Bounds.{max_queue_bytes, max_queue_tokens, min_inbox_tokens}
 use Rattle.wl_message.specs.Cut.{front, Front, More, Bad, Whole, told_size}
 
 -- An inbox: the bytes and the tokens that wait, how many of each may wait, how many bytes a message
@@ -112,14 +113,14 @@ TellsFront a (Ok (Some f)) =
     × (f.tokens ≡ length a.tokens)
 TellsFront a (Err e) = in_front a ≡ Bad e.size
 
--- how large the two boxes of an end may be; its inbox can hold the longest message
+-- how large the two queues of an end may be; its inbox can hold the longest message
 pub record AreSizes (sizes : Sizes) : Type 0 where
-  pub out_bytes : sizes.out_bytes ≤ 16777216
-  pub out_tokens : sizes.out_tokens ≤ 65536
+  pub out_bytes : sizes.out_bytes ≤ max_queue_bytes
+  pub out_tokens : sizes.out_tokens ≤ max_queue_tokens
   pub in_bytes_low : sizes.limit.bytes ≤ sizes.in_bytes
-  pub in_bytes : sizes.in_bytes ≤ 16777216
-  pub in_tokens_low : 20 ≤ sizes.in_tokens
-  pub in_tokens : sizes.in_tokens ≤ 65536
+  pub in_bytes : sizes.in_bytes ≤ max_queue_bytes
+  pub in_tokens_low : min_inbox_tokens ≤ sizes.in_tokens
+  pub in_tokens : sizes.in_tokens ≤ max_queue_tokens
 
 -- The tokens that an inbox was fed since it was new, and those that it gave, with a message or
 -- without one.

@@ -1,3 +1,4 @@
+pub mod Bounds
 pub mod Cut
 pub mod Limits
 pub mod Outgoing
@@ -5,4 +6,3 @@ pub mod Marks
 pub mod Arrived
 pub mod InStep
 pub mod Streams
-pub mod Around

@@ -1,13 +1,19 @@
 -- How an outbox keeps its messages: their bytes and tokens one after another, and marks that part
 -- them.
-use Rattle.std.specs.Prelude.{◌≡◌, ℕ, ◌+◌, ◌-◌, ◌≤◌, Bool, false, nat_lt, ◌==◌, if◌then◌else◌, List}
+use Rattle.std.specs.Prelude.{◌≡◌, ℕ, ◌+◌, ◌-◌, ◌*◌, ◌/◌, ◌%◌, ◌≤◌, Bool, false, nat_lt, ◌==◌, if◌then◌else◌, List}
 use Rattle.std.specs.Prelude.{[], ◌∷◌, ◌++◌, length, take, drop}
 use Rattle.std.specs.List.{AllByRecursion}
 use Rattle.wl_message.specs.declared.limit.Limit.{Limit}
+use Rattle.wl_message.specs.declared.marks.Leaving.{Leaving}
 use Rattle.wl_message.specs.declared.marks.Mark.{Mark}
 use Rattle.wl_message.specs.declared.marks.Reach.{Reach}
+use Rattle.wl_message.specs.Bounds.{max_error_len}
 use Rattle.wl_message.specs.Outgoing.{QueuedMessage, queued, Outgoing, all_bytes, all_tokens}
-use Rattle.wl_message.specs.Outgoing.{newly_begun, going_bytes}
+use Rattle.wl_message.specs.Outgoing.{newly_begun, waiting_bytes}
+
+-- the mark that a word keeps: the words of 4 bytes that the message has, and below them its tokens
+abbrev pub mark_in_word : ℕ → Mark
+mark_in_word word = record { len = 4 * (word / 131072); tokens = word % 131072 }
 
 -- bytes and tokens, parted into the messages that the marks tell
 abbrev pub parted : List Mark → List ℕ → List ℕ → List QueuedMessage
@@ -59,7 +65,7 @@ pub record IsKept (h : Kept) : Type 0 where
   pub token_room : length h.tokens ≤ h.token_capacity
   pub error_order : h.error_from ≤ h.error_to
   pub error_there : h.error_to ≤ length h.bytes
-  pub error_len : h.error_to ≤ h.error_from + 64
+  pub error_len : h.error_to ≤ h.error_from + max_error_len
   pub no_error : h.has_error ≡ false → h.error_to ≤ h.error_from
 
 -- How far messages go into a room for b bytes and t tokens, after n others that began: what is left
@@ -73,10 +79,10 @@ reach b t n (k ∷ ks) =
     then record { bytes = 0; tokens = t - k.tokens; begun = n + 1; left = k.len - b }
     else reach (b - k.len) (t - k.tokens) (n + 1) ks))
 
--- what goes into a room for b bytes and t tokens, told by what is left of it
-pub record ReachesRoom (o : Outgoing) (b t : ℕ) (r : Reach) : Type 0 where
-  pub bytes : r.bytes + going_bytes o b t ≡ b
-  pub tokens : r.tokens + length (all_tokens (newly_begun o (going_bytes o b t))) ≡ t
-  pub begun : r.begun ≡ length (newly_begun o (going_bytes o b t))
-  pub left : r.left + going_bytes o b t
-      ≡ length (o.left ++ all_bytes (newly_begun o (going_bytes o b t)))
+-- What leaves an outbox: the first of the waiting bytes, with the tokens of the messages that these
+-- newly begin, how many messages that are, and how many bytes are then left of the last.
+pub record IsLeaving (o : Outgoing) (l : Leaving) : Type 0 where
+  pub there : l.taken.bytes ≤ length (waiting_bytes o)
+  pub tokens : l.taken.tokens ≡ length (all_tokens (newly_begun o l.taken.bytes))
+  pub begun : l.begun ≡ length (newly_begun o l.taken.bytes)
+  pub left : l.left + l.taken.bytes ≡ length (o.left ++ all_bytes (newly_begun o l.taken.bytes))

@@ -1,4 +1,4 @@
--- What passes between the boxes and a stream.
+-- What passes between the queues and a stream.
 use Rattle.std.specs.Prelude.{◌≡◌, ℕ, ◌<◌, ◌≤◌, ◌↔◌, List, [], ◌∷◌, ◌++◌, length, take, Option}
 use Rattle.std.specs.Prelude.{Result, Ok, Err, IsOk, codes}
 use Rattle.std.specs.Fmt.{decimal}

@@ -16,7 +16,7 @@ pub const MAX_BOX_TOKENS: usize = 65_536;
 /// The fewest tokens that an inbox can hold: as many as one message can have.
 const MIN_INBOX_TOKENS: usize = 20;
 
-/// How large the boxes of an end are, in bytes and in tokens, and how long its messages may be.
+/// How large the queues of an end are, in bytes and in tokens, and how long its messages may be.
 ///
 /// An outbox has at most 16,777,216 bytes and 65,536 tokens, an inbox as many bytes as the limit to
 /// 16,777,216 and 20 to 65,536 tokens; `is_allowed` is the test.

@@ -6,12 +6,10 @@ ghost use Rattle.wl_message.specs.Arrived.{TellsHeader, HasParts, IsCopy};
 
 use crate::inbox::BadSize;
 use crate::limit::Limit;
-use crate::ring::Ring;
+use crate::queue::{copy_first, copy_into, first_in_parts};
+use circular_buffer::HeapCircularBuffer;
 use std::alloc::Allocator;
-use wl_wire::Header;
-
-/// The number of bytes of a header, the fewest that a message has.
-pub(crate) const HEADER_LEN: usize = 8;
+use wl_wire::{HEADER_LEN, Header};
 
 /// The header that the first 8 bytes are.
 pub(crate) fn header_of(bytes: &[u8]) -> Header
@@ -20,29 +18,28 @@ pub(crate) fn header_of(bytes: &[u8]) -> Header
     ensures bytes { take 8 bytes.now ≡ header_bytes result }
     ensures size { result.size ≡ told_size bytes.now }
 {
-    let mut first = [0; HEADER_LEN];
-    first.copy_from_slice(&bytes[..HEADER_LEN]);
-    Header::from_bytes(first)
+    Header::at_front_of(bytes)
 }
 
 /// The header in front of a ring.
-pub(crate) fn header_in<A: Allocator>(bytes: &Ring<A>) -> Header
+pub(crate) fn header_in<A: Allocator>(bytes: &HeapCircularBuffer<u8, A>) -> Header
     requires { 8 ≤ length bytes.now.items }
     ensures bytes { take 8 bytes.now.items ≡ header_bytes result }
     ensures size { result.size ≡ told_size bytes.now.items }
 {
-    if let Some(front) = bytes.in_one_part(HEADER_LEN) {
+    let (front, back) = first_in_parts(bytes, HEADER_LEN);
+    if back.is_empty() {
         return header_of(front);
     }
-    let mut front = [0; HEADER_LEN];
-    bytes.copy_first(&mut front);
-    header_of(&front)
+    let mut header = [0; HEADER_LEN];
+    copy_first(bytes, &mut header);
+    header_of(&header)
 }
 
 /// The header of the whole message in front, if one is there.
 #[tactic(auto, using(crate::proofs::Fronts::size_is, crate::proofs::Fronts::parts_of), unfolding(crate::specs::Cut::front))]
 pub(crate) fn header_in_front<A: Allocator>(
-    bytes: &Ring<A>,
+    bytes: &HeapCircularBuffer<u8, A>,
     limit: Limit,
 ) -> Result<Option<Header>, BadSize>
     ensures tells { TellsHeader limit.bytes bytes.now.items result }
@@ -63,29 +60,20 @@ pub(crate) fn header_in_front<A: Allocator>(
     Ok(Some(header))
 }
 
-/// Copies the first n bytes into the front of the store.
-#[tactic(auto, using(std::proofs::lemmas::List::take_at))]
-pub(crate) fn copy_into<A: Allocator>(bytes: &Ring<A>, store: &mut [u8], n: usize)
-    requires there { n ≤ length bytes.now.items }
-    requires room { n ≤ length store.old }
-    ensures copy { take n store.new ≡ take n bytes.now.items }
-    ensures room { length store.new ≡ length store.old }
-{
-    bytes.copy_first(&mut store[..n]);
-}
-
 /// Copies the whole message in front into the front of the store, unless it stands there, and
 /// returns its length.
 pub(crate) fn copy_message<A: Allocator>(
-    bytes: &Ring<A>,
+    bytes: &HeapCircularBuffer<u8, A>,
     store: &mut [u8],
     copied_len: usize,
 ) -> usize
-    requires header { 8 ≤ length bytes.now.items }
+    requires header { 8 ≤ told_size bytes.now.items }
     requires whole { told_size bytes.now.items ≤ length bytes.now.items }
     requires room { told_size bytes.now.items ≤ length store.old }
     requires copied { 0 < copied_len → IsCopy copied_len bytes.now.items store.old }
     ensures size { result ≡ told_size bytes.now.items }
+    ensures header { 8 ≤ result }
+    ensures there { result ≤ length store.new }
     ensures copy { take result store.new ≡ take result bytes.now.items }
     ensures room { length store.new ≡ length store.old }
 {

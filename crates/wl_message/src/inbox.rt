@@ -4,6 +4,7 @@ ghost use Rattle.std.specs.Prelude.{slice_get, IfOk, OnErr, IsTrue};
 ghost use Rattle.std.specs.Borrow.{sem};
 ghost use Rattle.std.specs.Io.BufRead.{Rests};
 ghost use Rattle.std.specs.Io.KnownBytes.{Keeps};
+ghost use Rattle.wl_message.specs.Bounds.{max_queue_bytes, max_queue_tokens, min_inbox_tokens};
 ghost use Rattle.wl_message.specs.Cut.{HasMessage, message_size};
 ghost use Rattle.wl_message.specs.Arrived.{nothing_arrived, free_bytes, free_tokens, fed};
 ghost use Rattle.wl_message.specs.Arrived.{fed_of_len, with_more, HasReceived, without_first};
@@ -12,10 +13,9 @@ ghost use Rattle.wl_message.specs.Streams.{TakesIn};
 ghost use Rattle.wl_message.specs.contracts.inbox.Inbox.{the_row};
 
 use crate::amounts::Fed;
-use crate::front::{fill, move_first, move_to_store};
-use crate::header::{HEADER_LEN, copy_into, copy_message, header_in_front};
+use crate::header::{copy_message, header_in_front};
 use crate::limit::Limit;
-use crate::ring::Ring;
+use crate::queue::{append, copy_into, fill, move_first, move_to_store, remove_first};
 use circular_buffer::HeapCircularBuffer;
 use std::alloc::{AllocError, Allocator, Global};
 use std::error::Error;
@@ -23,7 +23,7 @@ use std::fmt::{self, Display, Formatter};
 use std::io::{self, Read};
 use std::marker::Model;
 use std::mem;
-use wl_wire::Header;
+use wl_wire::{HEADER_LEN, Header};
 
 /// The most bytes that are read at one time.
 const MAX_READ_LEN: usize = 4096;
@@ -64,9 +64,12 @@ impl Error for BadSize {}
 /// All memory is taken by `new`.
 #[derive(Drop)]
 pub struct Inbox<A: Allocator = Global> {
-    bytes: Ring<A>,
+    bytes: HeapCircularBuffer<u8, A>,
     tokens: HeapCircularBuffer<u32, A>,
     limit: Limit,
+    // Lent by `space`, for bytes that another language writes: `received` appends them. Nothing
+    // else writes here.
+    space: Vec<u8, A>,
     // Room for one whole message, which is lent from here: in the ring it may stand in two parts.
     message: Vec<u8, A>,
     // The length of the message in front once `message` begins with a copy of it; before, 0.
@@ -95,6 +98,7 @@ impl<A: Allocator> Model for Inbox<A> {
     } };
 
     ghost invariant = { λ i. record {
+      space : i.bytes.capacity ≤ length i.space.items;
       room : i.limit.bytes ≤ length i.message.items;
       last_room : i.limit.bytes ≤ length i.last.items;
       last_low : 8 ≤ i.last_len;
@@ -109,15 +113,16 @@ impl<A: Allocator + Clone + Drop> Inbox<A> {
     /// within this limit.
     #[tactic(auto, using(crate::proofs::Fronts::header_alone))]
     pub fn new(alloc: A, bytes: usize, tokens: usize, limit: Limit) -> Result<Inbox<A>, AllocError>
-        requires bytes { (limit.bytes ≤ bytes) × (bytes ≤ 16777216) }
-        requires tokens { (20 ≤ tokens) × (tokens ≤ 65536) }
+        requires bytes { (limit.bytes ≤ bytes) × (bytes ≤ max_queue_bytes) }
+        requires tokens { (min_inbox_tokens ≤ tokens) × (tokens ≤ max_queue_tokens) }
         ensures { IfOk result (λ i. i ≡ nothing_arrived bytes tokens limit) }
     {
         let len = limit.bytes as usize;
         Ok(Inbox {
-            bytes: Ring::with_capacity(alloc.clone()?, bytes)?,
+            bytes: HeapCircularBuffer::with_capacity(alloc.clone()?, bytes)?,
             tokens: HeapCircularBuffer::with_capacity(alloc.clone()?, tokens)?,
             limit,
+            space: Vec::from_elem(alloc.clone()?, 0, bytes)?,
             message: Vec::from_elem(alloc.clone()?, 0, len)?,
             copied_len: 0,
             last: Vec::from_elem(alloc.clone()?, 0, len)?,
@@ -163,7 +168,7 @@ impl<A: Allocator> Inbox<A> {
             bytes
         };
         self.copied_len = 0;
-        let byte_count = self.bytes.fill(bytes);
+        let byte_count = fill(&mut self.bytes, bytes);
         Fed {
             bytes: byte_count,
             tokens: token_count,
@@ -173,14 +178,16 @@ impl<A: Allocator> Inbox<A> {
     /// Where the free bytes lie, in two parts, for one who writes there by means of another
     /// language: `received` takes in what was written, from the first part on.
     pub fn space(&self) -> (&[u8], &[u8])
-        ensures { length result.0.now + length result.1.now ≡ free_bytes self.now }
+        ensures free { length result.0.now + length result.1.now ≡ free_bytes self.now }
+        // All of them lie in the first part.
+        ensures back { result.1.now ≡ [] }
     {
-        self.bytes.free_parts()
+        (&self.space[..self.room()], &self.space[..0])
     }
 
     /// Takes in tokens, and bytes that were written where `space` says, so many of them from the
-    /// first place on, as `feed` does. Returns how many of each. Where it took no byte for want of
-    /// room for tokens, the bytes stay where they are as long as no other bytes are taken in.
+    /// first place on, as `feed` does. Returns how many of each. Where no byte was taken because
+    /// tokens found no room, what was written stays there until this call takes it in.
     pub fn received(&mut self, bytes: usize, tokens: &[u32]) -> Fed
         ensures amount { result ≡ fed_of_len self.old bytes tokens.now }
         ensures waits { HasReceived self.old result.bytes (take result.tokens tokens.now) self.new }
@@ -188,7 +195,8 @@ impl<A: Allocator> Inbox<A> {
         let token_count = fill(&mut self.tokens, tokens);
         let bytes = if token_count < tokens.len() { 0 } else { bytes };
         self.copied_len = 0;
-        let byte_count = self.bytes.fill_free(bytes);
+        let byte_count = bytes.min(self.bytes.capacity() - self.bytes.len());
+        append(&mut self.bytes, &self.space[..byte_count]);
         Fed {
             bytes: byte_count,
             tokens: token_count,
@@ -207,7 +215,7 @@ impl<A: Allocator> Inbox<A> {
         self.copied_len = 0;
         let mut read = [0; MAX_READ_LEN];
         let n = reader.read(&mut read[..most])?;
-        self.bytes.append(&read[..n]);
+        append(&mut self.bytes, &read[..n]);
         Ok(n)
     }
 
@@ -232,6 +240,19 @@ impl<A: Allocator> Inbox<A> {
             body: &self.message[..size][HEADER_LEN..],
             tokens,
         }))
+    }
+
+    /// The body of the first message, which is whole. It stays in the inbox. Behind `frame` it is
+    /// not copied again.
+    #[tactic(auto, using(crate::proofs::Fronts::has_message))]
+    pub fn body(&mut self) -> &[u8]
+        requires { HasMessage (in_front self.old) }
+        ensures* stays { sem 𝓛 (Rests (the_row A.row A.Allocator) self.entry (λ i. i ≡ self.old)) }
+        ensures body { result.now ≡ drop 8 (take (message_size (in_front self.old)) self.old.bytes) }
+    {
+        let size = copy_message(&self.bytes, &mut self.message, self.copied_len);
+        self.copied_len = size;
+        &self.message[..size][HEADER_LEN..]
     }
 
     /// The waiting token at this place, counted from 0.
@@ -267,7 +288,7 @@ impl<A: Allocator> Inbox<A> {
         let size = copy_message(&self.bytes, &mut self.message, self.copied_len);
         self.copied_len = 0;
         move_to_store(&mut self.tokens, &mut self.last_tokens, tokens);
-        self.bytes.remove_first(size);
+        remove_first(&mut self.bytes, size);
         self.last_len = size;
         mem::swap(&mut self.message, &mut self.last);
     }

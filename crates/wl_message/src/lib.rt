@@ -1,20 +1,19 @@
-//! Queues of messages: bytes and tokens that come in and go out, in any cut.
+//! Queues of messages: bytes and tokens that come in and go out, cut anywhere.
 //!
 //! A message is a header of two words and its arguments; the header has its size. File
-//! descriptors do not stand among the bytes: each is a token in a queue of its own, and the
+//! descriptors are not among the bytes: each is a token in a queue of its own, and the
 //! caller's transport carries it. (Chapter "Wayland Protocol and Model of Operation", section
 //! "Wire Format".)
 #![tactic(auto)]
 
 mod amounts;
-mod front;
 mod header;
 mod inbox;
 mod laws;
 mod limit;
 mod marks;
 mod outbox;
-mod ring;
+mod queue;
 mod script;
 mod streams;
 

@@ -2,8 +2,11 @@
 ghost use Rattle.std.specs.Prelude.{◌≡◌, ◌↔◌, IsSome, IfSome, IsTrue};
 ghost use Rattle.wl_message.specs.Cut.{IsLimit, IsMessage, is_size};
 
-use crate::header::{HEADER_LEN, header_of};
-use wl_wire::MAX_MESSAGE_LEN;
+use crate::header::header_of;
+use wl_wire::{HEADER_LEN, MAX_MESSAGE_LEN};
+
+/// The most bytes that any limit allows, a multiple of 4.
+const GREATEST_LIMIT: u32 = 65_532;
 
 /// The most bytes that a message has, its header counted: a multiple of 4 from 4096 to 65,532.
 ///
@@ -25,7 +28,7 @@ impl Limit {
         ensures some { IsSome result ↔ IsLimit bytes }
         ensures bytes { IfSome result (λ limit. limit.bytes ≡ bytes) }
     {
-        if bytes < 4096 || bytes > 65_532 || bytes % 4 != 0 {
+        if bytes < u32::from(MAX_MESSAGE_LEN) || bytes > GREATEST_LIMIT || bytes % 4 != 0 {
             return None;
         }
         Some(Limit {
@@ -37,7 +40,7 @@ impl Limit {
     pub fn allows(self, size: u16) -> bool
         ensures { result ≡ is_size self.bytes size }
     {
-        size >= 8 && size % 4 == 0 && size <= self.bytes
+        usize::from(size) >= HEADER_LEN && size % 4 == 0 && size <= self.bytes
     }
 
     /// Whether these bytes are a whole message, which an outbox of this limit takes: as many as

@@ -1,27 +1,26 @@
 //! Messages that wait to go out.
 ghost use Rattle.std.specs.Prelude.{◌≡◌, ◌≤◌, ◌<◌, ◌+◌, ◌↔◌, ◌⊎◌, ◌++◌, false, [], length, take};
-ghost use Rattle.std.specs.Prelude.{drop, min, slice_get, vec_capacity, IfOk, OnOk, OnErr, IsErr};
+ghost use Rattle.std.specs.Prelude.{drop, min, slice_get, IfOk, OnOk, OnErr, IsErr};
 ghost use Rattle.std.specs.Prelude.{IsTrue};
+ghost use Rattle.wl_message.specs.Bounds.{max_error_len, max_queue_bytes, max_queue_tokens};
 ghost use Rattle.wl_message.specs.Cut.{IsMessage};
 ghost use Rattle.wl_message.specs.Outgoing.{no_messages, waiting_bytes, waiting_tokens};
 ghost use Rattle.wl_message.specs.Outgoing.{ordinary_len, room_of, token_room_of, with_message};
 ghost use Rattle.wl_message.specs.Outgoing.{with_error, MayGo, Goes, goes, Peeks, after_taking};
-ghost use Rattle.wl_message.specs.Marks.{ReachesRoom};
+ghost use Rattle.wl_message.specs.Marks.{IsLeaving};
 ghost use Rattle.wl_message.specs.Streams.{NextHasTokens};
 
 use crate::amounts::{Full, Peek, Taken};
-use crate::front::{append, move_first, remove_first};
-use crate::header::HEADER_LEN;
 use crate::limit::Limit;
-use crate::marks::{Mark, Reach, push_mark, reach_into};
-use crate::ring::Ring;
+use crate::marks::{Leaving, Mark, Marks};
+use crate::queue::{append, append_encoded, copy_into, first_in_parts, first_part, remove_first};
 use circular_buffer::HeapCircularBuffer;
 use std::alloc::{AllocError, Allocator, Global};
 use std::marker::Model;
-use wl_wire::Encode;
+use wl_wire::{Encode, HEADER_LEN};
 
 /// How many bytes are kept for the error event.
-const ERROR_LEN: usize = 64;
+const MAX_ERROR_LEN: usize = 64;
 
 /// Messages that wait to go out, with their tokens.
 ///
@@ -29,10 +28,10 @@ const ERROR_LEN: usize = 64;
 #[derive(Drop)]
 pub struct Outbox<A: Allocator = Global> {
     // With room for the error event beyond the ordinary messages.
-    bytes: Ring<A>,
+    bytes: HeapCircularBuffer<u8, A>,
     tokens: HeapCircularBuffer<u32, A>,
     // The messages that are not begun.
-    marks: HeapCircularBuffer<Mark, A>,
+    marks: Marks<A>,
     // How many bytes are left of the message that was begun last.
     left: usize,
     // How many bytes of ordinary messages may wait.
@@ -46,6 +45,7 @@ pub struct Outbox<A: Allocator = Global> {
 
 impl<A: Allocator> Model for Outbox<A> {
     ghost use Rattle.std.specs.Prelude.{◌≡◌, ◌≤◌, ◌<◌, ◌+◌, ◌*◌};
+    ghost use Rattle.wl_message.specs.Bounds.{max_error_len, max_queue_bytes, max_queue_tokens};
     ghost use Rattle.wl_message.specs.Outgoing.{Outgoing};
 
     ghost Value = { Outgoing };
@@ -78,8 +78,9 @@ impl<A: Allocator> Model for Outbox<A> {
         error_from = o.error_from;
         error_to = o.error_to;
       });
-      small : o.capacity ≤ 16777216;
-      reserved : o.bytes.capacity ≡ o.capacity + 64;
+      small : o.capacity ≤ max_queue_bytes;
+      few_tokens : o.tokens.capacity ≤ max_queue_tokens;
+      reserved : o.bytes.capacity ≡ o.capacity + max_error_len;
       marks_reserved : o.bytes.capacity < 8 * (o.marks.capacity + 1);
     } };
 }
@@ -88,14 +89,14 @@ impl<A: Allocator + Clone + Drop> Outbox<A> {
     /// An outbox with room for this number of bytes and tokens, and for an error event beyond
     /// these, for messages within this limit. Nothing waits in it.
     pub fn new(alloc: A, bytes: usize, tokens: usize, limit: Limit) -> Result<Outbox<A>, AllocError>
-        requires bytes { bytes ≤ 16777216 }
-        requires tokens { tokens ≤ 65536 }
+        requires bytes { bytes ≤ max_queue_bytes }
+        requires tokens { tokens ≤ max_queue_tokens }
         ensures { IfOk result (λ o. o ≡ no_messages bytes tokens limit) }
     {
-        let len = bytes + ERROR_LEN;
+        let len = bytes + MAX_ERROR_LEN;
         Ok(Outbox {
-            bytes: Ring::with_capacity(alloc.clone()?, len)?,
-            marks: HeapCircularBuffer::with_capacity(alloc.clone()?, len / HEADER_LEN)?,
+            bytes: HeapCircularBuffer::with_capacity(alloc.clone()?, len)?,
+            marks: Marks::with_capacity(alloc.clone()?, len / HEADER_LEN)?,
             tokens: HeapCircularBuffer::with_capacity(alloc, tokens)?,
             left: 0,
             capacity: bytes,
@@ -171,40 +172,34 @@ impl<A: Allocator> Outbox<A> {
             len: message.len(),
             tokens: tokens.len(),
         };
-        push_mark(&mut self.marks, mark);
-        self.bytes.append(message);
+        self.marks.push(mark);
+        append(&mut self.bytes, message);
         append(&mut self.tokens, tokens);
     }
 
-    /// As `push_fitting`, of a message that is written where it is to lie; by way of the store,
-    /// which has room for it, where it would lie in two parts.
-    pub fn push_encoded<E: Encode, B: Allocator>(
-        &mut self,
-        message: &E,
-        tokens: &[u32],
-        store: &mut Vec<u8, B>,
-    )
+    /// As `push_fitting`, of a message that is written into the front of the store first.
+    pub fn push_encoded<E: Encode>(&mut self, message: &E, tokens: &[u32], store: &mut [u8])
         requires fits { E.fits message.now }
         requires whole { IsMessage self.old.limit.bytes (E.message message.now) }
         requires bytes { length (E.message message.now) ≤ room_of self.old }
         requires tokens { length tokens.now ≤ token_room_of self.old }
-        requires store { length (E.message message.now) ≤ vec_capacity store.old }
+        requires store { length (E.message message.now) ≤ length store.old }
         ensures outbox { self.new ≡ with_message self.old (E.message message.now) tokens.now }
-        ensures store { vec_capacity store.old ≤ vec_capacity store.new }
+        ensures store { length store.new ≡ length store.old }
     {
         let mark = Mark {
             len: message.encoded_len(),
             tokens: tokens.len(),
         };
-        push_mark(&mut self.marks, mark);
-        self.bytes.push(message, store);
+        self.marks.push(mark);
+        append_encoded(&mut self.bytes, message, store);
         append(&mut self.tokens, tokens);
     }
 
     /// Adds the error event, a whole message of at most 64 bytes without tokens, at the end. It
     /// always fits. It is added once at most.
     pub fn push_error(&mut self, message: &[u8])
-        requires short { length message.now ≤ 64 }
+        requires short { length message.now ≤ max_error_len }
         requires whole { IsMessage self.old.limit.bytes message.now }
         requires first { self.old.has_error ≡ false }
         ensures { self.new ≡ with_error self.old message.now }
@@ -216,49 +211,60 @@ impl<A: Allocator> Outbox<A> {
             len: message.len(),
             tokens: 0,
         };
-        push_mark(&mut self.marks, mark);
-        self.bytes.append(message);
+        self.marks.push(mark);
+        append(&mut self.bytes, message);
     }
 
-    /// As `push_error`, of an event that is written where it is to lie, as by `push_encoded`.
-    pub fn push_encoded_error<E: Encode, B: Allocator>(
-        &mut self,
-        message: &E,
-        store: &mut Vec<u8, B>,
-    )
+    /// As `push_error`, of an event that is written into the front of the store first.
+    pub fn push_encoded_error<E: Encode>(&mut self, message: &E, store: &mut [u8])
         requires fits { E.fits message.now }
-        requires short { length (E.message message.now) ≤ 64 }
+        requires short { length (E.message message.now) ≤ max_error_len }
         requires whole { IsMessage self.old.limit.bytes (E.message message.now) }
         requires first { self.old.has_error ≡ false }
-        requires store { length (E.message message.now) ≤ vec_capacity store.old }
+        requires store { length (E.message message.now) ≤ length store.old }
         ensures outbox { self.new ≡ with_error self.old (E.message message.now) }
-        ensures store { vec_capacity store.old ≤ vec_capacity store.new }
+        ensures store { length store.new ≡ length store.old }
     {
         let len = message.encoded_len();
         self.has_error = true;
         self.error_from = self.bytes.len();
         self.error_to = self.error_from + len;
-        push_mark(&mut self.marks, Mark { len, tokens: 0 });
-        self.bytes.push(message, store);
+        self.marks.push(Mark { len, tokens: 0 });
+        append_encoded(&mut self.bytes, message, store);
     }
 
-    /// How far the messages go into a room.
-    fn reach(&self, bytes: usize, tokens: usize) -> Reach
-        ensures { ReachesRoom self.now bytes tokens result }
+    /// What goes into a room for this many bytes and tokens.
+    fn leaving(&self, bytes: usize, tokens: usize) -> Leaving
+        ensures longest { Goes self.now bytes tokens result.taken }
+        ensures computed { result.taken ≡ goes self.now bytes tokens }
+        ensures leaving { IsLeaving self.now result }
     {
         let first = bytes.min(self.left);
-        let Reach {
-            bytes,
-            tokens,
-            begun,
-            left,
-        } = reach_into(&self.marks, bytes - first, tokens);
-        Reach {
-            bytes,
-            tokens,
-            begun,
-            left: self.left - first + left,
+        let reach = self.marks.reach_into(bytes - first, tokens);
+        Leaving {
+            taken: Taken {
+                bytes: bytes - reach.bytes,
+                tokens: tokens - reach.tokens,
+            },
+            begun: reach.begun,
+            left: self.left - first + reach.left,
         }
+    }
+
+    /// Takes out what goes, and returns how much that is.
+    fn remove(&mut self, leaving: Leaving) -> Taken
+        requires { IsLeaving self.old leaving }
+        ensures taken { result ≡ leaving.taken }
+        ensures rest { self.new ≡ after_taking self.old leaving.taken.bytes }
+    {
+        let Leaving { taken, begun, left } = leaving;
+        remove_first(&mut self.bytes, taken.bytes);
+        remove_first(&mut self.tokens, taken.tokens);
+        self.marks.remove_first(begun);
+        self.left = left;
+        self.error_from = self.error_from.saturating_sub(taken.bytes);
+        self.error_to = self.error_to.saturating_sub(taken.bytes);
+        taken
     }
 
     /// How much `take` takes into slices of these lengths.
@@ -266,11 +272,7 @@ impl<A: Allocator> Outbox<A> {
         ensures longest { Goes self.now bytes tokens result }
         ensures computed { result ≡ goes self.now bytes tokens }
     {
-        let reach = self.reach(bytes, tokens);
-        Taken {
-            bytes: bytes - reach.bytes,
-            tokens: tokens - reach.tokens,
-        }
+        self.leaving(bytes, tokens).taken
     }
 
     /// Takes bytes and tokens out, from the front of the messages on, into the fronts of these
@@ -288,18 +290,10 @@ impl<A: Allocator> Outbox<A> {
             ++ drop result.tokens tokens.old }
         ensures rest { self.new ≡ after_taking self.old result.bytes }
     {
-        let reach = self.reach(bytes.len(), tokens.len());
-        let taken = Taken {
-            bytes: bytes.len() - reach.bytes,
-            tokens: tokens.len() - reach.tokens,
-        };
-        self.bytes.move_first(bytes, taken.bytes);
-        move_first(&mut self.tokens, tokens, taken.tokens);
-        remove_first(&mut self.marks, reach.begun);
-        self.left = reach.left;
-        self.error_from = self.error_from.saturating_sub(taken.bytes);
-        self.error_to = self.error_to.saturating_sub(taken.bytes);
-        taken
+        let leaving = self.leaving(bytes.len(), tokens.len());
+        copy_into(&self.bytes, bytes, leaving.taken.bytes);
+        copy_into(&self.tokens, tokens, leaving.taken.tokens);
+        self.remove(leaving)
     }
 
     /// Takes tokens out as `take` does where the byte slice holds all that waits, and drops the
@@ -315,19 +309,9 @@ impl<A: Allocator> Outbox<A> {
         ensures all { length (waiting_tokens self.old) ≤ length tokens.old
             → (waiting_bytes self.new ≡ []) × (waiting_tokens self.new ≡ []) }
     {
-        let waiting = self.bytes.len();
-        let reach = self.reach(waiting, tokens.len());
-        let gone = Taken {
-            bytes: waiting - reach.bytes,
-            tokens: tokens.len() - reach.tokens,
-        };
-        self.bytes.remove_first(gone.bytes);
-        move_first(&mut self.tokens, tokens, gone.tokens);
-        remove_first(&mut self.marks, reach.begun);
-        self.left = reach.left;
-        self.error_from = self.error_from.saturating_sub(gone.bytes);
-        self.error_to = self.error_to.saturating_sub(gone.bytes);
-        gone
+        let leaving = self.leaving(self.bytes.len(), tokens.len());
+        copy_into(&self.tokens, tokens, leaving.taken.tokens);
+        self.remove(leaving)
     }
 
     /// The most bytes that can go at one time so that each token goes with the first of them, as
@@ -337,7 +321,7 @@ impl<A: Allocator> Outbox<A> {
     {
         let tokens = self.goes(1, self.tokens.len()).tokens;
         let len = self.goes(self.bytes.len(), tokens).bytes;
-        let (front, back) = self.bytes.first_in_parts(len);
+        let (front, back) = first_in_parts(&self.bytes, len);
         Peek {
             front,
             back,
@@ -360,19 +344,8 @@ impl<A: Allocator> Outbox<A> {
         ensures bytes { result.bytes ≡ min bytes (length (waiting_bytes self.old)) }
         ensures rest { self.new ≡ after_taking self.old result.bytes }
     {
-        let waiting = self.tokens.len();
-        let reach = self.reach(bytes, waiting);
-        let gone = Taken {
-            bytes: bytes - reach.bytes,
-            tokens: waiting - reach.tokens,
-        };
-        self.bytes.remove_first(gone.bytes);
-        remove_first(&mut self.tokens, gone.tokens);
-        remove_first(&mut self.marks, reach.begun);
-        self.left = reach.left;
-        self.error_from = self.error_from.saturating_sub(gone.bytes);
-        self.error_to = self.error_to.saturating_sub(gone.bytes);
-        gone
+        let leaving = self.leaving(bytes, self.tokens.len());
+        self.remove(leaving)
     }
 
     /// How many of the first bytes can go without a token.
@@ -390,7 +363,7 @@ impl<A: Allocator> Outbox<A> {
         ensures most { length result.now ≤ most }
         ensures some { 0 < most → 0 < length (waiting_bytes self.now) → 0 < length result.now }
     {
-        self.bytes.first_part(most)
+        first_part(&self.bytes, most)
     }
 
     /// Takes out the first n bytes, with which no token goes.
@@ -398,11 +371,7 @@ impl<A: Allocator> Outbox<A> {
         requires { MayGo self.old n 0 n }
         ensures { self.new ≡ after_taking self.old n }
     {
-        let reach = self.reach(n, 0);
-        self.bytes.remove_first(n);
-        remove_first(&mut self.marks, reach.begun);
-        self.left = reach.left;
-        self.error_from = self.error_from.saturating_sub(n);
-        self.error_to = self.error_to.saturating_sub(n);
+        let leaving = self.leaving(n, 0);
+        self.remove(leaving);
     }
 }

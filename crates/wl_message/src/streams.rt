@@ -1,4 +1,4 @@
-//! Boxes and streams.
+//! Queues and streams.
 ghost use Rattle.std.specs.Prelude.{◌≡◌, Err};
 ghost use Rattle.wl_message.specs.Streams.{Flushes, Fills};
 

@@ -1,8 +1,8 @@
 //! Recordings of sessions, as values and as text.
 //!
 //! A recording is what passed between a client and a server at one point of the connection, both
-//! directions together, piece by piece: which way a piece went, its bytes, and how many tokens came
-//! with it, which stand for file descriptors. Its text has a line for each piece:
+//! directions together, piece by piece: which way a piece went, its bytes, and how many tokens, for
+//! file descriptors, came with it. Its text has a line for each piece:
 //!
 //! ```text
 //! # get_registry, then a token alone

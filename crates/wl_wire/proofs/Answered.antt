@@ -18,7 +18,7 @@ use Rattle.wl_wire.specs.Word.{word}
 use Rattle.wl_wire.specs.Argument.{Argument, Str, Obj, NewNamed, Array}
 use Rattle.wl_wire.specs.Spelling.{Spells, SpellsText, Padded, padded, is_int, is_uint, is_fixed}
 use Rattle.wl_wire.specs.Spelling.{is_null, is_text, is_object, is_new, is_named, is_array}
-use Rattle.wl_wire.specs.Spelling.{is_descriptor}
+use Rattle.wl_wire.specs.Spelling.{is_descriptor, is_new_by_server}
 use Rattle.wl_wire.specs.Faults.{BeginsWithWord, HoldsCounted, LacksCounted, LacksEndingNul, HasInnerNul, IsFirstFault}
 use Rattle.wl_wire.specs.Faults.{IsShort}
 use Rattle.wl_wire.specs.Reading.{number_at, asked, counted_bytes, text_of, on_found, argument_of, reading}
@@ -184,6 +184,8 @@ there_answered (kinds.Obj null iface) bytes w h =
 there_answered (kinds.New (Some iface)) bytes w h = is_new (number_at_fits bytes) (word-number_at bytes h w)
 there_answered (kinds.New None) bytes w h = named_case bytes w h (text_of (number_at bytes) bytes)
     (text_answered 8 bytes w (omega arith))
+there_answered (kinds.NewByServer iface) bytes w h = is_new_by_server (number_at_fits bytes)
+    (word-number_at bytes h w)
 there_answered kinds.Array bytes w h = array_front (number_at bytes) bytes (number_at_fits bytes)
     (word-number_at bytes (omega arith) w) h
 there_answered kinds.Fd bytes w h = is_descriptor refl
@@ -205,6 +207,7 @@ short_answered (kinds.Str null) bytes w h = lacks_counted 0 bytes w (omega arith
 short_answered (kinds.Obj null iface) bytes w h = h
 short_answered (kinds.New (Some iface)) bytes w h = h
 short_answered (kinds.New None) bytes w h = lacks_counted 8 bytes w (omega arith)
+short_answered (kinds.NewByServer iface) bytes w h = h
 short_answered kinds.Array bytes w h = lacks_counted 0 bytes w (omega arith)
 short_answered kinds.Fd bytes w h = absurd (omega arith)
 

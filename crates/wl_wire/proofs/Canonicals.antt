@@ -16,6 +16,7 @@ use Rattle.wl_wire.specs.Argument.{Argument, Int, Uint, Fixed, Str, Obj, New, Ne
 use Rattle.wl_wire.specs.Spelling.{Spells, SpellsText, IsText, padded, zeros, text_bytes, canonical}
 use Rattle.wl_wire.specs.Spelling.{spelled_len, Suits, Fits, is_int, is_uint, is_fixed, is_null}
 use Rattle.wl_wire.specs.Spelling.{is_text, is_object, is_new, is_named, is_array, is_descriptor}
+use Rattle.wl_wire.specs.Spelling.{is_new_by_server}
 use Rattle.wl_wire.specs.Reading.{reading, number_at, signed}
 use Rattle.wl_wire.proofs.Numbers.{Bytewise, word-number_at, number_at-word, complement_fits, signed-complement}
 use Rattle.wl_wire.proofs.Fronts.{reading-spelled, text_front}
@@ -76,6 +77,7 @@ canonical-spells (kinds.Str null) (Str (Some text)) h = is_text (text_spells tex
 canonical-spells (kinds.Obj null iface) (Obj id) h = is_object h.0 h.1 refl
 canonical-spells (kinds.New (Some iface)) (New id) h = is_new h refl
 canonical-spells (kinds.New None) (NewNamed iface version id) h = is_named (text_spells iface h.0) h.1 h.2 refl
+canonical-spells (kinds.NewByServer iface) (New id) h = is_new_by_server h refl
 canonical-spells kinds.Array (Array bytes) h = array_spells bytes h
 canonical-spells kinds.Fd (Fd tt) h = is_descriptor refl
 canonical-spells _ _ h = absurd h
@@ -89,6 +91,7 @@ spelled-suits (is_null t e) = t
 spelled-suits (is_text s) = s.text_fits
 spelled-suits (is_object f t e) = (f, t)
 spelled-suits (is_new f e) = f
+spelled-suits (is_new_by_server f e) = f
 spelled-suits (is_named s f g e) = (s.text_fits, f, g)
 spelled-suits (is_array f p e) = f
 spelled-suits (is_descriptor e) = tt
@@ -102,6 +105,7 @@ spelled-len (is_null t e) = ap length e
 spelled-len (is_text s) = (text_front [] s).len
 spelled-len (is_object f t e) = ap length e
 spelled-len (is_new f e) = ap length e
+spelled-len (is_new_by_server f e) = ap length e
 spelled-len (is_named {front = front} {version = version} {id = id} s f g e) = let l = ap length e
     in omega (
       arith,
@@ -194,6 +198,7 @@ suits-fits (kinds.Str null) (Str (Some text)) h = h
 suits-fits (kinds.Obj null iface) (Obj id) h = tt
 suits-fits (kinds.New (Some iface)) (New id) h = tt
 suits-fits (kinds.New None) (NewNamed iface version id) h = h.0
+suits-fits (kinds.NewByServer iface) (New id) h = tt
 suits-fits kinds.Array (Array bytes) h = h
 suits-fits kinds.Fd (Fd x) h = tt
 suits-fits _ _ h = absurd h

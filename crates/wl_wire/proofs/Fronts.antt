@@ -14,6 +14,7 @@ use Rattle.wl_wire.specs.Word.{word, complement}
 use Rattle.wl_wire.specs.Argument.{Argument, Int, Uint, Fixed, Str, Obj, New, NewNamed, Array, Fd}
 use Rattle.wl_wire.specs.Spelling.{Spells, SpellsText, padded, is_int, is_uint, is_fixed, is_null}
 use Rattle.wl_wire.specs.Spelling.{is_text, is_object, is_new, is_named, is_array, is_descriptor}
+use Rattle.wl_wire.specs.Spelling.{is_new_by_server}
 use Rattle.wl_wire.specs.Reading.{number_at, signed, asked, counted_bytes, text_of, on_found, argument_of, reading}
 use Rattle.wl_wire.proofs.Numbers.{number_at-word, complement_fits, signed-complement}
 
@@ -150,6 +151,8 @@ reading-spelled {front = front} rest (is_object {null = null} {iface = iface} {i
     one_word (kinds.Obj null iface) (Obj id) id front rest f e refl (object_of null iface id (front ++ rest) allowed)
 reading-spelled {front = front} rest (is_new {iface = iface} {id = id} f e) =
     one_word (kinds.New (Some iface)) (New id) id front rest f e refl (λ h. ap (λ (n : ℕ). Ok (New n)) h)
+reading-spelled {front = front} rest (is_new_by_server {iface = iface} {id = id} f e) =
+    one_word (kinds.NewByServer iface) (New id) id front rest f e refl (λ h. ap (λ (n : ℕ). Ok (New n)) h)
 reading-spelled {front = front} rest (is_named {iface = name} {front = head} {version = version} {id = id} s fv fi e) =
     let t = text_front (word version ++ (word id ++ rest)) s in
     let shape : front ++ rest ≡ head ++ (word version ++ (word id ++ rest)) =

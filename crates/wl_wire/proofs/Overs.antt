@@ -17,7 +17,7 @@ zeros_behind (suc (suc (suc (suc zero)))) h = refl
 zeros_behind (suc (suc (suc (suc (suc j))))) h = absurd (omega arith)
 
 -- what is written over the rest of bytes, from a place on
-pub over-rest : (a k : ℕ) (out v : List ℕ) → a ≤ length out → k ≡ length out - a → put_mid a k out v ≡ take a out ++ v
+pub over-rest : {X : Type 0} (a k : ℕ) (out v : List X) → a ≤ length out → k ≡ length out - a → put_mid a k out v ≡ take a out ++ v
 over-rest a k out v low size =
     ap (λ l. take a out ++ (v ++ l)) (drop_all k (drop a out) (omega (arith, length-drop a out)))
     ∙ ap (λ l. take a out ++ l) (append-nil v)

@@ -96,6 +96,7 @@ fault-reading (kinds.Obj null iface) Short bytes h = short_read (kinds.Obj null 
 fault-reading (kinds.New (Some iface)) Short bytes h = short_read (kinds.New (Some iface)) bytes h
 fault-reading (kinds.New None) Short bytes h = short_read (kinds.New None) bytes
     (let l = lacking 8 bytes h in omega arith)
+fault-reading (kinds.NewByServer iface) Short bytes h = short_read (kinds.NewByServer iface) bytes h
 fault-reading kinds.Array Short bytes h = short_read kinds.Array bytes (let l = lacking 0 bytes h in omega arith)
 fault-reading (kinds.Str null) NullNotAllowed bytes h =
     let e = begins_number 0 bytes h.1 in

@@ -25,6 +25,7 @@ asked (kinds.Str null) bytes = 4 + padded (number_at bytes)
 asked (kinds.Obj null iface) bytes = 4
 asked (kinds.New (Some iface)) bytes = 4
 asked (kinds.New None) bytes = 12 + padded (number_at bytes)
+asked (kinds.NewByServer iface) bytes = 4
 asked kinds.Array bytes = 4 + padded (number_at bytes)
 asked kinds.Fd bytes = 0
 
@@ -62,6 +63,7 @@ argument_of (kinds.New None) bytes =
     let after = drop (4 + padded (number_at bytes)) bytes in
     on_found (λ name. NewNamed name (number_at after) (number_at (drop 4 after)))
     (text_of (number_at bytes) bytes)
+argument_of (kinds.NewByServer iface) bytes = Ok (New (number_at bytes))
 argument_of kinds.Array bytes = Ok (Array (counted_bytes (number_at bytes) bytes))
 argument_of kinds.Fd bytes = Ok (Fd tt)
 

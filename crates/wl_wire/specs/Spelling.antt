@@ -55,6 +55,8 @@ pub data Spells : Kind → Argument → List ℕ → Type 0 where
       → (id ≡ 0 → null ≡ true) → bytes ≡ word id → Spells (kinds.Obj null iface) (Obj id) bytes
   is_new : {iface : Iface} {id : ℕ} {bytes : List ℕ} → id < 2 ^ 32 → bytes ≡ word id
       → Spells (kinds.New (Some iface)) (New id) bytes
+  is_new_by_server : {iface : Iface} {id : ℕ} {bytes : List ℕ} → id < 2 ^ 32 → bytes ≡ word id
+      → Spells (kinds.NewByServer iface) (New id) bytes
   -- without an interface: its name, the version, the id
   is_named : {iface front bytes : List ℕ} {version id : ℕ} → SpellsText iface front
       → version < 2 ^ 32 → id < 2 ^ 32 → bytes ≡ front ++ word version ++ word id
@@ -109,6 +111,7 @@ Suits (kinds.Str null) (Str None) = null ≡ true
 Suits (kinds.Str null) (Str (Some text)) = IsText text
 Suits (kinds.Obj null iface) (Obj id) = (id < 2 ^ 32) × (id ≡ 0 → null ≡ true)
 Suits (kinds.New (Some iface)) (New id) = id < 2 ^ 32
+Suits (kinds.NewByServer iface) (New id) = id < 2 ^ 32
 Suits (kinds.New None) (NewNamed iface version id) =
     IsText iface × (version < 2 ^ 32) × (id < 2 ^ 32)
 Suits kinds.Array (Array bytes) = length bytes < 2 ^ 32

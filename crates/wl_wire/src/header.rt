@@ -6,6 +6,9 @@ use byteorder::{ByteOrder, LittleEndian};
 /// The most bytes that a message has, its header counted, where both ends agreed on no more.
 pub const MAX_MESSAGE_LEN: u16 = 4096;
 
+/// The number of bytes of a header, the fewest that a message has.
+pub const HEADER_LEN: usize = 8;
+
 /// The first eight bytes of a message. (Section "Wire Format".)
 #[derive(Clone, Copy, Debug, PartialEq, Eq)]
 pub struct Header {
@@ -22,10 +25,10 @@ impl Header {
 
     /// The header's two words: the object's, and one with the size in its upper half and the
     /// opcode in its lower half.
-    pub fn to_bytes(self) -> [u8; 8]
+    pub fn to_bytes(self) -> [u8; HEADER_LEN]
         ensures { result ≡ header_bytes self }
     {
-        let mut bytes = [0; 8];
+        let mut bytes = [0; HEADER_LEN];
         LittleEndian::write_u32(&mut bytes[..4], self.object);
         LittleEndian::write_u16(&mut bytes[4..6], self.opcode);
         LittleEndian::write_u16(&mut bytes[6..], self.size);
@@ -33,7 +36,7 @@ impl Header {
     }
 
     /// The header that these bytes are. Any eight bytes are one.
-    pub fn from_bytes(bytes: [u8; 8]) -> Header
+    pub fn from_bytes(bytes: [u8; HEADER_LEN]) -> Header
         ensures spelled { bytes ≡ header_bytes result }
         ensures computes { result ≡ header_at bytes }
     {

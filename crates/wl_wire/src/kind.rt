@@ -21,9 +21,11 @@ pub enum Kind {
     /// The id of an object: whether 0, the null object, is allowed, and the object's interface.
     /// No interface means any.
     Obj { null: bool, iface: Option<Iface> },
-    /// The id of a new object. Without an interface the argument is three values: the
-    /// interface's name as a string, the version, the id.
+    /// The id of a new object that the client makes. Without an interface the argument is three
+    /// values: the interface's name as a string, the version, the id.
     New(Option<Iface>),
+    /// The id of a new object of this interface that the server makes.
+    NewByServer(Iface),
     /// Bytes with their length.
     Array,
     /// A file descriptor. It has no bytes in the stream.

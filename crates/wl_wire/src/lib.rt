@@ -22,7 +22,7 @@ mod writing;
 pub use bytes::Bytes;
 pub use encode::Encode;
 pub use fixed::Fixed;
-pub use header::{Header, MAX_MESSAGE_LEN};
+pub use header::{HEADER_LEN, Header, MAX_MESSAGE_LEN};
 pub use kind::{ArgFault, Iface, Kind, ReadError};
 pub use owning::read_value;
 pub use reading::read_ref;

@@ -54,7 +54,7 @@ fn front_of<'a>(kind: Kind, bytes: &'a [u8]) -> Result<(ValueRef<'a>, usize), Ar
             }
             Ok((ValueRef::Obj(id), 4))
         }
-        Kind::New(Some(_)) => Ok((ValueRef::New(word_at(bytes)), 4)),
+        Kind::New(Some(_)) | Kind::NewByServer(_) => Ok((ValueRef::New(word_at(bytes)), 4)),
         Kind::New(None) => named_at(bytes),
         Kind::Array => array_at(bytes),
         Kind::Fd => Ok((ValueRef::Fd, 0)),

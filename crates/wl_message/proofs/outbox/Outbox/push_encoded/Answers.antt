@@ -3,8 +3,8 @@ use Rattle.wl_message.specs.Outgoing.{with_message}
 use Rattle.wl_message.proofs.PartedQueue.{bytes_wait, tokens_wait, pushed, pushed_kept, marks_fit}
 use Rattle.wl_message.proofs.outbox.Outbox.push_encoded.Goals as goal
 
-pub push_mark-requires : goal.push_mark-requires
-push_mark-requires g c =
+pub push-requires-clause-room : goal.push-requires-clause-room
+push-requires-clause-room g c =
     let o = c.self.inside in
     let i = c.self.invariant.kept in
     let r : length (g.E.Encode.message c.args.message.now) ≤ o.capacity -
@@ -23,8 +23,8 @@ push_mark-requires g c =
       c.requires.whole.size.header,
     )
 
-pub push-requires-clause-room : goal.push-requires-clause-room
-push-requires-clause-room g c =
+pub append_encoded-requires-clause-room : goal.append_encoded-requires-clause-room
+append_encoded-requires-clause-room g c =
     let o = c.self.inside in
     let i = c.self.invariant.kept in
     let r : length (g.E.Encode.message c.args.message.now) ≤ o.capacity -
@@ -51,17 +51,18 @@ invariant_of-self g c =
     let s : length c.args.tokens.now ≤ o.tokens.capacity - length o.tokens.items =
     rw (tokens_wait _ i) at (rw (← c.self.view_is) at c.requires.tokens) in
     record {
-      kept = rw (c.push.ensures.ring, c.append.ensures, c.push_mark.ensures, c.encoded_len.ensures)
+      kept = rw (c.append_encoded.ensures.ring, c.append.ensures, c.push.ensures, c.encoded_len.ensures)
           (pushed_kept _ message c.args.tokens.now i c.requires.whole.size.header
           (omega (arith, r, i.error_there, i.error_order, c.requires.whole.size.header))
           (omega (arith, s, i.token_room)));
       small = v.small;
-      reserved = rw (c.push.ensures.ring) v.reserved;
-      marks_reserved = rw (c.push.ensures.ring, c.push_mark.ensures) v.marks_reserved;
+      few_tokens = rw (c.append.ensures) v.few_tokens;
+      reserved = rw (c.append_encoded.ensures.ring) v.reserved;
+      marks_reserved = rw (c.append_encoded.ensures.ring, c.push.ensures) v.marks_reserved;
     }
 
 pub returns-clause-outbox : goal.returns-clause-outbox
 returns-clause-outbox g c =
-    rw (c.push.ensures.ring, c.append.ensures, c.push_mark.ensures, c.encoded_len.ensures)
+    rw (c.append_encoded.ensures.ring, c.append.ensures, c.push.ensures, c.encoded_len.ensures)
     (pushed _ (g.E.Encode.message c.args.message.now) c.args.tokens.now c.self.invariant.kept
     ∙ ap (λ w. with_message w (g.E.Encode.message c.args.message.now) c.args.tokens.now) c.self.view_is)

@@ -3,8 +3,8 @@ use Rattle.wl_message.specs.Outgoing.{with_error}
 use Rattle.wl_message.proofs.PartedQueue.{pushed_error, error_kept, marks_fit}
 use Rattle.wl_message.proofs.outbox.Outbox.push_encoded_error.Goals as goal
 
-pub push_mark-requires : goal.push_mark-requires
-push_mark-requires g c =
+pub push-requires-clause-room : goal.push-requires-clause-room
+push-requires-clause-room g c =
     let o = c.self.inside in
     let i = c.self.invariant.kept in
     let f : o.has_error ≡ false = rw (← c.self.view_is) at c.requires.first in
@@ -19,8 +19,8 @@ push_mark-requires g c =
       c.self.invariant.marks_reserved,
     )
 
-pub push-requires-clause-room : goal.push-requires-clause-room
-push-requires-clause-room g c =
+pub append_encoded-requires-clause-room : goal.append_encoded-requires-clause-room
+append_encoded-requires-clause-room g c =
     let o = c.self.inside in
     let i = c.self.invariant.kept in
     let f : o.has_error ≡ false = rw (← c.self.view_is) at c.requires.first in
@@ -32,15 +32,16 @@ invariant_of-self g c =
     let i = c.self.invariant in
     let f : c.self.inside.has_error ≡ false = rw (← c.self.view_is) at c.requires.first in
     record {
-      kept = rw (c.len-self-inside.ensures.len, c.push.ensures.ring, c.push_mark.ensures, c.encoded_len-len.ensures)
+      kept = rw (c.len-self-inside.ensures.len, c.append_encoded.ensures.ring, c.push.ensures, c.encoded_len-len.ensures)
           (error_kept _ (g.E.Encode.message c.args.message.now) i.kept f c.requires.whole.size.header c.requires.short);
       small = i.small;
-      reserved = rw (c.push.ensures.ring) i.reserved;
-      marks_reserved = rw (c.push.ensures.ring, c.push_mark.ensures) i.marks_reserved;
+      few_tokens = i.few_tokens;
+      reserved = rw (c.append_encoded.ensures.ring) i.reserved;
+      marks_reserved = rw (c.append_encoded.ensures.ring, c.push.ensures) i.marks_reserved;
     }
 
 pub returns-clause-outbox : goal.returns-clause-outbox
 returns-clause-outbox g c =
-    rw (c.len-self-inside.ensures.len, c.push.ensures.ring, c.push_mark.ensures, c.encoded_len-len.ensures)
+    rw (c.len-self-inside.ensures.len, c.append_encoded.ensures.ring, c.push.ensures, c.encoded_len-len.ensures)
     (pushed_error _ (g.E.Encode.message c.args.message.now) c.self.invariant.kept
     ∙ ap (λ w. with_error w (g.E.Encode.message c.args.message.now)) c.self.view_is)

@@ -3,8 +3,8 @@ use Rattle.wl_message.specs.Outgoing.{with_error}
 use Rattle.wl_message.proofs.PartedQueue.{pushed_error, error_kept, marks_fit}
 use Rattle.wl_message.proofs.outbox.Outbox.push_error.Goals as goal
 
-pub push_mark-requires : goal.push_mark-requires
-push_mark-requires g c =
+pub push-requires-clause-room : goal.push-requires-clause-room
+push-requires-clause-room g c =
     let o = c.self.inside in
     let i = c.self.invariant.kept in
     let f : o.has_error ≡ false = rw (← c.self.view_is) at c.requires.first in
@@ -24,14 +24,15 @@ invariant_of-self g c =
     let i = c.self.invariant in
     let f : c.self.inside.has_error ≡ false = rw (← c.self.view_is) at c.requires.first in
     record {
-      kept = rw (c.len-self-inside.ensures.len, c.append.ensures, c.push_mark.ensures)
+      kept = rw (c.len-self-inside.ensures.len, c.append.ensures, c.push.ensures)
           (error_kept _ c.args.message.now i.kept f c.requires.whole.size.header c.requires.short);
       small = i.small;
+      few_tokens = i.few_tokens;
       reserved = rw (c.append.ensures) i.reserved;
-      marks_reserved = rw (c.append.ensures, c.push_mark.ensures) i.marks_reserved;
+      marks_reserved = rw (c.append.ensures, c.push.ensures) i.marks_reserved;
     }
 
 pub returns : goal.returns
 returns g c =
-    rw (c.len-self-inside.ensures.len, c.append.ensures, c.push_mark.ensures)
+    rw (c.len-self-inside.ensures.len, c.append.ensures, c.push.ensures)
     (pushed_error _ c.args.message.now c.self.invariant.kept ∙ ap (λ w. with_error w c.args.message.now) c.self.view_is)

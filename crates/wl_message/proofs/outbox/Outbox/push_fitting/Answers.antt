@@ -3,8 +3,8 @@ use Rattle.wl_message.specs.Outgoing.{with_message}
 use Rattle.wl_message.proofs.PartedQueue.{bytes_wait, tokens_wait, pushed, pushed_kept, marks_fit}
 use Rattle.wl_message.proofs.outbox.Outbox.push_fitting.Goals as goal
 
-pub push_mark-requires : goal.push_mark-requires
-push_mark-requires g c =
+pub push-requires-clause-room : goal.push-requires-clause-room
+push-requires-clause-room g c =
     let o = c.self.inside in
     let i = c.self.invariant.kept in
     let r : length c.args.message.now ≤ o.capacity - (length o.bytes.items - (o.error_to - o.error_from)) =
@@ -48,17 +48,18 @@ invariant_of-self g c =
     let s : length c.args.tokens.now ≤ o.tokens.capacity - length o.tokens.items =
     rw (tokens_wait _ i) at (rw (← c.self.view_is) at c.requires.tokens) in
     record {
-      kept = rw (c.append.ensures, c.append-2.ensures, c.push_mark.ensures)
+      kept = rw (c.append.ensures, c.append-2.ensures, c.push.ensures)
           (pushed_kept _ c.args.message.now c.args.tokens.now i c.requires.whole.size.header
           (omega (arith, r, i.error_there, i.error_order, c.requires.whole.size.header))
           (omega (arith, s, i.token_room)));
       small = v.small;
+      few_tokens = rw (c.append-2.ensures) v.few_tokens;
       reserved = rw (c.append.ensures) v.reserved;
-      marks_reserved = rw (c.append.ensures, c.push_mark.ensures) v.marks_reserved;
+      marks_reserved = rw (c.append.ensures, c.push.ensures) v.marks_reserved;
     }
 
 pub returns : goal.returns
 returns g c =
-    rw (c.append.ensures, c.append-2.ensures, c.push_mark.ensures)
+    rw (c.append.ensures, c.append-2.ensures, c.push.ensures)
     (pushed _ c.args.message.now c.args.tokens.now c.self.invariant.kept
     ∙ ap (λ w. with_message w c.args.message.now c.args.tokens.now) c.self.view_is)

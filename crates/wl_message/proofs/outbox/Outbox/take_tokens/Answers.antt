@@ -1,53 +1,22 @@
-use Rattle.std.proofs.Common.{◌≡◌, ℕ, ◌-◌, List, ◌++◌, length, take, drop, ap, sym, subst, refl}
-use Rattle.std.proofs.Common.{◌∙◌, arith, length-drop}
+use Rattle.std.proofs.Common.{◌≡◌, ℕ, List, [], ◌++◌, length, take, drop, ap, sym, subst, ◌∙◌, arith}
+use Rattle.std.proofs.Common.{length-drop}
 use Rattle.wl_message.specs.declared.amounts.Amounts.{Amounts}
 use Rattle.wl_message.specs.Outgoing.{Outgoing, Goes, goes, after_taking, waiting_bytes, waiting_tokens}
-use Rattle.wl_message.proofs.PartedQueue.{is_taken, leaves, bytes_wait, tokens_wait, nothing_waits}
+use Rattle.wl_message.proofs.PartedQueue.{leaves, bytes_wait, tokens_wait, nothing_waits}
 use Rattle.wl_message.proofs.WhatGoes.{goes_goes}
 use Rattle.wl_message.proofs.Waiting.{all_go}
 use Rattle.wl_message.proofs.outbox.Outbox.take_tokens.Goals as goal
 
-pub remove_first-requires : goal.remove_first-requires
-remove_first-requires g c =
-    let l = leaves _ c.len-waiting.result (length c.args.tokens.now) _ _ c.reach-reach.result c.self.invariant.kept
-    (rw (← c.self.view_is) at c.reach-reach.ensures) refl refl in
-    l.bytes
-
-pub move_first-requires-clause-ring : goal.move_first-requires-clause-ring
-move_first-requires-clause-ring g c =
-    let l = leaves _ c.len-waiting.result (length c.args.tokens.now) _ _ c.reach-reach.result c.self.invariant.kept
-    (rw (← c.self.view_is) at c.reach-reach.ensures) refl refl in
-    l.tokens
-
-pub remove_first-requires-2 : goal.remove_first-requires-2
-remove_first-requires-2 g c =
-    let l = leaves _ c.len-waiting.result (length c.args.tokens.now) _ _ c.reach-reach.result c.self.invariant.kept
-    (rw (← c.self.view_is) at c.reach-reach.ensures) refl refl in
-    l.marks
-
-pub invariant_of-self : goal.invariant_of-self
-invariant_of-self g c =
-    let l = leaves _ c.len-waiting.result (length c.args.tokens.now) _ _ c.reach-reach.result c.self.invariant.kept
-    (rw (← c.self.view_is) at c.reach-reach.ensures) refl refl in
-    record {
-      kept = rw (
-        c.remove_first.ensures,
-        c.move_first.ensures.ring,
-        c.remove_first-2.ensures,
-        c.saturating_sub-self-inside.ensures,
-        c.saturating_sub-self-inside-2.ensures,
-      ) l.kept;
-      small = c.self.invariant.small;
-      reserved = rw (c.remove_first.ensures) c.self.invariant.reserved;
-      marks_reserved = rw (c.remove_first.ensures, c.remove_first-2.ensures) c.self.invariant.marks_reserved;
-    }
+pub copy_into-requires-clause-ring : goal.copy_into-requires-clause-ring
+copy_into-requires-clause-ring g c =
+    (leaves _ _ c.self.invariant.kept (rw (← c.self.view_is) at c.leaving-leaving.ensures.leaving)).tokens
 
 pub returns-clause-computed : goal.returns-clause-computed
 returns-clause-computed g c =
-    let w : c.len-waiting.result ≡ length (waiting_bytes c.args.self.now) =
-    c.len-waiting.ensures.len ∙ ap length (sym (bytes_wait _ c.self.invariant.kept))
+    let w : c.len.result ≡ length (waiting_bytes c.args.self.now) =
+    c.len.ensures.len ∙ ap length (sym (bytes_wait _ c.self.invariant.kept))
     ∙ ap (λ (o : Outgoing). length (waiting_bytes o)) c.self.view_is in
-    is_taken c.args.self.now c.len-waiting.result (length c.args.tokens.now) c.reach-reach.result c.reach-reach.ensures
+    c.remove.ensures.taken ∙ c.leaving-leaving.ensures.computed
     ∙ ap (λ (n : ℕ). goes c.args.self.now n (length c.args.tokens.now)) w
 
 pub returns-clause-longest : goal.returns-clause-longest
@@ -58,35 +27,24 @@ returns-clause-longest g c =
 
 pub returns-clause-tokens : goal.returns-clause-tokens
 returns-clause-tokens g c =
-    let n : ℕ = length c.args.tokens.now - c.reach-reach.result.tokens in
+    let n : ℕ = c.leaving-leaving.result.taken.tokens in
     let w : c.self.inside.tokens.items ≡ waiting_tokens c.args.self.now =
     sym (tokens_wait _ c.self.invariant.kept) ∙ ap (λ (o : Outgoing). waiting_tokens o) c.self.view_is in
-    c.move_first.ensures.to ∙ ap (λ (l : List ℕ). take n l ++ drop n c.args.tokens.now) w
-
-pub returns-clause-rest : goal.returns-clause-rest
-returns-clause-rest g c =
-    let n : ℕ = c.len-waiting.result - c.reach-reach.result.bytes in
-    let l = leaves _ c.len-waiting.result (length c.args.tokens.now) _ _ c.reach-reach.result c.self.invariant.kept
-    (rw (← c.self.view_is) at c.reach-reach.ensures) refl refl in
-    rw (
-      c.remove_first.ensures,
-      c.move_first.ensures.ring,
-      c.remove_first-2.ensures,
-      c.saturating_sub-self-inside.ensures,
-      c.saturating_sub-self-inside-2.ensures,
-    )
-    (l.after ∙ ap (λ (o : Outgoing). after_taking o n) c.self.view_is)
+    rw (c.remove.ensures.taken)
+    (c.copy_into.ensures.to ∙ ap (λ (l : List ℕ). take n l ++ drop n c.args.tokens.now) w)
 
 pub returns-clause-all : goal.returns-clause-all
 returns-clause-all g c = λ enough.
-    let n : ℕ = c.len-waiting.result - c.reach-reach.result.bytes in
-    let l = leaves _ c.len-waiting.result (length c.args.tokens.now) _ _ c.reach-reach.result c.self.invariant.kept
-    (rw (← c.self.view_is) at c.reach-reach.ensures) refl refl in
-    let w : c.len-waiting.result ≡ length (waiting_bytes c.args.self.now) =
-    c.len-waiting.ensures.len ∙ ap length (sym (bytes_wait _ c.self.invariant.kept))
-    ∙ ap (λ (o : Outgoing). length (waiting_bytes o)) c.self.view_is in
-    let most = all_go c.args.self.now (length c.args.tokens.now) _ (returns-clause-longest g c) enough in
-    let z : length (drop n c.self.inside.bytes.items) ≡ 0 =
-    omega (arith, length-drop n c.self.inside.bytes.items, most, w, c.len-waiting.ensures.len) in
-    rw (c.remove_first.ensures, c.move_first.ensures.ring, c.remove_first-2.ensures)
+    let o : Outgoing = c.args.self.now in
+    let n : ℕ = c.leaving-leaving.result.taken.bytes in
+    let bytes = c.self.inside.bytes.items in
+    let l = leaves _ _ c.self.invariant.kept (rw (← c.self.view_is) at c.leaving-leaving.ensures.leaving) in
+    let w : length bytes ≡ length (waiting_bytes o) =
+    ap length (sym (bytes_wait _ c.self.invariant.kept)) ∙ ap (λ (p : Outgoing). length (waiting_bytes p)) c.self.view_is
+    in
+    let most = all_go o (length c.args.tokens.now) _ (returns-clause-longest g c) enough in
+    let gone = ap (λ (t : Amounts). t.bytes) c.remove.ensures.taken in
+    let z : length (drop n bytes) ≡ 0 = omega (arith, length-drop n bytes, most, gone, w) in
+    subst (λ (p : Outgoing). (waiting_bytes p ≡ []) × (waiting_tokens p ≡ []))
+    (l.after ∙ ap (λ (p : Outgoing). after_taking p n) c.self.view_is ∙ sym c.remove.ensures.rest)
     (nothing_waits _ l.kept z)

@@ -1,10 +1,11 @@
-//! The front and the back of rings.
+//! Queues of bytes, tokens and marks: rings of the crate `circular_buffer`.
 ghost use Rattle.std.specs.Prelude.{◌≡◌, ◌≤◌, ◌<◌, ◌+◌, ◌-◌, ◌++◌, length, take, drop, min};
 ghost use Rattle.std.specs.Prelude.{vec_len, vec_capacity};
 ghost use Rattle.circular_buffer.specs.Buffer.{buffer};
 
 use circular_buffer::HeapCircularBuffer;
 use std::alloc::Allocator;
+use wl_wire::Encode;
 
 /// Appends items for which there is room.
 #[tactic(auto, using(std::proofs::lemmas::List::take_all))]
@@ -27,6 +28,79 @@ pub(crate) fn fill<T: Copy + Drop, A: Allocator>(
         return 0;
     }
     ring.fill_from_slice(more)
+}
+
+/// Appends a message for which there is room. It is written into the front of the store first.
+pub(crate) fn append_encoded<E: Encode, A: Allocator>(
+    ring: &mut HeapCircularBuffer<u8, A>,
+    message: &E,
+    store: &mut [u8],
+)
+    requires fits { E.fits message.now }
+    requires room { length ring.old.items + length (E.message message.now) ≤ ring.old.capacity }
+    requires store { length (E.message message.now) ≤ length store.old }
+    ensures ring { ring.new
+        ≡ buffer (ring.old.items ++ E.message message.now) ring.old.capacity }
+    ensures store { length store.new ≡ length store.old }
+{
+    let len = message.encoded_len();
+    message.encode(&mut store[..len]);
+    append(ring, &store[..len]);
+}
+
+/// Some of the first items, at most `most`; none only where there are none.
+pub(crate) fn first_part<T, A: Allocator>(ring: &HeapCircularBuffer<T, A>, most: usize) -> &[T]
+    ensures front { result.now ≡ take (length result.now) ring.now.items }
+    ensures most { length result.now ≤ most }
+    ensures some { 0 < most → 0 < length ring.now.items → 0 < length result.now }
+{
+    let (front, back) = ring.as_slices();
+    if front.is_empty() {
+        return &back[..back.len().min(most)];
+    }
+    &front[..front.len().min(most)]
+}
+
+/// The first n items, in two parts.
+#[tactic(auto, using(crate::proofs::Fronts::front_in_first, crate::proofs::Fronts::front_past_first))]
+pub(crate) fn first_in_parts<T, A: Allocator>(
+    ring: &HeapCircularBuffer<T, A>,
+    n: usize,
+) -> (&[T], &[T])
+    requires { n ≤ length ring.now.items }
+    ensures { result.0.now ++ result.1.now ≡ take n ring.now.items }
+{
+    let (front, back) = ring.as_slices();
+    if n <= front.len() {
+        return (&front[..n], &back[..0]);
+    }
+    (front, &back[..n - front.len()])
+}
+
+/// Copies the first items, as many as the slice has places. They stay in the ring.
+pub(crate) fn copy_first<T: Copy, A: Allocator>(ring: &HeapCircularBuffer<T, A>, to: &mut [T])
+    requires { length to.old ≤ length ring.now.items }
+    ensures { to.new ≡ take (length to.old) ring.now.items }
+{
+    let (front, back) = first_in_parts(ring, to.len());
+    to[..front.len()].copy_from_slice(front);
+    to[front.len()..].copy_from_slice(back);
+}
+
+/// Copies the first n items into the front of a slice. They stay in the ring.
+#[tactic(auto, using(std::proofs::lemmas::List::take_at))]
+pub(crate) fn copy_into<T: Copy, A: Allocator>(
+    ring: &HeapCircularBuffer<T, A>,
+    to: &mut [T],
+    n: usize,
+)
+    requires ring { n ≤ length ring.now.items }
+    requires to { n ≤ length to.old }
+    ensures to { to.new ≡ take n ring.now.items ++ drop n to.old }
+    ensures copy { take n to.new ≡ take n ring.now.items }
+    ensures len { length to.new ≡ length to.old }
+{
+    copy_first(ring, &mut to[..n]);
 }
 
 /// Takes the first n items out.
@@ -79,7 +153,7 @@ pub(crate) fn move_to_store<T: Copy + Drop, A: Allocator>(
 }
 
 /// Copies the first n items into a store, in place of what is there. They stay in the ring.
-#[tactic(auto, using(crate::proofs::Fronts::front_in_first, crate::proofs::Fronts::front_past_first))]
+#[tactic(auto, using(crate::proofs::Fronts::parts_len))]
 fn copy_front<T: Copy + Drop, A: Allocator>(
     ring: &HeapCircularBuffer<T, A>,
     to: &mut Vec<T, A>,
@@ -90,14 +164,10 @@ fn copy_front<T: Copy + Drop, A: Allocator>(
     ensures items { to.new.items ≡ take n ring.now.items }
     ensures capacity { vec_capacity to.old ≤ vec_capacity to.new }
 {
-    let (first, second) = ring.as_slices();
+    let (front, back) = first_in_parts(ring, n);
     to.clear();
-    if n <= first.len() {
-        store(to, &first[..n]);
-        return;
-    }
-    store(to, first);
-    store(to, &second[..n - first.len()]);
+    store(to, front);
+    store(to, back);
 }
 
 /// Appends items to a store that has room for them.

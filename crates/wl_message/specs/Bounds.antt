@@ -1,0 +1,17 @@
+-- How much an inbox and an outbox can hold.
+use Rattle.std.specs.Prelude.{ℕ}
+
+-- the most bytes and the most tokens that an inbox or an outbox can hold
+abbrev pub max_queue_bytes : ℕ
+max_queue_bytes = 16777216
+
+abbrev pub max_queue_tokens : ℕ
+max_queue_tokens = 65536
+
+-- the fewest tokens that an inbox can hold: as many as one message can have
+abbrev pub min_inbox_tokens : ℕ
+min_inbox_tokens = 20
+
+-- the most bytes of the error event, for which an outbox has room beyond what it can hold
+abbrev pub max_error_len : ℕ
+max_error_len = 64
