@@ -10,8 +10,8 @@ use Rattle.wl_wire.specs.Word.{IsHeader}
 use Rattle.wl_sigs.specs.declared.signature.Side.TheVariants.{Event as event_side}
 use Rattle.wl_sigs.specs.Valid.{Valid}
 use Rattle.wl_message.specs.declared.inbox.Frame.{Frame}
-use Rattle.wl_message.specs.Arrived.{TellsFront}
-use Rattle.wl_message.specs.Cut.{Whole}
+use Rattle.wl_message.specs.Arrived.{TellsFront, in_front}
+use Rattle.wl_message.specs.Cut.{Whole, message_size}
 use Rattle.wl_object_map.specs.declared.object.State.{State as ObjectState}
 use Rattle.wl_object_map.specs.declared.object.State.TheVariants.{Live, Zombie}
 use Rattle.wl_objects.specs.declared.error.Fault.{Fault}
@@ -24,11 +24,11 @@ use Rattle.wl_client.specs.Reports.{Report, report, Event, Discarded, is_error_e
 use Rattle.wl_client.specs.Reports.{is_delete_event, deleted_id, error_report, delete_report}
 use Rattle.wl_client.specs.Reports.{plain_report}
 use Rattle.wl_client.specs.Steps.{end_with, report_by}
-use Rattle.wl_connection.proofs.ReceivedMessage.{first-tokens, is_received}
+use Rattle.wl_connection.proofs.ReceivedMessage.{is_received}
 use Rattle.wl_client.specs.Reading.{CanTake, IsPending, IsPendingOf, IsAhead, IsFront, body_of, front_report, headed}
 use Rattle.wl_client.specs.Outlines.{outlined}
 use Rattle.wl_connection.proofs.FoundStays.{IsFound, is_found, reported_own}
-use Rattle.wl_connection.proofs.Frames.{IsFrame, body-front, descriptors-le, found_frame, framed}
+use Rattle.wl_connection.proofs.Frames.{IsFrame, descriptors-le, found_frame, framed, same-body, same-tokens}
 
 -- ---- what comes of a frame
 
@@ -136,17 +136,12 @@ fault_told core before o f fault same e t h s =
 -- ---- the report that is copied
 
 -- the body and the tokens of an event in front, as they were told
-pub front_told : (core inner : Core) (args held : List ParsedArg) (event : PendingEvent) (o : Option Frame) (f : Frame)
-    (tokens : List ℕ) → inner ≡ core → held ≡ args → CanTake core event → o ≡ Some f → TellsFront inner.inbox (Ok o)
-    → length tokens ≡ 20
+pub front_told : (core inner : Core) (args held : List ParsedArg) (event : PendingEvent) (body tokens : List ℕ)
+    → inner ≡ core → held ≡ args → CanTake core event
+    → body ≡ drop 8 (take (message_size (in_front inner.inbox)) inner.inbox.bytes) → length tokens ≡ 20
     → ((place : ℕ) → place < event.tokens → place < 20 → get_or tokens place 0 ≡ get_or inner.inbox.tokens place 0)
-    → outlined f.body.now held (take event.tokens tokens) event.outline ≡ front_report core args event
-front_told core inner args held event o f tokens same kept can e t all first =
-    let told = subst (λ (x : Option Frame). TellsFront core.inbox (Ok x)) e
-    (subst (λ (k : Core). TellsFront k.inbox (Ok o)) same t) in
-    let body = body-front core.inbox.limit.bytes core.inbox.bytes f.body.now event.size f.header can.message told.0
-    told.1 in
-    let own = first-tokens event.tokens tokens core.inbox.tokens (omega (arith, can.few, all)) can.waiting
-    (λ k less. first k less (omega (arith, less, can.few)) ∙ ap (λ (b : Core). get_or b.inbox.tokens k 0) same)
-    in
-    λ i. outlined (body i) (kept i) (own i) event.outline
+    → outlined body held (take event.tokens tokens) event.outline ≡ front_report core args event
+front_told core inner args held event body tokens same kept can b all first =
+    let told = b ∙ same-body core inner event.size same can.message in
+    let own = same-tokens core inner event.tokens tokens same can.few can.waiting all first in
+    λ i. outlined (told i) (kept i) (own i) event.outline

@@ -7,13 +7,14 @@ use Rattle.std.specs.FinMap.{FinMap, get, insert, same_map, nat_cmp-IsAntisymmet
 use Rattle.std.specs.declared.option.Option.TheVariants.{Some, None}
 use Rattle.wl_sigs.specs.declared.signature.Destroys.{Destroys}
 use Rattle.wl_sigs.specs.declared.signature.Destroys.TheVariants.{Nothing, Target, Arg}
+use Rattle.wl_sigs.specs.declared.signature.Side.TheVariants.{Request as request_side}
 use Rattle.wl_sigs.specs.Tables.{destroys_argument}
 use Rattle.wl_wire.specs.Argument.{Argument}
 use Rattle.wl_object_map.specs.declared.object.Entry.{Entry}
 use Rattle.wl_object_map.specs.declared.object.State.TheVariants.{Zombie}
 use Rattle.wl_object_map.specs.View.{View, look, zombie, with_zombie, zombied}
 use Rattle.wl_object_map.specs.Views.{get_put}
-use Rattle.wl_objects.specs.Messages.{Client as client, after, ended_id}
+use Rattle.wl_objects.specs.Messages.{after, ended_id}
 
 at_key : (rows : FinMap nat_cmp Entry) (id q : ℕ) (e : Entry) (b : Bool) → eqb q id ≡ b → get rows id ≡ Some e
     → cond b (Some e) (get rows q) ≡ get rows q
@@ -37,7 +38,7 @@ zombied_same view id e l z =
 -- an event for a zombie changes no object, since no event destroys an argument
 pub after_zombie : (view : View) (what : Destroys) (id : ℕ) (values : List Argument) (e : Entry)
     → destroys_argument what ≡ false → look view id ≡ Some e → e.state ≡ Zombie
-    → after client view None what (ended_id what id values) ≡ view
+    → after request_side view None what (ended_id what id values) ≡ view
 after_zombie view Nothing id values e n l z = refl
 after_zombie view Target id values e n l z = zombied_same view id e l z
 after_zombie view (Arg place) id values e n l z = absurd (cc n)

@@ -15,7 +15,7 @@ use Rattle.wl_client.specs.Calls.{bind_answer}
 -- a bind of an interface of this name has a spelling, and is not too long
 pub record FitsBind (iface : List ℕ) : Type 0 where
   pub fits : (name version id : ℕ) → EachFits (bind_values name iface version id)
-  pub len : (name version id : ℕ) → message_len (bind_values name iface version id) ≤ 4096
+  pub len : (name version id : ℕ) → message_len (bind_values name iface version id) ≤ usual_limit
 
 -- A bind that is accepted is a spelling, by the tables' signature, of its values: the new object by
 -- the next id.

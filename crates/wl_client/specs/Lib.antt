@@ -7,3 +7,4 @@ pub mod Steps
 pub mod Reading
 pub mod Binding
 pub mod Outlines
+pub mod Shown

@@ -3,7 +3,7 @@ use Rattle.std.specs.Prelude.{◌≡◌, ◌≤◌, ℕ, List, length, take, dro
 use Rattle.std.specs.declared.result.Result.{Result}
 use Rattle.std.specs.declared.result.Result.TheVariants.{Ok, Err}
 use Rattle.wl_wire.specs.declared.header.Header.{Header}
-use Rattle.wl_sigs.specs.Tables.{Interface}
+use Rattle.wl_sigs.specs.Tables.{Interface, max_args}
 use Rattle.wl_objects.specs.declared.error.Fault.{Fault}
 use Rattle.wl_objects.specs.declared.error.NextError.{NextError}
 use Rattle.wl_objects.specs.declared.error.NextError.TheVariants as errors
@@ -51,7 +51,7 @@ IsPendingOf tables view header body args r (Ok event) =
 -- and so is what it is about.
 pub record CanTake (core : Core) (event : PendingEvent) : Type 0 where
   pub message : in_front core.inbox ≡ Whole event.size
-  pub few : event.tokens ≤ 20
+  pub few : event.tokens ≤ max_args
   pub waiting : event.tokens ≤ length core.inbox.tokens
   pub change : CanChange core.view event.change.objects
   pub entry : event.entry ≡ outline_entry core.view event.outline

@@ -3,10 +3,9 @@ use Rattle.std.specs.Prelude.{ℕ, Bool, true, false, ◌&&◌, not, nat_eq, nat
 use Rattle.std.specs.Prelude.{[], ◌∷◌, ◌++◌, length, map, filter, Option, Some, None, is_some}
 use Rattle.std.specs.Prelude.{unwrap_or, slice_get}
 use Rattle.std.specs.declared.result.Result.{Result}
-use Rattle.std.specs.declared.result.Result.TheVariants.{Ok, Err}
 use Rattle.wl_wire.specs.declared.kind.Iface.{Iface}
 use Rattle.wl_wire.specs.Argument.{Argument, Uint, Str, Obj}
-use Rattle.wl_sigs.specs.declared.signature.Side.TheVariants.{Event as event_side}
+use Rattle.wl_sigs.specs.declared.signature.Side.TheVariants.{Request as request_side, Event as event_side}
 use Rattle.wl_sigs.specs.Tables.{Interface, place_of}
 use Rattle.wl_sigs.specs.Fixed.{registry}
 use Rattle.wl_object_map.specs.declared.object.Object.{Object}
@@ -20,10 +19,11 @@ use Rattle.wl_object_map.specs.declared.object.Entry.{Entry}
 use Rattle.wl_object_map.specs.View.{View, look, is_held}
 use Rattle.wl_objects.specs.Reading.{Reported, named_at}
 use Rattle.wl_objects.specs.Messages.{Received, reader_of, is_error, is_delete_id, same_iface}
-use Rattle.wl_objects.specs.Messages.{Client as client, after, after_delete_id, ended_id}
+use Rattle.wl_objects.specs.Messages.{after, after_delete_id, ended_id}
 use Rattle.wl_connection.specs.Core.{Core, with_view, with_failure}
 use Rattle.wl_connection.specs.Outcomes.{AnswersOrMemory, answers_with}
 use Rattle.wl_connection.specs.Receiving.{Found, found, reported, own_tokens, past_found, is_none}
+use Rattle.wl_connection.specs.Roles.{Role, front_answer, role_answer, front_left, role_after}
 use Rattle.wl_client.specs.State.{State, Global, is_named, global_of, with_core}
 use Rattle.wl_object_map.specs.View.{lives}
 use Rattle.wl_connection.specs.Core.{max_globals}
@@ -126,7 +126,7 @@ abbrev pub view_after : Core → Found → View
 view_after core f =
     if is_error_event f then core.view
     else if is_delete_event f then after_delete_id core.view (deleted_id f)
-    else after client core.view None f.message.signature.destroys
+    else after request_side core.view None f.message.signature.destroys
     (ended_id f.message.signature.destroys f.message.target.id f.message.values)
 
 -- the globals without one of this name
@@ -177,28 +177,40 @@ state_past state f = record { core = core_after state.core f; globals = globals_
 
 -- ---- reading the next message, where no memory is needed
 
+-- whether this is the report of wl_display.error, after which nothing is read
+abbrev pub is_last : Report → Bool
+is_last (Error id named code text) = true
+is_last _ = false
+
+-- A client's reading waits for no room, and a fault makes it fail, as wl_display.error does once it
+-- is reported.
+abbrev pub client_role : Role State Report
+client_role = record {
+  core = λ state. state.core;
+  with_core = with_core;
+  reads = event_side;
+  in_front = λ state. found state.core event_side;
+  is_full = λ core f. false;
+  report = report;
+  past = state_past;
+  failing = λ state fault. with_core state (with_failure state.core);
+  is_last = is_last;
+}
+
 abbrev pub answer_found : Core → Result (Option Found) Fault → Result (Option Report) NextError
-answer_found core (Err fault) = Err (errors.Fault fault core.read)
-answer_found core (Ok None) = Ok None
-answer_found core (Ok (Some f)) = Ok (Some (report core f))
+answer_found core front = front_answer client_role core front
 
 -- What `next` returns: what the first message is, nothing where none is whole, or why it cannot be
 -- read.
 abbrev pub next_answer : State → Result (Option Report) NextError
-next_answer state =
-    if state.core.failed then Err errors.Failed
-    else answer_found state.core (found state.core event_side)
+next_answer state = role_answer client_role state
 
 abbrev pub state_found : State → Result (Option Found) Fault → State
-state_found state (Err fault) = with_core state (with_failure state.core)
-state_found state (Ok None) = state
-state_found state (Ok (Some f)) = state_past state f
+state_found state front = front_left client_role state front
 
--- What `next` leaves: a fault makes the client fail, and so does wl_display.error once it is
--- reported.
+-- What `next` leaves.
 abbrev pub after_next : State → State
-after_next state =
-    if state.core.failed then state else state_found state (found state.core event_side)
+after_next state = role_after client_role state
 
 -- What `next_owned` returns where memory can be refused: out of memory stands only in place of a
 -- report that needs some.

@@ -3,6 +3,7 @@ use Rattle.std.specs.Prelude.{Option, Some, None}
 use Rattle.std.specs.declared.result.Result.{Result}
 use Rattle.std.specs.declared.result.Result.TheVariants.{Ok, Err}
 use Rattle.wl_objects.specs.declared.error.NextError.{NextError}
+use Rattle.wl_connection.specs.Outcomes.{read_as}
 use Rattle.wl_client.specs.declared.report.OwnedIncoming.{OwnedIncoming}
 use Rattle.wl_client.specs.declared.report.OwnedIncoming.TheVariants as incoming
 use Rattle.wl_client.specs.declared.report.OwnedIncomingWithEntry.{OwnedIncomingWithEntry}
@@ -26,6 +27,4 @@ owned_incoming_in (Ok (Some read)) = Ok (Some (report_of read.incoming))
 -- what `next_owned` returned
 abbrev pub report_in : {A : Type 0} → Result (Option (OwnedIncoming A)) NextError
     → Result (Option Report) NextError
-report_in (Err why) = Err why
-report_in (Ok None) = Ok None
-report_in (Ok (Some read)) = Ok (Some (report_of read))
+report_in result = read_as report_of result

@@ -7,9 +7,8 @@ ghost use Rattle.wl_client.specs.Binding.{FitsBind};
 
 use crate::client::Client;
 use crate::globals::Global;
-use wl_objects::{Object, REGISTRY, SendError, State, Table};
+use wl_objects::{BindMessage, Object, REGISTRY, SendError, Table, live_row};
 use wl_sigs::Tables;
-use wl_wire::ValueRef;
 
 impl<'t, T: Table> Client<'t, T> {
     /// Whether the client remembers a global of this name. One that it was told is not remembered
@@ -41,9 +40,8 @@ impl<'t, T: Table> Client<'t, T> {
         if self.end.core.failed {
             return Err(SendError::Failed);
         }
-        let entry = match self.end.core.table.look(registry.id) {
-            Some(entry) if entry.birth == registry.birth && entry.state == State::Live => entry,
-            _ => return Err(SendError::Stale),
+        let Some(entry) = live_row(&self.end.core.table, registry) else {
+            return Err(SendError::Stale);
         };
         if entry.iface != REGISTRY {
             return Err(SendError::NoSuchMessage);
@@ -52,14 +50,14 @@ impl<'t, T: Table> Client<'t, T> {
             Some(global) if can_bind(self.end.core.tables, global, iface, version) => global,
             _ => return Err(SendError::BadBind),
         };
-        let len = 12
-            + ValueRef::NewNamed {
-                iface,
-                version,
-                id: 0,
-            }
-            .spelled_len();
-        if !self.end.core.fits(len, 0) {
+        let unopened = BindMessage {
+            registry: registry.id,
+            name,
+            iface,
+            version,
+            id: 0,
+        };
+        if !self.end.core.fits(unopened.len(), 0) {
             return Err(SendError::Full);
         }
         let object = self.end.core.open_next(global.iface, version)?;

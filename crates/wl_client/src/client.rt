@@ -34,7 +34,7 @@ impl<'t, T: Table> Model for Client<'t, T> {
 }
 
 impl<'t, T: Table> Client<'t, T> {
-    /// A client with wl_display alone, empty boxes of these sizes, and no globals.
+    /// A client with wl_display alone, empty queues of these sizes, and no globals.
     pub fn new(alloc: T::Alloc, tables: &'t Tables, sizes: Sizes) -> Result<Self, AllocError>
         requires { AreSizes sizes }
         ensures { IfOk result (λ client. client ≡ new_state tables.now sizes) }

@@ -57,9 +57,9 @@ impl<'t, T: Table> End for Client<'t, T> {
 }
 
 impl<'t, T: Table> Receiver for Client<'t, T> {
-    ghost use Rattle.wl_client.specs.Reports.{Report as ClientReport, next_answer, after_next};
+    ghost use Rattle.wl_client.specs.Reports.{Report as ClientReport, is_last, next_answer};
+    ghost use Rattle.wl_client.specs.Reports.{after_next};
     ghost use Rattle.wl_client.specs.Seen.{report_of};
-    ghost use Rattle.wl_client.specs.Streams.{is_last};
 
     type Report = OwnedIncoming<T::Alloc>;
 

@@ -33,6 +33,7 @@ pub(crate) struct Remembered<A: Allocator> {
 
 impl<A: Allocator> Model for Remembered<A> {
     ghost use Rattle.std.specs.Prelude.{List, ◌≤◌, length, vec_capacity};
+    ghost use Rattle.wl_connection.specs.Core.{max_globals};
     ghost use Rattle.wl_client.specs.State.{Global};
 
     ghost Value = { List Global };
@@ -40,8 +41,8 @@ impl<A: Allocator> Model for Remembered<A> {
     ghost view = { λ r. r.items.items };
 
     ghost invariant = { λ r. record {
-      few : length r.items.items ≤ 1024;
-      reserved : 1024 ≤ vec_capacity r.items;
+      few : length r.items.items ≤ max_globals;
+      reserved : max_globals ≤ vec_capacity r.items;
     } };
 }
 

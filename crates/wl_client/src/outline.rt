@@ -1,6 +1,7 @@
 //! The report of a message without its arguments, its body and its tokens, which it lends or
 //! copies.
 ghost use Rattle.std.specs.Prelude.{◌≡◌, IfOk, OnErr, ◌≤◌, true, length, take};
+ghost use Rattle.wl_sigs.specs.Tables.{max_args};
 ghost use Rattle.wl_object_map.specs.View.{View};
 ghost use Rattle.wl_client.specs.Reports.{entry_of, needs_memory};
 ghost use Rattle.wl_client.specs.Seen.{report_of};
@@ -94,7 +95,7 @@ impl Outline {
         body: &[u8],
         tokens: &[u32],
     ) -> Result<OwnedIncoming<A>, AllocError>
-        requires { length tokens.now ≤ 20 }
+        requires { length tokens.now ≤ max_args }
         ensures ok { IfOk result
             (λ report. report_of report ≡ outlined body.now args.now tokens.now self.now) }
         ensures err { OnErr result

@@ -178,12 +178,9 @@ fn copy<T: Table>(
         → entry_of view (report_of report) ≡ outline_entry view event.now.outline) }
 {
     let tokens = end.core.first_tokens(event.tokens);
-    let frame = match end.core.inbox.frame() {
-        Ok(Some(frame)) => frame,
-        _ => return Err(AllocError),
-    };
     let tokens = &tokens[..event.tokens];
-    event.outline.to_owned(alloc, &end.args, frame.body, tokens)
+    let body = end.core.inbox.body();
+    event.outline.to_owned(alloc, &end.args, body, tokens)
 }
 
 /// Takes the message in front with its tokens, and makes its changes. The end fails with the last

@@ -1,4 +1,9 @@
 //! What a client has read, printed.
+ghost use Rattle.std.specs.Prelude.{◌≡◌, Some};
+ghost use Rattle.std.specs.Fmt.{WritesOnOk};
+ghost use Rattle.wl_sigs.specs.declared.signature.Side.TheVariants.{Event as event_side};
+ghost use Rattle.wl_client.specs.Shown.{error_text, incoming_text, interface_in};
+
 use crate::report::{Incoming, IncomingWithEntry};
 use std::fmt::{self, Display, Formatter};
 use wl_sigs::{Side, Tables};
@@ -15,7 +20,10 @@ pub struct ShownIncoming<'t, 'a> {
 
 impl<'a> IncomingWithEntry<'a> {
     /// The report, to be printed.
-    pub fn shown<'t>(&self, tables: &'t Tables) -> ShownIncoming<'t, 'a> {
+    pub fn shown<'t>(&self, tables: &'t Tables) -> ShownIncoming<'t, 'a>
+        ensures { incoming_text result.tables.now result.read
+            ≡ incoming_text tables.now self.now }
+    {
         ShownIncoming {
             tables,
             read: *self,
@@ -25,7 +33,13 @@ impl<'a> IncomingWithEntry<'a> {
 
 impl<'t> ShownIncoming<'t, '_> {
     /// The event of this opcode for this target.
-    fn head(&self, target: u32, opcode: u16) -> MessageHead<'t> {
+    fn head(&self, target: u32, opcode: u16) -> MessageHead<'t>
+        ensures tables { result.tables.now ≡ self.now.tables.now }
+        ensures side { result.side ≡ event_side }
+        ensures target { result.target ≡ target }
+        ensures entry { result.entry ≡ self.now.read.entry }
+        ensures opcode { result.opcode ≡ opcode }
+    {
         MessageHead {
             tables: self.tables,
             side: Side::Event,
@@ -37,6 +51,8 @@ impl<'t> ShownIncoming<'t, '_> {
 }
 
 impl Display for ShownIncoming<'_, '_> {
+    ghost output = { λ shown. Some (incoming_text shown.tables.now shown.read) };
+
     fn fmt<W: fmt::Write>(&self, f: &mut Formatter<W>) -> fmt::Result {
         match self.read.incoming {
             Incoming::Event {
@@ -68,7 +84,11 @@ impl ShownIncoming<'_, '_> {
         id: u32,
         code: u32,
         text: &[u8],
-    ) -> fmt::Result {
+    ) -> fmt::Result
+        ensures { WritesOnOk W.write_str_gives f.old result
+            (error_text (interface_in self.now.tables.now self.now.read.entry) id code text.now)
+            f.new }
+    {
         let text = Quoted { text };
         if id == 0 {
             return write!(f, "<- wl_display@1.error(nil, {code}, {text})");

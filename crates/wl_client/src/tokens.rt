@@ -1,5 +1,6 @@
 //! The tokens of one message, seen as a list.
 ghost use Rattle.std.specs.Prelude.{◌≡◌, ◌≤◌, length};
+ghost use Rattle.wl_sigs.specs.Tables.{max_args};
 
 use std::fmt::{self, Debug, Formatter};
 use std::marker::Model;
@@ -14,18 +15,19 @@ pub struct Tokens {
 
 impl Model for Tokens {
     ghost use Rattle.std.specs.Prelude.{◌≤◌, ℕ, List, take};
+    ghost use Rattle.wl_sigs.specs.Tables.{max_args};
 
     ghost Value = { List ℕ };
 
     ghost view = { λ t. take t.count t.items };
 
-    ghost invariant = { λ t. t.count ≤ 20 };
+    ghost invariant = { λ t. t.count ≤ max_args };
 }
 
 impl Tokens {
     /// A copy of tokens, of which there are no more than a message can have.
     pub(crate) fn copy_of(tokens: &[u32]) -> Self
-        requires { length tokens.now ≤ 20 }
+        requires { length tokens.now ≤ max_args }
         ensures { result ≡ tokens.now }
     {
         let mut items = [0; MAX_TOKENS];
@@ -37,7 +39,7 @@ impl Tokens {
     /// The tokens, lent.
     pub fn as_slice(&self) -> &[u32]
         ensures tokens { result.now ≡ self.now }
-        ensures few { length result.now ≤ 20 }
+        ensures few { length result.now ≤ max_args }
     {
         &self.items[..self.count]
     }

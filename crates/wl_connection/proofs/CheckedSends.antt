@@ -1,7 +1,6 @@
 -- What a call that passed its checks makes, opens and ends.
-use Rattle.std.proofs.Common.{◌≡◌, ◌≢◌, inl, inr, ℕ, suc, ◌+◌, ◌≤◌, Bool, true, false, List, []}
-use Rattle.std.proofs.Common.{◌∷◌, length, take, map, refl, sym, subst, ◌∙◌, ap, cond, eqb}
-use Rattle.std.proofs.lemmas.List.{length-take-le}
+use Rattle.std.proofs.Common.{◌≡◌, ◌≢◌, inl, inr, ℕ, suc, ◌+◌, Bool, true, false, List, []}
+use Rattle.std.proofs.Common.{◌∷◌, length, map, refl, sym, subst, ◌∙◌, ap, cond, eqb}
 use Rattle.std.specs.declared.option.Option.{Option}
 use Rattle.std.specs.declared.option.Option.TheVariants.{None, Some}
 use Rattle.std.specs.declared.result.Result.{Result}
@@ -14,7 +13,7 @@ use Rattle.wl_wire.specs.Argument.{Argument, Int, Uint, Fixed, Str, Obj, Array, 
 use Rattle.wl_sigs.specs.declared.signature.Side.{Side}
 use Rattle.wl_sigs.specs.declared.signature.Destroys.{Destroys}
 use Rattle.wl_sigs.specs.declared.signature.Destroys.TheVariants.{Nothing, Target, Arg as ends_arg}
-use Rattle.wl_sigs.specs.Tables.{MessageSignature, makes, new_objects, first, destroys_one}
+use Rattle.wl_sigs.specs.Tables.{MessageSignature, makes, made_objects, first, destroys_one}
 use Rattle.wl_sigs.specs.Fixed.{display}
 use Rattle.wl_sigs.specs.Valid.{Valid}
 use Rattle.wl_message.specs.Outgoing.{Outgoing}
@@ -40,9 +39,8 @@ use Rattle.wl_connection.specs.Core.{Core, HasDisplay, with_view}
 use Rattle.wl_connection.specs.Outcomes.{AnswersOrMemory}
 use Rattle.wl_connection.specs.Sending.{answer_of, fits, following_len, made_at, next_object}
 use Rattle.wl_connection.specs.Sending.{opening_answer, sent, with_following, following, with_sent}
-use Rattle.wl_connection.specs.Sending.{writer}
 use Rattle.wl_connection.proofs.Displays.{ends-another}
-use Rattle.wl_connection.proofs.Messages.{fits-after, fits-less}
+use Rattle.wl_connection.proofs.Messages.{fits-after}
 use Rattle.wl_connection.proofs.Ends.{NamesRegistry, is_the_destroy, names_registry, the_destroy}
 
 -- no argument of a call stands where the signature gives no interface
@@ -86,7 +84,7 @@ same-wired n m place (kind ∷ ks) (x ∷ list) w h =
     λ i. one.0 i ∷ more i
 
 -- a call that makes an object has a new object in its signature
-pub makes-some : (ks : List Kind) → is_some (call_makes ks) ≡ true → is_some (first (new_objects ks)) ≡ true
+pub makes-some : (ks : List Kind) → is_some (call_makes ks) ≡ true → is_some (first (made_objects ks)) ≡ true
 makes-some [] h = h
 makes-some (kinds.Int ∷ ks) h = makes-some ks h
 makes-some (kinds.Uint ∷ ks) h = makes-some ks h
@@ -94,6 +92,7 @@ makes-some (kinds.Fixed ∷ ks) h = makes-some ks h
 makes-some (kinds.Str null ∷ ks) h = makes-some ks h
 makes-some (kinds.Obj null iface ∷ ks) h = makes-some ks h
 makes-some (kinds.New iface ∷ ks) h = refl
+makes-some (kinds.NewByServer iface ∷ ks) h = refl
 makes-some (kinds.Array ∷ ks) h = makes-some ks h
 makes-some (kinds.Fd ∷ ks) h = makes-some ks h
 
@@ -166,13 +165,7 @@ fits-known o list len more other count b whole m tokens e =
     ∙ (ap (λ (n : ℕ). fits o (message_len (on_wire 0 list) + n) count) m
     ∙ ap (fits o (message_len (on_wire 0 list) + other)) tokens))
 
--- the message has room, whatever its new id
-pub fits-any : (o : Outgoing) (list : List Arg) (id more tokens : ℕ)
-    → fits o (message_len (on_wire 0 list) + more) tokens ≡ true → fits o (message_len (on_wire id list)) tokens ≡ true
-fits-any o list id more tokens h = ap (λ (n : ℕ). fits o n tokens) (len-any id (given list))
-    ∙ fits-less o (message_len (on_wire 0 list)) more tokens h
-
--- and what follows it has room behind it
+-- what follows a message has room behind it
 pub fits-behind : (core written : Core) (view : View) (list : List Arg) (target opcode id more : ℕ) (tokens : List ℕ)
     → fits core.outbox (message_len (on_wire 0 list) + more) (length tokens) ≡ true
     → written ≡ with_sent (with_view core view) target opcode (on_wire id list) tokens
@@ -255,14 +248,14 @@ pub ended-known : (core written ended : Core) (side : Side) (target : Object) (o
     (signature : MessageSignature) (what : Destroys) (id : ℕ)
     → written ≡ with_view (with_sent core target.id opcode (map (wired (next_id core.view)) (given list))
     (tokens_of (given list))) (opens core.view (made_at core target signature (given list)))
-    → ended ≡ with_following (following side what) id (with_view written (destroys (writer side) what id written.view))
+    → ended ≡ with_following (following side what) id (with_view written (destroys side what id written.view))
     → what ≡ signature.destroys → id ≡ ended_id what target.id (on_wire 0 list)
     → ended ≡ sent core side target opcode (given list) signature
 ended-known core written ended side target opcode list signature what id w e d i =
     let same : id ≡ ended_id signature.destroys target.id (on_wire 0 list) =
     i ∙ ap (λ (x : Destroys). ended_id x target.id (on_wire 0 list)) d in
     e ∙ (λ j. with_following (following side (d j)) (same j)
-    (with_view (w j) (destroys (writer side) (d j) (same j) (w j).view)))
+    (with_view (w j) (destroys side (d j) (same j) (w j).view)))
 
 -- ---- what is destroyed is live, and not wl_display
 

@@ -59,6 +59,7 @@ argument_as (kinds.New None) bytes =
     text_as (kinds.New None) (λ name. NewNamed name (number_at (drop (4 + padded (number_at bytes)) bytes))
     (number_at (drop 4 (drop (4 + padded (number_at bytes)) bytes)))) (text_of (number_at bytes) bytes)
     (λ name. refl)
+argument_as (kinds.NewByServer iface) bytes = refl
 argument_as kinds.Array bytes = refl
 argument_as kinds.Fd bytes = refl
 
@@ -86,6 +87,7 @@ kind_stays true kinds.Fixed = refl
 kind_stays true (kinds.Str null) = refl
 kind_stays true (kinds.Obj null iface) = refl
 kind_stays true (kinds.New iface) = refl
+kind_stays true (kinds.NewByServer iface) = refl
 kind_stays true kinds.Array = refl
 kind_stays true kinds.Fd = refl
 kind_stays false kind = refl

@@ -25,7 +25,7 @@ use Rattle.wl_object_map.specs.declared.object.Entry.{Entry}
 use Rattle.wl_objects.specs.declared.argument.Arg.{Arg}
 use Rattle.wl_objects.specs.Writing.{given, given_of, wired, on_wire, Given, is_live_as}
 use Rattle.wl_objects.specs.Writing.{row_is_of, names_one, wrong_place, lost_place}
-use Rattle.wl_objects.specs.Messages.{id_named, id_at, Role, destroys, destroyed, Received, received}
+use Rattle.wl_objects.specs.Messages.{id_named, id_at, destroys, destroyed, Received, received}
 use Rattle.wl_objects.specs.Reading.{Reader, forgiving, object_fault, unless, value_or_fault, and_those, arguments_at}
 use Rattle.wl_objects.specs.declared.error.Fault.{Fault}
 use Rattle.wl_wire.specs.declared.kind.ArgFault.TheVariants.{Short, NullNotAllowed}
@@ -143,11 +143,11 @@ pub named_past : (list : List Arg) (place : ℕ) → length list ≤ place → i
 named_past list place h = named_known list place ∙ ap
     (λ (o : Option Arg). id_named (option_map (λ a. wired 0 (given_of a)) o)) (none_past list place h)
 
-pub ends_by : (end : Role) (what : Destroys) (id : ℕ) (view : View) → true ≡ destroys_one what
-    → destroys end what id view ≡ destroyed end view id
-ends_by end Nothing id view h = absurd (cc h)
-ends_by end Target id view h = refl
-ends_by end (ends_arg k) id view h = refl
+pub ends_by : (side : Side) (what : Destroys) (id : ℕ) (view : View) → true ≡ destroys_one what
+    → destroys side what id view ≡ destroyed side view id
+ends_by side Nothing id view h = absurd (cc h)
+ends_by side Target id view h = refl
+ends_by side (ends_arg k) id view h = refl
 
 -- ---- the object that such a request names to its reader
 

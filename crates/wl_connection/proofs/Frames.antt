@@ -1,5 +1,6 @@
 -- What stands in front of an end, where the frame of a message was told.
-use Rattle.std.proofs.Common.{◌≡◌, ℕ, ◌≤◌, List, ◌++◌, length, take, drop, sym, ap, ◌∙◌}
+use Rattle.std.proofs.Common.{◌≡◌, ℕ, ◌<◌, ◌≤◌, List, ◌++◌, length, take, drop, get_or, sym, ap, ◌∙◌}
+use Rattle.std.proofs.Common.{arith}
 use Rattle.std.proofs.lemmas.List.{take-append-drop, append_assoc}
 use Rattle.std.proofs.lemmas.List.Sums.{count_by-le-length}
 use Rattle.std.specs.declared.option.Option.{Option}
@@ -12,11 +13,12 @@ use Rattle.wl_wire.proofs.Canonicals.{header_at-bytes}
 use Rattle.wl_sigs.specs.declared.signature.Side.{Side}
 use Rattle.wl_message.specs.declared.inbox.Frame.{Frame}
 use Rattle.wl_message.specs.Arrived.{TellsFront, in_front}
-use Rattle.wl_message.specs.Cut.{Whole, front}
+use Rattle.wl_message.specs.Cut.{Front, Whole, message_size}
 use Rattle.wl_objects.specs.Reading.{descriptors, is_descriptor_kind}
 use Rattle.wl_objects.specs.Messages.{received, reader_of}
 use Rattle.wl_connection.specs.Core.{Core}
 use Rattle.wl_connection.specs.Receiving.{found, found_at, found_in, header_of}
+use Rattle.wl_connection.proofs.ReceivedMessage.{first-tokens}
 
 -- a frame as it is told
 pub record IsFrame (core : Core) (h : Header) (body : List ℕ) (waiting : ℕ) : Type 0 where
@@ -50,10 +52,18 @@ framed core o f e t h = let k = rw e at t in record { header = h; whole = k.0; p
 pub descriptors-le : (ks : List Kind) → descriptors ks ≤ length ks
 descriptors-le ks = count_by-le-length is_descriptor_kind ks
 
--- the body of the message in front
-pub body-front : (limit : ℕ) (bytes body : List ℕ) (n : ℕ) (h : Header) → front limit bytes ≡ Whole n
-    → front limit bytes ≡ Whole h.size → take h.size bytes ≡ header_bytes h ++ body → body ≡ drop 8 (take n bytes)
-body-front limit bytes body n h f g t =
-    let both = sym f ∙ g in
-    let same : n ≡ h.size = cc both in
-    sym (ap (λ (k : ℕ). drop 8 (take k bytes)) same ∙ ap (drop 8) t)
+-- the body of a message in front of the same end
+pub same-body : (core inner : Core) (size : ℕ) → inner ≡ core → in_front core.inbox ≡ Whole size
+    → drop 8 (take (message_size (in_front inner.inbox)) inner.inbox.bytes) ≡ drop 8 (take size core.inbox.bytes)
+same-body core inner size same whole =
+    ap (λ (k : Core). drop 8 (take (message_size (in_front k.inbox)) k.inbox.bytes)) same
+    ∙ ap (λ (f : Front). drop 8 (take (message_size f) core.inbox.bytes)) whole
+
+-- the tokens that such a message takes, by the first that wait
+pub same-tokens : (core inner : Core) (n : ℕ) (tokens : List ℕ) → inner ≡ core → n ≤ 20 → n ≤ length core.inbox.tokens
+    → length tokens ≡ 20
+    → ((place : ℕ) → place < n → place < 20 → get_or tokens place 0 ≡ get_or inner.inbox.tokens place 0)
+    → take n tokens ≡ take n core.inbox.tokens
+same-tokens core inner n tokens same few there all first =
+    first-tokens n tokens core.inbox.tokens (omega (arith, few, all)) there
+    (λ k less. first k less (omega (arith, less, few)) ∙ ap (λ (b : Core). get_or b.inbox.tokens k 0) same)

@@ -10,7 +10,9 @@ pub mod Openings
 pub mod ReceivedMessage
 pub mod Spelled
 pub mod Ends
+pub mod NewIds
 pub mod ReadsGoOn
 pub mod TwoParts
 pub mod AnyCut
+pub mod Roles
 pub mod Writes

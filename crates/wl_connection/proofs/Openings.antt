@@ -1,5 +1,5 @@
 -- A call that opens no object.
-use Rattle.std.proofs.Common.{◌≡◌, ◌≢◌, inl, inr, ℕ, ◌+◌, Bool, true, false, List, [], ◌∷◌, map}
+use Rattle.std.proofs.Common.{◌≡◌, ◌≢◌, inl, inr, ℕ, suc, ◌+◌, Bool, true, false, List, [], ◌∷◌, map}
 use Rattle.std.proofs.Common.{refl, sym, ap, subst, ◌∙◌}
 use Rattle.std.specs.declared.option.Option.{Option}
 use Rattle.std.specs.declared.option.Option.TheVariants.{None, Some}
@@ -11,16 +11,18 @@ use Rattle.wl_wire.specs.declared.kind.Kind.TheVariants as kinds
 use Rattle.wl_wire.specs.Argument.{Argument}
 use Rattle.wl_sigs.specs.declared.signature.Side.{Side}
 use Rattle.wl_sigs.specs.declared.signature.Side.TheVariants.{Event}
-use Rattle.wl_sigs.specs.Tables.{Interface, MessageSignature, makes, new_objects, first, signature_at}
+use Rattle.wl_sigs.specs.Tables.{Interface, MessageSignature, makes, new_objects, made_objects, first, signature_at}
 use Rattle.wl_sigs.specs.Valid.{Valid}
 use Rattle.wl_object_map.specs.declared.object.Object.{Object}
 use Rattle.wl_object_map.specs.declared.object.Entry.{Entry}
 use Rattle.wl_object_map.specs.View.{View, look, next_id}
 use Rattle.wl_objects.specs.declared.error.SendError.{SendError}
 use Rattle.wl_objects.specs.declared.error.SendError.TheVariants as refusals
-use Rattle.wl_objects.specs.Writing.{Given, wired, wrong_place, lost_place, message_len, tokens_of}
+use Rattle.wl_objects.specs.Writing.{Given, wired, suits, wrong_place, lost_place, message_len}
+use Rattle.wl_objects.specs.Writing.{tokens_of}
 use Rattle.wl_objects.specs.Messages.{made, NewObject, unless_lost, unless_wrong, checked_as}
 use Rattle.wl_objects.specs.Messages.{unless_hidden, checked_by, checked, live_row, is_hidden}
+use Rattle.wl_objects.proofs.WrittenArrives.{if-none}
 use Rattle.wl_connection.specs.Core.{Core}
 use Rattle.wl_connection.specs.Outcomes.{AnswersOrMemory}
 use Rattle.wl_connection.specs.Sending.{IsSendAnswer, OpensNothing, answer_of, opening_answer}
@@ -71,7 +73,7 @@ early_checked limit tables side view target opcode given =
 
 -- a message whose signature has no new object makes none
 makes_none : (tables : List Interface) (version : ℕ) (ks : List Kind) (values : List Argument)
-    → is_some (first (new_objects ks)) ≡ false → made tables version ks values ≡ None
+    → is_some (first (made_objects ks)) ≡ false → made tables version ks values ≡ None
 makes_none tables version [] values h = refl
 makes_none tables version (k ∷ ks) [] h = refl
 makes_none tables version (kinds.Int ∷ ks) (v ∷ values) h = makes_none tables version ks values h
@@ -80,6 +82,7 @@ makes_none tables version (kinds.Fixed ∷ ks) (v ∷ values) h = makes_none tab
 makes_none tables version (kinds.Str null ∷ ks) (v ∷ values) h = makes_none tables version ks values h
 makes_none tables version (kinds.Obj null iface ∷ ks) (v ∷ values) h = makes_none tables version ks values h
 makes_none tables version (kinds.New iface ∷ ks) (v ∷ values) h = absurd (cc h)
+makes_none tables version (kinds.NewByServer iface ∷ ks) (v ∷ values) h = absurd (cc h)
 makes_none tables version (kinds.Array ∷ ks) (v ∷ values) h = makes_none tables version ks values h
 makes_none tables version (kinds.Fd ∷ ks) (v ∷ values) h = makes_none tables version ks values h
 
@@ -115,35 +118,60 @@ opens_nothing core side target opcode given result (inl e) h =
     given) h))
 opens_nothing core side target opcode given result (inr m) h = absurd (let yes = m.1 in cc (yes, h))
 
--- no event opens an object
+-- Arguments that suit kinds without a new object of the client suit none that make an object: nothing
+-- suits the kind of one of the server.
+none_made : (ks : List Kind) (list : List Given) (place : ℕ) → new_objects ks ≡ [] → wrong_place place ks list ≡ None
+    → made_objects ks ≡ []
+none_made [] [] place h w = refl
+none_made [] (x ∷ list) place h w = absurd (cc)
+none_made (k ∷ ks) [] place h w = absurd (cc)
+none_made (k ∷ ks) (x ∷ list) place h w =
+    let suit = if-none (suits k x) (wrong_place (suc place) ks list) place w in
+    by_kind k suit.0 h (λ rest. none_made ks list (suc place) rest suit.1)
+  where
+    by_kind : (k : Kind) → suits k x ≡ true → new_objects (k ∷ ks) ≡ [] → (new_objects ks ≡ [] → made_objects ks ≡ [])
+        → made_objects (k ∷ ks) ≡ []
+    by_kind kinds.Int s h more = more h
+    by_kind kinds.Uint s h more = more h
+    by_kind kinds.Fixed s h more = more h
+    by_kind (kinds.Str null) s h more = more h
+    by_kind (kinds.Obj null iface) s h more = more h
+    by_kind (kinds.New iface) s h more = absurd (cc h)
+    by_kind (kinds.NewByServer iface) s h more = absurd (cc s)
+    by_kind kinds.Array s h more = more h
+    by_kind kinds.Fd s h more = more h
+
+-- no event that is written opens an object
 event_as : (b : Bool) (o : Option MessageSignature) → ((m : MessageSignature) → o ≡ Some m → new_objects m.kinds ≡ [])
     → (limit : ℕ) (view : View) (given : List Given) (entry : Entry)
     → opens_object (checked_as limit view given entry (unless_hidden b o)) ≡ false
 event_as true o h limit view given entry = refl
 event_as false None h limit view given entry = refl
 event_as false (Some m) h limit view given entry =
-    by_test (nat_lt entry.version m.since) (wrong_place 0 m.kinds given) (lost_place (look view) 0 m.kinds given)
+    by_test (nat_lt entry.version m.since) (wrong_place 0 m.kinds given) (lost_place (look view) 0 m.kinds given) refl
   where
-    none : is_some (makes m) ≡ false
-    none = ap (λ l. is_some (first l)) (h m refl)
+    none : wrong_place 0 m.kinds given ≡ None → is_some (makes m) ≡ false
+    none right = ap (λ l. is_some (first l)) (none_made m.kinds given 0 (h m refl) right)
 
-    by_len : (b : Bool) → opens_object (if b then Err refusals.TooLong else Ok m) ≡ false
-    by_len true = refl
-    by_len false = none
+    by_len : (b : Bool) → wrong_place 0 m.kinds given ≡ None
+        → opens_object (if b then Err refusals.TooLong else Ok m) ≡ false
+    by_len true right = refl
+    by_len false right = none right
 
-    by_lost : (o : Option ℕ) → opens_object (unless_lost limit o (message_len (map (wired 0) given)) m) ≡ false
-    by_lost None = by_len (nat_lt limit (message_len (map (wired 0) given)))
-    by_lost (Some place) = refl
+    by_lost : (o : Option ℕ) → wrong_place 0 m.kinds given ≡ None
+        → opens_object (unless_lost limit o (message_len (map (wired 0) given)) m) ≡ false
+    by_lost None right = by_len (nat_lt limit (message_len (map (wired 0) given))) right
+    by_lost (Some place) right = refl
 
-    by_wrong : (o lost : Option ℕ) → opens_object (unless_wrong limit o lost (message_len (map (wired 0) given)) m)
-        ≡ false
-    by_wrong None lost = by_lost lost
-    by_wrong (Some place) lost = refl
+    by_wrong : (o lost : Option ℕ) → wrong_place 0 m.kinds given ≡ o
+        → opens_object (unless_wrong limit o lost (message_len (map (wired 0) given)) m) ≡ false
+    by_wrong None lost right = by_lost lost right
+    by_wrong (Some place) lost is = refl
 
-    by_test : (b : Bool) (o lost : Option ℕ) → opens_object
+    by_test : (b : Bool) (o lost : Option ℕ) → wrong_place 0 m.kinds given ≡ o → opens_object
         (if b then Err refusals.TooOld else unless_wrong limit o lost (message_len (map (wired 0) given)) m) ≡ false
-    by_test true o lost = refl
-    by_test false o lost = by_wrong o lost
+    by_test true o lost is = refl
+    by_test false o lost is = by_wrong o lost is
 
 event_by : (limit : ℕ) (tables : List Interface) (view : View) (opcode : ℕ) (given : List Given) (o : Option Entry)
     → Valid tables → opens_object (checked_by limit tables Event view opcode given o) ≡ false

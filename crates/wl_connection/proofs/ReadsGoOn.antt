@@ -1,11 +1,12 @@
 -- What an end reads goes on as more comes in.
-use Rattle.std.proofs.Common.{◌≡◌, ℕ, suc, ◌+◌, ◌-◌, ◌<◌, ◌≤◌, inr, Bool, true, false, cond, List}
+use Rattle.std.proofs.Common.{◌≡◌, ℕ, suc, ◌+◌, ◌-◌, ◌<◌, ◌≤◌, inl, inr, Bool, true, false, cond, List}
 use Rattle.std.proofs.Common.{[], ◌∷◌, ◌++◌, length, take, drop, refl, sym, ap, subst, ◌∙◌, arith}
 use Rattle.std.specs.Prelude.{min, nat_le}
 use Rattle.std.specs.declared.option.Option.{Option}
 use Rattle.std.specs.declared.option.Option.TheVariants.{None, Some}
 use Rattle.std.specs.declared.result.Result.{Result}
 use Rattle.std.specs.declared.result.Result.TheVariants.{Ok, Err}
+use Rattle.std.proofs.lemmas.Bool.{cases_lt}
 use Rattle.std.proofs.lemmas.Bool.Decides.{nat_tests}
 use Rattle.std.proofs.lemmas.List.{append-nil, length-drop, take_all}
 use Rattle.std.proofs.Math.Seq.{take-add}
@@ -20,7 +21,7 @@ use Rattle.wl_connection.specs.Streams.{taken_bytes, taken_tokens, NoneFits}
 use Rattle.wl_connection.specs.Reads.{Reading, IsCoreOf, with_arrivals, Reads, none, last, next}
 use Rattle.wl_connection.specs.Reads.{ReadsSome, nothing, more, ReadsUntil, ReadsAll, appended}
 use Rattle.wl_connection.specs.Reads.{ReadsReport, ReadsNothing, ReadsNext, HasReport, ReadsOn}
-use Rattle.wl_connection.specs.Reads.{WaitingIsRead}
+use Rattle.wl_connection.specs.Reads.{WaitingIsRead, IsBegun, IsReadBefore}
 use Rattle.wl_connection.proofs.Appended.{kept_again, kept_more, behind_again, more_behind, none_behind}
 use Rattle.wl_connection.proofs.FoundStays.{arrived_none, arrived_twice}
 use Rattle.wl_connection.proofs.Pieces.{taken_bytes-at, taken_tokens-at, is_taken_at}
@@ -304,14 +305,61 @@ fed_within core bytes r h f =
 
 -- ---- all pieces
 
+-- All that came before each of the first pieces, so many of them, is read.
+abbrev pub AreReadBefore : {S R : Type 0} → Reading S R → S → List Part → ℕ → Type 0
+AreReadBefore e state pieces count = (place : ℕ) → place < count → IsReadBefore e state pieces place
+
+-- none at first
+pub none_before : {S R : Type 0} (e : Reading S R) (state : S) (pieces : List Part)
+    → AreReadBefore e state pieces 0
+none_before e state pieces place h = absurd (omega (arith, h))
+
+-- one more, once what waits was read to the end
+pub one_before : {S R : Type 0} (e : Reading S R) (state : S) (pieces : List Part) (i j : ℕ) → j ≡ suc i
+    → AreReadBefore e state pieces i → IsReadBefore e state pieces i → AreReadBefore e state pieces j
+one_before e state pieces i j is before this place h =
+    elim (cases_lt place i) [
+      | inl less ↦ before place less
+      | inr behind ↦ (
+          let same : i ≡ place = omega (arith, behind, h, is) in
+          subst (IsReadBefore e state pieces) same this)
+    ]
+
+pub read_to_here : {S R : Type 0} (e : Reading S R) → IsCoreOf e.core e.with_core
+    → (state middle : S) (pieces : List Part) (i j : ℕ) (reports : List R) → j ≡ suc i
+    → AreReadBefore e state pieces i
+    → ReadsOn e (with_arrivals e state (part_bytes (take i pieces)) (part_tokens (take i pieces))) reports middle
+    → ReadsNothing e middle → AreReadBefore e state pieces j
+read_to_here e laws state middle pieces i j reports is before on empty =
+    one_before e state pieces i j is before (record {
+      reports = reports;
+      end = middle;
+      reads = on_to_none e laws (with_arrivals e state (part_bytes (take i pieces)) (part_tokens (take i pieces)))
+          middle reports on empty;
+      goes_on = empty.sound;
+    })
+
+-- a piece that was begun, where nothing was taken of the next
+begun_between : (place i : ℕ) (stop : Option NextError)
+    → IsBegun (record { pieces = i; part = no_room; stop = stop }) place → place < i
+begun_between place i stop (inl h) = h
+begun_between place i stop (inr h) = absurd (h.1 refl)
+
+-- and where something was taken of it
+begun_within : (place i : ℕ) (some : Amounts) (stop : Option NextError)
+    → IsBegun (record { pieces = i; part = some; stop = stop }) place → place < suc i
+begun_within place i some stop (inl h) = omega (arith, h)
+begun_within place i some stop (inr h) = omega (arith, h.0)
+
 -- where the reading ends between two pieces
 pub ends_between : {S R : Type 0} (e : Reading S R) (state end : S) (pieces : List Part) (i : ℕ) (reports : List R)
     (answer : ReadAll) (stop : Option NextError) → i ≤ length pieces
     → answer ≡ record { pieces = i; part = no_room; stop = stop }
     → ReadsUntil e (with_arrivals e state (part_bytes (take i pieces)) (part_tokens (take i pieces))) reports stop end
     → (stop ≡ None → (e.core end).failed ≡ false → NoneFits (free_tokens (e.core end).inbox) pieces i)
+    → AreReadBefore e state pieces i
     → ReadsAll e state pieces reports answer end
-ends_between e state end pieces i reports answer stop within is h n =
+ends_between e state end pieces i reports answer stop within is h n before =
     let b = taken_bytes-none pieces i in
     let t = taken_tokens-none pieces i in
     let ended : ReadAll = record { pieces = i; part = no_room; stop = stop } in
@@ -319,6 +367,7 @@ ends_between e state end pieces i reports answer stop within is h n =
     (record {
       taken = is_taken_none pieces i within;
       reads = subst (λ x. ReadsUntil e x reports stop end) (λ j. with_arrivals e state (sym b j) (sym t j)) h;
+      in_order = λ place begun. before place (begun_between place i stop begun);
       to_the_end = λ s f. (refl, n s f);
     })
 
@@ -331,8 +380,9 @@ pub ends_within : {S R : Type 0} (e : Reading S R) → IsCoreOf e.core e.with_co
     before middle
     → ReadsUntil e (with_arrivals e middle (take some.bytes p.bytes) (take some.tokens p.tokens)) others stop end
     → (stop ≡ None → (e.core end).failed ≡ true) → some.bytes < length p.bytes → some.tokens ≡ length p.tokens
+    → AreReadBefore e state pieces (suc i)
     → ReadsAll e state pieces (before ++ others) (record { pieces = i; part = some; stop = stop }) end
-ends_within e laws state middle end pieces i p rest before others some stop d h g n less all =
+ends_within e laws state middle end pieces i p rest before others some stop d h g n less all earlier =
     let bytes = take some.bytes p.bytes in
     let tokens = take some.tokens p.tokens in
     let first = with_arrivals e state (part_bytes (take i pieces)) (part_tokens (take i pieces)) in
@@ -348,6 +398,7 @@ ends_within e laws state middle end pieces i p rest before others some stop d h 
           (until_then e (with_arrivals e first bytes tokens) (with_arrivals e middle bytes tokens) end before others
           stop
           (h bytes tokens) g);
+      in_order = λ place begun. earlier place (begun_within place i some stop begun);
       to_the_end = λ s f. absurd (cc (n s, f));
     }
 

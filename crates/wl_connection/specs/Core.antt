@@ -9,6 +9,7 @@ use Rattle.wl_message.specs.declared.amounts.Amounts.{Amounts}
 use Rattle.wl_message.specs.declared.amounts.Sizes.{Sizes}
 use Rattle.wl_message.specs.Arrived.{Arrived, nothing_arrived, free_bytes, free_tokens, fed}
 use Rattle.wl_message.specs.Arrived.{fed_of_len, with_more, without_first}
+use Rattle.wl_message.specs.Bounds.{max_queue_bytes}
 use Rattle.wl_message.specs.Outgoing.{Outgoing, no_messages, waiting_bytes, waiting_tokens}
 use Rattle.wl_message.specs.Outgoing.{after_taking}
 use Rattle.wl_object_map.specs.declared.object.Object.{Object}
@@ -34,7 +35,7 @@ max_globals = 1024
 abbrev pub max_read : ℕ
 max_read = 18446744073709551615
 
--- an end as it begins: wl_display alone, and empty boxes
+-- an end as it begins: wl_display alone, and empty queues
 abbrev pub new_core : List Interface → Sizes → Core
 new_core tables sizes = record {
   tables = tables;
@@ -58,7 +59,7 @@ HasDisplay view =
 -- that an end has.
 abbrev pub IsOrdinary : Outgoing → Type 0
 IsOrdinary outbox =
-    (outbox.has_error ≡ false) × (outbox.error_to ≡ 0) × (outbox.capacity ≤ 16777216)
+    (outbox.has_error ≡ false) × (outbox.error_to ≡ 0) × (outbox.capacity ≤ max_queue_bytes)
 
 abbrev pub kind_and_version : Entry → Iface × ℕ
 kind_and_version entry = (entry.iface, entry.version)
@@ -92,7 +93,7 @@ with_arrived core bytes tokens = record core { inbox = with_more core.inbox byte
 abbrev pub with_gone : Core → ℕ → Core
 with_gone core bytes = record core { outbox = after_taking core.outbox bytes }
 
--- nothing waits in either box
+-- nothing waits in either queue
 abbrev pub is_drained : Core → Bool
 is_drained core =
     (is_empty core.inbox.bytes && is_empty core.inbox.tokens)

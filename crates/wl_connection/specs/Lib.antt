@@ -4,6 +4,7 @@ pub mod Sending
 pub mod Outcomes
 pub mod Streams
 pub mod Reads
+pub mod Roles
 pub mod Spelled
 pub mod Transport
 pub mod Waiting

@@ -17,6 +17,13 @@ abbrev pub answers_with : {R : Type 0} → (R → Bool) → Result (Option R) Ne
 answers_with is (Ok (Some report)) = is report
 answers_with is _ = false
 
+-- what a read returned, by what its report is seen as
+abbrev pub read_as : {X R : Type 0} → (X → R) → Result (Option X) NextError
+    → Result (Option R) NextError
+read_as seen (Err why) = Err why
+read_as seen (Ok None) = Ok None
+read_as seen (Ok (Some read)) = Ok (Some (seen read))
+
 -- what a read leaves: out of memory, nothing has changed
 abbrev pub unless_memory : {S R : Type 0} → S → S → Result R NextError → S
 unless_memory before after (Err errors.Memory) = before

@@ -1,5 +1,5 @@
 -- How an end reads a stream, however it is cut into pieces, and whichever end it is.
-use Rattle.std.specs.Prelude.{◌≡◌, ℕ, ◌<◌, Bool, true, false, List, [], ◌∷◌, length, map, take}
+use Rattle.std.specs.Prelude.{◌≡◌, ◌≢◌, ◌⊎◌, ℕ, ◌<◌, Bool, true, false, List, [], ◌∷◌, length, map, take}
 use Rattle.std.specs.Prelude.{drop, Option, Some, None}
 use Rattle.std.specs.declared.result.Result.{Result}
 use Rattle.std.specs.declared.result.Result.TheVariants.{Ok, Err}
@@ -78,13 +78,30 @@ ReadsUntil e state reports (Some errors.Memory) end =
     ReadsSome e state reports end × HasReport e end
 ReadsUntil e state reports stop end = Reads e state reports stop end
 
+-- Something was taken of the piece at this place, counted from 0: all of it, or a part.
+abbrev pub IsBegun : ReadAll → ℕ → Type 0
+IsBegun answer place =
+    (place < answer.pieces) ⊎ ((place ≡ answer.pieces) × (answer.part ≢ no_room))
+
+-- All that came before the piece at this place is read, without a stop and without a last report.
+pub record IsReadBefore {S R : Type 0} (e : Reading S R) (state : S) (pieces : List Part) (place : ℕ)
+    : Type 0 where
+  pub reports : List R
+  pub end : S
+  pub reads : Reads e (with_arrivals e state (part_bytes (take place pieces))
+      (part_tokens (take place pieces))) reports None end
+  pub goes_on : (e.core end).failed ≡ false
+
 -- Pieces are read, as far as the result says: as if all that was taken of them had come at once.
--- Nothing but a stop and a last report ends it before a piece whose tokens find room.
+-- Nothing but a stop and a last report ends it before a piece whose tokens find room. Nothing is
+-- taken of a piece before all that came earlier is read; nothing where a stop or a last report is
+-- among that.
 pub record ReadsAll {S R : Type 0} (e : Reading S R) (state : S) (pieces : List Part)
     (reports : List R) (answer : ReadAll) (end : S) : Type 0 where
   pub taken : IsTaken pieces answer.pieces answer.part
   pub reads : ReadsUntil e (with_arrivals e state (taken_bytes pieces answer.pieces answer.part)
       (taken_tokens pieces answer.pieces answer.part)) reports answer.stop end
+  pub in_order : (place : ℕ) → IsBegun answer place → IsReadBefore e state pieces place
   pub to_the_end : answer.stop ≡ None → (e.core end).failed ≡ false
       → (answer.part ≡ no_room) × NoneFits (free_tokens (e.core end).inbox) pieces answer.pieces
 

@@ -16,7 +16,7 @@ use Rattle.wl_objects.specs.declared.error.SendError.TheVariants as refusals
 use Rattle.wl_wire.specs.declared.kind.Iface.{Iface}
 use Rattle.wl_object_map.specs.View.{View, next_id, can_open, look}
 use Rattle.wl_objects.specs.Writing.{Given, wired, message_len, message_bytes, tokens_of}
-use Rattle.wl_objects.specs.Messages.{NewObject, made, checked, Role, Client, Server, after}
+use Rattle.wl_objects.specs.Messages.{NewObject, made, checked, after}
 use Rattle.wl_objects.specs.Messages.{ended_id}
 use Rattle.wl_connection.specs.Core.{Core, with_view}
 use Rattle.wl_connection.specs.Outcomes.{AnswersOrMemory}
@@ -38,6 +38,10 @@ with_delete_id core id = with_sent core 1 1 (Uint id ∷ []) []
 
 abbrev pub delete_id_len : ℕ
 delete_id_len = 12
+
+-- the most bytes that the text of an error has
+abbrev pub max_error_text : ℕ
+max_error_text = 40
 
 -- wl_display.error, from the room that is kept for it; the end has failed
 abbrev pub with_error_event : Core → ℕ → ℕ → List ℕ → Core
@@ -64,15 +68,6 @@ opening_answer core (Some m) =
     if can_open core.view
     then Ok (Some (record { id = next_id core.view; birth = core.view.births }))
     else Err refusals.NoIds
-
--- the end that writes the messages of a side, and the end that reads them
-abbrev pub writer : Side → Role
-writer Request = Client
-writer Event = Server
-
-abbrev pub reader : Side → Role
-reader Request = Server
-reader Event = Client
 
 -- the delete_id that directly follows a destroying event
 abbrev pub following : Side → Destroys → Bool
@@ -118,7 +113,7 @@ sent core side target opcode given signature =
     with_following (following side signature.destroys) id
     (with_view
     (with_sent core target.id opcode (map (wired (next_id core.view)) given) (tokens_of given))
-    (after (writer side) core.view (made_at core target signature given) signature.destroys id))
+    (after side core.view (made_at core target signature given) signature.destroys id))
 
 abbrev pub after_checked : Core → Side → Object → ℕ → List Given
     → Result MessageSignature SendError → Core

@@ -53,8 +53,8 @@ pub trait End {
             ≡ with_core self.old (with_gone (core self.old) result.bytes) };
 
     /// Takes in tokens, and bytes that were written where `space` says, so many of them from the
-    /// first place on, as `feed` does. Where no room for tokens keeps the bytes out they stay where
-    /// they are, as long as no other bytes are taken in. A failed end takes nothing.
+    /// first place on, as `feed` does. Where no room for tokens keeps the bytes out, they stay
+    /// there until this call takes them in. A failed end takes nothing.
     fn received(&mut self, bytes: usize, tokens: &[u32]) -> Fed
         ensures fed { result ≡ feeds_len (core self.old) bytes tokens.now }
         ensures state { EndReceives (core self.old) result.bytes (take result.tokens tokens.now)
@@ -96,7 +96,7 @@ pub trait End {
         ensures others { self.new
             ≡ with_core self.old (with_gone (core self.old) (bytes_written result)) };
 
-    /// Gives the end up, and takes the tokens out that wait in its boxes, as many as the slice
+    /// Gives the end up, and takes the tokens out that wait in its queues, as many as the slice
     /// holds: so no descriptor is lost where a connection ends.
     ///
     /// First come those of the inbox, a message at fault first; then those of the outbox, the
@@ -164,7 +164,7 @@ pub trait End {
         }
     }
 
-    /// Whether nothing waits in either box.
+    /// Whether nothing waits in either queue.
     final fn is_drained(&self) -> bool
         ensures { result ≡ is_drained (core self.now) }
     {
@@ -199,7 +199,9 @@ pub trait End {
     /// another language: `received` takes in what was written, from the first part on. No bytes at
     /// a failed end.
     final fn space(&self) -> (&[u8], &[u8])
-        ensures { length result.0.now + length result.1.now ≡ (in_room (core self.now)).bytes }
+        ensures free { length result.0.now + length result.1.now ≡ (in_room (core self.now)).bytes }
+        // All of them lie in the first part.
+        ensures back { result.1.now ≡ [] }
     {
         let core = self.core();
         let (front, back) = core.inbox.space();

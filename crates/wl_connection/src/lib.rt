@@ -1,5 +1,5 @@
 //! What the two ends of a Wayland connection have in common: the signature tables, the objects,
-//! the two boxes, and what is written and read through them.
+//! the two queues, and what is written and read through them.
 //!
 //! Requests are what a client writes and a server reads, events the other way round; so a side
 //! says which end is meant.

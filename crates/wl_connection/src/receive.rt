@@ -1,11 +1,11 @@
 //! What an end does with a message in front, and with its objects.
 ghost use Rattle.std.specs.Prelude.{◌≡◌, ◌≢◌, ◌≤◌, ◌<◌, ◌↔◌, ◌&&◌, not, ℕ, Err, IsTrue, IfOk, OnOk};
 ghost use Rattle.std.specs.Prelude.{OnErr, length, take, slice_index_or};
+ghost use Rattle.wl_sigs.specs.Tables.{max_args};
 ghost use Rattle.wl_message.specs.Arrived.{in_front};
 ghost use Rattle.wl_message.specs.Cut.{Whole};
-ghost use Rattle.wl_object_map.specs.View.{free_or_next, has_room, is_held, is_live, opened_at};
-ghost use Rattle.wl_object_map.specs.View.{closed};
-ghost use Rattle.wl_object_map.specs.View.{zombied};
+ghost use Rattle.wl_object_map.specs.View.{Sound, closed, free_or_next, has_room, is_held};
+ghost use Rattle.wl_object_map.specs.View.{is_live, opened_at, zombied};
 ghost use Rattle.wl_connection.specs.Core.{past, with_view};
 
 use crate::shared::Core;
@@ -18,7 +18,7 @@ impl<'t, T: Table> Core<'t, T> {
     /// The tokens that wait first, as many as a message takes that has this number of them, as far
     /// as there are such; zeros behind them.
     pub fn first_tokens(&self, count: usize) -> [u32; MAX_TOKENS]
-        ensures { (place : ℕ) → place < count → place < 20
+        ensures { (place : ℕ) → place < count → place < max_args
             → slice_index_or result place 0 ≡ slice_index_or self.now.inbox.tokens place 0 }
     {
         let mut tokens = [0; MAX_TOKENS];
@@ -54,6 +54,7 @@ impl<'t, T: Table> Core<'t, T> {
             (free_or_next self.old.view new.id)) }
         ensures no_ids { (result ≡ Err TableError.NoIds)
             ↔ IsTrue (free_or_next self.old.view new.id && not (has_room self.old.view new.id)) }
+        ensures sound { Sound self.old.view }
     {
         self.table.open_at(new.id, new.iface, new.version)
     }

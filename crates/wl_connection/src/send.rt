@@ -2,21 +2,22 @@
 ghost use Rattle.std.specs.Prelude.{[], ◌≡◌, ◌≢◌, ◌≤◌, ◌+◌, ℕ, false, true, Some, Ok, IfOk, IfSome};
 ghost use Rattle.std.specs.Prelude.{IsTrue, OnErr, OnOk, is_some, length};
 ghost use Rattle.wl_sigs.specs.declared.signature.Side.TheVariants.{Event as event_side};
-ghost use Rattle.wl_sigs.specs.Tables.{destroys_one, makes};
+ghost use Rattle.wl_sigs.specs.Tables.{destroys_one, makes, max_args};
 ghost use Rattle.wl_sigs.specs.Valid.{Valid};
+ghost use Rattle.wl_message.specs.Cut.{usual_limit};
 ghost use Rattle.wl_objects.specs.Messages.{checked, destroys, ended_id, id_named, opens};
 ghost use Rattle.wl_object_map.specs.View.{Sound, closed, is_held, is_live, look, next_id, opened};
-ghost use Rattle.wl_objects.specs.Writing.{EachFits, bind_values, call_makes, given, given_of};
-ghost use Rattle.wl_objects.specs.Writing.{has_no_nul, id_of, message_len, on_wire, tokens_of};
-ghost use Rattle.wl_objects.specs.Writing.{wired};
+ghost use Rattle.wl_objects.specs.Writing.{CallFits, EachFits, bind_values, call_makes, given};
+ghost use Rattle.wl_objects.specs.Writing.{given_of, has_no_nul, id_of, message_len, on_wire};
+ghost use Rattle.wl_objects.specs.Writing.{tokens_of, wired};
 ghost use Rattle.wl_connection.specs.Core.{HasDisplay, with_view};
 ghost use Rattle.wl_connection.specs.Outcomes.{AnswersOrMemory, some_object};
 ghost use Rattle.wl_connection.specs.Sending.{IsSendAnswer, OpensNothing, after_send, answer_of};
-ghost use Rattle.wl_connection.specs.Sending.{delete_id_len, fits};
+ghost use Rattle.wl_connection.specs.Sending.{delete_id_len, fits, max_error_text};
 ghost use Rattle.wl_connection.specs.Sending.{following, following_len, next_object};
 ghost use Rattle.wl_connection.specs.Sending.{opening_answer};
 ghost use Rattle.wl_connection.specs.Sending.{sent, with_delete_id, with_error_event};
-ghost use Rattle.wl_connection.specs.Sending.{with_following, with_sent, writer};
+ghost use Rattle.wl_connection.specs.Sending.{with_following, with_sent};
 
 use crate::receive::MAX_TOKENS;
 use crate::shared::Core;
@@ -27,10 +28,10 @@ use wl_objects::{
 };
 use wl_sigs::event::wl_display::{DELETE_ID, ERROR};
 use wl_sigs::{Destroys, Side};
-use wl_wire::{Iface, ValueRef};
+use wl_wire::{HEADER_LEN, Iface};
 
-/// The number of bytes of wl_display.delete_id.
-pub const DELETE_ID_LEN: usize = 12;
+/// The number of bytes of wl_display.delete_id: a header and an id.
+pub const DELETE_ID_LEN: usize = HEADER_LEN + 4;
 
 /// The id of the object that an argument names; 0 where it names none.
 fn id_named(arg: &Arg<'_>) -> u32
@@ -99,7 +100,7 @@ impl<'t, T: Table> Core<'t, T> {
         ensures { self.new ≡ with_delete_id self.old id }
     {
         let args = [Arg::Uint(id)];
-        self.write_call(DISPLAY_ID, DELETE_ID, &args, None, DELETE_ID_LEN, 0);
+        self.write_call(&CallMessage::new(DISPLAY_ID, DELETE_ID, &args), 0);
     }
 
     /// Writes wl_display.error, about an object of this id, into the room that is kept for it. The
@@ -107,7 +108,7 @@ impl<'t, T: Table> Core<'t, T> {
     pub fn write_error(&mut self, object: u32, code: u32, text: &[u8])
         requires open { self.old.failed ≡ false }
         requires text { IsTrue (has_no_nul text.now) }
-        requires short { length text.now ≤ 40 }
+        requires short { length text.now ≤ max_error_text }
         ensures { self.new ≡ with_error_event self.old object code text.now }
     {
         // Of an object its id alone is written.
@@ -120,13 +121,7 @@ impl<'t, T: Table> Core<'t, T> {
             Arg::Uint(code),
             Arg::Str(Some(text)),
         ];
-        let message = CallMessage {
-            object: DISPLAY_ID,
-            opcode: ERROR,
-            args: &args,
-            new_id: 0,
-            len: 16 + ValueRef::Str(Some(text)).spelled_len(),
-        };
+        let message = CallMessage::new(DISPLAY_ID, ERROR, &args);
         self.outbox.push_encoded_error(&message, &mut self.store);
         self.failed = true;
     }
@@ -134,7 +129,7 @@ impl<'t, T: Table> Core<'t, T> {
     /// Writes wl_registry.bind, which must fit.
     pub fn write_bind(&mut self, registry: u32, name: u32, iface: &[u8], version: u32, id: u32)
         requires fits { EachFits (bind_values name iface.now version id) }
-        requires len { message_len (bind_values name iface.now version id) ≤ 4096 }
+        requires len { message_len (bind_values name iface.now version id) ≤ usual_limit }
         requires room { IsTrue
             (fits self.old.outbox (message_len (bind_values name iface.now version id)) 0) }
         ensures { self.new ≡ with_sent self.old registry 0
@@ -185,43 +180,25 @@ impl<'t, T: Table> Core<'t, T> {
         }
     }
 
-    /// Writes the message that a call becomes, where this is its new object: one of this length,
-    /// with this number of tokens. It must fit.
-    pub fn write_call(
-        &mut self,
-        target: u32,
-        opcode: u16,
-        args: &[Arg<'_>],
-        new: Option<Object>,
-        len: usize,
-        tokens: usize,
-    )
-        requires fits { EachFits (on_wire (id_of new) args.now) }
-        requires few { length args.now ≤ 20 }
-        requires len { len ≡ message_len (on_wire (id_of new) args.now) }
-        requires short { len ≤ self.old.outbox.limit.bytes }
-        requires tokens { tokens ≡ length (tokens_of (given args.now)) }
-        requires room { IsTrue
-            (fits self.old.outbox (message_len (on_wire (id_of new) args.now))
-            (length (tokens_of (given args.now)))) }
-        ensures { self.new ≡ with_sent self.old target opcode
-            (on_wire (id_of new) args.now) (tokens_of (given args.now)) }
+    /// Writes the message that a call becomes, with which this number of tokens goes. It must fit.
+    pub fn write_call(&mut self, message: &CallMessage<'_>, tokens: usize)
+        requires fits { CallFits message.now }
+        requires few { length message.now.args.now ≤ max_args }
+        requires short { message.now.len ≤ self.old.outbox.limit.bytes }
+        requires tokens { tokens ≡ length (tokens_of (given message.now.args.now)) }
+        requires room { IsTrue (fits self.old.outbox message.now.len tokens) }
+        ensures { self.new ≡ with_sent self.old message.now.object message.now.opcode
+            (on_wire message.now.new_id message.now.args.now)
+            (tokens_of (given message.now.args.now)) }
     {
-        let message = CallMessage {
-            object: target,
-            opcode,
-            args,
-            new_id: id_of(new),
-            len,
-        };
         if tokens == 0 {
-            self.outbox.push_encoded(&message, &[], &mut self.store);
+            self.outbox.push_encoded(message, &[], &mut self.store);
             return;
         }
         let mut places = [0; MAX_TOKENS];
-        let count = take_tokens(args, &mut places);
+        let count = take_tokens(message.args, &mut places);
         self.outbox
-            .push_encoded(&message, &places[..count], &mut self.store);
+            .push_encoded(message, &places[..count], &mut self.store);
     }
 
     /// Ends the object that a message destroys, if it destroys one: at a client it is a zombie, at
@@ -231,7 +208,7 @@ impl<'t, T: Table> Core<'t, T> {
         requires other { destroys_one what ≡ true → id ≢ 1 }
         requires room { IsTrue (fits self.old.outbox (following_len side what) 0) }
         ensures { self.new ≡ with_following (following side what) id
-            (with_view self.old (destroys (writer side) what id self.old.view)) }
+            (with_view self.old (destroys side what id self.old.view)) }
     {
         if what.destroys_one() {
             match side {
@@ -259,7 +236,7 @@ impl<'t, T: Table> Core<'t, T> {
         requires makes { call.makes ≡ call_makes call.signature.now.kinds }
         requires fits { (id : ℕ) → EachFits (on_wire id args.now)
             × (message_len (on_wire id args.now) ≤ self.old.outbox.limit.bytes) }
-        requires few { length args.now ≤ 20 }
+        requires few { length args.now ≤ max_args }
         requires sound { Sound self.old.view }
         requires display { HasDisplay self.old.view }
         requires valid { Valid self.old.tables }
@@ -275,7 +252,14 @@ impl<'t, T: Table> Core<'t, T> {
             return Err(SendError::Full);
         }
         let new = self.open_new(call.makes, call.entry.version)?;
-        self.write_call(target.id, opcode, args, new, call.len, call.tokens);
+        let message = CallMessage {
+            object: target.id,
+            opcode,
+            args,
+            new_id: id_of(new),
+            len: call.len,
+        };
+        self.write_call(&message, call.tokens);
         self.end_object(side, what, ended_id(what, target.id, args));
         Ok(new)
     }
@@ -294,7 +278,7 @@ impl<'t, T: Table> Core<'t, T> {
         args: &[Arg<'_>],
     ) -> Result<Option<Object>, SendError>
         ensures answer { IsSendAnswer self.old side target opcode (given args.now) result }
-        // No event makes an object.
+        // No event that is written makes an object.
         ensures event { side ≡ event_side → OpensNothing result }
         ensures ok { OnOk result
             (self.new ≡ after_send self.old side target opcode (given args.now)) }

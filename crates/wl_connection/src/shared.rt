@@ -1,4 +1,4 @@
-//! What both ends of a connection have: tables, objects and two boxes.
+//! What both ends of a connection have: tables, objects and two queues.
 ghost use Rattle.std.specs.Prelude.{◌≡◌, ◌≤◌, IfOk, take};
 ghost use Rattle.wl_message.specs.Arrived.{AreSizes};
 ghost use Rattle.wl_connection.specs.Core.{new_core, live, feeds, with_arrived};
@@ -6,14 +6,14 @@ ghost use Rattle.wl_connection.specs.Core.{new_core, live, feeds, with_arrived};
 use std::alloc::AllocError;
 use std::marker::Model;
 use wl_message::{Fed, Inbox, Outbox, Sizes};
-use wl_objects::{DISPLAY, Object, State, Table};
+use wl_objects::{DISPLAY, Object, Table, live_row};
 use wl_sigs::Tables;
 use wl_wire::Iface;
 
 /// The most globals that a server advertises in its life, and the most that a client remembers.
 pub const MAX_GLOBALS: usize = 1024;
 
-/// An end: its tables, its objects and its two boxes.
+/// An end: its tables, its objects and its two queues.
 ///
 /// The fields are for the two ends built on it.
 #[derive(Drop)]
@@ -22,7 +22,7 @@ pub struct Core<'t, T: Table> {
     pub table: T,
     pub inbox: Inbox<T::Alloc>,
     pub outbox: Outbox<T::Alloc>,
-    /// Where a message is encoded before it goes to the outbox, with room for the longest.
+    /// Where a message is encoded before it goes to the outbox, as long as the longest.
     pub store: Vec<u8, T::Alloc>,
     /// Whether the end has failed. It stays so for good.
     pub failed: bool,
@@ -31,8 +31,9 @@ pub struct Core<'t, T: Table> {
 }
 
 impl<'t, T: Table> Model for Core<'t, T> {
-    ghost use Rattle.std.specs.Prelude.{◌≡◌, ◌≤◌, false, vec_capacity};
+    ghost use Rattle.std.specs.Prelude.{◌≡◌, ◌≤◌, false, length};
     ghost use Rattle.std.specs.Coded.{codes};
+    ghost use Rattle.wl_message.specs.Cut.{usual_limit};
     ghost use Rattle.wl_object_map.specs.View.{view_code};
     ghost use Rattle.wl_connection.specs.Core.{Core as CoreState, HasDisplay, IsOrdinary};
 
@@ -51,8 +52,8 @@ impl<'t, T: Table> Model for Core<'t, T> {
 
     // The error event is written once, by an end that fails with it.
     ghost invariant = { λ c. record {
-      store : 4096 ≤ vec_capacity c.store;
-      room : c.outbox.limit.bytes ≤ vec_capacity c.store;
+      store : usual_limit ≤ length c.store.items;
+      room : c.outbox.limit.bytes ≤ length c.store.items;
       display : HasDisplay (T.view c.table);
       no_error : c.failed ≡ false → IsOrdinary c.outbox;
       whole : c.inbox.limit.bytes ≤ c.inbox.capacity;
@@ -60,7 +61,7 @@ impl<'t, T: Table> Model for Core<'t, T> {
 }
 
 impl<'t, T: Table> Core<'t, T> {
-    /// An end with wl_display alone and empty boxes of these sizes.
+    /// An end with wl_display alone and empty queues of these sizes.
     pub fn new(alloc: T::Alloc, tables: &'t Tables, sizes: Sizes) -> Result<Self, AllocError>
         requires { AreSizes sizes }
         ensures { IfOk result (λ core. core ≡ new_core tables.now sizes) }
@@ -68,7 +69,7 @@ impl<'t, T: Table> Core<'t, T> {
         let limit = sizes.limit;
         let inbox = Inbox::new(alloc.clone()?, sizes.in_bytes, sizes.in_tokens, limit)?;
         let outbox = Outbox::new(alloc.clone()?, sizes.out_bytes, sizes.out_tokens, limit)?;
-        let store = Vec::with_capacity(alloc.clone()?, limit.bytes as usize)?;
+        let store = Vec::from_elem(alloc.clone()?, 0, limit.bytes as usize)?;
         let table = T::new(alloc, DISPLAY)?;
         Ok(Core {
             tables,
@@ -85,12 +86,8 @@ impl<'t, T: Table> Core<'t, T> {
     pub fn live(&self, object: Object) -> Option<(Iface, u32)>
         ensures { result ≡ live self.now object }
     {
-        let entry = self.table.look(object.id)?;
-        if entry.birth == object.birth && entry.state == State::Live {
-            Some((entry.iface, entry.version))
-        } else {
-            None
-        }
+        let entry = live_row(&self.table, object)?;
+        Some((entry.iface, entry.version))
     }
 
     /// Takes in what comes, as `End::feed` says.

@@ -7,7 +7,7 @@ use crate::shared::Core;
 use wl_objects::Table;
 
 impl<'t, T: Table> Core<'t, T> {
-    /// Takes tokens out of both boxes, as `End::take_waiting_tokens` says.
+    /// Takes tokens out of both queues, as `End::take_waiting_tokens` says.
     pub fn take_waiting_tokens(&mut self, tokens: &mut [u32]) -> usize
         ensures count { result ≡ waiting_count self.old (length tokens.old) }
         ensures tokens { tokens.new ≡ take result (waiting self.old) ++ drop result tokens.old }

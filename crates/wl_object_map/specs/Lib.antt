@@ -1,3 +1,4 @@
+pub mod Ranges
 pub mod View
 pub mod Views
 pub mod Sounds

@@ -1,7 +1,7 @@
 //! The objects of one end of a Wayland connection, by id.
 //!
-//! Ids are made by the client, from 1 on, and used again after they were freed. A birth is the
-//! number of an object, counted by each end for itself and never used again. (Chapter "Wayland
+//! The client makes ids, from 1 on, and uses them again after they were freed. A birth is the
+//! number of an object; each end counts its own, and never uses one again. (Chapter "Wayland
 //! Protocol and Model of Operation", section "Creating Objects".)
 #![tactic(auto)]
 
@@ -14,4 +14,4 @@ mod table;
 pub use map_table::MapTable;
 pub use object::{Entry, Object, State, TableError};
 pub use slot_table::SlotTable;
-pub use table::{DISPLAY_ID, MAX_IDS, Table};
+pub use table::{DISPLAY_ID, FIRST_SERVER_ID, MAX_IDS, MAX_SERVER_ID, Table};

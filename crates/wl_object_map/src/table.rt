@@ -16,6 +16,12 @@ pub const MAX_IDS: u32 = 1_048_576;
 /// The id of wl_display.
 pub const DISPLAY_ID: u32 = 1;
 
+/// The first id of the server's range: the server makes ids from here on, the client those below.
+pub const FIRST_SERVER_ID: u32 = 0xff00_0000;
+
+/// The last id of the server's range.
+pub const MAX_SERVER_ID: u32 = 0xff0f_fffe;
+
 /// The objects of one end: a row for each id in use, the list of freed ids, latest first, the
 /// number of ids ever used, and the number of births.
 ///
@@ -84,7 +90,9 @@ pub trait Table {
         ensures not_next { (result ≡ Err TableError.NotNext)
             ↔ IsTrue (not (is_held (view self.old) id) && not (free_or_next (view self.old) id)) }
         ensures no_ids { (result ≡ Err TableError.NoIds)
-            ↔ IsTrue (free_or_next (view self.old) id && not (has_room (view self.old) id)) };
+            ↔ IsTrue (free_or_next (view self.old) id && not (has_room (view self.old) id)) }
+        // So an id that is free has no entry.
+        ensures sound { Sound (view self.old) };
 
     /// Makes a live object a zombie: its id stays in use. It allocates nothing.
     fn make_zombie(&mut self, id: u32)

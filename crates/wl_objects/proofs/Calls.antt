@@ -90,6 +90,7 @@ makes-one (kinds.Str null) ks = refl
 makes-one (kinds.Obj null iface) ks = refl
 makes-one (kinds.New (Some iface)) ks = refl
 makes-one (kinds.New None) ks = refl
+makes-one (kinds.NewByServer iface) ks = refl
 makes-one kinds.Array ks = refl
 makes-one kinds.Fd ks = refl
 

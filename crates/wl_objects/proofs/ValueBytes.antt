@@ -7,7 +7,8 @@ use Rattle.wl_wire.specs.Argument.{Argument}
 use Rattle.wl_wire.specs.declared.kind.Kind.{Kind}
 use Rattle.wl_wire.specs.Word.{word}
 use Rattle.wl_wire.specs.Spelling.{Spells, SpellsText, is_int, is_uint, is_fixed, is_null, is_text}
-use Rattle.wl_wire.specs.Spelling.{is_object, is_new, is_named, is_array, is_descriptor}
+use Rattle.wl_wire.specs.Spelling.{is_object, is_new, is_new_by_server, is_named, is_array}
+use Rattle.wl_wire.specs.Spelling.{is_descriptor}
 use Rattle.wl_objects.specs.Parsed.{body_part, Lies, LiesBehind}
 
 -- what begins with the text, before more
@@ -33,6 +34,7 @@ spelled-lies more (is_null f e) = tt
 spelled-lies more (is_text s) = text-lies _ _ more s
 spelled-lies more (is_object f n e) = tt
 spelled-lies more (is_new f e) = tt
+spelled-lies more (is_new_by_server f e) = tt
 spelled-lies more (is_named {iface} {front} {bytes} {version} {id} s v i e) =
     rw (e, append_assoc, append_assoc) (text-lies iface front (word version ++ (word id ++ more)) s)
 spelled-lies more (is_array {array} {rest} {bytes} f p e) =

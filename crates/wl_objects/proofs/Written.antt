@@ -10,7 +10,7 @@ use Rattle.wl_wire.proofs.Canonicals.{canonical-len}
 use Rattle.wl_objects.specs.declared.argument.Arg.{Arg}
 use Rattle.wl_objects.specs.declared.writing.CallMessage.{CallMessage}
 use Rattle.wl_objects.specs.declared.writing.BindMessage.{BindMessage}
-use Rattle.wl_objects.specs.Writing.{call_message, CallFits, bind_message, bind_values, on_wire}
+use Rattle.wl_objects.specs.Writing.{call_message, CallFits, bind_message, values_of_bind, on_wire}
 use Rattle.wl_objects.specs.Writing.{message_len, spelled, wired, given_of, EachFits}
 use Rattle.wl_objects.proofs.Wholes.{length-message}
 
@@ -18,8 +18,8 @@ pub call_len : (call : CallMessage) → CallFits call → call.len ≡ length (c
 call_len call fits = fits.len ∙ sym (length-message call.object call.opcode (on_wire call.new_id call.args.now))
 
 pub bind_len : (bind : BindMessage) → length (bind_message bind)
-    ≡ message_len (bind_values bind.name bind.iface.now bind.version bind.id)
-bind_len bind = length-message bind.registry 0 (bind_values bind.name bind.iface.now bind.version bind.id)
+    ≡ message_len (values_of_bind bind)
+bind_len bind = length-message bind.registry 0 (values_of_bind bind)
 
 -- what stands before the place, and is written from there on
 pub written-next : (at n k : ℕ) (out c x rest : List ℕ) → at ≤ length out → length c ≡ n → x ≡ c ++ rest

@@ -20,7 +20,8 @@ use Rattle.wl_object_map.specs.declared.object.Object.{Object}
 use Rattle.wl_object_map.specs.declared.object.Entry.{Entry}
 use Rattle.wl_objects.specs.Reading.{Reader, forgiving_kind, is_of, iface_of, value_fault, arguments_at}
 use Rattle.wl_objects.specs.Reading.{reported_argument, reports_of, head_or, tokens_after, descriptors}
-use Rattle.wl_objects.specs.Reading.{is_descriptor_kind}
+use Rattle.wl_objects.specs.declared.lookup.NewId.{NewId}
+use Rattle.wl_objects.specs.Reading.{is_descriptor_kind, by_maker}
 use Rattle.wl_objects.specs.Writing.{Given, wired, spelled, suits, has_no_nul, can_name, names_one}
 use Rattle.wl_objects.specs.Writing.{wrong_place, lost_place, tokens_of}
 use Rattle.wl_objects.specs.Carried.{InRange, ReaderHolds, IsExpected, arrived_value, Arrive}
@@ -78,19 +79,26 @@ object-right writer r place kind object f held e =
     let some : nat_eq object.id 0 ≡ false = ne_eqb object.id 0 held.not_null in
     rw (f, some, held.held, same) refl
 
+-- a call makes objects of the client alone
+client-made : (kind : Kind) (x : Unit {0}) (of_client of_server : NewId) → suits kind (New x) ≡ true
+    → by_maker kind of_client of_server ≡ of_client
+client-made (kinds.New iface) x of_client of_server s = refl
+client-made kind x of_client of_server s = absurd (cc)
+
 -- nothing is wrong with an argument that the reader expects
 pub value-right : (writer : ℕ → Option Entry) (r : Reader) (n place : ℕ) (kind : Kind) (x : Given) → r.forgives ≡ false
-    → can_name writer kind x ≡ true → IsExpected writer r n x → value_fault r place kind (wired n x) ≡ None
-value-right writer r n place kind (Int z) f c h = refl
-value-right writer r n place kind (Uint m) f c h = refl
-value-right writer r n place kind (Fixed z) f c h = refl
-value-right writer r n place kind (Str text) f c h = refl
-value-right writer r n place kind (Obj None) f c h = rw f refl
-value-right writer r n place kind (Obj (Some object)) f c h = object-right writer r place kind object f h c
-value-right writer r n place kind (New x) f c h = rw h refl
-value-right writer r n place kind (NewNamed iface version x) f c h = rw h refl
-value-right writer r n place kind (Array bytes) f c h = refl
-value-right writer r n place kind (Fd token) f c h = refl
+    → suits kind x ≡ true → can_name writer kind x ≡ true → IsExpected writer r n x → value_fault r place kind (wired n x) ≡ None
+value-right writer r n place kind (Int z) f s c h = refl
+value-right writer r n place kind (Uint m) f s c h = refl
+value-right writer r n place kind (Fixed z) f s c h = refl
+value-right writer r n place kind (Str text) f s c h = refl
+value-right writer r n place kind (Obj None) f s c h = rw f refl
+value-right writer r n place kind (Obj (Some object)) f s c h = object-right writer r place kind object f h c
+value-right writer r n place kind (New x) f s c h =
+    rw (client-made kind x (r.new_id n) (r.new_server_id n) s, h) refl
+value-right writer r n place kind (NewNamed iface version x) f s c h = rw h refl
+value-right writer r n place kind (Array bytes) f s c h = refl
+value-right writer r n place kind (Fd token) f s c h = refl
 
 pub not_null : (writer : ℕ → Option Entry) (r : Reader) (n : ℕ) (x : Given) → IsExpected writer r n x
     → (object : Object) → x ≡ Obj (Some object) → object.id ≢ 0
@@ -120,7 +128,8 @@ arrive-read writer r n place (kind ∷ ks) (x ∷ list) rest b f w l i h =
     (not_null writer r n x expected) in
     let later : List ℕ = spelled (map (wired n) list) ++ rest in
     let one = reading-canonical kind (wired n x) later value in
-    let right : value_fault r place kind (wired n x) ≡ None = value-right writer r n place kind x f name.0 expected in
+    let right : value_fault r place kind (wired n x) ≡ None = value-right writer r n place kind x f suit.0 name.0 expected
+    in
     let len : length (canonical (wired n x)) ≡ spelled_len (wired n x) =
     spelled-len (canonical-spells kind (wired n x) value) in
     let front : drop (spelled_len (wired n x)) (canonical (wired n x) ++ later) ≡ later =

@@ -36,11 +36,13 @@ use Rattle.wl_sigs.specs.Rules.{is_empty}
 abbrev pub new_id_of : Bool → Bool → NewId
 new_id_of free room = if free then (if room then Free else TooMany) else Wrong
 
--- what an end knows that has these objects
+-- What an end knows that has these objects. It speaks no messages by which the server makes an
+-- object: no id is free for such a one.
 abbrev pub reader_of : View → Reader
 reader_of view = record {
   object = look view;
   new_id = λ id. new_id_of (free_or_next view id) (has_room view id);
+  new_server_id = λ id. Wrong;
   birth = view.births;
   forgives = false;
 }
@@ -113,8 +115,8 @@ received tables side reader header body waiting =
 abbrev pub NewObject : Type 0
 NewObject = Declared
 
--- the new object of one argument: of the signature's interface and its maker's version, or of those
--- that it names
+-- The new object of one argument: of the signature's interface and its maker's version, or of those
+-- that it names. One of the server is neither written nor read.
 abbrev pub made_by : List Interface → ℕ → Kind → Argument → Option NewObject
 made_by tables version (kinds.New (Some iface)) (New id) =
     Some (record { id = id; iface = iface; version = version })
@@ -137,25 +139,20 @@ made tables version (kind ∷ ks) (value ∷ values) =
     or_else (made_by tables version kind value) (made tables version ks values)
 made tables version _ _ = None
 
--- the two ends
-pub data Role : Type 0 where
-  Client : Role
-  Server : Role
-
--- an object destroyed: at the client a zombie, until its delete_id comes; at the server gone, and
--- its id free
-abbrev pub destroyed : Role → View → ℕ → View
-destroyed Client view id = zombied view id
-destroyed Server view id = closed view id
+-- An object destroyed at the end that writes this side: at the client a zombie, until its delete_id
+-- comes; at the server gone, and its id free.
+abbrev pub destroyed : Side → View → ℕ → View
+destroyed Request view id = zombied view id
+destroyed Event view id = closed view id
 
 abbrev pub opens : View → Option NewObject → View
 opens view None = view
 opens view (Some m) = opened_at view m.id m.iface m.version
 
-abbrev pub destroys : Role → Destroys → ℕ → View → View
-destroys end Nothing target view = view
-destroys end Target target view = destroyed end view target
-destroys end (Arg place) target view = destroyed end view target
+abbrev pub destroys : Side → Destroys → ℕ → View → View
+destroys side Nothing target view = view
+destroys side Target target view = destroyed side view target
+destroys side (Arg place) target view = destroyed side view target
 
 -- the id of the object that the argument at a place names
 abbrev pub id_named : Option Argument → ℕ
@@ -171,10 +168,10 @@ ended_id Nothing target values = target
 ended_id Target target values = target
 ended_id (Arg place) target values = id_at values place
 
--- The objects of an end after it has written or read a message, other than delete_id: the making
--- comes first.
-abbrev pub after : Role → View → Option NewObject → Destroys → ℕ → View
-after end view new what target = destroys end what target (opens view new)
+-- The objects of the end that writes this side, after it has written or read a message, other than
+-- delete_id: the making comes first.
+abbrev pub after : Side → View → Option NewObject → Destroys → ℕ → View
+after side view new what target = destroys side what target (opens view new)
 
 -- The client's objects after delete_id: the row of a held id other than 1 is closed.
 abbrev pub after_delete_id : View → ℕ → View

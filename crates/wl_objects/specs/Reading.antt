@@ -20,12 +20,13 @@ use Rattle.wl_objects.specs.declared.argument.Named.TheVariants as named_as
 use Rattle.wl_objects.specs.declared.error.Fault.{Fault}
 use Rattle.wl_objects.specs.declared.error.Fault.TheVariants as faults
 
--- What a reader knows when a message comes: the object that each id names, what each id is as a new
--- one, and the birth that a new object gets. Where it forgives, an object argument may be null,
--- unknown and of any interface.
+-- What a reader knows when a message comes: the object that each id names, what each id is as that
+-- of a new object of the client and of one of the server, and the birth that a new object gets.
+-- Where it forgives, an object argument may be null, unknown and of any interface.
 pub record Reader : Type 0 where
   pub object : ℕ → Option Entry
   pub new_id : ℕ → NewId
+  pub new_server_id : ℕ → NewId
   pub birth : ℕ
   pub forgives : Bool
 
@@ -54,13 +55,20 @@ new_fault place Free = None
 new_fault place Wrong = Some (faults.BadNewId place)
 new_fault place TooMany = Some faults.TooManyObjects
 
+-- what a new object's id is by the argument's kind, from what it is as one of the client and as one
+-- of the server
+abbrev pub by_maker : Kind → NewId → NewId → NewId
+by_maker (kinds.NewByServer iface) of_client of_server = of_server
+by_maker _ of_client of_server = of_client
+
 -- what is wrong with a value that its bytes spell: an object that is unknown or of another
 -- interface, a new id that is not free
 abbrev pub value_fault : Reader → ℕ → Kind → Argument → Option Fault
 value_fault r place kind (Obj id) =
     if r.forgives then None
     else (if nat_eq id 0 then None else object_fault place (iface_of kind) (r.object id))
-value_fault r place kind (New id) = new_fault place (r.new_id id)
+value_fault r place kind (New id) =
+    new_fault place (by_maker kind (r.new_id id) (r.new_server_id id))
 value_fault r place kind (NewNamed iface version id) = new_fault place (r.new_id id)
 value_fault r place kind _ = None
 

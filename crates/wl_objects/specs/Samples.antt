@@ -11,6 +11,7 @@ use Rattle.wl_sigs.specs.Fixed.{display, registry, callback}
 use Rattle.wl_object_map.specs.declared.object.Entry.{Entry}
 use Rattle.wl_object_map.specs.declared.object.State.TheVariants.{Live}
 use Rattle.wl_objects.specs.declared.error.Fault.{Fault}
+use Rattle.wl_objects.specs.declared.lookup.NewId.TheVariants.{Wrong}
 use Rattle.wl_objects.specs.Reading.{Reader}
 use Rattle.wl_objects.specs.Messages.{Received, received, new_id_of}
 
@@ -32,6 +33,7 @@ abbrev pub holding : List Iface → Reader
 holding ifaces = record {
   object = sample_row ifaces;
   new_id = λ id. new_id_of (nat_eq id (length ifaces + 1)) true;
+  new_server_id = λ id. Wrong;
   birth = length ifaces;
   forgives = false;
 }

@@ -1,6 +1,6 @@
 -- What a call's arguments must be, and the message that they become.
 use Rattle.std.specs.Prelude.{ℕ, ℤ, suc, ◌+◌, Bool, true, false, ◌&&◌, not, List, [], ◌∷◌, ◌++◌, map}
-use Rattle.std.specs.Prelude.{◌≡◌, ◌≤◌, length, nat_eq, nat_lt, if◌then◌else◌, Option, Some, None}
+use Rattle.std.specs.Prelude.{◌≡◌, ◌≤◌, ◌<◌, length, nat_eq, nat_lt, if◌then◌else◌, Option, Some, None}
 use Rattle.wl_wire.specs.declared.kind.Kind.{Kind}
 use Rattle.wl_wire.specs.declared.kind.Kind.TheVariants as kinds
 use Rattle.wl_wire.specs.declared.kind.Iface.{Iface}
@@ -37,6 +37,7 @@ object_suits null None = null
 object_suits null (Some object) = true
 
 -- Whether an argument is of the kind: null only where that is allowed, and no string has a byte 0.
+-- Nothing suits the kind of a new object of the server.
 abbrev pub suits : Kind → Given → Bool
 suits kinds.Int (Int z) = true
 suits kinds.Uint (Uint n) = true
@@ -45,6 +46,7 @@ suits (kinds.Str null) (Str text) = text_suits null text
 suits (kinds.Obj null iface) (Obj object) = object_suits null object
 suits (kinds.New (Some iface)) (New x) = true
 suits (kinds.New None) (NewNamed iface version x) = has_no_nul iface
+suits (kinds.NewByServer iface) x = false
 suits kinds.Array (Array bytes) = true
 suits kinds.Fd (Fd token) = true
 suits _ _ = false
@@ -162,18 +164,21 @@ call_message call = message_bytes call.object call.opcode (on_wire call.new_id c
 
 -- that message has a spelling, and its length is the one that it names
 pub record CallFits (call : CallMessage) : Type 0 where
+  pub opcode : call.opcode < 65536
   pub fits : EachFits (on_wire call.new_id call.args.now)
   pub len : call.len ≡ message_len (on_wire call.new_id call.args.now)
   pub short : call.len ≤ 65535
 
 -- the same of a bind
+abbrev pub values_of_bind : BindMessage → List Argument
+values_of_bind bind = bind_values bind.name bind.iface.now bind.version bind.id
+
 abbrev pub bind_message : BindMessage → List ℕ
-bind_message bind =
-    message_bytes bind.registry 0 (bind_values bind.name bind.iface.now bind.version bind.id)
+bind_message bind = message_bytes bind.registry 0 (values_of_bind bind)
 
 pub record BindFits (bind : BindMessage) : Type 0 where
-  pub fits : EachFits (bind_values bind.name bind.iface.now bind.version bind.id)
-  pub short : message_len (bind_values bind.name bind.iface.now bind.version bind.id) ≤ 65535
+  pub fits : EachFits (values_of_bind bind)
+  pub short : message_len (values_of_bind bind) ≤ 65535
 
 -- the interface of the object that a call makes: that of the signature's new object
 abbrev pub call_makes : List Kind → Option Iface

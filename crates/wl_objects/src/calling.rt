@@ -3,7 +3,7 @@ ghost use Rattle.std.specs.Prelude.{◌≡◌, [], ◌∷◌, ◌≤◌, ◌+◌
 ghost use Rattle.std.specs.Prelude.{Some};
 ghost use Rattle.std.specs.List.{All};
 ghost use Rattle.wl_wire.specs.Spelling.{padded, spelled_len};
-ghost use Rattle.wl_sigs.specs.Tables.{MessageSignature};
+ghost use Rattle.wl_sigs.specs.Tables.{MessageSignature, max_args};
 ghost use Rattle.wl_sigs.specs.Valid.{Valid};
 ghost use Rattle.wl_object_map.specs.View.{look, Sound};
 ghost use Rattle.wl_objects.specs.Reading.{is_of, iface_of};
@@ -19,7 +19,7 @@ use crate::error::SendError;
 use crate::messages::is_hidden;
 use wl_object_map::{Entry, Object, State, Table};
 use wl_sigs::{Side, Signature, Tables};
-use wl_wire::{Iface, Kind, has_nul};
+use wl_wire::{HEADER_LEN, Iface, Kind, has_nul};
 
 /// A call that passed its checks.
 #[derive(Clone, Copy, Debug)]
@@ -69,7 +69,7 @@ pub fn check_call<'t, T: Table>(
         (λ _. (id : ℕ) → EachFits (on_wire id args.now)
         × (message_len (on_wire id args.now) ≤ limit)) }
     ensures in_range { IfOk result (λ _. All InRange (given args.now)) }
-    ensures few { IfOk result (λ _. length args.now ≤ 20) }
+    ensures few { IfOk result (λ _. length args.now ≤ max_args) }
     // Always so, and known because the table and the tables were asked.
     ensures sound { Sound (T.view table.now) }
     ensures valid { IfOk result (λ _. Valid tables.now) }
@@ -106,7 +106,7 @@ fn measure<T: Table>(
     args: &[Arg<'_>],
     limit: u16,
 ) -> Result<Measured, SendError>
-    requires few { length kinds.now ≤ 20 }
+    requires few { length kinds.now ≤ max_args }
     ensures answer { (signature : MessageSignature) → signature_of signature result
         ≡ unless_wrong limit (wrong_place 0 kinds.now (given args.now))
         (lost_place (look (T.view table.now)) 0 kinds.now (given args.now))
@@ -114,7 +114,7 @@ fn measure<T: Table>(
     ensures measured { IfOk result (IsMeasured kinds.now args.now limit) }
     ensures in_range { IfOk result (λ _. All InRange (given args.now)) }
 {
-    let (mut lost, mut len, mut tokens, mut makes) = (None, 8, 0, None);
+    let (mut lost, mut len, mut tokens, mut makes) = (None, HEADER_LEN, 0, None);
     'kinds: for (place, kind) in kinds.iter().enumerate() {
         let arg = match args.get(place) {
             Some(arg) if is_number(*kind, *arg) => {
@@ -152,6 +152,18 @@ fn is_number(kind: Kind, arg: Arg<'_>) -> bool
         (Kind::Fixed, Arg::Fixed(_)) => true,
         _ => false,
     }
+}
+
+/// How many bytes a message of these arguments has, which is a length that a header can have.
+pub(crate) fn message_len(args: &[Arg<'_>]) -> usize
+    requires { message_len (on_wire 0 args.now) ≤ 65535 }
+    ensures { result ≡ message_len (on_wire 0 args.now) }
+{
+    let mut len = HEADER_LEN;
+    'arguments: for arg in args {
+        len += len_of(*arg);
+    }
+    len
 }
 
 /// How many bytes spell the argument; beyond any limit, only that these are more.
@@ -203,7 +215,7 @@ fn new_iface(kind: Kind) -> Option<Iface>
 }
 
 /// The entry of an object that is live with this birth.
-fn live_row<T: Table>(table: &T, object: Object) -> Option<Entry>
+pub fn live_row<T: Table>(table: &T, object: Object) -> Option<Entry>
     ensures row { result ≡ live_row (T.view table.now) object }
     ensures sound { Sound (T.view table.now) }
     ensures held { IfSome result (λ entry. look (T.view table.now) object.id ≡ Some entry) }
@@ -214,7 +226,7 @@ fn live_row<T: Table>(table: &T, object: Object) -> Option<Entry>
     }
 }
 
-/// Whether an argument is of the kind.
+/// Whether an argument is of the kind. None is of that of a new object of the server.
 fn suits(kind: Kind, arg: &Arg<'_>) -> bool
     ensures { result ≡ suits kind (given_of arg.now) }
 {

@@ -19,8 +19,8 @@ pub enum SendError {
     /// S4: the message is newer than the target's version.
     TooOld,
     /// S5: the argument at this place is of the wrong kind, is null where that is not allowed, or
-    /// is a string with a byte 0. Where the numbers of arguments differ and all before fit, the
-    /// smaller number.
+    /// is a string with a byte 0; no argument is of the kind of an object that the server makes.
+    /// Where the numbers of arguments differ and all before fit, the smaller number.
     WrongArgs(usize),
     /// S6: the object at this place is not live, or of another interface.
     BadObject(usize),
@@ -52,7 +52,8 @@ pub enum Fault {
     BadArgument(usize, ArgFault),
     /// F5: the object at this place is unknown, or of another interface.
     BadObject(usize),
-    /// F6: the new id at this place is 0, in use, or neither freed nor the next.
+    /// F6: the new id at this place is 0, in use, or neither freed nor the next; at an end it may
+    /// also be that of any object that the server makes.
     BadNewId(usize),
     /// F7: bytes are left behind the last argument.
     TrailingBytes,

@@ -1,5 +1,5 @@
-//! What both ends of a Wayland connection do with the arguments of a message: they are read and
-//! written against the objects of one end. (Chapter "Wayland Protocol and Model of Operation",
+//! How both ends of a Wayland connection read and write the arguments of a message, against the
+//! objects of one end. (Chapter "Wayland Protocol and Model of Operation",
 //! sections "Wire Format" and "Creating Objects".)
 //!
 //! The table of objects is in `wl_object_map`, whose public items are re-exported here.
@@ -22,14 +22,15 @@ mod writing;
 
 pub use args::Args;
 pub use argument::{Arg, Got, GotRef, Named};
-pub use calling::{CheckedCall, check_call};
+pub use calling::{CheckedCall, check_call, live_row};
 pub use error::{Fault, NextError, SendError};
 pub use lookup::{Lookup, NewId, TableLookup};
 pub use messages::{DISPLAY, REGISTRY, is_bind, is_delete_id, is_error, is_hidden};
 pub use new_object::{NewObject, made_by_message};
-pub use parsed::{MAX_ARGS, ParsedArg, ParsedArgs};
+pub use parsed::{ParsedArg, ParsedArgs};
 pub use reading::{Received, descriptors, receive};
 pub use reporting::{OwnedArgs, named};
 pub use values::Values;
 pub use wl_object_map::{Entry, MapTable, Object, SlotTable, State, Table, TableError};
+pub use wl_sigs::MAX_ARGS;
 pub use writing::{BindMessage, CallMessage, take_tokens};

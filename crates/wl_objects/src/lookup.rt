@@ -25,9 +25,13 @@ pub trait Lookup {
     fn object(&self, id: u32) -> Option<Entry>
         ensures { result ≡ (reader self.now).object id };
 
-    /// What an id is as that of a new object.
+    /// What an id is as that of a new object of the client.
     fn new_id(&self, id: u32) -> NewId
         ensures { result ≡ (reader self.now).new_id id };
+
+    /// What an id is as that of a new object of the server.
+    fn new_server_id(&self, id: u32) -> NewId
+        ensures { result ≡ (reader self.now).new_server_id id };
 }
 
 /// An end's table, as the reading of a message asks it.
@@ -51,5 +55,10 @@ impl<'a, T: Table> Lookup for TableLookup<'a, T> {
         } else {
             NewId::Free
         }
+    }
+
+    // An end speaks no messages by which the server makes an object.
+    fn new_server_id(&self, _id: u32) -> NewId {
+        NewId::Wrong
     }
 }

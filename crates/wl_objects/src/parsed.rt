@@ -3,6 +3,7 @@ ghost use Rattle.std.specs.Prelude.{◌≡◌, ◌≤◌, ◌+◌, ℕ, List, []
 ghost use Rattle.std.specs.Prelude.{option_map, slice_get, take};
 ghost use Rattle.wl_wire.specs.Argument.{Obj, lent};
 ghost use Rattle.wl_wire.specs.Reading.{number_at, reading, signed};
+ghost use Rattle.wl_sigs.specs.Tables.{max_args};
 ghost use Rattle.wl_objects.specs.Reading.{arguments_at, forgiving, value_or_fault, forgiving_kind};
 ghost use Rattle.wl_objects.specs.Reading.{named, object_fault, value_fault};
 ghost use Rattle.wl_objects.specs.Parsed.{AreParsed, Lies, parsed_argument, made_of, made_of_one};
@@ -14,16 +15,14 @@ use crate::args::in_state;
 use crate::argument::Named;
 use crate::error::Fault;
 use crate::lookup::Lookup;
-use crate::reading::{iface_of, new_fault, object_fault};
+use crate::reading::{iface_of, new_fault, new_id_as, object_fault};
 use byteorder::{ByteOrder, LittleEndian};
 use std::fmt::{self, Debug, Formatter};
 use std::marker::Model;
 use std::mem::size_of;
 use wl_object_map::{Entry, Object, State};
+use wl_sigs::MAX_ARGS;
 use wl_wire::{Fixed, Kind, ValueRef, read_ref};
-
-/// The most arguments that a message has.
-pub const MAX_ARGS: usize = 20;
 
 /// One argument of a message that was read. A string or an array is given by its length and by
 /// where it starts in the message's body, an object by its entry when the message was read. The
@@ -80,13 +79,14 @@ pub struct ParsedArgs {
 
 impl Model for ParsedArgs {
     ghost use Rattle.std.specs.Prelude.{List, ◌≤◌, take};
+    ghost use Rattle.wl_sigs.specs.Tables.{max_args};
     ghost use Rattle.wl_objects.specs.declared.parsed.ParsedArg.{ParsedArg};
 
     ghost Value = { List ParsedArg };
 
     ghost view = { λ p. take p.count p.items };
 
-    ghost invariant = { λ p. p.count ≤ 20 };
+    ghost invariant = { λ p. p.count ≤ max_args };
 }
 
 impl ParsedArgs {
@@ -181,65 +181,155 @@ pub(crate) fn part(bytes: &[u8], start: usize, len: usize) -> &[u8]
     &rest[..len.min(rest.len())]
 }
 
-/// Parses the arguments at the front of a message's body, one of each kind, in place of those that
-/// were parsed before, and returns the bytes behind them; or the first fault. Each object is looked
-/// up once.
-pub(crate) fn parse_body<'a, L: Lookup>(
-    lookup: &L,
-    forgives: bool,
-    kinds: &[Kind],
-    body: &'a [u8],
-    args: &mut ParsedArgs,
-) -> Result<&'a [u8], Fault>
-    requires few { length kinds.now ≤ 20 }
-    ensures answer { whole_in body.now args.new result
-        ≡ arguments_at (forgiving forgives (L.reader lookup.now)) 0 kinds.now body.now }
-    ensures args { IfOk result (λ _. AreParsed (L.reader lookup.now) body.now args.new
-        (spelled_in body.now args.new)) }
-{
-    match parse(lookup, forgives, kinds, body, &mut args.items) {
-        Ok(end) => {
-            args.count = kinds.len();
-            Ok(bytes_from(body, end))
-        }
-        Err(fault) => Err(fault),
-    }
+/// A message's body as a reader parses it: by what it knows of objects and ids, and whether an
+/// object may be null or unknown.
+#[derive(Drop)]
+pub(crate) struct Parser<'a, L: Lookup> {
+    pub lookup: &'a L,
+    pub forgives: bool,
+    pub body: &'a [u8],
 }
 
-/// Parses the arguments at the front of a message's body into the front of an array, and returns
-/// where they end.
-fn parse<L: Lookup>(
-    lookup: &L,
-    forgives: bool,
-    kinds: &[Kind],
-    body: &[u8],
-    items: &mut [ParsedArg; MAX_ARGS],
-) -> Result<usize, Fault>
-    requires few { length kinds.now ≤ 20 }
-    ensures end { IfOk result (λ end. end ≤ length body.now) }
-    ensures parsed { parsed_in body.now (L.reader lookup.now).birth
-        (take (length kinds.now) items.new) result
-        ≡ made_of (L.reader lookup.now) 0
-        (arguments_at (forgiving forgives (L.reader lookup.now)) 0 kinds.now body.now) }
-{
-    let mut end = 0;
-    let mut descriptors = 0;
-    'kinds: for (place, kind) in kinds.iter().enumerate() {
-        if let Some(number) = read_number(*kind, body, end) {
-            items[place] = number;
-            end += 4;
-            continue;
-        }
-        match parse_at(lookup, forgives, place, *kind, body, end, descriptors) {
-            Ok((parsed, len)) => {
-                descriptors = place_behind(parsed, descriptors);
-                items[place] = parsed;
-                end += len;
+impl<'a, L: Lookup> Parser<'a, L> {
+    /// Parses the arguments at the front of the body, one of each kind, in place of those that were
+    /// parsed before, and returns the bytes behind them; or the first fault. Each object is looked
+    /// up once.
+    pub fn parse_body(&self, kinds: &[Kind], args: &mut ParsedArgs) -> Result<&'a [u8], Fault>
+        requires few { length kinds.now ≤ max_args }
+        ensures answer { whole_in self.now.body.now args.new result
+            ≡ arguments_at (forgiving self.now.forgives (L.reader self.now.lookup.now)) 0 kinds.now
+            self.now.body.now }
+        ensures args { IfOk result
+            (λ _. AreParsed (L.reader self.now.lookup.now) self.now.body.now args.new
+            (spelled_in self.now.body.now args.new)) }
+    {
+        match self.parse(kinds, &mut args.items) {
+            Ok(end) => {
+                args.count = kinds.len();
+                Ok(bytes_from(self.body, end))
             }
-            Err(fault) => return Err(fault),
+            Err(fault) => Err(fault),
         }
     }
-    Ok(end)
+
+    /// Parses the arguments at the front of the body into the front of an array, and returns where
+    /// they end.
+    fn parse(&self, kinds: &[Kind], items: &mut [ParsedArg; MAX_ARGS]) -> Result<usize, Fault>
+        requires few { length kinds.now ≤ max_args }
+        ensures end { IfOk result (λ end. end ≤ length self.now.body.now) }
+        ensures parsed { parsed_in self.now.body.now (L.reader self.now.lookup.now).birth
+            (take (length kinds.now) items.new) result
+            ≡ made_of (L.reader self.now.lookup.now) 0
+            (arguments_at (forgiving self.now.forgives (L.reader self.now.lookup.now)) 0 kinds.now
+            self.now.body.now) }
+    {
+        let mut end = 0;
+        let mut descriptors = 0;
+        'kinds: for (place, kind) in kinds.iter().enumerate() {
+            if let Some(number) = read_number(*kind, self.body, end) {
+                items[place] = number;
+                end += 4;
+                continue;
+            }
+            match self.parse_at(place, *kind, end, descriptors) {
+                Ok((parsed, len)) => {
+                    descriptors = place_behind(parsed, descriptors);
+                    items[place] = parsed;
+                    end += len;
+                }
+                Err(fault) => return Err(fault),
+            }
+        }
+        Ok(end)
+    }
+
+    /// The argument that starts there, with its length, where `descriptors` stand before it.
+    fn parse_at(
+        &self,
+        place: usize,
+        kind: Kind,
+        start: usize,
+        descriptors: usize,
+    ) -> Result<(ParsedArg, usize), Fault>
+        requires start { start ≤ length self.now.body.now }
+        ensures one { one_in self.now.body.now (L.reader self.now.lookup.now).birth result
+            ≡ made_of_one (L.reader self.now.lookup.now) descriptors
+            (value_or_fault (forgiving self.now.forgives (L.reader self.now.lookup.now)) place kind
+            (reading (forgiving_kind self.now.forgives kind) (drop start self.now.body.now))) }
+        ensures end { IfOk result (λ found. start + found.1 ≤ length self.now.body.now) }
+    {
+        match read_ref(kind_at(self.forgives, kind), bytes_from(self.body, start)) {
+            Ok((value, len)) => match self.resolve(place, kind, start, descriptors, value) {
+                Ok(parsed) => Ok((parsed, len)),
+                Err(fault) => Err(fault),
+            },
+            Err(fault) => Err(Fault::BadArgument(place, fault)),
+        }
+    }
+
+    /// Judges a value whose spelling starts there, and keeps where it lies.
+    fn resolve(
+        &self,
+        place: usize,
+        kind: Kind,
+        start: usize,
+        descriptors: usize,
+        value: ValueRef<'_>,
+    ) -> Result<ParsedArg, Fault>
+        requires start { start ≤ length self.now.body.now }
+        requires lies { Lies (drop start self.now.body.now) (lent value) }
+        ensures { parsed_one self.now.body.now (L.reader self.now.lookup.now).birth result
+            ≡ made_unless (L.reader self.now.lookup.now) descriptors (lent value.entry)
+            (value_fault (forgiving self.now.forgives (L.reader self.now.lookup.now)) place kind
+            (lent value.entry)) }
+    {
+        match value {
+            ValueRef::Int(number) => Ok(ParsedArg::Int(number)),
+            ValueRef::Uint(number) => Ok(ParsedArg::Uint(number)),
+            ValueRef::Fixed(number) => Ok(ParsedArg::Fixed(number)),
+            ValueRef::Str(string) => match string {
+                None => Ok(ParsedArg::Null),
+                Some(text) => Ok(ParsedArg::Str {
+                    len: text.len() as u32,
+                    start: start + 4,
+                }),
+            },
+            ValueRef::Obj(id) => {
+                if id == 0 {
+                    return Ok(ParsedArg::NoObject { id });
+                }
+                let entry = self.lookup.object(id);
+                if !self.forgives {
+                    if let Some(fault) = object_fault(place, iface_of(kind), entry) {
+                        return Err(fault);
+                    }
+                }
+                Ok(object_of(id, entry))
+            }
+            ValueRef::New(id) => {
+                if let Some(fault) = new_fault(place, new_id_as(self.lookup, kind, id)) {
+                    return Err(fault);
+                }
+                Ok(ParsedArg::New { id })
+            }
+            ValueRef::NewNamed { iface, version, id } => {
+                if let Some(fault) = new_fault(place, self.lookup.new_id(id)) {
+                    return Err(fault);
+                }
+                Ok(ParsedArg::Bound {
+                    len: iface.len() as u32,
+                    start: start + 4,
+                    version,
+                    id,
+                })
+            }
+            ValueRef::Array(bytes) => Ok(ParsedArg::Array {
+                len: bytes.len() as u32,
+                start: start + 4,
+            }),
+            ValueRef::Fd => Ok(ParsedArg::Fd { place: descriptors }),
+        }
+    }
 }
 
 /// The argument that starts there, if its kind is a number's and its four bytes are there.
@@ -278,7 +368,7 @@ fn int_at(body: &[u8], start: usize) -> i32
 
 /// How many descriptors stand before what follows an argument.
 fn place_behind(parsed: ParsedArg, place: usize) -> usize
-    requires { place ≤ 20 }
+    requires { place ≤ max_args }
     ensures { result ≡ place_behind parsed place }
 {
     match parsed {
@@ -295,43 +385,6 @@ fn bytes_from(bytes: &[u8], start: usize) -> &[u8]
     &bytes[start..]
 }
 
-/// The argument that starts there, with its length, where `descriptors` stand before it.
-fn parse_at<L: Lookup>(
-    lookup: &L,
-    forgives: bool,
-    place: usize,
-    kind: Kind,
-    body: &[u8],
-    start: usize,
-    descriptors: usize,
-) -> Result<(ParsedArg, usize), Fault>
-    requires start { start ≤ length body.now }
-    ensures one { one_in body.now (L.reader lookup.now).birth result
-        ≡ made_of_one (L.reader lookup.now) descriptors
-        (value_or_fault (forgiving forgives (L.reader lookup.now)) place kind
-        (reading (forgiving_kind forgives kind) (drop start body.now))) }
-    ensures end { IfOk result (λ found. start + found.1 ≤ length body.now) }
-{
-    match read_ref(kind_at(forgives, kind), bytes_from(body, start)) {
-        Ok((value, len)) => {
-            match resolve(
-                lookup,
-                forgives,
-                place,
-                kind,
-                body,
-                start,
-                descriptors,
-                value,
-            ) {
-                Ok(parsed) => Ok((parsed, len)),
-                Err(fault) => Err(fault),
-            }
-        }
-        Err(fault) => Err(Fault::BadArgument(place, fault)),
-    }
-}
-
 /// The kind as a reader takes it: one that forgives lets an object be null.
 fn kind_at(forgives: bool, kind: Kind) -> Kind
     ensures { result ≡ forgiving_kind forgives kind }
@@ -339,71 +392,6 @@ fn kind_at(forgives: bool, kind: Kind) -> Kind
     match kind {
         Kind::Obj { iface, .. } if forgives => Kind::Obj { null: true, iface },
         _ => kind,
-    }
-}
-
-/// Judges a value whose spelling starts there, and keeps where it lies.
-fn resolve<L: Lookup>(
-    lookup: &L,
-    forgives: bool,
-    place: usize,
-    kind: Kind,
-    body: &[u8],
-    start: usize,
-    descriptors: usize,
-    value: ValueRef<'_>,
-) -> Result<ParsedArg, Fault>
-    requires start { start ≤ length body.now }
-    requires lies { Lies (drop start body.now) (lent value) }
-    ensures { parsed_one body.now (L.reader lookup.now).birth result
-        ≡ made_unless (L.reader lookup.now) descriptors (lent value.entry)
-        (value_fault (forgiving forgives (L.reader lookup.now)) place kind (lent value.entry)) }
-{
-    match value {
-        ValueRef::Int(number) => Ok(ParsedArg::Int(number)),
-        ValueRef::Uint(number) => Ok(ParsedArg::Uint(number)),
-        ValueRef::Fixed(number) => Ok(ParsedArg::Fixed(number)),
-        ValueRef::Str(string) => match string {
-            None => Ok(ParsedArg::Null),
-            Some(text) => Ok(ParsedArg::Str {
-                len: text.len() as u32,
-                start: start + 4,
-            }),
-        },
-        ValueRef::Obj(id) => {
-            if id == 0 {
-                return Ok(ParsedArg::NoObject { id });
-            }
-            let entry = lookup.object(id);
-            if !forgives {
-                if let Some(fault) = object_fault(place, iface_of(kind), entry) {
-                    return Err(fault);
-                }
-            }
-            Ok(object_of(id, entry))
-        }
-        ValueRef::New(id) => {
-            if let Some(fault) = new_fault(place, lookup.new_id(id)) {
-                return Err(fault);
-            }
-            Ok(ParsedArg::New { id })
-        }
-        ValueRef::NewNamed { iface, version, id } => {
-            if let Some(fault) = new_fault(place, lookup.new_id(id)) {
-                return Err(fault);
-            }
-            Ok(ParsedArg::Bound {
-                len: iface.len() as u32,
-                start: start + 4,
-                version,
-                id,
-            })
-        }
-        ValueRef::Array(bytes) => Ok(ParsedArg::Array {
-            len: bytes.len() as u32,
-            start: start + 4,
-        }),
-        ValueRef::Fd => Ok(ParsedArg::Fd { place: descriptors }),
     }
 }
 

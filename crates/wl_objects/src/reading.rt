@@ -4,7 +4,8 @@ ghost use Rattle.std.specs.Borrow.{sem};
 ghost use Rattle.std.specs.Io.BufRead.{Rests};
 ghost use Rattle.wl_wire.specs.Word.{IsHeader};
 ghost use Rattle.wl_sigs.specs.Valid.{Valid};
-ghost use Rattle.wl_objects.specs.Reading.{descriptors, object_fault, new_fault, iface_of};
+ghost use Rattle.wl_objects.specs.Reading.{by_maker, descriptors, object_fault, new_fault};
+ghost use Rattle.wl_objects.specs.Reading.{iface_of};
 ghost use Rattle.wl_objects.specs.Messages.{is_error, received};
 ghost use Rattle.wl_objects.specs.Seen.{received_of, received_in};
 ghost use Rattle.wl_objects.specs.Parsed.{AreParsed};
@@ -13,7 +14,7 @@ ghost use Rattle.wl_objects.specs.contracts.parsed.ParsedArgs.{the_row};
 use crate::error::Fault;
 use crate::lookup::{Lookup, NewId};
 use crate::messages::is_error;
-use crate::parsed::{ParsedArgs, parse_body};
+use crate::parsed::{ParsedArgs, Parser};
 use crate::values::Values;
 use wl_object_map::{Entry, Object};
 use wl_sigs::{Side, Signature, Tables};
@@ -89,7 +90,12 @@ pub fn receive<'t: 'a, 'a, L: Lookup>(
     }
     let is_error = is_error(side, entry.iface, header.opcode);
     let kinds = signature.kinds();
-    let rest = parse_body(lookup, is_error, kinds, body, args)?;
+    let parser = Parser {
+        lookup,
+        forgives: is_error,
+        body,
+    };
+    let rest = parser.parse_body(kinds, args)?;
     if !rest.is_empty() {
         return Err(Fault::TrailingBytes);
     }
@@ -139,6 +145,17 @@ pub(crate) fn object_fault(
         (None, Some(_)) => None,
         (Some(iface), Some(entry)) if iface == entry.iface => None,
         _ => Some(Fault::BadObject(place)),
+    }
+}
+
+/// What an id is as that of a new object of this kind.
+pub(crate) fn new_id_as<L: Lookup>(lookup: &L, kind: Kind, id: u32) -> NewId
+    ensures { result ≡ by_maker kind ((L.reader lookup.now).new_id id)
+        ((L.reader lookup.now).new_server_id id) }
+{
+    match kind {
+        Kind::NewByServer(_) => lookup.new_server_id(id),
+        _ => lookup.new_id(id),
     }
 }
 

@@ -2,16 +2,19 @@
 ghost use Rattle.std.specs.Prelude.{◌≡◌, ◌≤◌, ◌+◌, ◌++◌, length, take, drop};
 ghost use Rattle.wl_wire.specs.Argument.{lent, NewNamed};
 ghost use Rattle.wl_wire.specs.Word.{header_bytes};
+ghost use Rattle.wl_sigs.specs.Tables.{max_args};
 ghost use Rattle.wl_objects.specs.Writing.{given, given_of, wired, on_wire, message_len};
-ghost use Rattle.wl_objects.specs.Writing.{tokens_of, spelled, EachFits};
+ghost use Rattle.wl_objects.specs.Writing.{message_bytes, tokens_of, spelled, call_message};
+ghost use Rattle.wl_objects.specs.Writing.{BindFits, CallFits, EachFits, values_of_bind};
 
 use crate::argument::Arg;
-use crate::parsed::MAX_ARGS;
+use crate::calling::message_len;
+use wl_sigs::MAX_ARGS;
 use wl_sigs::request::wl_registry::BIND;
-use wl_wire::{Encode, Header, ValueRef, write_value};
+use wl_wire::{Encode, HEADER_LEN, Header, ValueRef, write_value};
 
-/// The number of bytes of a header.
-const HEADER_LEN: usize = 8;
+/// Where the new object of a bind begins: behind the header and the name.
+const BOUND_AT: usize = HEADER_LEN + 4;
 
 /// The argument as it stands on the wire, where the new object gets this id.
 pub(crate) fn wired<'a>(arg: &Arg<'a>, new_id: u32) -> ValueRef<'a>
@@ -40,6 +43,27 @@ pub struct CallMessage<'a> {
     pub new_id: u32,
     /// How many bytes it has.
     pub len: usize,
+}
+
+impl<'a> CallMessage<'a> {
+    /// A message that makes no object, of a length that a header can have.
+    pub fn new(object: u32, opcode: u16, args: &'a [Arg<'a>]) -> CallMessage<'a>
+        requires fits { EachFits (on_wire 0 args.now) }
+        requires short { message_len (on_wire 0 args.now) ≤ 65535 }
+        ensures message { call_message result
+            ≡ message_bytes object opcode (on_wire 0 args.now) }
+        ensures args { result.args.now ≡ args.now }
+        ensures len { result.len ≡ message_len (on_wire 0 args.now) }
+        ensures fits { CallFits result }
+    {
+        CallMessage {
+            object,
+            opcode,
+            args,
+            new_id: 0,
+            len: message_len(args),
+        }
+    }
 }
 
 impl<'a> Encode for CallMessage<'a> {
@@ -80,17 +104,25 @@ impl<'a> Encode for BindMessage<'a> {
 
     #[tactic(auto, using(crate::proofs::Written::bind_len))]
     fn encoded_len(&self) -> usize {
-        12 + self.named().spelled_len()
+        self.len()
     }
 
     fn encode(&self, out: &mut [u8]) {
         write_header(out, self.registry, self.encoded_len(), BIND);
-        write_value(ValueRef::Uint(self.name), &mut out[8..12]);
-        write_value(self.named(), &mut out[12..]);
+        write_value(ValueRef::Uint(self.name), &mut out[HEADER_LEN..BOUND_AT]);
+        write_value(self.named(), &mut out[BOUND_AT..]);
     }
 }
 
 impl<'a> BindMessage<'a> {
+    /// How many bytes it has, whatever its id.
+    pub fn len(&self) -> usize
+        requires { BindFits self.now }
+        ensures { result ≡ message_len (values_of_bind self.now) }
+    {
+        BOUND_AT + self.named().spelled_len()
+    }
+
     /// The new object, with the interface and version that are named beside it.
     fn named(&self) -> ValueRef<'a>
         ensures { lent result
@@ -133,7 +165,7 @@ fn write_args(out: &mut [u8], args: &[Arg<'_>], new_id: u32)
 
 /// Writes the tokens of a call, in order, and returns how many there are.
 pub fn take_tokens(args: &[Arg<'_>], tokens: &mut [u32; MAX_ARGS]) -> usize
-    requires few { length args.now ≤ 20 }
+    requires few { length args.now ≤ max_args }
     ensures tokens { take result tokens.new ≡ tokens_of (given args.now) }
     ensures few { result ≤ length args.now }
 {

@@ -1,5 +1,5 @@
 -- What a server is after the step of a request.
-use Rattle.std.proofs.Common.{◌≡◌, ◌≢◌, ℕ, ◌+◌, ◌<◌, length, take, get_or, Bool, true, false, List}
+use Rattle.std.proofs.Common.{◌≡◌, ◌≢◌, ℕ, ◌+◌, ◌<◌, length, take, drop, get_or, Bool, true, false, List}
 use Rattle.std.proofs.Common.{[], ◌∷◌, ◌++◌, Some, None, map, refl, sym, ap, subst, ◌∙◌, inr, arith}
 use Rattle.std.proofs.Common.{rules, eqb, cond}
 use Rattle.std.specs.Prelude.{Option, not, if◌then◌else◌, IsOk, IsTrue, is_some}
@@ -19,13 +19,13 @@ use Rattle.wl_object_map.specs.Views.{look-opened_at}
 use Rattle.wl_objects.specs.declared.parsed.ParsedArg.{ParsedArg}
 use Rattle.wl_objects.specs.Messages.{NewObject, made, opens, same_iface, reader_of}
 use Rattle.wl_sigs.specs.Fixed.{registry}
-use Rattle.wl_message.specs.Arrived.{Arrived, TellsFront, without_first}
-use Rattle.wl_message.specs.declared.inbox.Frame.{Frame}
+use Rattle.wl_message.specs.Arrived.{Arrived, in_front, without_first}
+use Rattle.wl_message.specs.Cut.{message_size}
 use Rattle.wl_connection.specs.Core.{Core, past, with_view}
 use Rattle.wl_connection.specs.Receiving.{Found, is_none}
 use Rattle.wl_connection.specs.Outcomes.{answers_with, unless_memory}
-use Rattle.wl_connection.proofs.Frames.{body-front}
-use Rattle.wl_connection.proofs.ReceivedMessage.{first-tokens, some_reported}
+use Rattle.wl_connection.proofs.Frames.{same-body, same-tokens}
+use Rattle.wl_connection.proofs.ReceivedMessage.{some_reported}
 use Rattle.wl_server.specs.State.{State, Global, Registry, RiseFrom, with_core, untold}
 use Rattle.wl_server.specs.Requests.{Report, report, request, made_by_request, is_out_full, next_answer}
 use Rattle.wl_server.specs.Requests.{after_next, answer_found, state_found, state_past}
@@ -247,19 +247,15 @@ taken-is core now args p e = ap (λ (k : Core). taken_report k args p) e
 -- ---- the report that is copied
 
 -- the body and the tokens of a request in front, as they were told
-pub front-told : (core inner : Core) (args held : List ParsedArg) (p : PendingRequest) (o : Option Frame) (f : Frame)
-    (tokens : List ℕ) → inner ≡ core → held ≡ args → CanTake core (pending_in core args p) → o ≡ Some f
-    → TellsFront inner.inbox (Ok o) → length tokens ≡ 20
+pub front-told : (core inner : Core) (args held : List ParsedArg) (p : PendingRequest) (body tokens : List ℕ)
+    → inner ≡ core → held ≡ args → CanTake core (pending_in core args p)
+    → body ≡ drop 8 (take (message_size (in_front inner.inbox)) inner.inbox.bytes) → length tokens ≡ 20
     → ((place : ℕ) → place < p.tokens → place < 20 → get_or tokens place 0 ≡ get_or inner.inbox.tokens place 0)
-    → outlined f.body.now held (take p.tokens tokens) p.outline ≡ (pending_in core args p).report
-front-told core inner args held p o f tokens same kept can e t all first =
-    let told = subst (λ (x : Option Frame). TellsFront core.inbox (Ok x)) e
-    (subst (λ (k : Core). TellsFront k.inbox (Ok o)) same t) in
-    let body = body-front core.inbox.limit.bytes core.inbox.bytes f.body.now p.size f.header can.whole told.0 told.1 in
-    let few = can.few in
-    let own = first-tokens p.tokens tokens core.inbox.tokens (omega (arith, few, all)) can.tokens
-    (λ k less. first k less (omega (arith, less, few)) ∙ ap (λ (b : Core). get_or b.inbox.tokens k 0) same) in
-    λ i. outlined (body i) (kept i) (own i) p.outline
+    → outlined body held (take p.tokens tokens) p.outline ≡ (pending_in core args p).report
+front-told core inner args held p body tokens same kept can b all first =
+    let told = b ∙ same-body core inner p.size same can.whole in
+    let own = same-tokens core inner p.tokens tokens same can.few can.tokens all first in
+    λ i. outlined (told i) (kept i) (own i) p.outline
 
 -- ---- a read of an end and what stands beside it
 

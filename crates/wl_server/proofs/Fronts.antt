@@ -1,6 +1,6 @@
 -- What stands in front of a server's waiting bytes, and that it can be taken.
 use Rattle.std.proofs.Common.{◌≡◌, ◌≢◌, ℕ, zero, suc, ◌≤◌, Bool, true, false, List, [], ◌∷◌, length}
-use Rattle.std.proofs.Common.{take, drop, Some, refl, sym, ap, subst, ◌∙◌, inl, inr, arith}
+use Rattle.std.proofs.Common.{take, drop, Some, None, refl, sym, ap, subst, ◌∙◌, inl, inr, arith}
 use Rattle.std.specs.Prelude.{Option, ◌&&◌, nat_lt, nat_eq, slice_get, IsTrue, is_some}
 use Rattle.std.specs.Option.{option_and_then}
 use Rattle.std.specs.declared.result.Result.{Result}
@@ -30,11 +30,11 @@ use Rattle.wl_object_map.specs.declared.object.Object.{Object}
 use Rattle.wl_object_map.specs.declared.object.State.{State}
 use Rattle.wl_object_map.specs.declared.object.State.TheVariants.{Live, Zombie}
 use Rattle.wl_wire.specs.Argument.{Obj}
-use Rattle.wl_object_map.specs.View.{View, look}
+use Rattle.wl_object_map.specs.View.{View, free_or_next, has_room, look}
 use Rattle.wl_objects.specs.declared.parsed.ParsedArg.{ParsedArg}
 use Rattle.wl_objects.specs.Parsed.{AreParsed, reported_in}
 use Rattle.wl_objects.specs.Reading.{Reader, in_state, reports_of, Reported}
-use Rattle.wl_objects.specs.Messages.{Received, received, reader_of}
+use Rattle.wl_objects.specs.Messages.{NewObject, Received, received, reader_of}
 use Rattle.wl_connection.specs.Core.{Core, HasDisplay}
 use Rattle.wl_connection.specs.Receiving.{Found, found, reported, found_in, takes}
 use Rattle.wl_connection.specs.Sending.{delete_id_len, fits}
@@ -42,11 +42,12 @@ use Rattle.wl_connection.proofs.ReceivedMessage.{is_received}
 use Rattle.wl_connection.proofs.FoundStays.{is_found}
 use Rattle.wl_connection.proofs.Frames.{IsFrame, descriptors-le, found_frame, framed}
 use Rattle.wl_connection.proofs.Ends.{argument_received}
+use Rattle.wl_connection.proofs.NewIds.{new_is_free}
 use Rattle.wl_connection.proofs.Descriptors.{fds, reports_stay}
 use Rattle.wl_server.specs.State.{Global}
-use Rattle.wl_server.specs.Requests.{Report, report, request, unless_bad_bind, reported_object}
+use Rattle.wl_server.specs.Requests.{Report, made_by_request, report, request, unless_bad_bind, reported_object}
 use Rattle.wl_server.specs.Steps.{Step, step_of, step_found, front_step, server_state, pending_in}
-use Rattle.wl_server.specs.Steps.{pending_of, ended_by_request, report_with, HasRow, CanTake, IsEndedBy}
+use Rattle.wl_server.specs.Steps.{pending_of, ended_by_request, report_with, HasFreeId, HasRow, CanTake, IsEndedBy}
 use Rattle.wl_server.specs.Steps.{IsPendingOf, is_bad}
 
 abbrev pub read_by : Core → Header → List ℕ → ℕ → Result Received Fault
@@ -231,6 +232,13 @@ full_by core m args ended b k e =
     (sym (ap is_some (k 0 0 [] []) ∙ is_some_ended m.signature.destroys
     (report_with m.target 0 (reported_in [] 0 [] args)))) ∙ e
 
+-- what a request makes can be opened
+has_free : (view : View) (o : Option NewObject)
+    → ((new : NewObject) → o ≡ Some new → (free_or_next view new.id ≡ true) × (has_room view new.id ≡ true))
+    → HasFreeId view o
+has_free view None h = tt
+has_free view (Some new) h = h new refl
+
 can_take_found : (core : Core) (h : Header) (body : List ℕ) (waiting : ℕ) (m : Received) → Valid core.tables
     → HasDisplay core.view → IsFrame core h body waiting → Ok m ≡ read_by core h body waiting
     → (destroys_one m.signature.destroys && nat_lt (room_of core.outbox) delete_id_len) ≡ false
@@ -247,6 +255,8 @@ can_take_found core h body waiting m v d s e f =
             r.signature,
       );
       birth = refl;
+      made = has_free core.view (made_by_request core m)
+          (λ new is. new_is_free core.tables request_side core.view h body waiting m new (sym e) is);
       ended = λ object is.
           let there = ended_there core h body waiting m v d e object is in
           record {

@@ -24,7 +24,7 @@ use Rattle.wl_object_map.specs.Views.{look-closed, eqb_is, cases_row, some_is}
 use Rattle.wl_objects.specs.declared.error.SendError.{SendError}
 use Rattle.wl_objects.specs.declared.error.SendError.TheVariants as refusals
 use Rattle.wl_objects.specs.Writing.{Given}
-use Rattle.wl_objects.specs.Messages.{NewObject, made, opens, same_iface, checked, is_hidden, live_row, Server, after}
+use Rattle.wl_objects.specs.Messages.{NewObject, made, opens, same_iface, checked, is_hidden, live_row, after}
 use Rattle.wl_objects.specs.Writing.{is_live_as}
 use Rattle.wl_objects.proofs.Wholes.{passes}
 use Rattle.wl_connection.specs.Core.{Core, past, with_view}
@@ -317,6 +317,7 @@ makes_none tables version (kinds.Fixed ∷ ks) (v ∷ values) h = makes_none tab
 makes_none tables version (kinds.Str null ∷ ks) (v ∷ values) h = makes_none tables version ks values h
 makes_none tables version (kinds.Obj null iface ∷ ks) (v ∷ values) h = makes_none tables version ks values h
 makes_none tables version (kinds.New iface ∷ ks) (v ∷ values) h = absurd (cc h)
+makes_none tables version (kinds.NewByServer iface ∷ ks) (v ∷ values) h = makes_none tables version ks values h
 makes_none tables version (kinds.Array ∷ ks) (v ∷ values) h = makes_none tables version ks values h
 makes_none tables version (kinds.Fd ∷ ks) (v ∷ values) h = makes_none tables version ks values h
 
@@ -356,8 +357,8 @@ after_event core target opcode list v = by_result
         → made_at core target m list ≡ None
         → ((d : Entry) → look core.view target.id ≡ Some d → d.iface ≢ registry)
         → After core target (after_checked core Event target opcode list (Ok (record m { destroys = what })))
-    by_what m Nothing n e f = inl (ap (λ (o : Option NewObject). after Server core.view o Nothing target.id) e)
-    by_what m Target n e f = inr (ap (λ (o : Option NewObject). after Server core.view o Target target.id) e, f)
+    by_what m Nothing n e f = inl (ap (λ (o : Option NewObject). after Event core.view o Nothing target.id) e)
+    by_what m Target n e f = inr (ap (λ (o : Option NewObject). after Event core.view o Target target.id) e, f)
     by_what m (Arg k) n e f = absurd (n k refl)
 
     by_result : (x : Result MessageSignature SendError)

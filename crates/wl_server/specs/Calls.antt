@@ -17,6 +17,7 @@ use Rattle.wl_object_map.specs.View.{closed}
 use Rattle.wl_objects.specs.Messages.{live_row, same_iface}
 use Rattle.wl_connection.specs.Core.{Core, with_view}
 use Rattle.wl_connection.specs.Sending.{fits, with_delete_id, delete_id_len, with_error_event}
+use Rattle.wl_connection.specs.Sending.{max_error_text}
 use Rattle.wl_server.specs.declared.globals.GlobalError.{GlobalError}
 use Rattle.wl_server.specs.declared.globals.GlobalError.TheVariants as global_errors
 use Rattle.wl_server.specs.State.{State, Global, global_of}
@@ -42,10 +43,6 @@ abbrev pub after_drop : Core → Object → Core
 after_drop core object = with_view (with_delete_id core object.id) (closed core.view object.id)
 
 -- ---- an error by the compositor
-
--- the most bytes that the text of an error has
-abbrev pub max_error_text : ℕ
-max_error_text = 40
 
 abbrev pub is_error_text : List ℕ → Bool
 is_error_text text = nat_le (length text) max_error_text && not (list_any (λ b. nat_eq b 0) text)

@@ -13,3 +13,4 @@ pub mod Spelled
 pub mod Lent
 pub mod Slots
 pub mod Words
+pub mod Shown

@@ -6,7 +6,7 @@ use Rattle.std.specs.declared.result.Result.TheVariants.{Ok, Err}
 use Rattle.wl_wire.specs.Argument.{Argument, Uint, Obj, NewNamed}
 use Rattle.wl_sigs.specs.declared.signature.Destroys.{Destroys}
 use Rattle.wl_sigs.specs.declared.signature.Destroys.TheVariants.{Nothing, Target, Arg}
-use Rattle.wl_sigs.specs.declared.signature.Side.TheVariants.{Request as request_side}
+use Rattle.wl_sigs.specs.declared.signature.Side.TheVariants.{Request as request_side, Event as event_side}
 use Rattle.wl_sigs.specs.Tables.{Interface, interface_at, destroys_one}
 use Rattle.wl_message.specs.Outgoing.{room_of}
 use Rattle.wl_object_map.specs.declared.object.Object.{Object}
@@ -16,10 +16,11 @@ use Rattle.wl_objects.specs.declared.error.NextError.{NextError}
 use Rattle.wl_objects.specs.declared.error.NextError.TheVariants as errors
 use Rattle.wl_objects.specs.declared.argument.Named.TheVariants as named_as
 use Rattle.wl_objects.specs.Reading.{Reported}
-use Rattle.wl_objects.specs.Messages.{Received, NewObject, made, is_bind, Server as server, after}
+use Rattle.wl_objects.specs.Messages.{Received, NewObject, made, is_bind, after}
 use Rattle.wl_connection.specs.Core.{Core, with_view}
 use Rattle.wl_connection.specs.Outcomes.{AnswersOrMemory, answers_with}
 use Rattle.wl_connection.specs.Receiving.{Found, found, reported, past_found, is_none}
+use Rattle.wl_connection.specs.Roles.{Role, front_answer, role_answer, front_left, role_after}
 use Rattle.wl_connection.specs.Sending.{with_following, with_error_event, delete_id_len}
 use Rattle.wl_server.specs.State.{State, Global, Registry, global_of, untold, with_core}
 use Rattle.wl_server.specs.Registries.{with_registry, without_registry, registry_birth}
@@ -127,7 +128,7 @@ ended core f = ended_object f.message.signature.destroys (report core f)
 abbrev pub core_after : Core → Found → Core
 core_after core f =
     with_following (destroys_it f.message) (ended core f).id
-    (with_view (past_found core f) (after server core.view (made_by_request core f.message)
+    (with_view (past_found core f) (after event_side core.view (made_by_request core f.message)
     f.message.signature.destroys (ended core f).id))
 
 -- a new registry was told nothing yet
@@ -153,26 +154,37 @@ needs_memory report = not (is_none report.args)
 abbrev pub is_out_full : Core → Found → Bool
 is_out_full core f = destroys_it f.message && nat_lt (room_of core.outbox) delete_id_len
 
+-- After each request more can be read.
+abbrev pub is_last : Report → Bool
+is_last report = false
+
+abbrev pub server_role : Role State Report
+server_role = record {
+  core = λ state. state.core;
+  with_core = with_core;
+  reads = request_side;
+  in_front = request;
+  is_full = is_out_full;
+  report = report;
+  past = state_past;
+  failing = after_fault;
+  is_last = is_last;
+}
+
 abbrev pub answer_found : Core → Result (Option Found) Fault → Result (Option Report) NextError
-answer_found core (Err fault) = Err (errors.Fault fault core.read)
-answer_found core (Ok None) = Ok None
-answer_found core (Ok (Some f)) =
-    if is_out_full core f then Err errors.OutFull else Ok (Some (report core f))
+answer_found core front = front_answer server_role core front
 
 -- What `next` returns: what the first message is, nothing where none is whole, or why it cannot be
 -- read.
 abbrev pub next_answer : State → Result (Option Report) NextError
-next_answer state =
-    if state.core.failed then Err errors.Failed else answer_found state.core (request state)
+next_answer state = role_answer server_role state
 
 abbrev pub state_found : State → Result (Option Found) Fault → State
-state_found state (Err fault) = after_fault state fault
-state_found state (Ok None) = state
-state_found state (Ok (Some f)) = if is_out_full state.core f then state else state_past state f
+state_found state front = front_left server_role state front
 
 -- What `next` leaves.
 abbrev pub after_next : State → State
-after_next state = if state.core.failed then state else state_found state (request state)
+after_next state = role_after server_role state
 
 -- What `next_owned` returns where memory can be refused: out of memory stands only in place of a
 -- report that needs some.

@@ -4,6 +4,7 @@ use Rattle.std.specs.declared.result.Result.{Result}
 use Rattle.std.specs.declared.result.Result.TheVariants.{Ok, Err}
 use Rattle.wl_objects.specs.declared.error.NextError.{NextError}
 use Rattle.wl_objects.specs.Parsed.{seen_args}
+use Rattle.wl_connection.specs.Outcomes.{read_as}
 use Rattle.wl_server.specs.declared.report.Request.{Request}
 use Rattle.wl_server.specs.declared.report.OwnedRequest.{OwnedRequest}
 use Rattle.wl_server.specs.declared.report.RequestWithEntry.{RequestWithEntry}
@@ -24,9 +25,7 @@ request_in (Ok (Some read)) = Ok (Some (report_of read.request))
 -- what `next_owned` answered
 abbrev pub report_in : {A : Type 0} → Result (Option (OwnedRequest A)) NextError
     → Result (Option Report) NextError
-report_in (Err why) = Err why
-report_in (Ok None) = Ok None
-report_in (Ok (Some read)) = Ok (Some (report_of read))
+report_in result = read_as report_of result
 
 -- what a lent report is
 abbrev pub lent_report : Request → Report

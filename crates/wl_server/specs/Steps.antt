@@ -7,7 +7,7 @@ use Rattle.std.specs.declared.result.Result.TheVariants.{Ok, Err}
 use Rattle.wl_sigs.specs.declared.signature.Destroys.{Destroys}
 use Rattle.wl_sigs.specs.declared.signature.Destroys.TheVariants.{Nothing, Target, Arg}
 use Rattle.wl_sigs.specs.declared.signature.Side.TheVariants.{Request as request_side}
-use Rattle.wl_sigs.specs.Tables.{Interface}
+use Rattle.wl_sigs.specs.Tables.{Interface, max_args}
 use Rattle.wl_message.specs.Arrived.{in_front}
 use Rattle.wl_message.specs.Cut.{Whole}
 use Rattle.wl_object_map.specs.declared.object.Entry.{Entry}
@@ -16,7 +16,7 @@ use Rattle.wl_objects.specs.declared.error.Fault.TheVariants as faults
 use Rattle.wl_objects.specs.declared.error.NextError.{NextError}
 use Rattle.wl_objects.specs.declared.error.NextError.TheVariants as errors
 use Rattle.wl_object_map.specs.declared.object.Object.{Object}
-use Rattle.wl_object_map.specs.View.{View, look, closed}
+use Rattle.wl_object_map.specs.View.{View, look, closed, free_or_next, has_room}
 use Rattle.wl_wire.specs.declared.header.Header.{Header}
 use Rattle.wl_objects.specs.Reading.{Reported, descriptors}
 use Rattle.wl_objects.specs.declared.parsed.ParsedArg.{ParsedArg}
@@ -174,13 +174,19 @@ pub record CanEnd (core : Core) (object : Object) : Type 0 where
   pub not_display : object.id ≢ 1
   pub room : IsTrue (fits core.outbox delete_id_len 0)
 
+-- what is made can be opened: its id is free, and the limits leave room for it
+abbrev pub HasFreeId : View → Option NewObject → Type 0
+HasFreeId view None = Unit {0}
+HasFreeId view (Some m) = IsTrue (free_or_next view m.id) × IsTrue (has_room view m.id)
+
 -- A step can be taken: its message stands in front and its tokens wait, the next object gets its
--- birth, and an object that it destroys can be closed.
+-- birth, what it makes can be opened, and an object that it destroys can be closed.
 pub record CanTake (core : Core) (step : Step) : Type 0 where
   pub whole : in_front core.inbox ≡ Whole step.size
   pub tokens : step.tokens ≤ length core.inbox.tokens
-  pub few : step.tokens ≤ 20
+  pub few : step.tokens ≤ max_args
   pub birth : step.birth ≡ core.view.births
+  pub made : HasFreeId core.view step.made
   pub ended : (object : Object) → step.ended ≡ Some object → CanEnd core object
 
 -- the request in front, unless the server has failed

@@ -1,12 +1,7 @@
 -- How a server reads a stream.
-use Rattle.std.specs.Prelude.{Bool, false}
 use Rattle.wl_connection.specs.Reads.{Reading}
 use Rattle.wl_server.specs.State.{State, with_core}
-use Rattle.wl_server.specs.Requests.{Report, next_answer, after_next}
-
--- After each request more can be read.
-abbrev pub is_last : Report → Bool
-is_last report = false
+use Rattle.wl_server.specs.Requests.{Report, is_last, next_answer, after_next}
 
 abbrev pub server_reading : Reading State Report
 server_reading = record {

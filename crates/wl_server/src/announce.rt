@@ -1,8 +1,9 @@
 //! What a server writes to its client's registries: wl_registry.global and global_remove.
 ghost use Rattle.std.specs.Prelude.{◌≡◌, ◌≤◌, ◌∷◌, [], false, true, IfErr, IfOk, length, take};
 ghost use Rattle.wl_wire.specs.Spelling.{IsText};
+ghost use Rattle.wl_sigs.specs.Tables.{max_name_len};
 ghost use Rattle.wl_objects.specs.declared.error.SendError.TheVariants as refusals;
-ghost use Rattle.wl_connection.specs.Core.{IsOrdinary};
+ghost use Rattle.wl_connection.specs.Core.{IsOrdinary, max_globals};
 ghost use Rattle.wl_server.specs.Registries.{HasRegistries};
 ghost use Rattle.wl_server.specs.Announcing.{Fitting, Removal, Telling, after_announce, due_to};
 ghost use Rattle.wl_server.specs.Announcing.{name_at, owed_in};
@@ -16,13 +17,10 @@ use crate::open_registries::OpenRegistries;
 use crate::registry::{OpenRegistry, Slot};
 use crate::server::Server;
 use wl_connection::Core;
-use wl_objects::{Arg, SendError, Table};
+use wl_objects::{Arg, CallMessage, SendError, Table};
 use wl_sigs::Tables;
 use wl_sigs::event::wl_registry::{GLOBAL, GLOBAL_REMOVE};
-use wl_wire::{Iface, ValueRef};
-
-/// The number of bytes of wl_registry.global_remove.
-const GLOBAL_REMOVE_LEN: usize = 12;
+use wl_wire::Iface;
 
 /// How many events were written, and whether these were all that were owed. Where they were not,
 /// the next does not fit.
@@ -36,7 +34,7 @@ pub(crate) struct Announced {
 fn name_at(tables: &Tables, iface: Iface) -> &[u8]
     ensures name { result.now ≡ name_at tables.now iface }
     ensures text { IsText result.now }
-    ensures short { length result.now ≤ 256 }
+    ensures short { length result.now ≤ max_name_len }
 {
     match tables.name(iface) {
         Some(name) => name,
@@ -48,11 +46,12 @@ fn name_at(tables: &Tables, iface: Iface) -> &[u8]
 fn write_global_remove<T: Table>(core: &mut Core<'_, T>, registry: u32, name: u32) -> bool
     ensures { IsWritten core.old registry (Removal name) result core.new }
 {
-    if !core.fits(GLOBAL_REMOVE_LEN, 0) {
+    let args = [Arg::Uint(name)];
+    let message = CallMessage::new(registry, GLOBAL_REMOVE, &args);
+    if !core.fits(message.len, 0) {
         return false;
     }
-    let args = [Arg::Uint(name)];
-    core.write_call(registry, GLOBAL_REMOVE, &args, None, GLOBAL_REMOVE_LEN, 0);
+    core.write_call(&message, 0);
     true
 }
 
@@ -66,16 +65,16 @@ fn write_global<T: Table>(
     ensures { IsWritten core.old registry (Telling name global) result core.new }
 {
     let iface = name_at(core.tables, global.iface);
-    let len = 16 + ValueRef::Str(Some(iface)).spelled_len();
-    if !core.fits(len, 0) {
-        return false;
-    }
     let args = [
         Arg::Uint(name),
         Arg::Str(Some(iface)),
         Arg::Uint(global.version),
     ];
-    core.write_call(registry, GLOBAL, &args, None, len, 0);
+    let message = CallMessage::new(registry, GLOBAL, &args);
+    if !core.fits(message.len, 0) {
+        return false;
+    }
+    core.write_call(&message, 0);
     true
 }
 
@@ -87,7 +86,7 @@ fn announce_to<T: Table>(
     withdrawn: &Marks,
     registry: &mut OpenRegistry,
 ) -> Announced
-    requires few { length globals.now ≤ 1024 }
+    requires few { length globals.now ≤ max_globals }
     requires withdrawn { AreWithdrawn globals.now withdrawn.now }
     requires ordinary { IsOrdinary core.old.outbox }
     ensures told { IsAnnounced core.old (registry.old ∷ []) (due_to globals.now registry.old) result
@@ -141,7 +140,7 @@ fn announce_from<T: Table>(
     slots: &mut [Slot],
     settled: &mut usize,
 ) -> Announced
-    requires few { length globals.now ≤ 1024 }
+    requires few { length globals.now ≤ max_globals }
     requires withdrawn { AreWithdrawn globals.now withdrawn.now }
     requires ordinary { IsOrdinary core.old.outbox }
     requires rising { SlotsRise 0 slots.old }
@@ -176,7 +175,7 @@ fn announce_to_all<T: Table>(
     globals: &[Advertised],
     registries: &mut OpenRegistries<T::Alloc>,
 ) -> Announced
-    requires few { length globals.now ≤ 1024 }
+    requires few { length globals.now ≤ max_globals }
     requires ordinary { IsOrdinary core.old.outbox }
     requires settled { owed_in globals.now (settled_in registries.old) ≡ [] }
     ensures told { IsAnnounced core.old registries.old.list

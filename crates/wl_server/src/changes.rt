@@ -9,12 +9,12 @@ ghost use Rattle.wl_connection.specs.Sending.{delete_id_len, fits};
 ghost use Rattle.wl_server.specs.Requests.{registries_after};
 ghost use Rattle.wl_server.specs.Slots.{KeepsSettled};
 ghost use Rattle.wl_server.specs.Registries.{IsFreshId, IsSound};
-ghost use Rattle.wl_server.specs.Steps.{HasRow, core_without, registries_without};
+ghost use Rattle.wl_server.specs.Steps.{HasFreeId, HasRow, core_without, registries_without};
 
 use crate::open_registries::OpenRegistries;
 use std::alloc::AllocError;
 use wl_connection::Core;
-use wl_objects::{NewObject, Object, REGISTRY, Table};
+use wl_objects::{NewObject, Object, REGISTRY, Table, TableError};
 
 /// What a request changes at a server.
 #[derive(Clone, Copy, Debug)]
@@ -32,6 +32,7 @@ pub(crate) fn open_new_object<T: Table>(
     made: Option<NewObject>,
     birth: u64,
 ) -> Result<(), AllocError>
+    requires free { HasFreeId core.old.view made }
     requires birth { birth ≡ core.old.view.births }
     requires past { registries.old.past ≤ core.old.view.births }
     ensures core { OnOk result (core.new ≡ with_view core.old (opens core.old.view made)) }
@@ -58,6 +59,7 @@ fn open_object<T: Table>(
     made: NewObject,
     birth: u64,
 ) -> Result<(), AllocError>
+    requires free { HasFreeId core.old.view (Some made) }
     requires birth { birth ≡ core.old.view.births }
     requires past { registries.old.past ≤ core.old.view.births }
     ensures core { OnOk result (core.new ≡ with_view core.old (opens core.old.view (Some made))) }
@@ -72,14 +74,26 @@ fn open_object<T: Table>(
     if made.iface == REGISTRY {
         let object = Object { id: made.id, birth };
         registries.reserve()?;
-        match core.open_at(made) {
-            Ok(_) => registries.push_reserved(object),
-            Err(_) => return Err(AllocError),
-        }
-    } else if core.open_at(made).is_err() {
-        return Err(AllocError);
+        open_free(core, made)?;
+        registries.push_reserved(object);
+    } else {
+        open_free(core, made)?;
     }
     Ok(())
+}
+
+/// Opens an object at an id that is free. Where there is no memory nothing changes.
+fn open_free<T: Table>(core: &mut Core<'_, T>, made: NewObject) -> Result<(), AllocError>
+    requires free { HasFreeId core.old.view (Some made) }
+    ensures ok { OnOk result (core.new ≡ with_view core.old (opens core.old.view (Some made))) }
+    ensures err { OnErr result (core.new ≡ core.old) }
+    ensures fresh { IsFreshId core.old.view (Some made) }
+{
+    match core.open_at(made) {
+        Ok(_) => Ok(()),
+        Err(TableError::Memory) => Err(AllocError),
+        Err(TableError::InUse | TableError::NotNext | TableError::NoIds) => unreachable!(),
+    }
 }
 
 /// Closes an object that a request destroys, and writes its delete_id.

@@ -57,9 +57,9 @@ impl<'t, T: Table> End for Server<'t, T> {
 }
 
 impl<'t, T: Table> Receiver for Server<'t, T> {
-    ghost use Rattle.wl_server.specs.Requests.{Report as ServerReport, next_answer, after_next};
+    ghost use Rattle.wl_server.specs.Requests.{Report as ServerReport, is_last, next_answer};
+    ghost use Rattle.wl_server.specs.Requests.{after_next};
     ghost use Rattle.wl_server.specs.Seen.{report_of};
-    ghost use Rattle.wl_server.specs.Streams.{is_last};
 
     type Report = OwnedRequest<T::Alloc>;
 

@@ -1,6 +1,7 @@
 //! What a server writes after a fault: wl_display.error, by which the connection ends.
 ghost use Rattle.std.specs.Prelude.{◌≡◌, ◌≤◌, IsTrue, false, length};
 ghost use Rattle.wl_objects.specs.Writing.{has_no_nul};
+ghost use Rattle.wl_connection.specs.Sending.{max_error_text};
 ghost use Rattle.wl_server.specs.Requests.{fault_code, fault_message};
 ghost use Rattle.wl_server.specs.Steps.{core_told};
 
@@ -33,7 +34,7 @@ fn fault_code(fault: Fault) -> u32
 fn fault_message(fault: Fault) -> &'static [u8]
     ensures text { result.now ≡ fault_message fault }
     ensures plain { IsTrue (has_no_nul result.now) }
-    ensures short { length result.now ≤ 40 }
+    ensures short { length result.now ≤ max_error_text }
 {
     match fault {
         Fault::BadSize => b"bad message size",

@@ -1,5 +1,6 @@
 //! The globals that a server advertises.
 ghost use Rattle.std.specs.Prelude.{◌≡◌, ◌≤◌, OnOk, OnErr, true, length};
+ghost use Rattle.wl_connection.specs.Core.{max_globals};
 ghost use Rattle.wl_connection.specs.Outcomes.{AnswersOrMemory, refusal_in};
 ghost use Rattle.wl_server.specs.State.{global_of};
 ghost use Rattle.wl_server.specs.Calls.{add_answer, after_withdraw, can_be_global, version_in};
@@ -150,7 +151,7 @@ pub(crate) fn global_of(globals: &[Advertised], name: u32) -> Option<Advertised>
 
 /// The names of the withdrawn ones among these globals.
 pub(crate) fn withdrawn_names(globals: &[Advertised]) -> Marks
-    requires { length globals.now ≤ 1024 }
+    requires { length globals.now ≤ max_globals }
     ensures { AreWithdrawn globals.now result }
 {
     let mut withdrawn = Marks::new();

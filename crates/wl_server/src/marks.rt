@@ -1,6 +1,7 @@
 //! Marks of the names of globals, a bit for each.
 ghost use Rattle.std.specs.Prelude.{◌≡◌, ◌≤◌, ◌<◌, ◌+◌, ◌*◌, ◌==◌, ℕ, true, false, replicate};
 ghost use Rattle.std.specs.Int.{bit_at};
+ghost use Rattle.wl_connection.specs.Core.{max_globals};
 ghost use Rattle.wl_server.specs.State.{mark_of, with_mark};
 
 use std::marker::Model;
@@ -19,17 +20,18 @@ pub(crate) struct Marks {
 
 impl Model for Marks {
     ghost use Rattle.std.specs.Prelude.{List, Bool};
+    ghost use Rattle.wl_connection.specs.Core.{max_globals};
     ghost use Rattle.wl_server.specs.Bits.{bits};
 
     ghost Value = { List Bool };
 
-    ghost view = { λ m. bits 1024 0 m.words };
+    ghost view = { λ m. bits max_globals 0 m.words };
 }
 
 impl Marks {
     /// No name is marked.
     pub(crate) fn new() -> Marks
-        ensures { result ≡ replicate 1024 false }
+        ensures { result ≡ replicate max_globals false }
     {
         Marks {
             words: [0; WORD_COUNT],
@@ -38,7 +40,7 @@ impl Marks {
 
     /// Whether a name is marked.
     pub(crate) fn has(&self, name: u32) -> bool
-        requires { (0 < name) × (name ≤ 1024) }
+        requires { (0 < name) × (name ≤ max_globals) }
         ensures { result ≡ mark_of self.now name }
     {
         let place = name as usize - 1;
@@ -47,7 +49,7 @@ impl Marks {
 
     /// Marks a name.
     pub(crate) fn set(&mut self, name: u32)
-        requires { (0 < name) × (name ≤ 1024) }
+        requires { (0 < name) × (name ≤ max_globals) }
         ensures set { self.new ≡ with_mark self.old name }
         ensures marked { mark_of self.new name ≡ true }
     {

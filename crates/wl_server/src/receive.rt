@@ -215,14 +215,9 @@ fn copy<T: Table>(
     ensures target { IfOk result (λ report. report.target ≡ request.now.outline.target) }
 {
     let tokens = end.core.first_tokens(request.tokens);
-    let frame = match end.core.inbox.frame() {
-        Ok(Some(frame)) => frame,
-        _ => return Err(AllocError),
-    };
     let tokens = &tokens[..request.tokens];
-    request
-        .outline
-        .to_owned(alloc, &end.args, frame.body, tokens)
+    let body = end.core.inbox.body();
+    request.outline.to_owned(alloc, &end.args, body, tokens)
 }
 
 /// Takes the message in front with its tokens, opens the object that it makes and closes the one

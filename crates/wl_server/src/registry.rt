@@ -1,5 +1,6 @@
 //! The open registries of a server's client, and what each was told of the globals.
 ghost use Rattle.std.specs.Prelude.{◌≡◌, ◌≤◌, ◌<◌, true};
+ghost use Rattle.wl_connection.specs.Core.{max_globals};
 ghost use Rattle.wl_server.specs.State.{mark_of, untold, with_mark};
 ghost use Rattle.wl_server.specs.Announcing.{owes_removal, owes_telling};
 ghost use Rattle.wl_server.specs.Words.{OwesNoRemoval, OwesNoTelling};
@@ -40,7 +41,7 @@ impl OpenRegistry {
 
     /// Whether the registry is owed global_remove of a name.
     pub(crate) fn owes_removal(&self, name: u32, global: Advertised) -> bool
-        requires { (0 < name) × (name ≤ 1024) }
+        requires { (0 < name) × (name ≤ max_globals) }
         ensures { result ≡ owes_removal self.now name global }
     {
         self.told.has(name) && !global.present && !self.removed.has(name)
@@ -48,7 +49,7 @@ impl OpenRegistry {
 
     /// Whether the registry is owed global of a name.
     pub(crate) fn owes_telling(&self, name: u32, global: Advertised) -> bool
-        requires { (0 < name) × (name ≤ 1024) }
+        requires { (0 < name) × (name ≤ max_globals) }
         ensures { result ≡ owes_telling self.now name global }
     {
         global.present && !self.told.has(name)
@@ -73,7 +74,7 @@ impl OpenRegistry {
 
     /// Marks a name as told of its removal.
     pub(crate) fn mark_removed(&mut self, name: u32)
-        requires { (0 < name) × (name ≤ 1024) }
+        requires { (0 < name) × (name ≤ max_globals) }
         ensures set { self.new ≡ record self.old { removed = with_mark self.old.removed name } }
         ensures marked { mark_of self.new.removed name ≡ true }
     {
@@ -82,7 +83,7 @@ impl OpenRegistry {
 
     /// Marks a name as told.
     pub(crate) fn mark_told(&mut self, name: u32)
-        requires { (0 < name) × (name ≤ 1024) }
+        requires { (0 < name) × (name ≤ max_globals) }
         ensures set { self.new ≡ record self.old { told = with_mark self.old.told name } }
         ensures marked { mark_of self.new.told name ≡ true }
     {

@@ -19,8 +19,8 @@ const MAX_ERROR_TEXT: usize = 40;
 
 impl<'t, T: Table> Server<'t, T> {
     /// Writes an event with these arguments. An object that it destroys is closed, and its
-    /// delete_id follows directly: both are written, or neither. No event makes an object, so `Ok`
-    /// has `None`.
+    /// delete_id follows directly: both are written, or neither. An event by which the server makes
+    /// an object is not spoken yet: it is S5 at that argument. So `Ok` has `None`.
     ///
     /// The refusals are tested in the order of their numbers: S1, S2, S3, S4, S5, S6, S8, S9. The
     /// events of wl_display and wl_registry, which other calls write, are S3.
@@ -32,7 +32,8 @@ impl<'t, T: Table> Server<'t, T> {
     ) -> Result<Option<Object>, SendError>
         ensures answer { IsSendAnswer self.old.core event_side target opcode (given args.now)
             result }
-        // No event makes an object: Ok has none, and neither S10 nor S11 is returned.
+        // No event that is written makes an object: Ok has none, and neither S10 nor S11 is
+        // returned.
         ensures nothing { OpensNothing result }
         ensures ok { OnOk result
             (self.new ≡ with_core self.old

@@ -12,7 +12,7 @@ use wl_message::Sizes;
 use wl_objects::Table;
 use wl_sigs::Tables;
 
-/// The server's end of one connection: its objects, its two boxes, the globals that it
+/// The server's end of one connection: its objects, its two queues, the globals that it
 /// advertises, and what each open registry was told of them.
 #[derive(Drop)]
 pub struct Server<'t, T: Table> {
@@ -28,6 +28,7 @@ impl<'t, T: Table> Model for Server<'t, T> {
     ghost use Rattle.std.specs.Prelude.{◌≡◌, ◌≤◌, [], length};
     ghost use Rattle.std.specs.Coded.{codes};
     ghost use Rattle.wl_object_map.specs.View.{view_code};
+    ghost use Rattle.wl_connection.specs.Core.{max_globals};
     ghost use Rattle.wl_server.specs.State.{State};
     ghost use Rattle.wl_server.specs.Registries.{HasRegistries, BirthsAreOnce};
     ghost use Rattle.wl_server.specs.Announcing.{owed_in};
@@ -44,7 +45,7 @@ impl<'t, T: Table> Model for Server<'t, T> {
     } };
 
     ghost invariant = { λ s. record {
-      few : length s.globals.items ≤ 1024;
+      few : length s.globals.items ≤ max_globals;
       registries : HasRegistries s.end.core.view s.registries.list;
       births : BirthsAreOnce s.end.core.view;
       past : s.registries.past ≤ s.end.core.view.births;
@@ -53,7 +54,7 @@ impl<'t, T: Table> Model for Server<'t, T> {
 }
 
 impl<'t, T: Table> Server<'t, T> {
-    /// A server with wl_display alone, empty boxes of these sizes and no globals.
+    /// A server with wl_display alone, empty queues of these sizes and no globals.
     pub fn new(alloc: T::Alloc, tables: &'t Tables, sizes: Sizes) -> Result<Self, AllocError>
         requires { AreSizes sizes }
         ensures { IfOk result (λ server. server ≡ new_state tables.now sizes) }

@@ -1,4 +1,8 @@
 //! What a server has read, printed.
+ghost use Rattle.std.specs.Prelude.{◌≡◌};
+ghost use Rattle.wl_trace_line.specs.Report.{shown_line};
+ghost use Rattle.wl_server.specs.Shown.{request_text};
+
 use crate::report::RequestWithEntry;
 use wl_sigs::{Side, Tables};
 use wl_trace_line::{MessageHead, ReportLine};
@@ -6,7 +10,9 @@ use wl_trace_line::{MessageHead, ReportLine};
 impl<'a> RequestWithEntry<'a> {
     /// The report, to be printed: `{}` prints it as the line of its message in a trace, as far as
     /// the report has it.
-    pub fn shown<'t>(&self, tables: &'t Tables) -> ReportLine<'t, 'a> {
+    pub fn shown<'t>(&self, tables: &'t Tables) -> ReportLine<'t, 'a>
+        ensures { shown_line result ≡ request_text tables.now self.now }
+    {
         ReportLine {
             head: MessageHead {
                 tables,

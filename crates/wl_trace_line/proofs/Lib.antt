@@ -1,1 +1,2 @@
-pub mod JoinedParts
+pub mod Listed
+pub mod Wrote

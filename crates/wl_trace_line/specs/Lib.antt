@@ -1,2 +1,5 @@
+pub mod Sinks
 pub mod Text
+pub mod Argument
 pub mod Line
+pub mod Report

@@ -1,6 +1,6 @@
 -- The texts of which a line is made.
 use Rattle.std.specs.Prelude.{ℕ, ◌/◌, ◌%◌, Bool, false, ◌&&◌, not, nat_le, nat_eq, if◌then◌else◌}
-use Rattle.std.specs.Prelude.{List, [], ◌∷◌, ◌++◌, codes, option_map, unwrap_or}
+use Rattle.std.specs.Prelude.{List, [], ◌∷◌, ◌++◌, codes, Option, Some, None, option_map, unwrap_or}
 use Rattle.std.specs.List.{flat_map, join_by}
 use Rattle.std.specs.Fmt.{decimal, digit_glyph}
 use Rattle.wl_wire.specs.declared.kind.Iface.{Iface}
@@ -10,8 +10,8 @@ use Rattle.wl_sigs.specs.Tables.{Interface, interface_at}
 
 -- which way a message went: a request to the server, an event to the client
 abbrev pub arrow : Side → List ℕ
-arrow Request = codes "->"
-arrow Event = codes "<-"
+arrow Request = codes "-> "
+arrow Event = codes "<- "
 
 -- an object by its interface's name and its id
 abbrev pub object_text : List ℕ → ℕ → List ℕ
@@ -25,6 +25,17 @@ new_text interface id = codes "new id " ++ object_text interface id
 abbrev pub name_of : List Interface → Iface → List ℕ
 name_of tables iface =
     unwrap_or (option_map (λ (i : Interface). i.name) (interface_at tables iface.0)) []
+
+-- the name of an object's interface, where that is known; the object may not be known where
+-- wl_display.error names it
+abbrev pub known_name : List Interface → Option Iface → List ℕ
+known_name tables None = codes "unknown"
+known_name tables (Some iface) = name_of tables iface
+
+-- a message up to its arguments: which way it went, the object that it is for, its name
+abbrev pub head_text : Side → List ℕ → ℕ → List ℕ → List ℕ
+head_text side interface id message =
+    arrow side ++ object_text interface id ++ codes "." ++ message
 
 -- whether a byte of a string is printed as it stands: 0x20 to 0x7e, but neither the quote nor the
 -- backslash

@@ -1,13 +1,17 @@
-//! One message as a line.
-ghost use Rattle.std.specs.Prelude.{◌≡◌, ◌<◌, ◌^◌, ◌++◌, OnOk};
-ghost use Rattle.wl_trace_line.specs.Line.{line};
+//! One message as a line of a trace.
+ghost use Rattle.std.specs.Prelude.{◌≡◌, ◌<◌, ◌+◌, ◌^◌, ◌++◌, OnOk};
+ghost use Rattle.wl_wire.specs.Argument.{lent};
 ghost use Rattle.wl_objects.specs.Seen.{received_of};
+ghost use Rattle.wl_trace_line.specs.Text.{comma_separated};
+ghost use Rattle.wl_trace_line.specs.Line.{line, told_interface, taken_with, trace_texts};
 
-use crate::argument::write_arguments;
-use crate::text::{arrow, name_of, write_object};
+use crate::argument::{LineArgument, named_interface, write_placed};
+use crate::sink::Sink;
+use crate::text::{name_of, write_head};
 use std::alloc::{AllocError, Allocator};
-use wl_objects::{Lookup, Received};
+use wl_objects::{Lookup, Received, Values};
 use wl_sigs::{Side, Tables};
+use wl_wire::{Iface, Kind, ValueRef};
 
 /// Appends the line of a message that was read, and its line feed, before the message changes what
 /// `lookup` knows.
@@ -28,18 +32,65 @@ pub fn write_line<A: Allocator, L: Lookup>(
         ++ line tables.now side (L.reader lookup.now).object (received_of message.now) taken) }
 {
     let signature = message.signature;
-    out.extend_from_slice(arrow(side))?;
-    write_object(out, name_of(tables, message.entry.iface), message.target.id)?;
-    out.push(b'.')?;
-    out.extend_from_slice(signature.name())?;
-    out.push(b'(')?;
-    write_arguments(
-        out,
-        tables,
-        lookup,
-        signature.kinds(),
-        &message.values(),
-        taken,
-    )?;
-    out.extend_from_slice(b")\n")
+    let interface = name_of(tables, message.entry.iface);
+    write_head(out, side, interface, message.target.id, signature.name())?;
+    out.write_byte(b'(')?;
+    let values = message.values();
+    write_arguments(out, tables, lookup, signature.kinds(), values, taken)?;
+    out.write_bytes(b")\n")
+}
+
+/// Prints the arguments of a message, where `taken` tokens were taken before them.
+fn write_arguments<S: Sink, L: Lookup>(
+    out: &mut S,
+    tables: &Tables,
+    lookup: &L,
+    kinds: &[Kind],
+    values: Values<'_>,
+    taken: u128,
+) -> Result<(), S::Error>
+    requires { taken < 2 ^ 127 }
+    ensures { OnOk result (S.takes out.old (comma_separated (trace_texts tables.now
+        (L.reader lookup.now).object taken kinds.now values.entry)) out.new) }
+{
+    let mut left = values;
+    let mut taken = taken;
+    'kinds: for (place, kind) in kinds.iter().enumerate() {
+        let value = match left.next() {
+            Some(value) => value,
+            None => return Ok(()),
+        };
+        let argument = LineArgument {
+            value,
+            iface: told_interface(lookup, *kind, value),
+            number: taken + 1,
+        };
+        write_placed(out, tables, place, argument)?;
+        taken = taken_after(taken, value);
+    }
+    Ok(())
+}
+
+/// The interface of an object: of one that is there its own, of a new one that of the signature.
+fn told_interface<L: Lookup>(lookup: &L, kind: Kind, value: ValueRef<'_>) -> Option<Iface>
+    ensures { result ≡ told_interface (L.reader lookup.now).object kind (lent value.entry) }
+{
+    match value {
+        ValueRef::Obj(id) => match lookup.object(id) {
+            Some(entry) => Some(entry.iface),
+            None => None,
+        },
+        _ => named_interface(kind),
+    }
+}
+
+/// The number of tokens that have been taken once this argument was read.
+fn taken_after(taken: u128, value: ValueRef<'_>) -> u128
+    requires { taken < 2 ^ 127 + 2 ^ 64 }
+    ensures { result ≡ taken_with taken (lent value.entry) }
+{
+    match value {
+        ValueRef::Fd => taken + 1,
+        _ => taken,
+    }
 }

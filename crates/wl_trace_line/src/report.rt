@@ -1,9 +1,22 @@
 //! A message that an end has read, printed.
-use crate::text::{arrow, is_plain, name_of};
+ghost use Rattle.std.specs.Prelude.{◌≡◌, OnOk, Some, option_copied, option_map};
+ghost use Rattle.wl_wire.specs.Argument.{lent};
+ghost use Rattle.wl_objects.specs.Parsed.{lent_got, seen_args};
+ghost use Rattle.wl_object_map.specs.declared.object.Entry.{Entry as EntryRecord};
+ghost use Rattle.wl_trace_line.specs.Text.{known_name, object_text, string_text};
+ghost use Rattle.wl_trace_line.specs.Text.{comma_separated};
+ghost use Rattle.wl_trace_line.specs.Report.{named_id, wire_argument, descriptor_number};
+ghost use Rattle.wl_trace_line.specs.Report.{known_signature};
+ghost use Rattle.wl_trace_line.specs.Report.{message_name, message_kinds, report_texts};
+ghost use Rattle.wl_trace_line.specs.Report.{shown_head, shown_line};
+
+use crate::argument::{LineArgument, named_interface, write_placed};
+use crate::sink::Sink;
+use crate::text::{known_name, write_head, write_object, write_string};
 use std::fmt::{self, Display, Formatter};
 use wl_objects::{Args, Entry, GotRef, Named};
 use wl_sigs::{Side, Signature, Tables};
-use wl_wire::{Iface, Kind};
+use wl_wire::{Iface, Kind, ValueRef};
 
 /// Which message an end reports. `{}` prints it as a trace does, up to its arguments.
 #[derive(Clone, Copy)]
@@ -18,25 +31,47 @@ pub struct MessageHead<'t> {
 
 impl<'t> MessageHead<'t> {
     /// The signature of the message, where the target is known.
-    fn signature(&self) -> Option<&'t Signature> {
+    fn signature(&self) -> Option<&'t Signature>
+        ensures { option_copied result ≡ known_signature self.now.tables.now self.now.side
+            self.now.entry self.now.opcode }
+    {
         let entry = self.entry?;
         self.tables.message(entry.iface, self.side, self.opcode)
+    }
+
+    fn name(&self) -> &'t [u8]
+        ensures { result.now ≡ message_name (known_signature self.now.tables.now self.now.side
+            self.now.entry self.now.opcode) }
+    {
+        match self.signature() {
+            Some(signature) => signature.name(),
+            None => b"unknown",
+        }
+    }
+
+    fn kinds(&self) -> &'t [Kind]
+        ensures { result.now ≡ message_kinds (known_signature self.now.tables.now self.now.side
+            self.now.entry self.now.opcode) }
+    {
+        match self.signature() {
+            Some(signature) => signature.kinds(),
+            None => &[],
+        }
+    }
+
+    fn write<S: Sink>(&self, out: &mut S) -> Result<(), S::Error>
+        ensures { OnOk result (S.takes out.old (shown_head self.now) out.new) }
+    {
+        let interface = known_name(self.tables, iface_in(self.entry));
+        write_head(out, self.side, interface, self.target, self.name())
     }
 }
 
 impl Display for MessageHead<'_> {
+    ghost output = { λ head. Some (shown_head head) };
+
     fn fmt<W: fmt::Write>(&self, f: &mut Formatter<W>) -> fmt::Result {
-        write_name(f, arrow(self.side))?;
-        let target = ObjectName {
-            tables: self.tables,
-            iface: iface_in(self.entry),
-            id: self.target,
-        };
-        write!(f, "{target}.")?;
-        match self.signature() {
-            Some(signature) => write_name(f, signature.name()),
-            None => f.write_str("unknown"),
-        }
+        self.write(f)
     }
 }
 
@@ -50,14 +85,22 @@ pub struct ReportLine<'t, 'a> {
     pub args: Args<'a>,
 }
 
+impl ReportLine<'_, '_> {
+    fn write<S: Sink>(&self, out: &mut S) -> Result<(), S::Error>
+        ensures { OnOk result (S.takes out.old (shown_line self.now) out.new) }
+    {
+        self.head.write(out)?;
+        out.write_byte(b'(')?;
+        write_arguments(out, self.head.tables, self.head.kinds(), self.args)?;
+        out.write_byte(b')')
+    }
+}
+
 impl Display for ReportLine<'_, '_> {
+    ghost output = { λ line. Some (shown_line line) };
+
     fn fmt<W: fmt::Write>(&self, f: &mut Formatter<W>) -> fmt::Result {
-        let head = self.head;
-        write!(f, "{head}(")?;
-        if let Some(signature) = head.signature() {
-            write_arguments(f, head.tables, signature.kinds(), self.args)?;
-        }
-        f.write_str(")")
+        self.write(f)
     }
 }
 
@@ -68,16 +111,10 @@ pub struct Quoted<'a> {
 }
 
 impl Display for Quoted<'_> {
+    ghost output = { λ quoted. Some (string_text quoted.text.now) };
+
     fn fmt<W: fmt::Write>(&self, f: &mut Formatter<W>) -> fmt::Result {
-        f.write_str("\"")?;
-        for byte in self.text {
-            if is_plain(*byte) {
-                f.write_char(char::from(*byte))?;
-            } else {
-                write!(f, "\\x{byte:02x}")?;
-            }
-        }
-        f.write_str("\"")
+        write_string(f, self.text)
     }
 }
 
@@ -91,113 +128,90 @@ pub struct ObjectName<'a> {
 }
 
 impl Display for ObjectName<'_> {
+    ghost output = { λ name. Some (object_text (known_name name.tables.now name.iface) name.id) };
+
     fn fmt<W: fmt::Write>(&self, f: &mut Formatter<W>) -> fmt::Result {
-        match self.iface {
-            Some(iface) => write_object(f, name_of(self.tables, iface), self.id),
-            None => write_object(f, b"unknown", self.id),
-        }
+        write_object(f, known_name(self.tables, self.iface), self.id)
     }
 }
 
-/// The names of interfaces and messages are ASCII.
-fn write_name<W: fmt::Write>(f: &mut Formatter<W>, name: &[u8]) -> fmt::Result {
-    for byte in name {
-        f.write_char(char::from(*byte))?;
-    }
-    Ok(())
-}
-
-fn write_object<W: fmt::Write>(f: &mut Formatter<W>, interface: &[u8], id: u32) -> fmt::Result {
-    write_name(f, interface)?;
-    write!(f, "@{id}")
-}
-
-fn write_arguments<W: fmt::Write>(
-    f: &mut Formatter<W>,
+/// Prints the arguments of a report.
+fn write_arguments<S: Sink>(
+    out: &mut S,
     tables: &Tables,
     kinds: &[Kind],
     args: Args<'_>,
-) -> fmt::Result {
+) -> Result<(), S::Error>
+    ensures { OnOk result (S.takes out.old (comma_separated
+        (report_texts tables.now kinds.now (seen_args args.entry))) out.new) }
+{
     let mut left = args;
-    for (place, kind) in kinds.iter().enumerate() {
-        if place > 0 {
-            f.write_str(", ")?;
-        }
-        if let Some(argument) = left.next() {
-            write_argument(f, tables, *kind, argument)?;
-        }
+    'kinds: for (place, kind) in kinds.iter().enumerate() {
+        let got = match left.next() {
+            Some(got) => got,
+            None => return Ok(()),
+        };
+        let argument = LineArgument {
+            value: wire_argument(got),
+            iface: named_interface(*kind),
+            number: descriptor_number(got) as u128,
+        };
+        write_placed(out, tables, place, argument)?;
     }
     Ok(())
 }
 
-fn write_argument<W: fmt::Write>(
-    f: &mut Formatter<W>,
-    tables: &Tables,
-    kind: Kind,
-    argument: GotRef<'_>,
-) -> fmt::Result {
-    match argument {
-        GotRef::Int(number) => write!(f, "{number}"),
-        GotRef::Uint(number) => write!(f, "{number}"),
-        GotRef::Fixed(number) => write!(f, "{number}"),
-        GotRef::Str(Some(text)) => Quoted { text }.fmt(f),
-        GotRef::Str(None) => f.write_str("nil"),
-        GotRef::Obj(named) => write_named(f, tables, kind, named),
-        GotRef::New(object) => {
-            let made = ObjectName {
-                tables,
-                iface: iface_of(kind),
-                id: object.id,
-            };
-            write!(f, "new id {made}")
-        }
+/// The argument as it was on the wire.
+fn wire_argument(got: GotRef<'_>) -> ValueRef<'_>
+    ensures { lent result ≡ wire_argument (lent_got got.entry) }
+{
+    match got {
+        GotRef::Int(number) => ValueRef::Int(number),
+        GotRef::Uint(number) => ValueRef::Uint(number),
+        GotRef::Fixed(number) => ValueRef::Fixed(number),
+        GotRef::Str(text) => ValueRef::Str(text),
+        GotRef::Obj(named) => ValueRef::Obj(named_id(named)),
+        GotRef::New(object) => ValueRef::New(object.id),
         GotRef::Bound {
             iface,
             version,
             object,
-        } => {
-            let name = Quoted { text: iface };
-            write!(f, "{name}, {version}, new id ")?;
-            write_object(f, iface, object.id)
-        }
-        GotRef::Array(bytes) => {
-            let len = bytes.len();
-            write!(f, "array[{len}]")
-        }
-        GotRef::Fd(token) => write!(f, "fd {token}"),
+        } => ValueRef::NewNamed {
+            iface,
+            version,
+            id: object.id,
+        },
+        GotRef::Array(bytes) => ValueRef::Array(bytes),
+        GotRef::Fd(_) => ValueRef::Fd,
     }
 }
 
-fn write_named<W: fmt::Write>(
-    f: &mut Formatter<W>,
-    tables: &Tables,
-    kind: Kind,
-    named: Named,
-) -> fmt::Result {
+/// The number that stands for a descriptor: its token.
+fn descriptor_number(got: GotRef<'_>) -> u32
+    ensures { result ≡ descriptor_number (lent_got got.entry) }
+{
+    match got {
+        GotRef::Fd(token) => token,
+        _ => 0,
+    }
+}
+
+/// The id that names an object on the wire, dead or alive.
+fn named_id(named: Named) -> u32
+    ensures { result ≡ named_id named }
+{
     match named {
-        Named::Null => f.write_str("nil"),
-        Named::Live(object) | Named::Dead(object) => ObjectName {
-            tables,
-            iface: iface_of(kind),
-            id: object.id,
-        }
-        .fmt(f),
+        Named::Null => 0,
+        Named::Live(object) | Named::Dead(object) => object.id,
     }
 }
 
 /// The interface of an entry.
-fn iface_in(entry: Option<Entry>) -> Option<Iface> {
+fn iface_in(entry: Option<Entry>) -> Option<Iface>
+    ensures { result ≡ option_map (λ (e : EntryRecord). e.iface) entry }
+{
     match entry {
         Some(entry) => Some(entry.iface),
         None => None,
-    }
-}
-
-/// The interface that a signature gives an object.
-fn iface_of(kind: Kind) -> Option<Iface> {
-    match kind {
-        Kind::Obj { iface, .. } => iface,
-        Kind::New(iface) => iface,
-        _ => None,
     }
 }

@@ -1,20 +1,16 @@
 //! The texts of which a line is made.
-ghost use Rattle.std.specs.Prelude.{◌≡◌, ◌++◌, ◌<◌, ◌^◌, OnOk, codes, false};
-ghost use Rattle.std.specs.Fmt.{decimal, digit_glyph};
-ghost use Rattle.wl_wire.specs.Argument.{units};
-ghost use Rattle.wl_wire.specs.Units.{decimal_to, fixed_text};
-ghost use Rattle.wl_trace_line.specs.Text.{arrow, object_text, new_text, name_of, is_plain};
-ghost use Rattle.wl_trace_line.specs.Text.{byte_text};
-ghost use Rattle.wl_trace_line.specs.Text.{string_text};
+ghost use Rattle.std.specs.Prelude.{◌≡◌, ◌<◌, OnOk, false};
+ghost use Rattle.std.specs.Fmt.{digit_glyph};
+ghost use Rattle.wl_trace_line.specs.Text.{arrow, object_text, new_text, name_of, known_name};
+ghost use Rattle.wl_trace_line.specs.Text.{is_plain, byte_text, string_text, head_text};
 
-use itoa::{Buffer, Integer, write_digits};
-use std::alloc::{AllocError, Allocator};
+use crate::sink::Sink;
 use wl_sigs::{Side, Tables};
-use wl_wire::{Fixed, Iface};
+use wl_wire::Iface;
 
-/// Which way a message went, and a space.
-pub(crate) fn arrow(side: Side) -> &'static [u8]
-    ensures { result.now ≡ arrow side ++ codes " " }
+/// Which way a message went, and the space behind it.
+fn arrow(side: Side) -> &'static [u8]
+    ensures { result.now ≡ arrow side }
 {
     match side {
         Side::Request => b"-> ",
@@ -32,94 +28,64 @@ pub(crate) fn name_of<'t>(tables: &'t Tables, iface: Iface) -> &'t [u8]
     }
 }
 
-/// Appends an object: its interface's name, an `@`, its id.
-pub(crate) fn write_object<A: Allocator>(
-    out: &mut Vec<u8, A>,
-    interface: &[u8],
-    id: u32,
-) -> Result<(), AllocError>
-    ensures { OnOk result (out.new.items ≡ out.old.items ++ object_text interface.now id) }
+/// The name of an object's interface, or that it is not known.
+pub(crate) fn known_name<'t>(tables: &'t Tables, iface: Option<Iface>) -> &'t [u8]
+    ensures { result.now ≡ known_name tables.now iface }
 {
-    out.extend_from_slice(interface)?;
-    write_id(out, id)
-}
-
-/// Appends an `@` and the id of an object, both at once.
-fn write_id<A: Allocator>(out: &mut Vec<u8, A>, id: u32) -> Result<(), AllocError>
-    ensures { OnOk result (out.new.items ≡ out.old.items ++ codes "@" ++ decimal id) }
-{
-    let mut text = [b'@'; 11];
-    let digits = write_digits(u64::from(id), &mut text, 11);
-    out.extend_from_slice(&text[digits - 1..])
-}
-
-/// Appends a number in decimal.
-pub(crate) fn write_number<A: Allocator, I: Integer>(
-    out: &mut Vec<u8, A>,
-    number: I,
-) -> Result<(), AllocError>
-    ensures { OnOk result (out.new.items ≡ out.old.items ++ I.text number) }
-{
-    let mut buffer = Buffer::new();
-    out.extend_from_slice(buffer.format(number).as_bytes())
-}
-
-/// Appends a fixed-point number: its sign, its whole part, a point, and what is behind it.
-pub(crate) fn write_fixed<A: Allocator>(
-    out: &mut Vec<u8, A>,
-    number: Fixed,
-) -> Result<(), AllocError>
-    ensures { OnOk result (out.new.items ≡ out.old.items ++ fixed_text (units number)) }
-{
-    let raw = number.raw();
-    if raw < 0 {
-        out.push(b'-')?;
+    match iface {
+        Some(iface) => name_of(tables, iface),
+        None => b"unknown",
     }
-    let size = raw.unsigned_abs();
-    write_number(out, size / 256)?;
-    out.push(b'.')?;
-    write_decimals(out, size % 256 * 390_625)
 }
 
-/// Appends eight decimals.
-fn write_decimals<A: Allocator>(out: &mut Vec<u8, A>, number: u32) -> Result<(), AllocError>
-    requires { number < 10 ^ 8 }
-    ensures { OnOk result (out.new.items ≡ out.old.items ++ decimal_to 8 number) }
+/// Prints an object: its interface's name, an `@`, its id.
+pub(crate) fn write_object<S: Sink>(out: &mut S, interface: &[u8], id: u32) -> Result<(), S::Error>
+    ensures { OnOk result (S.takes out.old (object_text interface.now id) out.new) }
 {
-    let mut buffer = Buffer::new();
-    let digits = buffer.format(number).as_bytes();
-    out.extend_from_slice(&[b'0'; 8][digits.len()..])?;
-    out.extend_from_slice(digits)
+    out.write_bytes(interface)?;
+    out.write_id(id)
 }
 
-/// Appends a new object.
-pub(crate) fn write_new<A: Allocator>(
-    out: &mut Vec<u8, A>,
-    interface: &[u8],
-    id: u32,
-) -> Result<(), AllocError>
-    ensures { OnOk result (out.new.items ≡ out.old.items ++ new_text interface.now id) }
+/// Prints a new object.
+pub(crate) fn write_new<S: Sink>(out: &mut S, interface: &[u8], id: u32) -> Result<(), S::Error>
+    ensures { OnOk result (S.takes out.old (new_text interface.now id) out.new) }
 {
-    out.extend_from_slice(b"new id ")?;
+    out.write_bytes(b"new id ")?;
     write_object(out, interface, id)
 }
 
+/// Prints a message up to its arguments: which way it went, the object that it is for, its name.
+pub(crate) fn write_head<S: Sink>(
+    out: &mut S,
+    side: Side,
+    interface: &[u8],
+    id: u32,
+    message: &[u8],
+) -> Result<(), S::Error>
+    ensures { OnOk result
+        (S.takes out.old (head_text side interface.now id message.now) out.new) }
+{
+    out.write_bytes(arrow(side))?;
+    write_object(out, interface, id)?;
+    out.write_byte(b'.')?;
+    out.write_bytes(message)
+}
+
 /// Whether a byte of a string is printed as it stands.
-pub(crate) fn is_plain(byte: u8) -> bool
+fn is_plain(byte: u8) -> bool
     ensures { result ≡ is_plain byte }
 {
     matches!(byte, b' '..=b'~') && byte != b'"' && byte != b'\\'
 }
 
-/// Appends one byte of a string.
-fn write_byte<A: Allocator>(out: &mut Vec<u8, A>, byte: u8) -> Result<(), AllocError>
-    ensures { OnOk result (out.new.items ≡ out.old.items ++ byte_text byte) }
+/// Prints one byte of a string.
+fn write_text_byte<S: Sink>(out: &mut S, byte: u8) -> Result<(), S::Error>
+    ensures { OnOk result (S.takes out.old (byte_text byte) out.new) }
 {
     if is_plain(byte) {
-        out.push(byte)?;
-        return Ok(());
+        return out.write_byte(byte);
     }
-    out.extend_from_slice(&[b'\\', b'x', hex_digit(byte / 16), hex_digit(byte % 16)])
+    out.write_bytes(&[b'\\', b'x', hex_digit(byte / 16), hex_digit(byte % 16)])
 }
 
 /// A hexadecimal digit, of lower case.
@@ -134,17 +100,13 @@ fn hex_digit(value: u8) -> u8
     }
 }
 
-/// Appends a string in quotes.
-pub(crate) fn write_string<A: Allocator>(
-    out: &mut Vec<u8, A>,
-    text: &[u8],
-) -> Result<(), AllocError>
-    ensures { OnOk result (out.new.items ≡ out.old.items ++ string_text text.now) }
+/// Prints a string in quotes.
+pub(crate) fn write_string<S: Sink>(out: &mut S, text: &[u8]) -> Result<(), S::Error>
+    ensures { OnOk result (S.takes out.old (string_text text.now) out.new) }
 {
-    out.push(b'"')?;
+    out.write_byte(b'"')?;
     'bytes: for byte in text {
-        write_byte(out, *byte)?;
+        write_text_byte(out, *byte)?;
     }
-    out.push(b'"')?;
-    Ok(())
+    out.write_byte(b'"')
 }

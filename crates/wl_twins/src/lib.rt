@@ -1,5 +1,5 @@
-//! What a proxy keeps of objects: it is a server towards a client and a client towards a
-//! compositor, and each object of the one end has a twin at the other.
+//! What a proxy remembers of objects. A proxy is a server towards a client and a client towards a
+//! compositor, and each object of one end has a twin at the other.
 #![tactic(auto)]
 
 mod forward;

@@ -1,5 +1,5 @@
 //! Which objects of two ends stand for each other.
-ghost use Rattle.std.specs.Prelude.{◌≡◌, ◌≢◌, IfOk, OnOk, Some, None};
+ghost use Rattle.std.specs.Prelude.{◌≡◌, ◌≢◌, IfOk, IfSome, OnOk, Some, None};
 ghost use Rattle.wl_object_map.specs.declared.object.Object.{Object as AnObject};
 ghost use Rattle.wl_objects.specs.Parsed.{lent_got};
 ghost use Rattle.wl_twins.specs.Twins.{client_twin, server_twin};
@@ -62,10 +62,17 @@ impl<A: Allocator + Clone + Drop> Twins<A> {
         self.at_server.get(&of_client.birth).copied()
     }
 
-    /// Takes out an object of the client's with its twin, which is returned.
+    /// Takes out an object of the client's with its twin, which is returned. All others keep theirs.
     pub fn remove(&mut self, of_client: Object) -> Option<Object>
         ensures twin { result ≡ server_twin self.old of_client }
         ensures gone { server_twin self.new of_client ≡ None }
+        ensures gone_with_it { IfSome (server_twin self.old of_client)
+            (λ twin. client_twin self.new twin ≡ None) }
+        ensures others_at_server { (other : AnObject) → other.birth ≢ of_client.birth
+            → server_twin self.new other ≡ server_twin self.old other }
+        ensures others_at_client { (other : AnObject)
+            → IfSome (server_twin self.old of_client) (λ twin. other.birth ≢ twin.birth)
+            → client_twin self.new other ≡ client_twin self.old other }
     {
         let twin = self.at_server.remove(&of_client.birth)?;
         let _ = self.at_client.remove(&twin.birth);

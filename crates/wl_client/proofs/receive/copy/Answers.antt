@@ -9,18 +9,16 @@ pub returns-clause-ok : goal.returns-clause-ok
 returns-clause-ok g c =
     let all : length c.first_tokens-tokens.result ≡ 20 = omega (arith, c.first_tokens-tokens.type_inv) in
     subst (λ (r : Report). IfOk c.to_owned.result (λ report. report_of report ≡ r))
-    (front_told c.args.end.now.core _ c.args.end.now.args _ c.args.event.now c.in-Ok-Some.field-0 c.in-Ok-Some.frame
+    (front_told c.args.end.now.core _ c.args.end.now.args _ c.args.event.now c.body-body.result.now
     c.first_tokens-tokens.result (λ i. (c.end.view_is i).core)
-    (λ i. (c.end.view_is i).args) c.requires c.in-Ok-Some.field-0-is c.in-Ok-Some.ensures.tells all
-    c.first_tokens-tokens.ensures)
+    (λ i. (c.end.view_is i).args) c.requires c.body-body.ensures.body all c.first_tokens-tokens.ensures)
     c.to_owned.ensures.ok
 
 pub returns-clause-err : goal.returns-clause-err
 returns-clause-err g c =
     let all : length c.first_tokens-tokens.result ≡ 20 = omega (arith, c.first_tokens-tokens.type_inv) in
     subst (λ (r : Report). OnErr c.to_owned.result (needs_memory r ≡ true))
-    (front_told c.args.end.now.core _ c.args.end.now.args _ c.args.event.now c.in-Ok-Some.field-0 c.in-Ok-Some.frame
+    (front_told c.args.end.now.core _ c.args.end.now.args _ c.args.event.now c.body-body.result.now
     c.first_tokens-tokens.result (λ i. (c.end.view_is i).core)
-    (λ i. (c.end.view_is i).args) c.requires c.in-Ok-Some.field-0-is c.in-Ok-Some.ensures.tells all
-    c.first_tokens-tokens.ensures)
+    (λ i. (c.end.view_is i).args) c.requires c.body-body.ensures.body all c.first_tokens-tokens.ensures)
     c.to_owned.ensures.err

@@ -1,4 +1,4 @@
-use Rattle.std.proofs.Common.{◌≡◌, ◌+◌, length, map, take, sym, ap, subst, ◌∙◌, arith, add-one}
+use Rattle.std.proofs.Common.{◌≡◌, ◌+◌, length, map, take, sym, ap, subst, refl, ◌∙◌, arith, add-one}
 use Rattle.std.specs.Prelude.{List, ℕ}
 use Rattle.std.specs.declared.option.Option.TheVariants.{None}
 use Rattle.wl_message.specs.InStep.{part, part_bytes, part_tokens}
@@ -8,7 +8,7 @@ use Rattle.wl_connection.proofs.Appended.{kept_same, kept_again, behind_again}
 use Rattle.wl_connection.proofs.Pieces.{parts_len, part_at, few_fit, none_fits_end}
 use Rattle.wl_connection.proofs.ReadsGoOn.{arrived_nothing, on_first, on_again, until_again}
 use Rattle.wl_connection.proofs.ReadsGoOn.{on_to_none, ends_between, ends_within, reads_piece}
-use Rattle.wl_connection.proofs.ReadsGoOn.{room_is}
+use Rattle.wl_connection.proofs.ReadsGoOn.{room_is, none_before, read_to_here}
 use Rattle.wl_connection.proofs.streams.read_all.Goals as goal
 
 pub loop-taken-init : goal.loop-taken-init
@@ -20,6 +20,7 @@ loop-taken-init g c =
       kept = kept_same before;
       some = subst (λ s. ReadsOn e s (appended g.E.Receiver.seen before before) start)
           (sym (arrived_nothing e g.met.E.End.laws start)) (on_first e g.E.Receiver.seen start before);
+      before = none_before e start (map part c.args.pieces.now);
       sound = sym c.has_failed.ensures ∙ c.if-has_failed.false;
     }
 
@@ -45,7 +46,7 @@ returns-in-Err-clause-reads g c sound =
     (until_again e g.met.E.End.laws g.E.Receiver.seen first c.loop-taken.end end before c.loop-taken.reports.items after
     c.in-Err.stop
     c.loop-taken.invariant.some c.loop-taken.invariant.kept c.in-Err.ensures.reports c.in-Err.ensures.reads.0)
-    (λ s f. absurd (cc (c.in-Err.ensures.reads.1 s, f)))
+    (λ s f. absurd (cc (c.in-Err.ensures.reads.1 s, f))) c.loop-taken.invariant.before
 
 pub returns-then-in_room-piece-clause-reports : goal.returns-then-in_room-piece-clause-reports
 returns-then-in_room-piece-clause-reports g c = kept_again c.args.reports.now.items c.loop-taken.reports.items
@@ -70,6 +71,7 @@ returns-then-in_room-piece-clause-reads g c sound =
     c.loop-taken.invariant.some c.loop-taken.invariant.kept c.in_default.ensures.reports c.in_default.ensures.reads.0)
     nothing)
     (λ s f. few_fit _ c.in_room.result.tokens c.args.pieces.now i _ c.loop-taken-test.true c.if-in_room-piece.true room)
+    c.loop-taken.invariant.before
 
 pub returns-in-Err-read_piece-clause-reports : goal.returns-in-Err-read_piece-clause-reports
 returns-in-Err-read_piece-clause-reports g c =
@@ -94,15 +96,17 @@ returns-in-Err-read_piece-clause-reads g c sound =
     let read = c.in-Err-read_piece.ensures.reads in
     let kept = kept_again before c.loop-taken.reports.items mid c.loop-taken.invariant.kept c.in_default.ensures.reports
     in
+    let nothing = c.in_default.ensures.reads.1 in
+    let on = on_again e seen first c.loop-taken.end middle before c.loop-taken.reports.items mid
+    c.loop-taken.invariant.some c.loop-taken.invariant.kept c.in_default.ensures.reports c.in_default.ensures.reads.0 in
     subst (λ (rs : List _). ReadsAll e c.args.end.now pieces rs
     (record { pieces = i; part = ended.part; stop = ended.stop }) end)
     (sym (behind_again seen before mid after kept c.in-Err-read_piece.ensures.reports))
     (ends_within e g.met.E.End.laws c.args.end.now middle end pieces i _ _ (appended seen before mid)
     (appended seen mid after) ended.part ended.stop
     (part_at c.args.pieces.now i _ c.loop-taken-test.true)
-    (on_again e seen first c.loop-taken.end middle before c.loop-taken.reports.items mid c.loop-taken.invariant.some
-    c.loop-taken.invariant.kept c.in_default.ensures.reports c.in_default.ensures.reads.0)
-    read.0 read.1 read.2 read.3)
+    on read.0 read.1 read.2 read.3
+    (read_to_here e g.met.E.End.laws c.args.end.now middle pieces i _ _ refl c.loop-taken.invariant.before on nothing))
 
 pub loop-taken-preserved : goal.loop-taken-preserved
 loop-taken-preserved g c =
@@ -118,6 +122,9 @@ loop-taken-preserved g c =
     let after = c.read_piece.new.reports.items in
     let kept = kept_again before c.loop-taken.reports.items mid c.loop-taken.invariant.kept c.in_default.ensures.reports
     in
+    let nothing = c.in_default.ensures.reads.1 in
+    let on = on_again e seen first c.loop-taken.end middle before c.loop-taken.reports.items mid
+    c.loop-taken.invariant.some c.loop-taken.invariant.kept c.in_default.ensures.reports c.in_default.ensures.reads.0 in
     record {
       kept = kept_again before mid after kept c.in_default-read_piece.ensures.reports;
       some = subst (λ (rs : List _). ReadsOn e (with_arrivals e c.args.end.now (part_bytes (take (i + 1) pieces))
@@ -126,10 +133,9 @@ loop-taken-preserved g c =
           (reads_piece e g.met.E.End.laws c.args.end.now middle end pieces i (i + 1) _ _ (appended seen before mid)
           (appended seen mid after)
           (part_at c.args.pieces.now i _ c.loop-taken-test.true) (add-one i)
-          (on_again e seen first c.loop-taken.end middle before c.loop-taken.reports.items mid
-          c.loop-taken.invariant.some c.loop-taken.invariant.kept c.in_default.ensures.reports
-          c.in_default.ensures.reads.0)
-          c.in_default-read_piece.ensures.reads.0);
+          on c.in_default-read_piece.ensures.reads.0);
+      before = read_to_here e g.met.E.End.laws c.args.end.now middle pieces i (i + 1) _ (add-one i)
+          c.loop-taken.invariant.before on nothing;
       sound = c.in_default-read_piece.ensures.reads.1;
     }
 
@@ -156,7 +162,7 @@ returns-in-Err-read_waiting-clause-reads g c sound =
     stop
     c.loop-taken.invariant.some c.loop-taken.invariant.kept c.in-Err-read_waiting.ensures.reports
     c.in-Err-read_waiting.ensures.reads.0)
-    (λ s f. absurd (cc (c.in-Err-read_waiting.ensures.reads.1 s, f)))
+    (λ s f. absurd (cc (c.in-Err-read_waiting.ensures.reads.1 s, f))) c.loop-taken.invariant.before
 
 pub returns-clause-reports : goal.returns-clause-reports
 returns-clause-reports g c = kept_again c.args.reports.now.items c.loop-taken.reports.items
@@ -180,3 +186,4 @@ returns-clause-reads g c sound =
     c.loop-taken.reports.items after
     c.loop-taken.invariant.some c.loop-taken.invariant.kept read.reports read.reads.0) read.reads.1)
     (λ s f. none_fits_end _ pieces i (omega (arith, parts_len c.args.pieces.now, count)))
+    c.loop-taken.invariant.before

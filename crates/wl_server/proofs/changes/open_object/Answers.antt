@@ -1,5 +1,5 @@
 use Rattle.std.proofs.Common.{rules}
 use Rattle.wl_server.proofs.changes.open_object.Goals as goal
 
-pub returns-in-Ok-clause-registries : goal.returns-in-Ok-clause-registries
-returns-in-Ok-clause-registries c = search rules
+pub returns-in_ok-open_free-clause-registries : goal.returns-in_ok-open_free-clause-registries
+returns-in_ok-open_free-clause-registries c = search rules

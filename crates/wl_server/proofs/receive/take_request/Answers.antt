@@ -9,6 +9,9 @@ use Rattle.wl_server.proofs.Closings.{row_opened, sound_opened}
 use Rattle.wl_server.proofs.Registries.{sound_now}
 use Rattle.wl_server.proofs.receive.take_request.Goals as goal
 
+pub open_new_object-requires-clause-free : goal.open_new_object-requires-clause-free
+open_new_object-requires-clause-free g c = c.requires.can.made
+
 pub close_object-requires-clause-row : goal.close_object-requires-clause-row
 close_object-requires-clause-row g c =
     let core = c.args.end.now.core in

@@ -1,9 +1,20 @@
-use Rattle.std.proofs.Common.{refl}
+use Rattle.std.proofs.Common.{◌≡◌, [], refl, ap, ◌∙◌, arith}
+use Rattle.wl_wire.specs.declared.kind.Iface.{Iface}
+use Rattle.wl_object_map.specs.View.{next_id, opened}
+use Rattle.wl_objects.specs.Writing.{bind_values}
+use Rattle.wl_connection.specs.Core.{Core, with_view}
+use Rattle.wl_connection.specs.Sending.{with_sent}
+use Rattle.wl_client.specs.declared.client.Client.TheInside.{Inside}
 use Rattle.wl_client.specs.Binding.{FitsBind}
+use Rattle.wl_client.specs.Calls.{after_bind, iface_or}
+use Rattle.wl_client.specs.State.{State, global_of}
 use Rattle.wl_client.proofs.client.Client.bind.Goals as goal
 
-pub spelled_len-len-requires : goal.spelled_len-len-requires
-spelled_len-len-requires g c = let f : FitsBind c.args.iface.now = c.if-can_bind.ensures.fits refl in (f.fits 0 0 0).1.0
+pub len-requires : goal.len-requires
+len-requires g c =
+    let f : FitsBind c.args.iface.now = c.if-can_bind.ensures.fits refl in
+    let len = f.len c.args.name c.args.version 0 in
+    record { fits = f.fits c.args.name c.args.version 0; short = omega (arith, len) }
 
 pub write_bind-requires-clause-fits : goal.write_bind-requires-clause-fits
 write_bind-requires-clause-fits g c = let f : FitsBind c.args.iface.now = c.if-can_bind.ensures.fits refl
@@ -12,3 +23,21 @@ write_bind-requires-clause-fits g c = let f : FitsBind c.args.iface.now = c.if-c
 pub write_bind-requires-clause-len : goal.write_bind-requires-clause-len
 write_bind-requires-clause-len g c = let f : FitsBind c.args.iface.now = c.if-can_bind.ensures.fits refl
     in f.len c.args.name c.args.version c.in_ok-object.object.id
+
+pub returns-clause-ok : goal.returns-clause-ok
+returns-clause-ok g c =
+    let state : State = record { core = c.self.inside.end.core; globals = c.self.inside.globals } in
+    let target = c.args.registry in
+    let iface = c.args.iface.now in
+    let made : c.in-Some-get.global.iface ≡ iface_or (global_of state.globals c.args.name) =
+    ap iface_or c.in-Some-get.ensures
+    ∙ ap (λ (i : Inside g.row.T.Denot g.row.T-Alloc.Denot). iface_or (global_of i.globals c.args.name))
+    c.self-inside.view_is in
+    ap (λ (core : Core). record state { core = core })
+    (c.write_bind.ensures
+    ∙ (λ i. with_sent (c.in_ok-object.ensures.ok i) target.id 0
+    (bind_values c.args.name iface c.args.version (c.in_ok-object.ensures.id i)) [])
+    ∙ ap (λ (f : Iface). with_view (with_sent state.core target.id 0
+    (bind_values c.args.name iface c.args.version (next_id state.core.view)) [])
+    (opened state.core.view f c.args.version)) made)
+    ∙ ap (λ (s : State). after_bind s target c.args.name iface c.args.version) c.self.view_is

@@ -1,4 +1,4 @@
-use Rattle.wl_objects.specs.Messages.{Server}
+use Rattle.wl_sigs.specs.declared.signature.Side.TheVariants.{Event}
 use Rattle.wl_connection.proofs.Ends.{ends_by}
 use Rattle.wl_connection.proofs.shared.Core.end_object.Goals as goal
 
@@ -7,7 +7,7 @@ returns-in-Event g c =
     rw (
       c.in-Event.is,
       ← c.if-destroys_one.ensures,
-      ends_by Server c.args.what c.args.id c.args.self.now.view
+      ends_by Event c.args.what c.args.id c.args.self.now.view
           c.if-destroys_one.ensures,
     )
     c.delete_object.ensures

@@ -1,5 +1,4 @@
-use Rattle.std.proofs.Common.{◌≤◌, false, refl, sym, subst, arith}
-use Rattle.std.specs.Prelude.{vec_capacity}
+use Rattle.std.proofs.Common.{◌≤◌, length, false, refl, sym, subst, arith}
 use Rattle.wl_message.specs.Arrived.{Arrived}
 use Rattle.wl_message.specs.Outgoing.{Outgoing}
 use Rattle.wl_connection.specs.Core.{HasDisplay, IsOrdinary}
@@ -8,9 +7,9 @@ use Rattle.wl_connection.proofs.shared.Core.new.Goals as goal
 
 pub invariant_of-result : goal.invariant_of-result
 invariant_of-result g c = record {
-  store = omega (arith, c.in_ok-store.ensures.exact, c.args.sizes.limit.in_range.0);
-  room = subst (λ (o : Outgoing). o.limit.bytes ≤ vec_capacity c.in_ok-store.store) (sym c.in_ok-outbox.ensures)
-      (omega (arith, c.in_ok-store.ensures.exact));
+  store = omega (arith, c.in_ok-store.ensures.len, c.in_ok-store.store.ok.0, c.args.sizes.limit.in_range.0);
+  room = subst (λ (o : Outgoing). o.limit.bytes ≤ length c.in_ok-store.store.items) (sym c.in_ok-outbox.ensures)
+      (omega (arith, c.in_ok-store.ensures.len, c.in_ok-store.store.ok.0));
   display = subst HasDisplay (sym c.in_ok-table.ensures) HasDisplay-opening;
   no_error = λ h. subst IsOrdinary (sym c.in_ok-outbox.ensures) (refl, refl, c.requires.out_bytes);
   whole = subst (λ (i : Arrived). i.limit.bytes ≤ i.capacity) (sym c.in_ok-inbox.ensures) c.requires.in_bytes_low;

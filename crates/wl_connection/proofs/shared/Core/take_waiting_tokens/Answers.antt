@@ -1,8 +1,7 @@
-use Rattle.std.proofs.Common.{◌≡◌, ◌≤◌, ◌+◌, ◌-◌, [], length, take, drop, refl, ap, sym, subst, ◌∙◌}
+use Rattle.std.proofs.Common.{◌≡◌, ◌-◌, [], length, take, drop, refl, ap, sym, ◌∙◌}
 use Rattle.std.proofs.Common.{arith, length-append}
 use Rattle.std.proofs.lemmas.List.{drop_all, length-drop, length-take}
 use Rattle.wl_message.specs.Outgoing.{Outgoing, waiting_tokens}
-use Rattle.wl_connection.specs.Waiting.{waiting}
 use Rattle.wl_connection.proofs.TwoParts.{all_taken, both_written}
 use Rattle.wl_connection.proofs.shared.Core.take_waiting_tokens.Goals as goal
 

@@ -1,4 +1,4 @@
-use Rattle.std.proofs.Common.{◌≡◌, ◌≤◌, ℕ, true, List, [], length, sym, subst, arith, ap, ◌∙◌}
+use Rattle.std.proofs.Common.{◌≡◌, true, [], length, sym, subst, arith, ap, ◌∙◌}
 use Rattle.wl_objects.specs.Writing.{bind_values, message_len, message_bytes}
 use Rattle.wl_objects.proofs.Wholes.{length-message}
 use Rattle.wl_connection.specs.Core.{Core}

@@ -1,4 +1,4 @@
-use Rattle.std.proofs.Common.{◌≡◌, ◌≢◌, ℕ, true, length, refl, sym, subst, ap, ◌∙◌, rules}
+use Rattle.std.proofs.Common.{◌≡◌, ◌≢◌, ℕ, true, refl, sym, subst, ap, ◌∙◌, arith, rules}
 use Rattle.std.specs.Prelude.{Option, is_some}
 use Rattle.std.proofs.Common.{Ok, Err}
 use Rattle.std.proofs.lemmas.Result.{err_from_is_err_and}
@@ -8,11 +8,12 @@ use Rattle.wl_sigs.specs.Tables.{destroys_one}
 use Rattle.wl_objects.specs.declared.error.SendError.TheVariants as refusals
 use Rattle.wl_object_map.specs.View.{is_live}
 use Rattle.wl_objects.specs.Messages.{opens, ended_id}
-use Rattle.wl_objects.specs.Writing.{on_wire, message_len, tokens_of, given, id_of}
+use Rattle.wl_objects.specs.Writing.{on_wire, tokens_of, given}
 use Rattle.wl_connection.specs.Core.{Core}
 use Rattle.wl_connection.specs.Outcomes.{AnswersOrMemory}
 use Rattle.wl_connection.specs.Sending.{fits, following_len, next_object, opening_answer, with_sent}
-use Rattle.wl_connection.proofs.CheckedSends.{answered, ended-known, fits-known, fits-any}
+use Rattle.wl_connection.proofs.Messages.{fits-less}
+use Rattle.wl_connection.proofs.CheckedSends.{answered, ended-known, fits-known}
 use Rattle.wl_connection.proofs.CheckedSends.{fits-behind, ended-other, ended-live, written-known}
 use Rattle.wl_connection.proofs.shared.Core.write_checked.Goals as goal
 
@@ -30,17 +31,21 @@ returns-in_err-new-clause-answer g c =
     (opening_answer c.args.self.now (next_object c.args.self.now.view c.args.call.entry.version i))
     (Err c.in_err-new.field-0.0)) c.requires.makes c.in_err-new.ensures.answer))
 
+pub write_call-requires-clause-fits : goal.write_call-requires-clause-fits
+write_call-requires-clause-fits g c =
+    let fit = c.requires.fits c.id_of.result in
+    record {
+      opcode = omega (arith, c.ranges.opcode);
+      fits = fit.0;
+      len = c.requires.len c.id_of.result;
+      short = omega (arith, fit.1, c.requires.len c.id_of.result, c.args.self.now.outbox.limit.in_range.1);
+    }
+
 pub write_call-requires-clause-room : goal.write_call-requires-clause-room
 write_call-requires-clause-room g c =
-    let fit = fits-known c.args.self.now.outbox c.args.args.now c.args.call.len c.following_len.result
-    (following_len c.args.side c.args.call.signature.now.destroys) c.args.call.tokens true
-    (c.requires.len 0) (c.following_len.ensures ∙ ap (following_len c.args.side) c.destroys-what.ensures)
-    c.requires.tokens c.if-not-fits.ensures in
-    subst (λ (core : Core). fits core.outbox (message_len (on_wire (id_of c.in_ok-new.new) c.args.args.now))
-    (length (tokens_of (given c.args.args.now))) ≡ true) (sym c.in_ok-new.ensures.ok)
-    (fits-any c.args.self.now.outbox c.args.args.now (id_of c.in_ok-new.new)
-    (following_len c.args.side c.args.call.signature.now.destroys) (length (tokens_of (given c.args.args.now)))
-    (sym fit))
+    subst (λ (core : Core). fits core.outbox c.args.call.len c.args.call.tokens ≡ true) (sym c.in_ok-new.ensures.ok)
+    (fits-less c.args.self.now.outbox c.args.call.len c.following_len.result c.args.call.tokens
+    (sym c.if-not-fits.ensures))
 
 pub end_object-requires-clause-live : goal.end_object-requires-clause-live
 end_object-requires-clause-live g c =
@@ -72,11 +77,11 @@ end_object-requires-clause-room g c =
     subst (λ (what : Destroys). fits c.write_call.new.self.outbox (following_len c.args.side what) 0 ≡ true)
     (sym c.destroys-what.ensures)
     (fits-behind c.args.self.now c.write_call.new.self view c.args.args.now c.args.target.id c.args.opcode
-    (id_of c.in_ok-new.new) (following_len c.args.side c.args.call.signature.now.destroys)
+    c.id_of.result (following_len c.args.side c.args.call.signature.now.destroys)
     (tokens_of (given c.args.args.now))
     (sym fit)
     (c.write_call.ensures ∙ ap (λ (core : Core). with_sent core c.args.target.id c.args.opcode
-    (on_wire (id_of c.in_ok-new.new) c.args.args.now) (tokens_of (given c.args.args.now))) c.in_ok-new.ensures.ok))
+    (on_wire c.id_of.result c.args.args.now) (tokens_of (given c.args.args.now))) c.in_ok-new.ensures.ok))
 
 pub returns-clause-answer : goal.returns-clause-answer
 returns-clause-answer g c =
@@ -95,7 +100,9 @@ returns-clause-ok g c =
     let w = written-known c.args.self.now c.open_new.new.self c.write_call.new.self c.args.side c.args.target
     c.args.opcode c.args.args.now c.args.call.signature.now c.args.call.entry c.in_ok-new.new c.args.call.makes
     (tokens_of (given c.args.args.now)) c.requires.passes c.requires.entry c.requires.makes c.in_ok-new.ensures.ok
-    c.in_ok-new.ensures.id c.write_call.ensures refl in
+    c.in_ok-new.ensures.id
+    (c.write_call.ensures ∙ ap (λ (id : ℕ). with_sent c.open_new.new.self c.args.target.id c.args.opcode
+    (on_wire id c.args.args.now) (tokens_of (given c.args.args.now))) c.id_of.ensures) refl in
     ended-known c.args.self.now c.write_call.new.self c.end_object.new.self c.args.side c.args.target c.args.opcode
     c.args.args.now c.args.call.signature.now c.destroys-what.result c.ended_id.result w c.end_object.ensures
     c.destroys-what.ensures c.ended_id.ensures

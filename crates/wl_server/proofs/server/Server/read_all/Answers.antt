@@ -1,4 +1,4 @@
-use Rattle.wl_server.proofs.ReadsGoOn.{sound_until}
+use Rattle.wl_server.proofs.ReadingStays.{sound_until}
 use Rattle.wl_server.proofs.server.Server.read_all.Goals as goal
 
 pub returns-clause-sound : goal.returns-clause-sound

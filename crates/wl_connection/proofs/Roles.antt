@@ -1,0 +1,368 @@
+-- What follows from what an end is to the other: it has one reading, whatever the cut, and goes on
+-- reading.
+use Rattle.std.proofs.Common.{◌≡◌, ◌≢◌, ℕ, ◌<◌, inl, inr, Bool, true, false, cond, List, [], length}
+use Rattle.std.proofs.Common.{refl, sym, ap, subst, ◌∙◌}
+use Rattle.std.specs.declared.option.Option.{Option}
+use Rattle.std.specs.declared.option.Option.TheVariants.{None, Some}
+use Rattle.std.specs.declared.result.Result.{Result}
+use Rattle.std.specs.declared.result.Result.TheVariants.{Ok, Err}
+use Rattle.wl_message.specs.InStep.{Part}
+use Rattle.wl_objects.specs.declared.error.Fault.{Fault}
+use Rattle.wl_objects.specs.declared.error.NextError.{NextError}
+use Rattle.wl_objects.specs.declared.error.NextError.TheVariants as errors
+use Rattle.wl_connection.specs.Core.{Core, with_arrived}
+use Rattle.wl_connection.specs.Receiving.{Found, found, past_found}
+use Rattle.wl_connection.specs.Streams.{waiting_part}
+use Rattle.wl_connection.specs.Outcomes.{AnswersOrMemory, answers_with, read_as, unless_memory}
+use Rattle.wl_connection.specs.Reads.{Answer, IsCoreOf, with_arrivals, Reads, fault, full, nothing}
+use Rattle.wl_connection.specs.Reads.{ReadsUntil, ReadsReport, ReadsNothing, ReadsNext}
+use Rattle.wl_connection.specs.Roles.{Role, front_answer, role_answer, front_left, role_after, role_reading}
+use Rattle.wl_connection.proofs.AnyCut.{IsOfMessage, IsFaultAgain, IsFault, stays, comes, IsReading}
+use Rattle.wl_connection.proofs.FoundStays.{IsFound, is_found, past_shorter, none_short}
+use Rattle.wl_connection.proofs.ReceivedMessage.{some_report}
+
+-- the end with more behind what waits
+abbrev pub later : {S R : Type 0} → Role S R → S → List ℕ → List ℕ → S
+later role state bytes tokens = with_arrivals (role_reading role) state bytes tokens
+
+-- a fault in front stays whatever comes, or as long as it is found there
+pub data FrontFault {S R : Type 0} (role : Role S R) (state : S) (what : Fault) : Type 0 where
+  own : ((bytes tokens : List ℕ) → role.in_front (later role state bytes tokens) ≡ Err what)
+      → FrontFault role state what
+  of_found : found (role.core state) role.reads ≡ Err what
+      → ((bytes tokens : List ℕ) → found (with_arrived (role.core state) bytes tokens) role.reads ≡ Err what
+      → role.in_front (later role state bytes tokens) ≡ Err what) → FrontFault role state what
+
+-- What stands in front is what is found. What comes behind it changes nothing of it, and stays
+-- behind it. After the last report the end has failed.
+pub record IsRole {S R : Type 0} (role : Role S R) : Type 0 where
+  pub laws : IsCoreOf role.core role.with_core
+  pub none_found : (state : S) → role.in_front state ≡ Ok None → found (role.core state) role.reads ≡ Ok None
+  pub is_there : (state : S) (f : Found) → role.in_front state ≡ Ok (Some f)
+      → found (role.core state) role.reads ≡ Ok (Some f)
+  pub front_stays : (state : S) (f : Found) (bytes tokens : List ℕ) → role.in_front state ≡ Ok (Some f)
+      → role.in_front (later role state bytes tokens) ≡ Ok (Some f)
+  pub fault_stays : (state : S) (what : Fault) → role.in_front state ≡ Err what → FrontFault role state what
+  pub room_stays : (state : S) (f : Found) (bytes tokens : List ℕ)
+      → role.is_full (role.core (later role state bytes tokens)) f ≡ role.is_full (role.core state) f
+  pub report_stays : (state : S) (f : Found) (bytes tokens : List ℕ) → IsFound (role.core state) role.reads f
+      → role.report (role.core (later role state bytes tokens)) f ≡ role.report (role.core state) f
+  pub past_stays : (state : S) (f : Found) (bytes tokens : List ℕ) → IsFound (role.core state) role.reads f
+      → role.past (later role state bytes tokens) f ≡ later role (role.past state f) bytes tokens
+  pub failing_stays : (state : S) (what : Fault) (bytes tokens : List ℕ)
+      → role.failing (later role state bytes tokens) what ≡ later role (role.failing state what) bytes tokens
+  pub past_waits : (state : S) (f : Found) → waiting_part (role.core (role.past state f))
+      ≡ waiting_part (past_found (role.core state) f)
+  pub past_limit : (state : S) (f : Found) → (role.core (role.past state f)).inbox.limit
+      ≡ (role.core state).inbox.limit
+  pub failing_waits : (state : S) (what : Fault) → (role.core (role.failing state what)).inbox.bytes
+      ≡ (role.core state).inbox.bytes
+  pub past_failed : (state : S) (f : Found) → (role.core state).failed ≡ false
+      → (role.core (role.past state f)).failed ≡ role.is_last (role.report (role.core state) f)
+
+-- ---- what an end answers and leaves, by whether it has failed
+
+module _ {S R : Type 0} (role : Role S R) where
+  pub answers : (state : S) → (role.core state).failed ≡ false
+      → role_answer role state ≡ front_answer role (role.core state) (role.in_front state)
+  answers state h = ap
+      (λ (b : Bool). cond b (Err errors.Failed) (front_answer role (role.core state) (role.in_front state))) h
+
+  pub leaves : (state : S) → (role.core state).failed ≡ false
+      → role_after role state ≡ front_left role state (role.in_front state)
+  leaves state h = ap (λ (b : Bool). cond b state (front_left role state (role.in_front state))) h
+
+  failed_answer : (state : S) → (role.core state).failed ≡ true → role_answer role state ≡ Err errors.Failed
+  failed_answer state h = ap
+      (λ (b : Bool). cond b (Err errors.Failed) (front_answer role (role.core state) (role.in_front state))) h
+
+  not_failed : (state : S) (b : Bool) → (role.core state).failed ≡ b → role_answer role state ≢ Err errors.Failed
+      → (role.core state).failed ≡ false
+  not_failed state true h n = absurd (n (failed_answer state h))
+  not_failed state false h n = h
+
+  pub sound_none : (state : S) → role_answer role state ≡ Ok None → (role.core state).failed ≡ false
+  sound_none state e = not_failed state (role.core state).failed refl (λ h. cc (h, e))
+
+-- the message that is read next: it is found, and what is answered and left
+record ReadsMessage {S R : Type 0} (role : Role S R) (state : S) (r : R) : Type 0 where
+  sound : (role.core state).failed ≡ false
+  message : Found
+  front : role.in_front state ≡ Ok (Some message)
+  room : role.is_full (role.core state) message ≡ false
+  is : role.report (role.core state) message ≡ r
+  left : role_after role state ≡ role.past state message
+
+-- a fault of what stands in front
+record Fails {S R : Type 0} (role : Role S R) (state : S) (what : Fault) (offset : ℕ) : Type 0 where
+  sound : (role.core state).failed ≡ false
+  front : role.in_front state ≡ Err what
+  offset_is : (role.core state).read ≡ offset
+
+module _ {S R : Type 0} (role : Role S R) where
+  read_by : (state : S) (r : R) (f : Found) (b : Bool) → (role.core state).failed ≡ false
+      → role.in_front state ≡ Ok (Some f) → role.is_full (role.core state) f ≡ b
+      → cond b (Err errors.OutFull) (Ok (Some (role.report (role.core state) f))) ≡ Ok (Some r)
+      → ReadsMessage role state r
+  read_by state r f true s e h a = absurd (cc a)
+  read_by state r f false s e h a = record {
+    sound = s;
+    message = f;
+    front = e;
+    room = h;
+    is = cc a;
+    left = leaves role state s ∙ ap (front_left role state) e
+        ∙ ap (λ (b : Bool). cond b state (role.past state f)) h;
+  }
+
+  read_front : (state : S) (r : R) (x : Result (Option Found) Fault) → (role.core state).failed ≡ false
+      → role.in_front state ≡ x → front_answer role (role.core state) x ≡ Ok (Some r) → ReadsMessage role state r
+  read_front state r (Err what) s e a = absurd (cc a)
+  read_front state r (Ok None) s e a = absurd (cc a)
+  read_front state r (Ok (Some f)) s e a = read_by state r f (role.is_full (role.core state) f) s e refl a
+
+  read : (state : S) (r : R) → role_answer role state ≡ Ok (Some r) → ReadsMessage role state r
+  read state r e =
+      let s = not_failed role state (role.core state).failed refl (λ h. cc (h, e)) in
+      read_front state r (role.in_front state) s refl (sym (answers role state s) ∙ e)
+
+  no_fault : (state : S) (f : Found) (what : Fault) (offset : ℕ) (b : Bool)
+      → cond b (Err errors.OutFull) (Ok (Some (role.report (role.core state) f))) ≢ Err (errors.Fault what offset)
+  no_fault state f what offset true a = cc a
+  no_fault state f what offset false a = cc a
+
+  fails_by : (state : S) (what : Fault) (offset : ℕ) (x : Result (Option Found) Fault)
+      → (role.core state).failed ≡ false → role.in_front state ≡ x
+      → front_answer role (role.core state) x ≡ Err (errors.Fault what offset) → Fails role state what offset
+  fails_by state what offset (Err other) s e a =
+      let same : other ≡ what = cc a in
+      record { sound = s; front = e ∙ ap Err same; offset_is = cc a }
+  fails_by state what offset (Ok None) s e a = absurd (cc a)
+  fails_by state what offset (Ok (Some f)) s e a =
+      absurd (no_fault state f what offset (role.is_full (role.core state) f) a)
+
+  fails : (state : S) (what : Fault) (offset : ℕ) → role_answer role state ≡ Err (errors.Fault what offset)
+      → Fails role state what offset
+  fails state what offset e =
+      let s = not_failed role state (role.core state).failed refl (λ h. cc (h, e)) in
+      fails_by state what offset (role.in_front state) s refl (sym (answers role state s) ∙ e)
+
+  not_nothing : (state : S) (f : Found) (b : Bool)
+      → cond b (Err errors.OutFull) (Ok (Some (role.report (role.core state) f))) ≢ Ok None
+  not_nothing state f true h = cc h
+  not_nothing state f false h = cc h
+
+  nothing_by : (state : S) (x : Result (Option Found) Fault) → role.in_front state ≡ x
+      → front_answer role (role.core state) x ≡ Ok None → role.in_front state ≡ Ok None
+  nothing_by state (Err what) e a = absurd (cc a)
+  nothing_by state (Ok None) e a = e
+  nothing_by state (Ok (Some f)) e a = absurd (not_nothing state f (role.is_full (role.core state) f) a)
+
+  nothing_there : (state : S) → role_answer role state ≡ Ok None → role.in_front state ≡ Ok None
+  nothing_there state e = nothing_by state (role.in_front state) refl
+      (sym (answers role state (sound_none role state e)) ∙ e)
+
+  pub none_leaves : (state : S) → role_answer role state ≡ Ok None → role_after role state ≡ state
+  none_leaves state e = leaves role state (sound_none role state e) ∙ ap (front_left role state) (nothing_there state e)
+
+  -- a message that finds no room for what its reading writes stays
+  full_at : (state : S) (f : Found) (b : Bool) → role.is_full (role.core state) f ≡ b
+      → cond b (Err errors.OutFull) (Ok (Some (role.report (role.core state) f))) ≡ Err errors.OutFull
+      → front_left role state (Ok (Some f)) ≡ state
+  full_at state f true h a = ap (λ (b : Bool). cond b state (role.past state f)) h
+  full_at state f false h a = absurd (cc a)
+
+  full_by : (state : S) (x : Result (Option Found) Fault)
+      → front_answer role (role.core state) x ≡ Err errors.OutFull → front_left role state x ≡ state
+  full_by state (Err what) a = absurd (cc a)
+  full_by state (Ok None) a = refl
+  full_by state (Ok (Some f)) a = full_at state f (role.is_full (role.core state) f) refl a
+
+  full_leaves : (state : S) → role_answer role state ≡ Err errors.OutFull → role_after role state ≡ state
+  full_leaves state e =
+      let s = not_failed role state (role.core state).failed refl (λ h. cc (h, e)) in
+      leaves role state s ∙ full_by state (role.in_front state) (sym (answers role state s) ∙ e)
+
+  never_by : (state : S) (f : Found) (b : Bool) (why : NextError) → why ≢ errors.OutFull
+      → cond b (Err errors.OutFull) (Ok (Some (role.report (role.core state) f))) ≢ Err why
+  never_by state f true why o e = o (sym (cc e))
+  never_by state f false why o e = cc e
+
+  never_in_front : (state : S) (why : NextError) (x : Result (Option Found) Fault) → why ≢ errors.OutFull
+      → ((what : Fault) (offset : ℕ) → why ≢ errors.Fault what offset)
+      → front_answer role (role.core state) x ≢ Err why
+  never_in_front state why (Err what) o n e = n what (role.core state).read (sym (cc e))
+  never_in_front state why (Ok None) o n e = cc e
+  never_in_front state why (Ok (Some f)) o n e = never_by state f (role.is_full (role.core state) f) why o e
+
+  -- an end that has not failed answers no error but a fault and that its outbox is full
+  never : (state : S) (why : NextError) → (role.core state).failed ≡ false → why ≢ errors.OutFull
+      → ((what : Fault) (offset : ℕ) → why ≢ errors.Fault what offset) → role_answer role state ≢ Err why
+  never state why s o n e = never_in_front state why (role.in_front state) o n (sym (answers role state s) ∙ e)
+
+-- ---- what comes behind what is read stays there
+
+module _ {S R : Type 0} (role : Role S R) (i : IsRole role) where
+  later_sound : (state : S) (bytes tokens : List ℕ) → (role.core state).failed ≡ false
+      → (role.core (later role state bytes tokens)).failed ≡ false
+  later_sound state bytes tokens h = ap (λ (c : Core). c.failed)
+      (i.laws.new state (with_arrived (role.core state) bytes tokens)) ∙ h
+
+  later_read : (state : S) (bytes tokens : List ℕ)
+      → (role.core (later role state bytes tokens)).read ≡ (role.core state).read
+  later_read state bytes tokens = ap (λ (c : Core). c.read)
+      (i.laws.new state (with_arrived (role.core state) bytes tokens))
+
+  found_there : (state : S) (r : R) (m : ReadsMessage role state r) → IsFound (role.core state) role.reads m.message
+  found_there state r m = is_found (role.core state) role.reads m.message (i.is_there state m.message m.front)
+
+  answer_stays : (state : S) (r : R) (bytes tokens : List ℕ) → role_answer role state ≡ Ok (Some r)
+      → role_answer role (later role state bytes tokens) ≡ Ok (Some r)
+  answer_stays state r bytes tokens e =
+      let m = read role state r e in
+      let more = later role state bytes tokens in
+      answers role more (later_sound state bytes tokens m.sound)
+      ∙ ap (front_answer role (role.core more)) (i.front_stays state m.message bytes tokens m.front)
+      ∙ ap (λ (b : Bool). cond b (Err errors.OutFull) (Ok (Some (role.report (role.core more) m.message))))
+      (i.room_stays state m.message bytes tokens ∙ m.room)
+      ∙ ap (λ (x : R). Ok (Some x)) (i.report_stays state m.message bytes tokens (found_there state r m) ∙ m.is)
+
+  after_stays : (state : S) (r : R) (bytes tokens : List ℕ) → role_answer role state ≡ Ok (Some r)
+      → role_after role (later role state bytes tokens) ≡ later role (role_after role state) bytes tokens
+  after_stays state r bytes tokens e =
+      let m = read role state r e in
+      let more = later role state bytes tokens in
+      leaves role more (later_sound state bytes tokens m.sound)
+      ∙ ap (front_left role more) (i.front_stays state m.message bytes tokens m.front)
+      ∙ ap (λ (b : Bool). cond b more (role.past more m.message))
+      (i.room_stays state m.message bytes tokens ∙ m.room)
+      ∙ i.past_stays state m.message bytes tokens (found_there state r m)
+      ∙ ap (λ (s : S). later role s bytes tokens) (sym m.left)
+
+  -- the same fault with more behind it
+  fault_again : (state : S) (what : Fault) (offset : ℕ) (bytes tokens : List ℕ) → Fails role state what offset
+      → role.in_front (later role state bytes tokens) ≡ Err what
+      → IsFaultAgain (role_reading role) state what offset bytes tokens
+  fault_again state what offset bytes tokens f h =
+      let more = later role state bytes tokens in
+      let s = later_sound state bytes tokens f.sound in
+      record {
+        is = answers role more s ∙ ap (front_answer role (role.core more)) h
+            ∙ ap (λ (n : ℕ). Err (errors.Fault what n)) (later_read state bytes tokens ∙ f.offset_is);
+        leaves = leaves role more s ∙ ap (front_left role more) h ∙ i.failing_stays state what bytes tokens
+            ∙ ap (λ (s : S). later role s bytes tokens)
+            (sym (leaves role state f.sound ∙ ap (front_left role state) f.front));
+      }
+
+  fault_leaves : (state : S) (what : Fault) (offset : ℕ) → role_answer role state ≡ Err (errors.Fault what offset)
+      → (role.core (role_after role state)).inbox.bytes ≡ (role.core state).inbox.bytes
+  fault_leaves state what offset e =
+      let f = fails role state what offset e in
+      ap (λ (s : S). (role.core s).inbox.bytes) (leaves role state f.sound ∙ ap (front_left role state) f.front)
+      ∙ i.failing_waits state what
+
+  message_of : (state : S) (r : R) → role_answer role state ≡ Ok (Some r)
+      → IsOfMessage (role_reading role) role.reads state
+  message_of state r e =
+      let m = read role state r e in
+      record {
+        message = m.message;
+        there = i.is_there state m.message m.front;
+        left = ap (λ (s : S). waiting_part (role.core s)) m.left ∙ i.past_waits state m.message;
+        kept = ap (λ (s : S). (role.core s).inbox.limit) m.left ∙ i.past_limit state m.message;
+      }
+
+  fault_by : (state : S) (what : Fault) (offset : ℕ) → Fails role state what offset → FrontFault role state what
+      → IsFault (role_reading role) role.reads state what offset
+  fault_by state what offset f (own h) =
+      stays (λ bytes tokens. fault_again state what offset bytes tokens f (h bytes tokens))
+  fault_by state what offset f (of_found e h) =
+      comes e (λ bytes tokens g. fault_again state what offset bytes tokens f (h bytes tokens g))
+
+  fault_of : (state : S) (what : Fault) (offset : ℕ) → role_answer role state ≡ Err (errors.Fault what offset)
+      → IsFault (role_reading role) role.reads state what offset
+  fault_of state what offset e =
+      let f = fails role state what offset e in
+      fault_by state what offset f (i.fault_stays state what f.front)
+
+  pub is_reading : IsReading (role_reading role) role.reads
+  is_reading = record {
+    laws = i.laws;
+    failed = failed_answer role;
+    report_stays = answer_stays;
+    leaves_more = after_stays;
+    message = message_of;
+    sound = λ state what offset e. (fails role state what offset e).sound;
+    fault = fault_of;
+    fault_leaves = fault_leaves;
+  }
+
+  -- ---- what is read next
+
+  -- a message that is read has bytes
+  pub fewer_wait : (state : S) (r : R) → role_answer role state ≡ Ok (Some r)
+      → length (role.core (role_after role state)).inbox.bytes < length (role.core state).inbox.bytes
+  fewer_wait state r e =
+      let m = read role state r e in
+      let waits : waiting_part (role.core (role_after role state))
+      ≡ waiting_part (past_found (role.core state) m.message) =
+      ap (λ (s : S). waiting_part (role.core s)) m.left ∙ i.past_waits state m.message in
+      subst (λ (p : Part). length p.bytes < length (role.core state).inbox.bytes) (sym waits)
+      (past_shorter (role.core state) role.reads m.message (found_there state r m))
+
+  one_report : (state new : S) (r : R) → role_answer role state ≡ Ok (Some r) → new ≡ role_after role state
+      → ReadsReport (role_reading role) state r new
+  one_report state new r e l =
+      let m = read role state r e in
+      record {
+        is = e;
+        leaves = l;
+        stays = λ bytes tokens. answer_stays state r bytes tokens e;
+        leaves_more = λ bytes tokens. after_stays state r bytes tokens e
+            ∙ ap (λ (s : S). later role s bytes tokens) (sym l);
+        fewer = subst (λ (s : S). length (role.core s).inbox.bytes < length (role.core state).inbox.bytes) (sym l)
+            (fewer_wait state r e);
+        ends = ap (λ (s : S). (role.core s).failed) (l ∙ m.left) ∙ i.past_failed state m.message m.sound
+            ∙ ap role.is_last m.is;
+      }
+
+  -- where no whole message waits, less waits than the longest one has
+  no_report : (state : S) → role_answer role state ≡ Ok None → ReadsNothing (role_reading role) state
+  no_report state e = record {
+    is = e;
+    sound = sound_none role state e;
+    short = none_short (role.core state) role.reads (i.none_found state (nothing_there role state e));
+  }
+
+  told_error : (needs : R → Bool) (state new : S) (why : NextError) → (role.core state).failed ≡ false
+      → AnswersOrMemory errors.Memory (answers_with needs (role_answer role state)) (role_answer role state) (Err why)
+      → new ≡ unless_memory {R = Option R} state (role_after role state) (Err why)
+      → ReadsUntil (role_reading role) state [] (Some why) new
+  told_error needs state new (errors.Fault what offset) s (inl e) l =
+      subst (λ (x : S). Reads (role_reading role) state [] (Some (errors.Fault what offset)) x) (sym l) (fault (sym e))
+  told_error needs state new (errors.Fault what offset) s (inr e) l = absurd (cc e.0)
+  told_error needs state new errors.Failed s (inl e) l =
+      absurd (never role state errors.Failed s (λ h. cc h) (λ what offset h. cc h) (sym e))
+  told_error needs state new errors.Failed s (inr e) l = absurd (cc e.0)
+  told_error needs state new errors.Memory s (inl e) l =
+      absurd (never role state errors.Memory s (λ h. cc h) (λ what offset h. cc h) (sym e))
+  told_error needs state new errors.Memory s (inr e) l = (let some = some_report needs (role_answer role state) e.1 in
+      subst (λ (x : S). ReadsUntil (role_reading role) state [] (Some errors.Memory) x) (sym l)
+      (nothing, (some.0, some.1)))
+  told_error needs state new errors.OutFull s (inl e) l =
+      subst (λ (x : S). Reads (role_reading role) state [] (Some errors.OutFull) x)
+      (sym (l ∙ full_leaves role state (sym e))) (full (sym e))
+  told_error needs state new errors.OutFull s (inr e) l = absurd (cc e.0)
+
+-- what one reading is, where memory may be refused for a report
+pub next_read : {S R X : Type 0} (role : Role S R) (i : IsRole role) (needs : R → Bool) (seen : X → R) (state new : S)
+    (r : Answer X) → (role.core state).failed ≡ false
+    → AnswersOrMemory errors.Memory (answers_with needs (role_answer role state)) (role_answer role state)
+    (read_as seen r) → new ≡ unless_memory state (role_after role state) (read_as seen r)
+    → ReadsNext (role_reading role) seen state r new
+next_read role i needs seen state new (Ok (Some x)) s (inl e) l = one_report role i state new (seen x) (sym e) l
+next_read role i needs seen state new (Ok (Some x)) s (inr e) l = absurd (cc e.0)
+next_read role i needs seen state new (Ok None) s (inl e) l =
+    (l ∙ none_leaves role state (sym e), no_report role i state (sym e))
+next_read role i needs seen state new (Ok None) s (inr e) l = absurd (cc e.0)
+next_read role i needs seen state new (Err why) s t l = told_error role i needs state new why s t l

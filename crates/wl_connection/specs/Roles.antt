@@ -1,0 +1,62 @@
+-- What an end is to the other: what it reads, what it reports of that, and what that leaves.
+use Rattle.std.specs.Prelude.{Bool, if◌then◌else◌, Option, Some, None}
+use Rattle.std.specs.declared.result.Result.{Result}
+use Rattle.std.specs.declared.result.Result.TheVariants.{Ok, Err}
+use Rattle.wl_sigs.specs.declared.signature.Side.{Side}
+use Rattle.wl_objects.specs.declared.error.Fault.{Fault}
+use Rattle.wl_objects.specs.declared.error.NextError.TheVariants as errors
+use Rattle.wl_connection.specs.Core.{Core}
+use Rattle.wl_connection.specs.Receiving.{Found}
+use Rattle.wl_connection.specs.Reads.{Answer, Reading}
+
+-- The end's core, and the end with another; the side whose messages come in.
+pub record Role (S R : Type 0) : Type 0 where
+  pub core : S → Core
+  pub with_core : S → Core → S
+  pub reads : Side
+  -- what stands in front of what waits: no whole message yet, a message, or its fault
+  pub in_front : S → Result (Option Found) Fault
+  -- whether a message waits until there is room in the outbox for what its reading writes
+  pub is_full : Core → Found → Bool
+  pub report : Core → Found → R
+  -- what a message leaves, once it is read
+  pub past : S → Found → S
+  -- what a fault leaves
+  pub failing : S → Fault → S
+  -- the report after which nothing more is read
+  pub is_last : R → Bool
+
+-- ---- reading the next message, where no memory is needed
+
+abbrev pub front_answer : {S R : Type 0} → Role S R → Core → Result (Option Found) Fault → Answer R
+front_answer role core (Err fault) = Err (errors.Fault fault core.read)
+front_answer role core (Ok None) = Ok None
+front_answer role core (Ok (Some f)) =
+    if role.is_full core f then Err errors.OutFull else Ok (Some (role.report core f))
+
+-- What a read returns: what the first message is, nothing where none is whole, or why it cannot be
+-- read.
+abbrev pub role_answer : {S R : Type 0} → Role S R → S → Answer R
+role_answer role state =
+    if (role.core state).failed then Err errors.Failed
+    else front_answer role (role.core state) (role.in_front state)
+
+abbrev pub front_left : {S R : Type 0} → Role S R → S → Result (Option Found) Fault → S
+front_left role state (Err fault) = role.failing state fault
+front_left role state (Ok None) = state
+front_left role state (Ok (Some f)) =
+    if role.is_full (role.core state) f then state else role.past state f
+
+-- What it leaves: an end that has failed stays as it is.
+abbrev pub role_after : {S R : Type 0} → Role S R → S → S
+role_after role state =
+    if (role.core state).failed then state else front_left role state (role.in_front state)
+
+abbrev pub role_reading : {S R : Type 0} → Role S R → Reading S R
+role_reading role = record {
+  core = role.core;
+  with_core = role.with_core;
+  answer = role_answer role;
+  after = role_after role;
+  is_last = role.is_last;
+}

@@ -1,0 +1,15 @@
+use Rattle.std.proofs.Common.{◌≡◌, ◌≤◌, drop, length, take}
+use Rattle.wl_objects.specs.Reading.{arguments_at, forgiving}
+use Rattle.wl_objects.specs.Parsed.{all_parsed, behind_those, made_of}
+use Rattle.wl_objects.proofs.parsed.Parser.parse.Given as goal
+
+-- what was parsed stands in the array, and what is left decides
+abbrev pub invariant-kinds : goal.invariant-kinds
+invariant-kinds g l =
+    (behind_those (all_parsed l.self.body.now (g.L.Lookup.reader l.self.lookup.now).birth (take l.place l.items))
+    (made_of (g.L.Lookup.reader l.self.lookup.now) l.descriptors
+    (arguments_at (forgiving l.self.forgives (g.L.Lookup.reader l.self.lookup.now)) l.place (drop l.place l.kinds)
+    (drop l.end l.self.body.now)))
+    ≡ made_of (g.L.Lookup.reader l.self.lookup.now) 0 (arguments_at
+    (forgiving l.self.forgives (g.L.Lookup.reader l.self.lookup.now)) 0 l.kinds l.self.body.now))
+    × (l.end ≤ length l.self.body.now) × (length l.items ≡ 20) × (l.descriptors ≤ l.place)
