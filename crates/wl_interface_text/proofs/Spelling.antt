@@ -15,15 +15,16 @@ use Rattle.std.proofs.lemmas.List.{take-append-drop, get_or_append_left}
 use Rattle.std.proofs.lemmas.List.Quantifiers.{position-Some}
 use Rattle.std.proofs.lemmas.List.Sums.{position_or_len_is, AllPass-from_list_all, list_all-from_AllPass}
 use Rattle.std.proofs.lemmas.Slice.Eq.{bytes_eq-Decides}
-use Rattle.wl_wire.specs.declared.kind.Kind.{Kind}
-use Rattle.wl_wire.specs.declared.kind.Kind.TheVariants as kinds
 use Rattle.wl_line_text.specs.Number.{number_of}
 use Rattle.wl_line_text.proofs.Numbers.{number_is}
+use Rattle.wl_interface_text.specs.declared.written.BareKind.{BareKind}
+use Rattle.wl_interface_text.specs.declared.written.BareKind.TheVariants as bare
 use Rattle.wl_interface_text.specs.Text.{WrittenKind, is_text_byte, is_text_name, kind_of}
-use Rattle.wl_interface_text.specs.Text.{takes_interface, bracketed, written_kind_of}
+use Rattle.wl_interface_text.specs.Text.{needs_interface, takes_interface, bracketed, written_kind_of}
 use Rattle.wl_interface_text.specs.TableText.{IsTextName, SpellsNumber, SpellsKind, int, uint, fixed}
 use Rattle.wl_interface_text.specs.TableText.{string, null_string, array, descriptor, object}
-use Rattle.wl_interface_text.specs.TableText.{null_object, new_id, SpellsArgument, alone, named}
+use Rattle.wl_interface_text.specs.TableText.{null_object, new_id, new_by_server, SpellsArgument}
+use Rattle.wl_interface_text.specs.TableText.{alone, named}
 
 both : (a b : Bool) → (a && b) ≡ true → (a ≡ true) × (b ≡ true)
 both true b is = (refl, is)
@@ -87,7 +88,7 @@ spelled_number digits n spelled =
     rw are (grind (arith, nat_tests))
 
 -- kinds
-tried : {P : Type 0} (letters word : List ℕ) (k kind : Kind) (rest : Option Kind)
+tried : {P : Type 0} (letters word : List ℕ) (k kind : BareKind) (rest : Option BareKind)
     → cond (bytes_eq letters word) (Some k) rest ≡ Some kind
     → (letters ≡ word → kind ≡ k → P) → (rest ≡ Some kind → P) → P
 tried {P} letters word k kind rest is same other = by (bytes_eq letters word) refl is
@@ -96,20 +97,21 @@ tried {P} letters word k kind rest is same other = by (bytes_eq letters word) re
     by true equal e = same ((bytes_eq-Decides letters word).0 equal) (cc e)
     by false differ e = other e
 
-pub kind_spells : (letters : List ℕ) (kind : Kind) → kind_of letters ≡ Some kind → SpellsKind letters kind
+pub kind_spells : (letters : List ℕ) (kind : BareKind) → kind_of letters ≡ Some kind → SpellsKind letters kind
 kind_spells letters kind is =
-    tried letters (codes "i") kinds.Int kind _ is int (λ is.
-    tried letters (codes "u") kinds.Uint kind _ is uint (λ is.
-    tried letters (codes "f") kinds.Fixed kind _ is fixed (λ is.
-    tried letters (codes "s") (kinds.Str false) kind _ is string (λ is.
-    tried letters (codes "?s") (kinds.Str true) kind _ is null_string (λ is.
-    tried letters (codes "a") kinds.Array kind _ is array (λ is.
-    tried letters (codes "h") kinds.Fd kind _ is descriptor (λ is.
-    tried letters (codes "o") (kinds.Obj false None) kind _ is object (λ is.
-    tried letters (codes "?o") (kinds.Obj true None) kind _ is null_object (λ is.
-    tried letters (codes "n") (kinds.New None) kind _ is new_id (λ is. cc is))))))))))
+    tried letters (codes "i") bare.Int kind _ is int (λ is.
+    tried letters (codes "u") bare.Uint kind _ is uint (λ is.
+    tried letters (codes "f") bare.Fixed kind _ is fixed (λ is.
+    tried letters (codes "s") (bare.Str false) kind _ is string (λ is.
+    tried letters (codes "?s") (bare.Str true) kind _ is null_string (λ is.
+    tried letters (codes "a") bare.Array kind _ is array (λ is.
+    tried letters (codes "h") bare.Fd kind _ is descriptor (λ is.
+    tried letters (codes "o") (bare.Obj false) kind _ is object (λ is.
+    tried letters (codes "?o") (bare.Obj true) kind _ is null_object (λ is.
+    tried letters (codes "n") bare.New kind _ is new_id (λ is.
+    tried letters (codes "N") bare.NewByServer kind _ is new_by_server (λ is. cc is)))))))))))
 
-pub spelled_kind : (letters : List ℕ) (kind : Kind) → SpellsKind letters kind → kind_of letters ≡ Some kind
+pub spelled_kind : (letters : List ℕ) (kind : BareKind) → SpellsKind letters kind → kind_of letters ≡ Some kind
 spelled_kind letters kind spelled = elim spelled [
   | int l k ↦ rw (l, k) refl
   | uint l k ↦ rw (l, k) refl
@@ -121,13 +123,14 @@ spelled_kind letters kind spelled = elim spelled [
   | object l k ↦ rw (l, k) refl
   | null_object l k ↦ rw (l, k) refl
   | new_id l k ↦ rw (l, k) refl
+  | new_by_server l k ↦ rw (l, k) refl
 ]
 
 -- letters are none of space, ( and @
 abbrev is_letter : ℕ → Bool
 is_letter b = not (b == 32) && not (b == 40) && not (b == 64)
 
-letters_are : (letters : List ℕ) (kind : Kind) → SpellsKind letters kind → list_all is_letter letters ≡ true
+letters_are : (letters : List ℕ) (kind : BareKind) → SpellsKind letters kind → list_all is_letter letters ≡ true
 letters_are letters kind spelled = elim spelled [
   | int l k ↦ rw l refl
   | uint l k ↦ rw l refl
@@ -139,6 +142,7 @@ letters_are letters kind spelled = elim spelled [
   | object l k ↦ rw l refl
   | null_object l k ↦ rw l refl
   | new_id l k ↦ rw l refl
+  | new_by_server l k ↦ rw l refl
 ]
 
 letter_bytes : (byte : ℕ) → is_letter byte ≡ true → (byte ≢ 32) × (byte ≢ 40)
@@ -147,11 +151,11 @@ letter_bytes byte is = (
   λ e. let no : is_letter 40 ≡ true = subst (λ (b : ℕ). is_letter b ≡ true) e is in cc no,
 )
 
-pub letters_no_space : (letters : List ℕ) (kind : Kind) → SpellsKind letters kind → All (λ b. b ≢ 32) letters
+pub letters_no_space : (letters : List ℕ) (kind : BareKind) → SpellsKind letters kind → All (λ b. b ≢ 32) letters
 letters_no_space letters kind spelled = λ k d lt.
     (letter_bytes _ (AllPass-from_list_all is_letter letters (letters_are letters kind spelled) k d lt)).0
 
-letters_no_open : (letters : List ℕ) (kind : Kind) → SpellsKind letters kind → All (λ b. b ≢ 40) letters
+letters_no_open : (letters : List ℕ) (kind : BareKind) → SpellsKind letters kind → All (λ b. b ≢ 40) letters
 letters_no_open letters kind spelled = λ k d lt. (letter_bytes _
     (AllPass-from_list_all is_letter letters (letters_are letters kind spelled) k d lt)).1
 
@@ -191,16 +195,16 @@ behind_letters word = by (position (λ b. b == 40) word) refl
         inr (drop (suc i) word, drop-cons word i 0 lt ∙ ap (λ (b : ℕ). b ∷ drop (suc i) word) here)
 
 -- a name in brackets
-abbrev naming : Kind → List ℕ → WrittenKind
+abbrev naming : BareKind → List ℕ → WrittenKind
 naming kind name = record { kind = kind; iface = Some name }
 
-bracketed_by : (kind : Kind) (tail name : List ℕ) → takes_interface kind ≡ true → nat_le 1 (length tail) ≡ true
+bracketed_by : (kind : BareKind) (tail name : List ℕ) → takes_interface kind ≡ true → nat_le 1 (length tail) ≡ true
     → slice_index tail (length tail - 1) ≡ 41
     → take (length tail - 1) tail ≡ name → is_text_name name ≡ true
     → bracketed kind (40 ∷ tail) ≡ Some (naming kind name)
 bracketed_by kind tail name takes some close inner good = rw (takes, some, close, inner, good) refl
 
-bracketed_name : (kind : Kind) (name : List ℕ) → takes_interface kind ≡ true → IsTextName name
+bracketed_name : (kind : BareKind) (name : List ℕ) → takes_interface kind ≡ true → IsTextName name
     → bracketed kind (40 ∷ (name ++ 41 ∷ [])) ≡ Some (naming kind name)
 bracketed_name kind name takes good =
     let len : length (name ++ 41 ∷ []) - 1 ≡ length name = grind (arith, common_steps) in
@@ -216,14 +220,14 @@ name_ends tail some close =
     drop-cons tail (length tail - 1) 0 lt ∙ (rw close (grind (arith, common_steps))) in
     sym (take-append-drop (length tail - 1) tail) ∙ ap (λ (end : List ℕ). take (length tail - 1) tail ++ end) last
 
-record InBrackets (kind : Kind) (tail : List ℕ) (found : WrittenKind) : Type 0 where
+record InBrackets (kind : BareKind) (tail : List ℕ) (found : WrittenKind) : Type 0 where
   takes : takes_interface kind ≡ true
   name : List ℕ
   good : IsTextName name
   is : found ≡ naming kind name
   whole : tail ≡ name ++ 41 ∷ []
 
-in_brackets : (kind : Kind) (b : ℕ) (tail : List ℕ) (found : WrittenKind) → bracketed kind (b ∷ tail) ≡ Some found
+in_brackets : (kind : BareKind) (b : ℕ) (tail : List ℕ) (found : WrittenKind) → bracketed kind (b ∷ tail) ≡ Some found
     → InBrackets kind tail found
 in_brackets kind b tail found is = by _ refl is
   where
@@ -244,6 +248,16 @@ in_brackets kind b tail found is = by _ refl is
           whole = name_ends tail some close;
         }
 
+-- letters with nothing behind them
+alone_kind : (kind : BareKind) (found : WrittenKind) → bracketed kind [] ≡ Some found
+    → (needs_interface kind ≡ false) × (found ≡ record { kind = kind; iface = None })
+alone_kind kind found is = by (needs_interface kind) refl is
+  where
+    by : (t : Bool) → needs_interface kind ≡ t → cond t None (Some (record { kind = kind; iface = None })) ≡ Some found
+        → (needs_interface kind ≡ false) × (found ≡ record { kind = kind; iface = None })
+    by true needs e = cc e
+    by false free e = (free, cc e)
+
 -- arguments
 put_together : (front back rest name word : List ℕ) → front ++ back ≡ word → back ≡ 40 ∷ rest → rest ≡ name ++ 41 ∷ []
     → word ≡ front ++ 40 ∷ (name ++ 41 ∷ [])
@@ -256,18 +270,17 @@ argument_spells word found is = by (kind_of (take (opens_at word) word)) refl is
     whole : take (opens_at word) word ++ drop (opens_at word) word ≡ word
     whole = take-append-drop (opens_at word) word
 
-    by : (o : Option Kind) → kind_of (take (opens_at word) word) ≡ o
+    by : (o : Option BareKind) → kind_of (take (opens_at word) word) ≡ o
         → option_and_then (λ kind. bracketed kind (drop (opens_at word) word)) o ≡ Some found
         → SpellsArgument word found
     by None other e = cc e
     by (Some kind) letters e = elim (behind_letters word) [
       | inl none ↦
-          let plain : found ≡ record { kind = kind; iface = None } = let at : bracketed kind [] ≡ Some found =
-          rw none at e in cc at in
+          let plain = alone_kind kind found (rw none at e) in
           let front : take (opens_at word) word ≡ word =
           sym (append-nil (take (opens_at word) word)) ∙ (rw none at whole) in
           let spelled : SpellsKind word kind = rw front at (kind_spells (take (opens_at word) word) kind letters) in
-          rw plain (alone spelled refl)
+          rw plain.1 (alone spelled plain.0 refl)
       | inr more ↦
           let it = in_brackets kind 40 more.0 found (rw more.1 at e) in
           let split = put_together (take (opens_at word) word) _ more.0 it.name word whole more.1 it.whole in
@@ -278,17 +291,18 @@ argument_spells word found is = by (kind_of (take (opens_at word) word)) refl is
 pub spelled_argument : (word : List ℕ) (found : WrittenKind) → SpellsArgument word found
     → written_kind_of word ≡ Some found
 spelled_argument word found spelled = elim spelled [
-  | alone kind none ↦ unnamed word found kind none
+  | alone kind free none ↦ unnamed word found kind free none
   | named letters name kind takes good is whole ↦ rw whole (with_name letters name found kind takes good is)
 ] where
-  unnamed : (word : List ℕ) (found : WrittenKind) → SpellsKind word found.kind → found.iface ≡ None
-      → written_kind_of word ≡ Some found
-  unnamed word found kind none = rw (
+  unnamed : (word : List ℕ) (found : WrittenKind) → SpellsKind word found.kind
+      → needs_interface found.kind ≡ false → found.iface ≡ None → written_kind_of word ≡ Some found
+  unnamed word found kind free none = rw (
     opens_nowhere word
         (letters_no_open word _ kind),
     take-length,
     drop-length,
     spelled_kind word _ kind,
+    free,
     ← none,
   ) refl
 
@@ -321,7 +335,7 @@ begins_otherwise a rest (b ∷ letters) more sign other all same =
 
 no_argument : (word rest : List ℕ) (found : WrittenKind) → word ≡ 64 ∷ rest → SpellsArgument word found → ⊥
 no_argument word rest found begins spelled = elim spelled [
-  | alone kind none ↦ let no : list_all is_letter (64 ∷ rest) ≡ true =
+  | alone kind free none ↦ let no : list_all is_letter (64 ∷ rest) ≡ true =
       subst (λ (w : List ℕ). list_all is_letter w ≡ true) begins (letters_are word _ kind) in cc no
   | named letters name kind takes good at whole ↦ begins_otherwise 64 rest letters (name ++ 41 ∷ []) refl
       (λ e. absurd (omega (arith, e))) (letters_are letters _ kind) (sym begins ∙ whole)

@@ -20,7 +20,7 @@ use Rattle.wl_interface_text.specs.Text.{message_added, words_added, line_added}
 use Rattle.wl_interface_text.specs.TableText.{SpellsNumber, SpellsArgument, alone, named, tail_with}
 use Rattle.wl_interface_text.specs.TableText.{SpellsTail, ends, destroys, since, destroys_since}
 use Rattle.wl_interface_text.specs.TableText.{argument, tail_in, side_word, IsMessageLine}
-use Rattle.wl_interface_text.specs.TableText.{IsInterfaceLine}
+use Rattle.wl_interface_text.specs.TableText.{heading, IsInterfaceLine}
 use Rattle.wl_interface_text.proofs.Words.{words_some}
 use Rattle.wl_interface_text.proofs.Spelling.{name_is, is_name, number_spells, spelled_number}
 use Rattle.wl_interface_text.proofs.Spelling.{letters_no_space, argument_spells, spelled_argument}
@@ -84,7 +84,7 @@ digits_no_space (c ∷ cs) all =
 
 argument_no_space : (word : List ℕ) (found : WrittenKind) → SpellsArgument word found → NoSpace word
 argument_no_space word found spelled = elim spelled [
-  | alone kind none ↦ letters_no_space _ _ kind
+  | alone kind free none ↦ letters_no_space _ _ kind
   | named letters name kind takes good is whole ↦ rw whole
       (All-append (λ byte. byte ≢ 32) letters (40 ∷ (name ++ 41 ∷ [])) (letters_no_space _ _ kind)
       (All-cons (λ byte. byte ≢ 32) 40 (name ++ 41 ∷ []) (λ e. cc e)
@@ -323,29 +323,37 @@ spelled_message n line side m said at =
     }
 
 -- interfaces
-abbrev pub opened : ℕ → List ℕ → ℕ → WrittenInterface
-opened n name version = record { line = n; name = name; version = version; requests = []; events = [] }
+abbrev pub opened : Bool → ℕ → List ℕ → ℕ → WrittenInterface
+opened extends n name version = record {
+  line = n;
+  extends = extends;
+  name = name;
+  version = version;
+  requests = [];
+  events = [];
+}
 
-record InterfaceSaid (n : ℕ) (more : List (List ℕ)) (i : WrittenInterface) : Type 0 where
+record InterfaceSaid (extends : Bool) (n : ℕ) (more : List (List ℕ)) (i : WrittenInterface) : Type 0 where
   name : List ℕ
   version : ℕ
-  is : i ≡ opened n name version
-  said : IsInterfaceLine (codes "interface" ++ spaced more) name version
+  is : i ≡ opened extends n name version
+  said : IsInterfaceLine (heading extends ++ spaced more) extends name version
 
-interface_says : (n : ℕ) (more : List (List ℕ)) (i : WrittenInterface) → interface_of n more ≡ Some i
-    → InterfaceSaid n more i
-interface_says n [] i is = cc is
-interface_says n (name ∷ []) i is = cc is
-interface_says n (name ∷ digits ∷ []) i is = by (is_text_name name) (number_of digits) refl refl is
+interface_says : (extends : Bool) (n : ℕ) (more : List (List ℕ)) (i : WrittenInterface)
+    → interface_of extends n more ≡ Some i → InterfaceSaid extends n more i
+interface_says extends n [] i is = cc is
+interface_says extends n (name ∷ []) i is = cc is
+interface_says extends n (name ∷ digits ∷ []) i is = by (is_text_name name) (number_of digits) refl refl is
   where
     by : (t : Bool) (o : Option ℕ) → is_text_name name ≡ t → number_of digits ≡ o
-        → cond t (option_map (opened n name) o) None ≡ Some i → InterfaceSaid n (name ∷ digits ∷ []) i
+        → cond t (option_map (opened extends n name) o) None ≡ Some i
+        → InterfaceSaid extends n (name ∷ digits ∷ []) i
     by false o good at e = cc e
     by true None good at e = cc e
     by true (Some version) good at e = record {
       name = name;
       version = version;
-      is = let same : opened n name version ≡ i = cc e in sym same;
+      is = let same : opened extends n name version ≡ i = cc e in sym same;
       said = record {
         digits = digits;
         whole = rw append-nil refl;
@@ -353,19 +361,24 @@ interface_says n (name ∷ digits ∷ []) i is = by (is_text_name name) (number_
         number = number_spells digits version at;
       };
     }
-interface_says n (name ∷ digits ∷ next ∷ more) i is = cc is
+interface_says extends n (name ∷ digits ∷ next ∷ more) i is = cc is
 
-spelled_interface : (n : ℕ) (line name : List ℕ) (version : ℕ) → IsInterfaceLine line name version
-    → (more : List (List ℕ)) × (words line ≡ codes "interface" ∷ more)
-    × (interface_of n more ≡ Some (opened n name version))
-spelled_interface n line name version said =
-    let whole : line ≡ codes "interface" ++ spaced (name ∷ said.digits ∷ []) =
-    said.whole ∙ ap (λ (end : List ℕ). codes "interface " ++ (name ++ 32 ∷ end)) (sym (append-nil said.digits)) in
+heading_no_space : (extends : Bool) → NoSpace (heading extends)
+heading_no_space false = plain_word (codes "interface") refl
+heading_no_space true = plain_word (codes "extend") refl
+
+spelled_interface : (extends : Bool) (n : ℕ) (line name : List ℕ) (version : ℕ)
+    → IsInterfaceLine line extends name version
+    → (more : List (List ℕ)) × (words line ≡ heading extends ∷ more)
+    × (interface_of extends n more ≡ Some (opened extends n name version))
+spelled_interface extends n line name version said =
+    let whole : line ≡ heading extends ++ spaced (name ∷ said.digits ∷ []) =
+    said.whole ∙ ap (λ (end : List ℕ). heading extends ++ 32 ∷ (name ++ 32 ∷ end)) (sym (append-nil said.digits)) in
     let number : number_of said.digits ≡ Some version = spelled_number said.digits version said.number in (
       name ∷ said.digits ∷ [],
-      ap words whole ∙ words_joined (codes "interface") (name ∷ said.digits ∷ []) (plain_word (codes "interface") refl)
+      ap words whole ∙ words_joined (heading extends) (name ∷ said.digits ∷ []) (heading_no_space extends)
           (said.named.no_space, (digits_no_space said.digits said.number.digit, tt)),
-      rw (is_name name said.named) (ap (option_map (opened n name)) number),
+      rw (is_name name said.named) (ap (option_map (opened extends n name)) number),
     )
 
 -- skipped lines
@@ -411,18 +424,30 @@ message_line_added n line side m said at written =
     added_by_words n line (side_word side ∷ it.more) written (message_speaks line _ side said.whole) it.cut
     ∙ by_side n side it.more m written it.read
 
-pub interface_line_added : (n : ℕ) (line name : List ℕ) (version : ℕ) → IsInterfaceLine line name version
-    → (written : List WrittenInterface) → line_added n line written ≡ Some (written ++ opened n name version ∷ [])
-interface_line_added n line name version said written =
-    let it = spelled_interface n line name version said in
-    added_by_words n line (codes "interface" ∷ it.0) written
-    (speaks line (codes "interface ") (name ++ 32 ∷ said.digits) said.whole refl) it.1
-    ∙ ap (option_map (λ i. written ++ i ∷ [])) it.2
+heading_speaks : (line rest : List ℕ) (extends : Bool) → line ≡ heading extends ++ rest → says_nothing line ≡ false
+heading_speaks line rest false whole = speaks line (codes "interface") rest whole refl
+heading_speaks line rest true whole = speaks line (codes "extend") rest whole refl
+
+by_heading : (n : ℕ) (extends : Bool) (more : List (List ℕ)) (i : WrittenInterface) (written : List WrittenInterface)
+    → interface_of extends n more ≡ Some i
+    → words_added n (heading extends ∷ more) written ≡ Some (written ++ i ∷ [])
+by_heading n false more i written read = ap (option_map (λ i. written ++ i ∷ [])) read
+by_heading n true more i written read = ap (option_map (λ i. written ++ i ∷ [])) read
+
+pub interface_line_added : (extends : Bool) (n : ℕ) (line name : List ℕ) (version : ℕ)
+    → IsInterfaceLine line extends name version
+    → (written : List WrittenInterface)
+    → line_added n line written ≡ Some (written ++ opened extends n name version ∷ [])
+interface_line_added extends n line name version said written =
+    let it = spelled_interface extends n line name version said in
+    added_by_words n line (heading extends ∷ it.0) written (heading_speaks line _ extends said.whole) it.1
+    ∙ by_heading n extends it.0 _ written it.2
 
 -- what a line says
 pub data LineSays (n : ℕ) (line : List ℕ) : Type 0 where
   it_skips : IsSkipped line → LineSays n line
-  it_opens : (name : List ℕ) (version : ℕ) → IsInterfaceLine line name version → LineSays n line
+  it_opens : (extends : Bool) (name : List ℕ) (version : ℕ) → IsInterfaceLine line extends name version
+      → LineSays n line
   it_adds : (side : Bool) (m : WrittenMessage) → m.line ≡ n → IsMessageLine line side m → LineSays n line
   it_fails : ((written : List WrittenInterface) → line_added n line written ≡ None) → LineSays n line
 
@@ -430,15 +455,20 @@ fails_so : (n : ℕ) (line : List ℕ) (ws : List (List ℕ)) → says_nothing l
     → ((written : List WrittenInterface) → words_added n ws written ≡ None) → LineSays n line
 fails_so n line ws says cut none = it_fails (λ written. added_by_words n line ws written says cut ∙ none written)
 
-opens_so : (n : ℕ) (line : List ℕ) (more : List (List ℕ)) → says_nothing line ≡ false
-    → words line ≡ codes "interface" ∷ more
-    → (o : Option WrittenInterface) → interface_of n more ≡ o → LineSays n line
-opens_so n line more says cut None is = fails_so n line (codes "interface" ∷ more) says cut
-    (λ written. ap (option_map (λ i. written ++ i ∷ [])) is)
-opens_so n line more says cut (Some i) is =
-    let it = interface_says n more i is in
-    it_opens it.name it.version (subst (λ (l : List ℕ). IsInterfaceLine l it.name it.version)
-    (sym (joined_words line (codes "interface") more cut)) it.said)
+heading_fails : (n : ℕ) (extends : Bool) (more : List (List ℕ)) (written : List WrittenInterface)
+    → interface_of extends n more ≡ None → words_added n (heading extends ∷ more) written ≡ None
+heading_fails n false more written none = ap (option_map (λ i. written ++ i ∷ [])) none
+heading_fails n true more written none = ap (option_map (λ i. written ++ i ∷ [])) none
+
+opens_so : (n : ℕ) (line : List ℕ) (extends : Bool) (more : List (List ℕ)) → says_nothing line ≡ false
+    → words line ≡ heading extends ∷ more
+    → (o : Option WrittenInterface) → interface_of extends n more ≡ o → LineSays n line
+opens_so n line extends more says cut None is = fails_so n line (heading extends ∷ more) says cut
+    (λ written. heading_fails n extends more written is)
+opens_so n line extends more says cut (Some i) is =
+    let it = interface_says extends n more i is in
+    it_opens extends it.name it.version (subst (λ (l : List ℕ). IsInterfaceLine l extends it.name it.version)
+    (sym (joined_words line (heading extends) more cut)) it.said)
 
 side_fails : (n : ℕ) (side : Bool) (more : List (List ℕ)) (written : List WrittenInterface)
     → written_message_of n more ≡ None
@@ -461,20 +491,22 @@ word_is : (word literal : List ℕ) (more ws : List (List ℕ)) → ws ≡ word 
 word_is word literal more ws cut same = cut ∙ ap (λ (w : List ℕ). w ∷ more) ((bytes_eq-Decides word literal).0 same)
 
 by_word : (n : ℕ) (line word : List ℕ) (more : List (List ℕ)) → says_nothing line ≡ false → words line ≡ word ∷ more
-    → (i r e : Bool) → bytes_eq word (codes "interface") ≡ i → bytes_eq word (codes "request") ≡ r
-    → bytes_eq word (codes "event") ≡ e → LineSays n line
-by_word n line word more says cut true r e is is' is'' =
-    opens_so n line more says (word_is word (codes "interface") more _ cut is) (interface_of n more) refl
-by_word n line word more says cut false true e is is' is'' =
-    adds_so n line true more says (word_is word (codes "request") more _ cut is') (written_message_of n more) refl
-by_word n line word more says cut false false true is is' is'' =
-    adds_so n line false more says (word_is word (codes "event") more _ cut is'') (written_message_of n more) refl
-by_word n line word more says cut false false false is is' is'' =
-    fails_so n line (word ∷ more) says cut (λ written. rw (is, is', is'') refl)
+    → (i x r e : Bool) → bytes_eq word (codes "interface") ≡ i → bytes_eq word (codes "extend") ≡ x
+    → bytes_eq word (codes "request") ≡ r → bytes_eq word (codes "event") ≡ e → LineSays n line
+by_word n line word more says cut true x r e is_i is_x is_r is_e =
+    opens_so n line false more says (word_is word (codes "interface") more _ cut is_i) (interface_of false n more) refl
+by_word n line word more says cut false true r e is_i is_x is_r is_e =
+    opens_so n line true more says (word_is word (codes "extend") more _ cut is_x) (interface_of true n more) refl
+by_word n line word more says cut false false true e is_i is_x is_r is_e =
+    adds_so n line true more says (word_is word (codes "request") more _ cut is_r) (written_message_of n more) refl
+by_word n line word more says cut false false false true is_i is_x is_r is_e =
+    adds_so n line false more says (word_is word (codes "event") more _ cut is_e) (written_message_of n more) refl
+by_word n line word more says cut false false false false is_i is_x is_r is_e =
+    fails_so n line (word ∷ more) says cut (λ written. rw (is_i, is_x, is_r, is_e) refl)
 
 by_silence : (n : ℕ) (line : List ℕ) (t : Bool) → says_nothing line ≡ t → LineSays n line
 by_silence n line true says = it_skips (skipped_is line says)
-by_silence n line false says = let w = words_some line in by_word n line w.0 w.1 says w.2 _ _ _ refl refl refl
+by_silence n line false says = let w = words_some line in by_word n line w.0 w.1 says w.2 _ _ _ _ refl refl refl refl
 
 pub line_says : (n : ℕ) (line : List ℕ) → LineSays n line
 line_says n line = by_silence n line (says_nothing line) refl

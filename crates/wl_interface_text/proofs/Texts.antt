@@ -58,8 +58,8 @@ said_below (event {n} {line} {more} {m} {requests} {events} {interfaces} said at
     ∙ said_below rest before (with_written_message false m i)
     ∙ ap (λ (x : WrittenInterface). Ok (before ++ x ∷ interfaces)) (first_then false m i requests events)
 said_below (interface {n} {line} {more} {i = j} {interfaces} said at rest) before i =
-    listed_on n line more (before ++ i ∷ []) _ (interface_line_added n line j.name j.version said (before ++ i ∷ []))
-    ∙ said_below rest (before ++ i ∷ []) (opened n j.name j.version)
+    listed_on n line more (before ++ i ∷ []) _ (interface_line_added j.extends n line j.name j.version said (before ++ i ∷ []))
+    ∙ said_below rest (before ++ i ∷ []) (opened j.extends n j.name j.version)
     ∙ ap (λ (l : ℕ). Ok ((before ++ i ∷ []) ++ record j { line = l } ∷ interfaces)) (sym at)
     ∙ ap Ok (append_assoc before (i ∷ []) (j ∷ interfaces))
     ∙ ap (λ (x : WrittenInterface). Ok (before ++ x ∷ j ∷ interfaces)) (sym (with_none i))
@@ -74,8 +74,8 @@ said_first (skipped {n} {line} {more} skip rest) r e =
 said_first (request said at rest) r e = cc r
 said_first (event said at rest) r e = cc e
 said_first (interface {n} {line} {more} {i = j} {interfaces} said at rest) r e =
-    listed_on n line more [] _ (interface_line_added n line j.name j.version said [])
-    ∙ said_below rest [] (opened n j.name j.version)
+    listed_on n line more [] _ (interface_line_added j.extends n line j.name j.version said [])
+    ∙ said_below rest [] (opened j.extends n j.name j.version)
     ∙ ap (λ (l : ℕ). Ok (record j { line = l } ∷ interfaces)) (sym at)
 
 -- what is read is said
@@ -110,16 +110,16 @@ below_added n line more before i written false m at said it = record {
   is = it.is ∙ ap (λ (x : WrittenInterface). before ++ x ∷ it.interfaces) (first_then false m i it.requests it.events);
 }
 
-below_opened : (n : ℕ) (line name : List ℕ) (version : ℕ) (more : List (List ℕ)) (before : List WrittenInterface)
+below_opened : (extends : Bool) (n : ℕ) (line name : List ℕ) (version : ℕ) (more : List (List ℕ)) (before : List WrittenInterface)
     (i : WrittenInterface) (written : List WrittenInterface)
-    → IsInterfaceLine line name version → Below (n + 1) more (before ++ i ∷ []) (opened n name version) written
+    → IsInterfaceLine line extends name version → Below (n + 1) more (before ++ i ∷ []) (opened extends n name version) written
     → Below n (line ∷ more) before i written
-below_opened n line name version more before i written said it =
-    let j : WrittenInterface = with_more (opened n name version) it.requests it.events in
+below_opened extends n line name version more before i written said it =
+    let j : WrittenInterface = with_more (opened extends n name version) it.requests it.events in
     record {
       requests = [];
       events = [];
-      interfaces = with_more (opened n name version) it.requests it.events ∷ it.interfaces;
+      interfaces = with_more (opened extends n name version) it.requests it.events ∷ it.interfaces;
       say = interface said refl it.say;
       is = it.is ∙ append_assoc before (i ∷ []) (j ∷ it.interfaces)
           ∙ ap (λ (x : WrittenInterface). before ++ x ∷ j ∷ it.interfaces) (sym (with_none i));
@@ -138,11 +138,11 @@ below_line n line more says reads = λ before i written is. elim says [
         say = skipped skip it.say;
         is = it.is;
       }
-  | it_opens name version said ↦
-      below_opened n line name version more before i written said
-      (reads (before ++ i ∷ []) (opened n name version) written
+  | it_opens extends name version said ↦
+      below_opened extends n line name version more before i written said
+      (reads (before ++ i ∷ []) (opened extends n name version) written
       (sym (listed_on n line more (before ++ i ∷ []) _
-      (interface_line_added n line name version said (before ++ i ∷ []))) ∙ is))
+      (interface_line_added extends n line name version said (before ++ i ∷ []))) ∙ is))
   | it_adds side m at said ↦
       below_added n line more before i written side m at said
       (reads before (with_written_message side m i) written
@@ -168,9 +168,9 @@ first_line : (n : ℕ) (line : List ℕ) (more : List (List ℕ)) (written : Lis
     → interfaces_from n (line ∷ more) [] ≡ Ok written → Say n (line ∷ more) [] [] written
 first_line n line more written says rest is = elim says [
   | it_skips skip ↦ skipped skip (rest (sym (listed_on n line more [] _ (skipped_added n line skip [])) ∙ is))
-  | it_opens name version said ↦
-      let it = read_below (n + 1) more [] (opened n name version) written
-      (sym (listed_on n line more [] _ (interface_line_added n line name version said [])) ∙ is) in
+  | it_opens extends name version said ↦
+      let it = read_below (n + 1) more [] (opened extends n name version) written
+      (sym (listed_on n line more [] _ (interface_line_added extends n line name version said [])) ∙ is) in
       subst (λ (w : List WrittenInterface). Say n (line ∷ more) [] [] w) (sym it.is) (interface said refl it.say)
   | it_adds side m at said ↦ let no : Err n ≡ Ok written =
       sym (listed_on n line more [] _ (message_line_added n line side m said at [])) ∙ is in cc no
@@ -220,8 +220,8 @@ none_stands : (n : ℕ) (line : List ℕ) (written : List WrittenInterface) → 
     → MayStand written line → ⊥
 none_stands n line written is stands = elim stands [
   | skips skip ↦ let no : Some written ≡ None = sym (skipped_added n line skip written) ∙ is in cc no
-  | opens name version said ↦ let no : Some (written ++ opened n name version ∷ []) ≡ None =
-      sym (interface_line_added n line name version said written) ∙ is in cc no
+  | opens extends name version said ↦ let no : Some (written ++ opened extends n name version ∷ []) ≡ None =
+      sym (interface_line_added extends n line name version said written) ∙ is in cc no
   | adds side m said some ↦ message_stands n line written side m said some is
 ]
 
@@ -234,7 +234,7 @@ may_not_stand : (n : ℕ) (line : List ℕ) (written : List WrittenInterface) �
     → line_added n line written ≡ None
 may_not_stand n line written bad = elim (line_says n line) [
   | it_skips skip ↦ absurd (bad (skips skip))
-  | it_opens name version said ↦ absurd (bad (opens name version said))
+  | it_opens extends name version said ↦ absurd (bad (opens extends name version said))
   | it_adds side m at said ↦ alone_fails n line side m at said written bad
   | it_fails fails ↦ fails written
 ]

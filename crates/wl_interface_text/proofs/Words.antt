@@ -25,8 +25,9 @@ pub since_alone : (word line : List ℕ) → since_of (word ∷ words line) ≡ 
 since_alone word line = let w = words_some line in rw w.2 refl
 
 -- no version has a word behind it
-pub version_alone : (n : ℕ) (name digits line : List ℕ) → interface_of n (name ∷ digits ∷ words line) ≡ None
-version_alone n name digits line = let w = words_some line in rw w.2 refl
+pub version_alone : (extends : Bool) (n : ℕ) (name digits line : List ℕ)
+    → interface_of extends n (name ∷ digits ∷ words line) ≡ None
+version_alone extends n name digits line = let w = words_some line in rw w.2 refl
 
 -- a message goes to the last interface
 pub added_last : (is_request : Bool) (m : WrittenMessage) (xs : List WrittenInterface) (i : WrittenInterface)

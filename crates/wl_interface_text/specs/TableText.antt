@@ -4,11 +4,11 @@ use Rattle.std.specs.Prelude.{Bool, true, false, Some, None}
 use Rattle.std.specs.List.{All}
 use Rattle.std.specs.Str.Lines.{lines}
 use Rattle.std.specs.Str.Parse.{AllDigits, digits_value}
-use Rattle.wl_wire.specs.declared.kind.Kind.{Kind}
-use Rattle.wl_wire.specs.declared.kind.Kind.TheVariants as kinds
 use Rattle.wl_line_text.specs.Lines.{IsSkipped}
+use Rattle.wl_interface_text.specs.declared.written.BareKind.{BareKind}
+use Rattle.wl_interface_text.specs.declared.written.BareKind.TheVariants as bare
 use Rattle.wl_interface_text.specs.Text.{WrittenKind, WrittenMessage, WrittenInterface, Tail}
-use Rattle.wl_interface_text.specs.Text.{takes_interface, with_kinds}
+use Rattle.wl_interface_text.specs.Text.{needs_interface, takes_interface, with_kinds}
 
 -- a name: one or more bytes other than space, ( and )
 pub record IsTextName (name : List ℕ) : Type 0 where
@@ -26,22 +26,24 @@ pub record SpellsNumber (digits : List ℕ) (number : ℕ) : Type 0 where
   pub small : number ≤ 4294967295
 
 -- the letters of each kind of argument
-pub data SpellsKind (letters : List ℕ) (kind : Kind) : Type 0 where
-  int : letters ≡ codes "i" → kind ≡ kinds.Int → SpellsKind letters kind
-  uint : letters ≡ codes "u" → kind ≡ kinds.Uint → SpellsKind letters kind
-  fixed : letters ≡ codes "f" → kind ≡ kinds.Fixed → SpellsKind letters kind
-  string : letters ≡ codes "s" → kind ≡ kinds.Str false → SpellsKind letters kind
-  null_string : letters ≡ codes "?s" → kind ≡ kinds.Str true → SpellsKind letters kind
-  array : letters ≡ codes "a" → kind ≡ kinds.Array → SpellsKind letters kind
-  descriptor : letters ≡ codes "h" → kind ≡ kinds.Fd → SpellsKind letters kind
-  object : letters ≡ codes "o" → kind ≡ kinds.Obj false None → SpellsKind letters kind
-  null_object : letters ≡ codes "?o" → kind ≡ kinds.Obj true None → SpellsKind letters kind
-  new_id : letters ≡ codes "n" → kind ≡ kinds.New None → SpellsKind letters kind
+pub data SpellsKind (letters : List ℕ) (kind : BareKind) : Type 0 where
+  int : letters ≡ codes "i" → kind ≡ bare.Int → SpellsKind letters kind
+  uint : letters ≡ codes "u" → kind ≡ bare.Uint → SpellsKind letters kind
+  fixed : letters ≡ codes "f" → kind ≡ bare.Fixed → SpellsKind letters kind
+  string : letters ≡ codes "s" → kind ≡ bare.Str false → SpellsKind letters kind
+  null_string : letters ≡ codes "?s" → kind ≡ bare.Str true → SpellsKind letters kind
+  array : letters ≡ codes "a" → kind ≡ bare.Array → SpellsKind letters kind
+  descriptor : letters ≡ codes "h" → kind ≡ bare.Fd → SpellsKind letters kind
+  object : letters ≡ codes "o" → kind ≡ bare.Obj false → SpellsKind letters kind
+  null_object : letters ≡ codes "?o" → kind ≡ bare.Obj true → SpellsKind letters kind
+  new_id : letters ≡ codes "n" → kind ≡ bare.New → SpellsKind letters kind
+  new_by_server : letters ≡ codes "N" → kind ≡ bare.NewByServer → SpellsKind letters kind
 
--- The word spells the argument: its letters alone, or, of an object or a new id, with the name of
--- an interface in brackets.
+-- The word spells the argument: its letters alone, unless the kind needs an interface; or, of an
+-- object or a new one, with the name of an interface in brackets.
 pub data SpellsArgument (word : List ℕ) (argument : WrittenKind) : Type 0 where
-  alone : SpellsKind word argument.kind → argument.iface ≡ None → SpellsArgument word argument
+  alone : SpellsKind word argument.kind → needs_interface argument.kind ≡ false
+      → argument.iface ≡ None → SpellsArgument word argument
   named : (letters name : List ℕ) → SpellsKind letters argument.kind
       → takes_interface argument.kind ≡ true → IsTextName name → argument.iface ≡ Some name
       → word ≡ letters ++ 40 ∷ (name ++ 41 ∷ []) → SpellsArgument word argument
@@ -80,12 +82,19 @@ pub record IsMessageLine (line : List ℕ) (is_request : Bool) (message : Writte
   pub named : IsTextName message.name
   pub tail : SpellsTail rest (tail_in message)
 
--- The line says an interface of this name and version: "interface", each of the two behind a space.
-pub record IsInterfaceLine (line name : List ℕ) (version : ℕ) : Type 0 where
-  pub digits : List ℕ
-  pub whole : line ≡ codes "interface " ++ (name ++ 32 ∷ digits)
-  pub named : IsTextName name
-  pub number : SpellsNumber digits version
+-- the word that begins the line of an interface, or of what is added to one
+abbrev pub heading : Bool → List ℕ
+heading false = codes "interface"
+heading true = codes "extend"
+
+-- The line says an interface of this name and version, or what extends it to this version: the word
+-- of the two that begins it, then name and version, each behind a space.
+pub record IsInterfaceLine (line : List ℕ) (extends : Bool) (name : List ℕ) (version : ℕ) : Type 0
+  where
+    pub digits : List ℕ
+    pub whole : line ≡ heading extends ++ 32 ∷ (name ++ 32 ∷ digits)
+    pub named : IsTextName name
+    pub number : SpellsNumber digits version
 
 -- Lines, the first of which has number n, say these requests and these events of the interface
 -- above them, and then these interfaces, all in order, each with the number of its line. Each line
@@ -107,7 +116,7 @@ pub data Say : ℕ → List (List ℕ) → List WrittenMessage → List WrittenM
       → Say n (line ∷ more) requests (m ∷ events) interfaces
   interface : {n : ℕ} {line : List ℕ} {more : List (List ℕ)} {i : WrittenInterface}
       {interfaces : List WrittenInterface}
-      → IsInterfaceLine line i.name i.version → i.line ≡ n
+      → IsInterfaceLine line i.extends i.name i.version → i.line ≡ n
       → Say (n + 1) more i.requests i.events interfaces
       → Say n (line ∷ more) [] [] (i ∷ interfaces)
 
@@ -124,7 +133,8 @@ TableText text written = LinesList (lines text) written
 -- stands below an interface.
 pub data MayStand (written : List WrittenInterface) (line : List ℕ) : Type 0 where
   skips : IsSkipped line → MayStand written line
-  opens : (name : List ℕ) (version : ℕ) → IsInterfaceLine line name version → MayStand written line
+  opens : (extends : Bool) (name : List ℕ) (version : ℕ) → IsInterfaceLine line extends name version
+      → MayStand written line
   adds : (is_request : Bool) (m : WrittenMessage) → IsMessageLine line is_request m
       → 0 < length written → MayStand written line
 

@@ -1,24 +1,26 @@
 -- Tables as a text. Each line that is not skipped is one of
 --
 --   "interface " name " " number
+--   "extend " name " " number
 --   side " " name *( " " argument ) [ " D" ] [ " @" number ]
 --
--- where a side is "request" or "event". A message belongs to the last interface line above it.
+-- where a side is "request" or "event". A message belongs to the last line of the first two forms
+-- above it.
 use Rattle.std.specs.Prelude.{ℕ, ◌+◌, ◌-◌, ◌==◌, ◌&&◌, ◌||◌, not, nat_le, if◌then◌else◌, List, []}
 use Rattle.std.specs.Prelude.{◌∷◌, ◌++◌, length, take, drop, codes, position, Bool, true, false}
 use Rattle.std.specs.Prelude.{slice_index, bytes_eq, unwrap_or, Option, Some, None, option_and_then}
 use Rattle.std.specs.Prelude.{option_map, Result, Ok, Err}
 use Rattle.std.specs.List.{list_all}
 use Rattle.std.specs.Option.{option_map_or}
-use Rattle.wl_wire.specs.declared.kind.Kind.{Kind}
-use Rattle.wl_wire.specs.declared.kind.Kind.TheVariants as kinds
+use Rattle.wl_interface_text.specs.declared.written.BareKind.{BareKind}
+use Rattle.wl_interface_text.specs.declared.written.BareKind.TheVariants as bare
 use Rattle.wl_line_text.specs.Lines.{says_nothing, words}
 use Rattle.wl_line_text.specs.Number.{number_of}
 
--- The kind of an argument as a text writes it: the kind without an interface, and the interface's
+-- The kind of an argument as a text writes it: the kind without its interface, and the interface's
 -- name where the text gives one.
 pub record WrittenKind : Type 0 where
-  pub kind : Kind
+  pub kind : BareKind
   pub iface : Option (List ℕ)
 
 -- a message, with the number of its line
@@ -29,9 +31,11 @@ pub record WrittenMessage : Type 0 where
   pub kinds : List WrittenKind
   pub destroys : Bool
 
--- an interface, with the number of its line and the messages of the lines below it
+-- an interface, or what is added to one of this name, with the number of its line and the messages
+-- of the lines below it
 pub record WrittenInterface : Type 0 where
   pub line : ℕ
+  pub extends : Bool
   pub name : List ℕ
   pub version : ℕ
   pub requests : List WrittenMessage
@@ -46,29 +50,38 @@ abbrev pub is_text_name : List ℕ → Bool
 is_text_name name = not (length name == 0) && list_all is_text_byte name
 
 -- the kind that letters stand for
-abbrev pub kind_of : List ℕ → Option Kind
+abbrev pub kind_of : List ℕ → Option BareKind
 kind_of letters =
-    if bytes_eq letters (codes "i") then Some kinds.Int
-    else (if bytes_eq letters (codes "u") then Some kinds.Uint
-    else (if bytes_eq letters (codes "f") then Some kinds.Fixed
-    else (if bytes_eq letters (codes "s") then Some (kinds.Str false)
-    else (if bytes_eq letters (codes "?s") then Some (kinds.Str true)
-    else (if bytes_eq letters (codes "a") then Some kinds.Array
-    else (if bytes_eq letters (codes "h") then Some kinds.Fd
-    else (if bytes_eq letters (codes "o") then Some (kinds.Obj false None)
-    else (if bytes_eq letters (codes "?o") then Some (kinds.Obj true None)
-    else (if bytes_eq letters (codes "n") then Some (kinds.New None)
-    else None)))))))))
+    if bytes_eq letters (codes "i") then Some bare.Int
+    else (if bytes_eq letters (codes "u") then Some bare.Uint
+    else (if bytes_eq letters (codes "f") then Some bare.Fixed
+    else (if bytes_eq letters (codes "s") then Some (bare.Str false)
+    else (if bytes_eq letters (codes "?s") then Some (bare.Str true)
+    else (if bytes_eq letters (codes "a") then Some bare.Array
+    else (if bytes_eq letters (codes "h") then Some bare.Fd
+    else (if bytes_eq letters (codes "o") then Some (bare.Obj false)
+    else (if bytes_eq letters (codes "?o") then Some (bare.Obj true)
+    else (if bytes_eq letters (codes "n") then Some bare.New
+    else (if bytes_eq letters (codes "N") then Some bare.NewByServer
+    else None))))))))))
 
 -- whether an argument of the kind may name an interface
-abbrev pub takes_interface : Kind → Bool
-takes_interface (kinds.Obj null iface) = true
-takes_interface (kinds.New iface) = true
+abbrev pub takes_interface : BareKind → Bool
+takes_interface (bare.Obj null) = true
+takes_interface bare.New = true
+takes_interface bare.NewByServer = true
 takes_interface _ = false
 
--- the argument of this kind whose letters have this behind them: nothing, or a name in brackets
-abbrev pub bracketed : Kind → List ℕ → Option WrittenKind
-bracketed kind [] = Some (record { kind = kind; iface = None })
+-- whether an argument of the kind must name an interface
+abbrev pub needs_interface : BareKind → Bool
+needs_interface bare.NewByServer = true
+needs_interface _ = false
+
+-- The argument of this kind whose letters have this behind them: nothing, where the kind does not
+-- need an interface, or a name in brackets.
+abbrev pub bracketed : BareKind → List ℕ → Option WrittenKind
+bracketed kind [] =
+    if needs_interface kind then None else Some (record { kind = kind; iface = None })
 bracketed kind (bracket ∷ tail) =
     let name = take (length tail - 1) tail in
     if takes_interface kind && nat_le 1 (length tail)
@@ -144,19 +157,20 @@ written_message_of n (name ∷ more) =
     } in it) (tail_of more)
     else None
 
--- the interface of line n, from the words behind "interface"
-abbrev pub interface_of : ℕ → List (List ℕ) → Option WrittenInterface
-interface_of n (name ∷ digits ∷ []) =
+-- the interface of line n, from the words behind "interface", or behind "extend"
+abbrev pub interface_of : Bool → ℕ → List (List ℕ) → Option WrittenInterface
+interface_of extends n (name ∷ digits ∷ []) =
     if is_text_name name
     then option_map (λ version. let it : WrittenInterface = record {
       line = n;
+      extends = extends;
       name = name;
       version = version;
       requests = [];
       events = [];
     } in it) (number_of digits)
     else None
-interface_of n _ = None
+interface_of extends n _ = None
 
 -- the interface with one message more: a request or an event
 abbrev pub with_written_message : Bool → WrittenMessage → WrittenInterface → WrittenInterface
@@ -175,8 +189,8 @@ message_added is_request m (i ∷ j ∷ more) =
 abbrev pub words_added : ℕ → List (List ℕ) → List WrittenInterface → Option (List WrittenInterface)
 words_added n [] written = None
 words_added n (word ∷ more) written =
-    if bytes_eq word (codes "interface")
-    then option_map (λ i. written ++ i ∷ []) (interface_of n more)
+    if bytes_eq word (codes "interface") || bytes_eq word (codes "extend")
+    then option_map (λ i. written ++ i ∷ []) (interface_of (bytes_eq word (codes "extend")) n more)
     else (if bytes_eq word (codes "request") || bytes_eq word (codes "event")
     then option_and_then (λ m. message_added (bytes_eq word (codes "request")) m written)
     (written_message_of n more)

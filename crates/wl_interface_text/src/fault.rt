@@ -13,7 +13,7 @@ pub enum TableFault {
     /// interface.
     BadLine { line: usize },
     /// TB2: each line has a form, this line is the first that breaks a rule of valid tables, and
-    /// the rule, 1 to 9, is the least that it breaks.
+    /// the rule, 1 to 9 or 11, is the least that it breaks.
     BadTable { line: usize, rule: u8 },
     /// TB3: out of memory.
     Memory,

@@ -2,17 +2,16 @@
 ghost use Rattle.std.specs.Prelude.{◌≡◌, ◌==◌, ◌∷◌, IfOk, option_map, option_copied, position};
 ghost use Rattle.std.specs.List.{list_all};
 ghost use Rattle.wl_interface_text.specs.Text.{is_text_byte, is_text_name, kind_of};
-ghost use Rattle.wl_interface_text.specs.Text.{takes_interface};
+ghost use Rattle.wl_interface_text.specs.Text.{needs_interface, takes_interface};
 ghost use Rattle.wl_interface_text.specs.Text.{bracketed, written_kind_of, at_number, since_of};
 ghost use Rattle.wl_interface_text.specs.Text.{ending_of};
 ghost use Rattle.wl_interface_text.specs.Text.{tail_of, written_message_of, interface_of};
 ghost use Rattle.wl_interface_text.specs.Reading.{words_behind, tail_of_ending};
 
-use crate::written::{WrittenInterface, WrittenKind, WrittenMessage};
+use crate::written::{BareKind, WrittenInterface, WrittenKind, WrittenMessage};
 use std::alloc::{AllocError, Allocator};
 use std::marker::Model;
 use wl_line_text::{decimal_number, first_word};
-use wl_wire::Kind;
 
 // Whether a word is a name.
 fn is_text_name(name: &[u8]) -> bool
@@ -34,53 +33,59 @@ fn is_text_byte(byte: u8) -> bool
 }
 
 // The kind that letters stand for.
-fn kind_of(letters: &[u8]) -> Option<Kind>
+fn kind_of(letters: &[u8]) -> Option<BareKind>
     ensures { result ≡ kind_of letters.now }
 {
     if letters == b"i".as_slice() {
-        Some(Kind::Int)
+        Some(BareKind::Int)
     } else if letters == b"u".as_slice() {
-        Some(Kind::Uint)
+        Some(BareKind::Uint)
     } else if letters == b"f".as_slice() {
-        Some(Kind::Fixed)
+        Some(BareKind::Fixed)
     } else if letters == b"s".as_slice() {
-        Some(Kind::Str { null: false })
+        Some(BareKind::Str { null: false })
     } else if letters == b"?s".as_slice() {
-        Some(Kind::Str { null: true })
+        Some(BareKind::Str { null: true })
     } else if letters == b"a".as_slice() {
-        Some(Kind::Array)
+        Some(BareKind::Array)
     } else if letters == b"h".as_slice() {
-        Some(Kind::Fd)
+        Some(BareKind::Fd)
     } else if letters == b"o".as_slice() {
-        Some(Kind::Obj {
-            null: false,
-            iface: None,
-        })
+        Some(BareKind::Obj { null: false })
     } else if letters == b"?o".as_slice() {
-        Some(Kind::Obj {
-            null: true,
-            iface: None,
-        })
+        Some(BareKind::Obj { null: true })
     } else if letters == b"n".as_slice() {
-        Some(Kind::New(None))
+        Some(BareKind::New)
+    } else if letters == b"N".as_slice() {
+        Some(BareKind::NewByServer)
     } else {
         None
     }
 }
 
 /// Whether an argument of the kind may name an interface: an object, or a new one.
-pub fn takes_interface(kind: Kind) -> bool
+pub fn takes_interface(kind: BareKind) -> bool
     ensures { result ≡ takes_interface kind }
 {
-    matches!(kind, Kind::Obj { .. } | Kind::New(_))
+    matches!(
+        kind,
+        BareKind::Obj { .. } | BareKind::New | BareKind::NewByServer
+    )
+}
+
+/// Whether an argument of the kind must name an interface: an object that the server makes.
+pub fn needs_interface(kind: BareKind) -> bool
+    ensures { result ≡ needs_interface kind }
+{
+    kind == BareKind::NewByServer
 }
 
 // The argument of this kind with nothing behind its letters, or a name in brackets.
-fn bracketed(kind: Kind, behind: &[u8]) -> Option<WrittenKind<'_>>
+fn bracketed(kind: BareKind, behind: &[u8]) -> Option<WrittenKind<'_>>
     ensures { result ≡ bracketed kind behind.now }
 {
     match behind {
-        [] => Some(WrittenKind { kind, iface: None }),
+        [] if !needs_interface(kind) => Some(WrittenKind { kind, iface: None }),
         [_, name @ .., b')'] if takes_interface(kind) && is_text_name(name) => {
             Some(WrittenKind {
                 kind,
@@ -219,15 +224,16 @@ pub(crate) fn message_of<'t, A: Allocator + Clone + Drop>(
     }))
 }
 
-// The interface of a line, from the words behind `interface`.
+// The interface of a line, from the words behind `interface`, or behind `extend`.
 #[tactic(auto, using(crate::proofs::Words::version_alone))]
 pub(crate) fn interface_of<'t, A: Allocator + Clone + Drop>(
     alloc: &A,
+    extends: bool,
     line: usize,
     behind: Option<&'t [u8]>,
 ) -> Result<Option<WrittenInterface<'t, A>>, AllocError>
     ensures { IfOk result (λ interface. interface
-        ≡ interface_of line (words_behind (option_copied behind.entry))) }
+        ≡ interface_of extends line (words_behind (option_copied behind.entry))) }
 {
     let Some(rest) = behind else {
         return Ok(None);
@@ -246,6 +252,7 @@ pub(crate) fn interface_of<'t, A: Allocator + Clone + Drop>(
     };
     Ok(Some(WrittenInterface {
         line,
+        extends,
         name,
         version,
         requests: Vec::new(alloc.clone()?),

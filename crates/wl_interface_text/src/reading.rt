@@ -47,8 +47,9 @@ fn add_line<'t, A: Allocator + Clone + Drop>(
         ≡ (if added then Some interfaces.new.items else None)) }
 {
     let (word, behind) = first_word(line);
-    if word == b"interface".as_slice() {
-        let Some(interface) = interface_of(alloc, number, behind)? else {
+    let extends = word == b"extend".as_slice();
+    if word == b"interface".as_slice() || extends {
+        let Some(interface) = interface_of(alloc, extends, number, behind)? else {
             return Ok(false);
         };
         interfaces.push(interface)?;

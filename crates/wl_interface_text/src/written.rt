@@ -4,14 +4,36 @@ ghost use Rattle.std.specs.List.{list_any};
 
 use std::alloc::{Allocator, Global};
 use std::marker::Model;
-use wl_wire::Kind;
 
-/// The kind of an argument as a text writes it: the kind without an interface, and the name of its
+/// The kind of an argument without its interface, as the letters of a text give it.
+#[derive(Clone, Copy, Debug, PartialEq, Eq)]
+pub enum BareKind {
+    /// `i`
+    Int,
+    /// `u`
+    Uint,
+    /// `f`
+    Fixed,
+    /// `s`, or `?s` where null is allowed.
+    Str { null: bool },
+    /// `o`, or `?o` where null is allowed.
+    Obj { null: bool },
+    /// `n`: a new object that the client makes.
+    New,
+    /// `N`: a new object that the server makes.
+    NewByServer,
+    /// `a`
+    Array,
+    /// `h`
+    Fd,
+}
+
+/// The kind of an argument as a text writes it: the kind without its interface, and the name of its
 /// interface where the text gives one.
 #[derive(Drop)]
 pub struct WrittenKind<'t> {
-    /// The kind, with no interface.
-    pub kind: Kind,
+    /// The kind without its interface.
+    pub kind: BareKind,
     /// The name in brackets.
     pub iface: Option<&'t [u8]>,
 }
@@ -54,11 +76,14 @@ impl<'t, A: Allocator> Model for WrittenMessage<'t, A> {
     } };
 }
 
-/// An interface as a text writes it, with the messages of the lines below it.
+/// An interface as a text writes it, or what the text adds to one of this name, with the messages
+/// of the lines below it.
 #[derive(Drop)]
 pub struct WrittenInterface<'t, A: Allocator = Global> {
     /// The number of its line, from 1.
     pub line: usize,
+    /// Whether it extends an interface: its line begins with `extend`.
+    pub extends: bool,
     /// Its name.
     pub name: &'t [u8],
     /// Its version.
@@ -76,6 +101,7 @@ impl<'t, A: Allocator> Model for WrittenInterface<'t, A> {
 
     ghost view = { λ i. record {
       line = i.line;
+      extends = i.extends;
       name = i.name.now;
       version = i.version;
       requests = i.requests.items;

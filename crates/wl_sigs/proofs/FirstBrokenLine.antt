@@ -1,17 +1,22 @@
 -- The first line that breaks a rule.
 use Rattle.std.proofs.Common.{◌≡◌, ℕ, zero, suc, ◌+◌, ◌<◌, true, false, cond, List, [], ◌∷◌, ◌++◌}
 use Rattle.std.proofs.Common.{length, get_or, take, refl, sym, subst, Some, None, Option, Bool}
-use Rattle.std.proofs.Common.{slice_get, add-zero, arith}
+use Rattle.std.proofs.Common.{slice_get, add-zero, not, ◌&&◌, nat_le, arith}
 use Rattle.std.specs.Prelude.{nat_lt}
+use Rattle.std.specs.List.{list_all, count_by}
 use Rattle.std.proofs.lemmas.List.{take_more, length-take-le}
 use Rattle.std.proofs.lemmas.Bool.Decides.{nat_tests}
 use Rattle.wl_interface_text.specs.Text.{WrittenMessage, WrittenInterface}
-use Rattle.wl_sigs.specs.Broken.{Broken, earlier, broken_at, messages_broken, interface_broken, interfaces_broken}
+use Rattle.wl_sigs.specs.declared.signature.Side.{Side}
+use Rattle.wl_sigs.specs.Broken.{Broken, comes_first, earlier, broken_at, messages_broken, interface_broken}
+use Rattle.wl_sigs.specs.Broken.{interfaces_broken}
+use Rattle.wl_sigs.specs.Broken.{names_objects, is_race_free, names_missing, makes_server_object, most_by_server}
+use Rattle.wl_sigs.specs.Broken.{makes_forbidden, later_rule}
 
 pub earlier_none : (a b : Option Broken) → earlier a b ≡ None → (a ≡ None) × (b ≡ None)
 earlier_none None b none = (refl, none)
 earlier_none (Some a) None none = cc none
-earlier_none (Some a) (Some b) none = some_not (nat_lt b.line a.line) none where
+earlier_none (Some a) (Some b) none = some_not (comes_first b a) none where
   some_not : (t : Bool) → cond t (Some b) (Some a) ≡ None → (Some a ≡ None) × (Some b ≡ None)
   some_not true e = cc e
   some_not false e = cc e
@@ -103,3 +108,13 @@ interfaces_broken-next place ended n is k i within same =
     let len : n + length (take k is) ≡ n + k = omega (arith, length-take-le k is (omega (arith, within))) in
     let pushed = interfaces_broken-push place ended n (take k is) i in
     rw (take_more is k i within, ← same) (rw len at pushed)
+
+-- a message that keeps the rules from V6 on
+pub later_none : (place : List ℕ → Option ℕ) (ended : List Bool) (i : WrittenInterface) (side : Side)
+    (m : WrittenMessage) → names_objects side m ≡ true → is_race_free place ended i side m ≡ true
+    → nat_le 1 m.since && nat_le m.since i.version ≡ true
+    → list_all (λ k. not (names_missing place k)) m.kinds ≡ true
+    → nat_le (count_by makes_server_object m.kinds) (most_by_server side)
+    && list_all (λ k. not (makes_forbidden place ended k)) m.kinds ≡ true
+    → later_rule place ended i side m ≡ None
+later_none place ended i side m objects free since there right = rw (objects, free, since, there, right) refl

@@ -1,8 +1,9 @@
 -- The broken line that is found is the first, and its rule the least that it breaks.
 use Rattle.std.proofs.Common.{◌≡◌, ℕ, zero, suc, ◌+◌, ◌≤◌, ◌⊎◌, inl, inr, true, false, cond, List}
 use Rattle.std.proofs.Common.{[], ◌∷◌, length, map, refl, sym, ap, ◌∙◌, subst, Some, None, Option}
-use Rattle.std.proofs.Common.{Bool, slice_get, not, nat_le, nat_lt, ◌&&◌, arith}
-use Rattle.std.proofs.lemmas.Bool.{ltb-true, ltb-false}
+use Rattle.std.proofs.Common.{Bool, slice_get, not, nat_le, nat_lt, ◌<◌, ◌==◌, ◌&&◌, ◌||◌, arith}
+use Rattle.std.proofs.Math.Arith.{lt_of_le-ne}
+use Rattle.std.proofs.lemmas.Bool.{ltb-true, ltb-false, eqb-true, eqb-false}
 use Rattle.wl_sigs.specs.declared.signature.Side.{Side}
 use Rattle.wl_sigs.specs.declared.signature.Side.TheVariants.{Request, Event}
 use Rattle.std.specs.List.{list_all, count_by}
@@ -11,7 +12,8 @@ use Rattle.wl_sigs.specs.Tables.{Interface}
 use Rattle.wl_interface_text.specs.Text.{WrittenMessage, WrittenInterface}
 use Rattle.wl_sigs.specs.Joined.{all_names, first_place}
 use Rattle.wl_sigs.specs.Broken.{Broken, is_first, makes_object, makes_unnamed, names_missing}
-use Rattle.wl_sigs.specs.Broken.{names_objects, is_race_free, most_new, earlier, broken_at}
+use Rattle.wl_sigs.specs.Broken.{names_objects, is_race_free, most_new, comes_first, earlier, broken_at}
+use Rattle.wl_sigs.specs.Broken.{makes_server_object, most_by_server, makes_forbidden}
 use Rattle.wl_sigs.specs.Broken.{interface_rule, message_rule, messages_broken, interface_broken}
 use Rattle.wl_sigs.specs.Broken.{interfaces_broken, ended_of, first_broken}
 use Rattle.wl_sigs.specs.FirstBroken.{written_of}
@@ -44,6 +46,8 @@ message_tests place ended i side first opcode m =
     ∷ tested 7 (is_race_free place ended i side m)
     ∷ tested 8 (nat_le 1 m.since && nat_le m.since i.version)
     ∷ tested 9 (list_all (λ k. not (names_missing place k)) m.kinds)
+    ∷ tested 11 (nat_le (count_by makes_server_object m.kinds) (most_by_server side)
+    && list_all (λ k. not (makes_forbidden place ended k)) m.kinds)
     ∷ []
 
 -- what a text declares at a line, with the tests of it
@@ -64,22 +68,13 @@ pub record Breaks (tests : List Tested) (rule : ℕ) : Type 0 where
   pub place : ℕ
   pub at : slice_get tests place ≡ Some (tested rule false)
 
--- the tests that fail at a line, the first of which has this rule
-pub record IsFirstTested (tables : List Interface) (written : List WrittenInterface) (it : Broken) : Type 0 where
-  pub tests : List Tested
-  pub declares : Declares tables written it.line tests
-  pub breaks : Breaks tests it.rule
-  pub least : (rule : ℕ) → Breaks tests rule → it.rule ≤ rule
-  pub first : (line : ℕ) (others : List Tested) (rule : ℕ) → Declares tables written line others → Breaks others rule
-      → it.line ≤ line
-
 -- the rule of the first test that fails
-abbrev failing : List Tested → Option ℕ
+abbrev pub failing : List Tested → Option ℕ
 failing [] = None
 failing (t ∷ more) = cond (not t.kept) (Some t.rule) (failing more)
 
 -- each rule is at least n, and at least those before it
-abbrev Ascends : ℕ → List Tested → Type 0
+abbrev pub Ascends : ℕ → List Tested → Type 0
 Ascends n [] = Unit {0}
 Ascends n (t ∷ more) = (n ≤ t.rule) × Ascends t.rule more
 
@@ -91,9 +86,9 @@ ascending n (x ∷ more) up (suc k) t at = let rest = ascending x.rule more up.1
     in omega (arith, rest, here)
 
 -- a rule that fails first among tests in order is the least that fails
-record FailsFirst (tests : List Tested) (rule : ℕ) : Type 0 where
-  breaks : Breaks tests rule
-  least : (other : ℕ) → Breaks tests other → rule ≤ other
+pub record FailsFirst (tests : List Tested) (rule : ℕ) : Type 0 where
+  pub breaks : Breaks tests rule
+  pub least : (other : ℕ) → Breaks tests other → rule ≤ other
 
 behind_kept : (t : Tested) (more : List Tested) (rule : ℕ) → t.kept ≡ true
     → ((other : ℕ) → Breaks more other → rule ≤ other)
@@ -103,7 +98,7 @@ behind_kept t more rule kept least other zero at =
     let no : true ≡ false = sym kept ∙ ap (λ (y : Tested). y.kept) same in cc no
 behind_kept t more rule kept least other (suc k) at = least other (record { place = k; at = at })
 
-fails_first : (n : ℕ) (tests : List Tested) → Ascends n tests → (rule : ℕ) → failing tests ≡ Some rule
+pub fails_first : (n : ℕ) (tests : List Tested) → Ascends n tests → (rule : ℕ) → failing tests ≡ Some rule
     → FailsFirst tests rule
 fails_first n [] up rule fails = cc fails
 fails_first n (t ∷ more) up rule fails = by_test t.kept refl fails (λ e. fails_first t.rule more up.1 rule e)
@@ -129,7 +124,7 @@ fails_first n (t ∷ more) up rule fails = by_test t.kept refl fails (λ e. fail
         }
 
 -- where a rule is broken, some rule fails first
-some_fails : (tests : List Tested) (rule k : ℕ) → slice_get tests k ≡ Some (tested rule false)
+pub some_fails : (tests : List Tested) (rule k : ℕ) → slice_get tests k ≡ Some (tested rule false)
     → (first : ℕ) × (failing tests ≡ Some first)
 some_fails [] rule k at = cc at
 some_fails (t ∷ more) rule zero at =
@@ -143,13 +138,17 @@ some_fails (t ∷ more) rule (suc k) at = by_test t.kept (some_fails more rule k
     by_test false rest = (t.rule, refl)
     by_test true rest = rest
 
--- the broken line is one of these, and none of these is earlier
-record IsLeast (P : ℕ → ℕ → Type 0) (o : Option Broken) : Type 0 where
-  found : (it : Broken) → o ≡ Some it → P it.line it.rule
-  below : (it : Broken) → o ≡ Some it → (line rule : ℕ) → P line rule → it.line ≤ line
-  none : o ≡ None → (line rule : ℕ) → P line rule → ⊥
+-- a line is not before this one, nor at it with a lesser rule
+abbrev pub NotBefore : Broken → ℕ → ℕ → Type 0
+NotBefore it line rule = (it.line < line) ⊎ ((it.line ≡ line) × (it.rule ≤ rule))
 
-like : (P Q : ℕ → ℕ → Type 0) → ((line rule : ℕ) → P line rule → Q line rule)
+-- the broken line is one of these, and none of these is before it
+pub record IsLeast (P : ℕ → ℕ → Type 0) (o : Option Broken) : Type 0 where
+  pub found : (it : Broken) → o ≡ Some it → P it.line it.rule
+  pub below : (it : Broken) → o ≡ Some it → (line rule : ℕ) → P line rule → NotBefore it line rule
+  pub none : o ≡ None → (line rule : ℕ) → P line rule → ⊥
+
+pub like : (P Q : ℕ → ℕ → Type 0) → ((line rule : ℕ) → P line rule → Q line rule)
     → ((line rule : ℕ) → Q line rule → P line rule) → (o : Option Broken) → IsLeast P o → IsLeast Q o
 like P Q to from o least = record {
   found = λ it e. to it.line it.rule (least.found it e);
@@ -157,10 +156,41 @@ like P Q to from o least = record {
   none = λ e line rule q. least.none e line rule (from line rule q);
 }
 
-abbrev Either : (ℕ → ℕ → Type 0) → (ℕ → ℕ → Type 0) → ℕ → ℕ → Type 0
+abbrev pub Either : (ℕ → ℕ → Type 0) → (ℕ → ℕ → Type 0) → ℕ → ℕ → Type 0
 Either P Q line rule = P line rule ⊎ Q line rule
 
-of_either : (P Q : ℕ → ℕ → Type 0) (a b : Option Broken) → IsLeast P a → IsLeast Q b
+before_or_not : (t lt eq less : Bool) (a b : Broken) → nat_lt a.line b.line ≡ lt → (a.line == b.line) ≡ eq
+    → nat_lt a.rule b.rule ≡ less → lt || (eq && less) ≡ t
+    → cond t (NotBefore a b.line b.rule) (NotBefore b a.line a.rule)
+before_or_not true true eq less a b lt_is eq_is less_is is = inl (ltb-true a.line b.line lt_is)
+before_or_not true false true true a b lt_is eq_is less_is is =
+    let lt = ltb-true a.rule b.rule less_is in inr (eqb-true a.line b.line eq_is, omega (arith, lt))
+before_or_not true false true false a b lt_is eq_is less_is is = cc is
+before_or_not true false false less a b lt_is eq_is less_is is = cc is
+before_or_not false true eq less a b lt_is eq_is less_is is = cc is
+before_or_not false false true true a b lt_is eq_is less_is is = cc is
+before_or_not false false true false a b lt_is eq_is less_is is =
+    let le = ltb-false a.rule b.rule less_is in inr (sym (eqb-true a.line b.line eq_is), le)
+before_or_not false false false less a b lt_is eq_is less_is is =
+    let le = ltb-false a.line b.line lt_is in
+    let differ = eqb-false a.line b.line eq_is in
+    inl (lt_of_le-ne le (λ same. differ (sym same)))
+
+-- which of two comes first
+which_first : (t : Bool) (a b : Broken) → comes_first a b ≡ t
+    → cond t (NotBefore a b.line b.rule) (NotBefore b a.line a.rule)
+which_first t a b is =
+    before_or_not t (nat_lt a.line b.line) (a.line == b.line) (nat_lt a.rule b.rule) a b refl refl refl is
+
+not_before_trans : (x y : Broken) (line rule : ℕ) → NotBefore x y.line y.rule → NotBefore y line rule
+    → NotBefore x line rule
+not_before_trans x y line rule (inl a) (inl b) = inl (omega (arith, a, b))
+not_before_trans x y line rule (inl a) (inr b) = inl (let same = b.0 in omega (arith, a, same))
+not_before_trans x y line rule (inr a) (inl b) = inl (let same = a.0 in omega (arith, b, same))
+not_before_trans x y line rule (inr a) (inr b) =
+    inr (a.0 ∙ b.0, let le = a.1 in let le' = b.1 in omega (arith, le, le'))
+
+pub of_either : (P Q : ℕ → ℕ → Type 0) (a b : Option Broken) → IsLeast P a → IsLeast Q b
     → IsLeast (Either P Q) (earlier a b)
 of_either P Q None b p q = record {
   found = λ it e. inr (q.found it e);
@@ -180,38 +210,40 @@ of_either P Q (Some x) None p q = record {
   ];
   none = λ e line rule some. cc e;
 }
-of_either P Q (Some x) (Some y) p q = by_test (nat_lt y.line x.line) refl
+of_either P Q (Some x) (Some y) p q = by_test (comes_first y x) (which_first (comes_first y x) y x refl)
   where
-    by_test : (t : Bool) → nat_lt y.line x.line ≡ t → IsLeast (Either P Q) (cond t (Some y) (Some x))
-    by_test true lt = record {
+    of_x : (line rule : ℕ) → NotBefore x y.line y.rule → Either P Q line rule → NotBefore x line rule
+    of_x line rule before some = elim some [
+      | inl this ↦ p.below x refl line rule this
+      | inr that ↦ not_before_trans x y line rule before (q.below y refl line rule that)
+    ]
+
+    of_y : (line rule : ℕ) → NotBefore y x.line x.rule → Either P Q line rule → NotBefore y line rule
+    of_y line rule before some = elim some [
+      | inl this ↦ not_before_trans y x line rule before (p.below x refl line rule this)
+      | inr that ↦ q.below y refl line rule that
+    ]
+
+    by_test : (t : Bool) → cond t (NotBefore y x.line x.rule) (NotBefore x y.line y.rule)
+        → IsLeast (Either P Q) (cond t (Some y) (Some x))
+    by_test true before = record {
       found = λ it e. inr (q.found it e);
-      below = λ it e line rule some. elim some [
-        | inl this ↦
-            let same : y ≡ it = cc e in
-            let le = p.below x refl line rule this in
-            subst (λ (z : Broken). z.line ≤ line) same (let less = ltb-true y.line x.line lt in omega (arith, le, less))
-        | inr that ↦ q.below it e line rule that
-      ];
+      below = λ it e line rule some. let same : y ≡ it = cc e in
+          subst (λ (z : Broken). NotBefore z line rule) same (of_y line rule before some);
       none = λ e line rule some. cc e;
     }
-    by_test false ge = record {
+    by_test false before = record {
       found = λ it e. inl (p.found it e);
-      below = λ it e line rule some. elim some [
-        | inl this ↦ p.below it e line rule this
-        | inr that ↦
-            let same : x ≡ it = cc e in
-            let le = q.below y refl line rule that in
-            subst (λ (z : Broken). z.line ≤ line) same
-            (let least = ltb-false y.line x.line ge in omega (arith, le, least))
-      ];
+      below = λ it e line rule some. let same : x ≡ it = cc e in
+          subst (λ (z : Broken). NotBefore z line rule) same (of_x line rule before some);
       none = λ e line rule some. cc e;
     }
 
 -- one line
-abbrev AtLine : ℕ → Option ℕ → ℕ → ℕ → Type 0
+abbrev pub AtLine : ℕ → Option ℕ → ℕ → ℕ → Type 0
 AtLine here o line rule = (line ≡ here) × (o ≡ Some rule)
 
-one_line : (here : ℕ) (o : Option ℕ) → IsLeast (AtLine here o) (broken_at here o)
+pub one_line : (here : ℕ) (o : Option ℕ) → IsLeast (AtLine here o) (broken_at here o)
 one_line here None = record {
   found = λ it e. cc e;
   below = λ it e line rule some. cc e;
@@ -220,21 +252,24 @@ one_line here None = record {
 one_line here (Some r) = record {
   found = λ it e. let same : record { line = here; rule = r } ≡ it = cc e
       in (sym (ap (λ (z : Broken). z.line) same), ap (λ (z : Broken). Some z.rule) same);
-  below = λ it e line rule some. let same : record { line = here; rule = r } ≡ it = cc e in let is =
-      ap (λ (z : Broken). z.line) same in let at = some.0 in omega (arith, is, at);
+  below = λ it e line rule some.
+      let same : record { line = here; rule = r } ≡ it = cc e in
+      let at_rule : r ≡ rule = (let is = some.1 in cc is) in
+      let is = ap (λ (z : Broken). z.rule) same in
+      inr (sym (ap (λ (z : Broken). z.line) same) ∙ sym some.0, omega (arith, is, at_rule));
   none = λ e line rule some. cc e;
 }
 
 -- the messages of a side
-record InMessages (rule_of : ℕ → WrittenMessage → Option ℕ) (n : ℕ) (ms : List WrittenMessage)
+pub record InMessages (rule_of : ℕ → WrittenMessage → Option ℕ) (n : ℕ) (ms : List WrittenMessage)
     (line rule : ℕ) : Type 0 where
-  place : ℕ
-  message : WrittenMessage
-  at : slice_get ms place ≡ Some message
-  line_is : line ≡ message.line
-  breaks : rule_of (n + place) message ≡ Some rule
+  pub place : ℕ
+  pub message : WrittenMessage
+  pub at : slice_get ms place ≡ Some message
+  pub line_is : line ≡ message.line
+  pub breaks : rule_of (n + place) message ≡ Some rule
 
-messages_least : (rule_of : ℕ → WrittenMessage → Option ℕ) (n : ℕ) (ms : List WrittenMessage)
+pub messages_least : (rule_of : ℕ → WrittenMessage → Option ℕ) (n : ℕ) (ms : List WrittenMessage)
     → IsLeast (InMessages rule_of n ms) (messages_broken rule_of n ms)
 messages_least rule_of n [] = record {
   found = λ it e. cc e;
@@ -283,10 +318,10 @@ messages_least rule_of n (m ∷ ms) =
         inr (record { place = place; message = x; at = at; line_is = is; breaks = rw on at breaks })
 
 -- one interface with its messages
-abbrev side_rule : (List ℕ → Option ℕ) → List Bool → WrittenInterface → Side → ℕ → WrittenMessage → Option ℕ
+abbrev pub side_rule : (List ℕ → Option ℕ) → List Bool → WrittenInterface → Side → ℕ → WrittenMessage → Option ℕ
 side_rule place ended i side = message_rule place ended i side (first_place (map (λ m. m.name) (written_of side i)))
 
-abbrev InInterface : (List ℕ → Option ℕ) → List Bool → ℕ → WrittenInterface → ℕ → ℕ → Type 0
+abbrev pub InInterface : (List ℕ → Option ℕ) → List Bool → ℕ → WrittenInterface → ℕ → ℕ → Type 0
 InInterface place ended here i =
     Either (AtLine i.line (interface_rule place here i))
     (Either (InMessages (side_rule place ended i Request) 0 i.requests)
@@ -301,12 +336,12 @@ interface_least place ended here i =
     (of_either _ _ _ _ requests events)
 
 -- all interfaces
-record InInterfaces (place : List ℕ → Option ℕ) (ended : List Bool) (n : ℕ) (is : List WrittenInterface)
+pub record InInterfaces (place : List ℕ → Option ℕ) (ended : List Bool) (n : ℕ) (is : List WrittenInterface)
     (line rule : ℕ) : Type 0 where
-  index : ℕ
-  interface : WrittenInterface
-  at : slice_get is index ≡ Some interface
-  breaks : InInterface place ended (n + index) interface line rule
+  pub index : ℕ
+  pub interface : WrittenInterface
+  pub at : slice_get is index ≡ Some interface
+  pub breaks : InInterface place ended (n + index) interface line rule
 
 interfaces_least : (place : List ℕ → Option ℕ) (ended : List Bool) (n : ℕ) (is : List WrittenInterface)
     → IsLeast (InInterfaces place ended n is) (interfaces_broken place ended n is)
@@ -366,6 +401,27 @@ record Names (tables : List Interface) (written : List WrittenInterface) (line r
   declares : Declares tables written line tests
   fails : FailsFirst tests rule
 
+interface_ascends : (place : List ℕ → Option ℕ) (here : ℕ) (i : WrittenInterface)
+    → Ascends 0 (interface_tests place here i)
+interface_ascends place here i = (omega arith, (omega arith, (omega arith, tt)))
+
+pub message_ascends : (place : List ℕ → Option ℕ) (ended : List Bool) (i : WrittenInterface) (side : Side)
+    (first : List ℕ → Option ℕ) (opcode : ℕ) (m : WrittenMessage)
+    → Ascends 0 (message_tests place ended i side first opcode m)
+message_ascends place ended i side first opcode m = (
+  omega arith,
+  (
+    omega arith,
+    (
+      omega arith,
+      (
+        omega arith,
+        (omega arith, (omega arith, (omega arith, (omega arith, (omega arith, tt))))),
+      ),
+    ),
+  ),
+)
+
 names_of : (tables : List Interface) (written : List WrittenInterface) (line rule index : ℕ) (i : WrittenInterface)
     → slice_get written index ≡ Some i
     → InInterface (first_place (all_names tables written)) (ended_of tables written) (length tables + index) i line rule
@@ -376,7 +432,7 @@ names_of tables written line rule index i at breaks = elim breaks [
       record {
         tests = tests;
         declares = an_interface index i at own.0 refl;
-        fails = fails_first 0 tests (omega arith, (omega arith, (omega arith, tt))) rule own.1;
+        fails = fails_first 0 tests (interface_ascends place (length tables + index) i) rule own.1;
       }
   | inr messages ↦ elim messages [
     | inl request ↦ of_side Request request
@@ -399,85 +455,87 @@ names_of tables written line rule index i at breaks = elim breaks [
         record {
           tests = tests;
           declares = a_message index i side m.place m.message at m.at m.line_is refl;
-          fails = fails_first 0 tests (
-            omega arith,
-            (
-              omega arith,
-              (
-                omega arith,
-                (
-                  omega arith,
-                  (omega arith, (omega arith, (omega arith, (omega arith, tt)))),
-                ),
-              ),
-            ),
-          ) rule (rw on at m.breaks);
+          fails = fails_first 0 tests (message_ascends place ended i side first m.place m.message) rule
+              (rw on at m.breaks);
         }
+
+-- the first of the tests that fails, of those that a line declares
+pub record Among (tables : List Interface) (written : List WrittenInterface) (line rule : ℕ) : Type 0 where
+  pub first : ℕ
+  pub within : InInterfaces (first_place (all_names tables written)) (ended_of tables written) (length tables) written
+      line first
+  pub least : first ≤ rule
+
+first_fails : (tests : List Tested) → Ascends 0 tests → (rule : ℕ) → Breaks tests rule
+    → (first : ℕ) × (failing tests ≡ Some first) × (first ≤ rule)
+first_fails tests up rule breaks =
+    let some = some_fails tests rule breaks.place breaks.at in
+    (some.0, some.1, (fails_first 0 tests up some.0 some.1).least rule breaks)
 
 -- whatever breaks a rule is among those of which the first was found
 among : (tables : List Interface) (written : List WrittenInterface) (line rule : ℕ) (tests : List Tested)
-    → Declares tables written line tests → Breaks tests rule
-    → (first : ℕ) × InInterfaces (first_place (all_names tables written)) (ended_of tables written)
-    (length tables) written line first
+    → Declares tables written line tests → Breaks tests rule → Among tables written line rule
 among tables written line rule tests (an_interface k i at line_is tests_are) breaks =
-    let some = some_fails tests rule breaks.place breaks.at in
-    (some.0, record { index = k; interface = i; at = at; breaks = inl (line_is, sym (ap failing tests_are) ∙ some.1) })
-among tables written line rule tests (a_message k i Request o m at of line_is tests_are) breaks =
-    let some = some_fails tests rule breaks.place breaks.at in
-    let on : o ≡ 0 + o = omega arith in (
-      some.0,
-      record {
-        index = k;
-        interface = i;
-        at = at;
-        breaks = inr (inl (record {
-          place = o;
-          message = m;
-          at = of;
-          line_is = line_is;
-          breaks = rw (← on) (sym (ap failing tests_are) ∙ some.1);
-        }));
-      },
-    )
-among tables written line rule tests (a_message k i Event o m at of line_is tests_are) breaks =
-    let some = some_fails tests rule breaks.place breaks.at in
-    let on : o ≡ 0 + o = omega arith in (
-      some.0,
-      record {
-        index = k;
-        interface = i;
-        at = at;
-        breaks = inr (inr (record {
-          place = o;
-          message = m;
-          at = of;
-          line_is = line_is;
-          breaks = rw (← on) (sym (ap failing tests_are) ∙ some.1);
-        }));
-      },
-    )
-
-pub first_tested : (tables : List Interface) (written : List WrittenInterface) (it : Broken)
-    → first_broken tables written ≡ Some it → IsFirstTested tables written it
-first_tested tables written it found =
-    let least = interfaces_least (first_place (all_names tables written)) (ended_of tables written)
-    (length tables) written in
-    let here = least.found it found in
-    let names = names_of tables written it.line it.rule here.index here.interface here.at here.breaks in
+    let up = interface_ascends (first_place (all_names tables written)) (length tables + k) i in
+    let some = first_fails tests (subst (λ (t : List Tested). Ascends 0 t) (sym tests_are) up) rule breaks in
     record {
-      tests = names.tests;
-      declares = names.declares;
-      breaks = names.fails.breaks;
-      least = names.fails.least;
-      first = λ line others rule declares breaks. let some = among tables written line rule others declares breaks
-          in least.below it found line some.0 some.1;
+      first = some.0;
+      within = record { index = k; interface = i; at = at; breaks = inl (line_is, sym (ap failing tests_are) ∙ some.1) };
+      least = some.2;
     }
+among tables written line rule tests (a_message k i side o m at of line_is tests_are) breaks =
+    let up = message_ascends (first_place (all_names tables written)) (ended_of tables written) i side
+    (first_place (map (λ n. n.name) (written_of side i))) o m in
+    let some = first_fails tests (subst (λ (t : List Tested). Ascends 0 t) (sym tests_are) up) rule breaks in
+    let on : o ≡ 0 + o = omega arith in
+    record {
+      first = some.0;
+      within = record {
+        index = k;
+        interface = i;
+        at = at;
+        breaks = by_side side (record {
+          place = o;
+          message = m;
+          at = of;
+          line_is = line_is;
+          breaks = rw (← on) (sym (ap failing tests_are) ∙ some.1);
+        });
+      };
+      least = some.2;
+    }
+  where
+    by_side : (s : Side) {first : ℕ}
+        → InMessages (side_rule (first_place (all_names tables written)) (ended_of tables written) i s) 0
+        (written_of s i) line first
+        → InInterface (first_place (all_names tables written)) (ended_of tables written) (length tables + k) i line first
+    by_side Request it = inr (inl it)
+    by_side Event it = inr (inr it)
 
--- where no line is found, all tests pass
-pub none_tested : (tables : List Interface) (written : List WrittenInterface) → first_broken tables written ≡ None
-    → (line rule : ℕ) (tests : List Tested) → Declares tables written line tests → Breaks tests rule → ⊥
-none_tested tables written none line rule tests declares breaks =
+pub later_not_before : (it : Broken) (line first rule : ℕ) → NotBefore it line first → first ≤ rule → NotBefore it line rule
+later_not_before it line first rule (inl lt) le = inl lt
+later_not_before it line first rule (inr same) le = inr (same.0, let le' = same.1 in omega (arith, le, le'))
+
+-- what breaks a rule by tests
+pub record ByTests (tables : List Interface) (written : List WrittenInterface) (line rule : ℕ) : Type 0 where
+  pub tests : List Tested
+  pub declares : Declares tables written line tests
+  pub breaks : Breaks tests rule
+
+pub first_tested : (tables : List Interface) (written : List WrittenInterface)
+    → IsLeast (ByTests tables written) (first_broken tables written)
+first_tested tables written =
     let least = interfaces_least (first_place (all_names tables written)) (ended_of tables written)
     (length tables) written in
-    let some = among tables written line rule tests declares breaks in
-    least.none none line some.0 some.1
+    record {
+      found = λ it e.
+          let here = least.found it e in
+          let names = names_of tables written it.line it.rule here.index here.interface here.at here.breaks in
+          record { tests = names.tests; declares = names.declares; breaks = names.fails.breaks };
+      below = λ it e line rule by.
+          let some = among tables written line rule by.tests by.declares by.breaks in
+          later_not_before it line some.first rule (least.below it e line some.first some.within) some.least;
+      none = λ e line rule by.
+          let some = among tables written line rule by.tests by.declares by.breaks in
+          least.none e line some.first some.within;
+    }

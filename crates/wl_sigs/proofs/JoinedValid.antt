@@ -20,11 +20,12 @@ use Rattle.wl_sigs.specs.declared.signature.Side.TheVariants.{Request, Event}
 use Rattle.wl_sigs.specs.Rules.{is_empty}
 use Rattle.wl_sigs.specs.Tables.{MessageSignature, Interface, interface_at, messages_of, signature_at}
 use Rattle.wl_sigs.specs.Tables.{new_objects, named_interface, has_destroying_event}
-use Rattle.wl_sigs.specs.Tables.{destroys_target, destroys_argument}
+use Rattle.wl_sigs.specs.Tables.{destroys_target, destroys_argument, server_objects}
 use Rattle.wl_sigs.specs.Valid.{IsTableName, NamesAreDistinct, HasFixedFour, AreSmall, MakeFewObjects}
 use Rattle.wl_sigs.specs.Valid.{UnnamedNewInBindAlone, NoAnyInRequests, SincesAreInRange}
 use Rattle.wl_sigs.specs.Valid.{DestroyingEventsAreRaceFree, NamedInterfacesAreThere}
-use Rattle.wl_sigs.specs.Valid.{ArgumentEndsInFixesAlone, Valid}
+use Rattle.wl_sigs.specs.Valid.{ArgumentEndsInFixesAlone, ServerMakesRightly, Valid, EachInterface}
+use Rattle.wl_sigs.specs.Valid.{EachMessage}
 use Rattle.wl_interface_text.specs.Text.{WrittenMessage, WrittenInterface}
 use Rattle.wl_sigs.specs.Joined.{all_names, first_place, kind_placed, destroys_of, interface_placed, joined}
 use Rattle.wl_sigs.specs.Broken.{is_first, ended_of, first_broken}
@@ -37,6 +38,7 @@ use Rattle.wl_sigs.proofs.JoinedLookup.{placing_message, each_interface, each_me
 use Rattle.wl_sigs.proofs.JoinedLookup.{length_joined, length_names, placed_messages}
 use Rattle.wl_sigs.proofs.JoinedLookup.{either_message}
 use Rattle.wl_sigs.proofs.PlacedKinds.{all_placed, count_placed, not_unnamed, not_any, there, NotEndedIn, not_ended}
+use Rattle.wl_sigs.proofs.ServerObjects.{MadeRightly, count_by_server, made_rightly}
 
 -- no line of the text breaks a rule
 abbrev pub NoneBroken : List Interface → List WrittenInterface → Type 0
@@ -69,6 +71,10 @@ fixed_joined tables written four =
       fixes = in_front tables new 18 _ four.fixes;
     }
 
+pub none_left : {X : Type 0} (xs : List X) → length xs ≤ 0 → xs ≡ []
+none_left [] le = refl
+none_left (x ∷ xs) le = absurd (omega arith)
+
 -- V4
 few_joined : (tables : List Interface) (written : List WrittenInterface) → NoneBroken tables written
     → MakeFewObjects tables → MakeFewObjects (joined tables written)
@@ -86,10 +92,6 @@ few_joined tables written none few = record {
       let count = count_placed (first_place (all_names tables written)) (length (all_names tables written)) m.kinds in
       let most = leb-true _ _ keeps.few_new in omega (arith, count, most));
 }
-  where
-    none_left : {X : Type 0} (xs : List X) → length xs ≤ 0 → xs ≡ []
-    none_left [] le = refl
-    none_left (x ∷ xs) le = absurd (omega arith)
 
 -- V5
 unnamed_joined : (tables : List Interface) (written : List WrittenInterface) → NoneBroken tables written
@@ -159,7 +161,7 @@ sinces_joined tables written none old = record {
     ]
 
 -- the last of a list, if it has one
-last_at : {X : Type 0} (xs : List X) → (length xs ≡ 0) ⊎ ((x : X) × (slice_get xs (length xs - 1) ≡ Some x))
+pub last_at : {X : Type 0} (xs : List X) → (length xs ≡ 0) ⊎ ((x : X) × (slice_get xs (length xs - 1) ≡ Some x))
 last_at [] = inl refl
 last_at (x ∷ xs) = inr (
   get_or (x ∷ xs) (length (x ∷ xs) - 1) x,
@@ -199,20 +201,19 @@ small_joined tables written none old = record {
     ]
 
 -- an argument names no interface that is not there
-abbrev IsThereIn : List Interface → Kind → Type 0
+abbrev pub IsThereIn : List Interface → Kind → Type 0
 IsThereIn all k = (iface : Iface) → named_interface k ≡ Some iface → iface.0 < length all
 
 -- V9
 interfaces_joined : (tables : List Interface) (written : List WrittenInterface) → NoneBroken tables written
-    → NamedInterfacesAreThere tables → NamedInterfacesAreThere (joined tables written)
+    → ((side : Side) → EachMessage tables side (λ m. All (IsThereIn (joined tables written)) m.kinds))
+    → NamedInterfacesAreThere (joined tables written)
 interfaces_joined tables written none old side =
     let names = all_names tables written in
     let lens : length (joined tables written) ≡ length names =
     omega (arith, length_joined tables written, length_names tables written) in
     each_message (λ m. All (IsThereIn (joined tables written)) m.kinds) tables written side
-    (λ place opcode m h. All-weaker (IsThereIn tables) (IsThereIn (joined tables written))
-    (λ k there iface e. let lt = there iface e in omega (arith, lt, length_joined tables written)) m.kinds
-    (old side place opcode m h))
+    (old side)
     (λ k w o m at of.
     let keeps = keeps_at tables written none side k w o m at of in
     all_placed _ (kind_placed (first_place names) (length names)) (IsThereIn (joined tables written))
@@ -320,7 +321,7 @@ names_joined_apart tables written none old = record {
 }
 
 -- some element passes
-any_at : {X : Type 0} (test : X → Bool) (xs : List X) → list_any test xs ≡ true
+pub any_at : {X : Type 0} (test : X → Bool) (xs : List X) → list_any test xs ≡ true
     → (o : ℕ) × (x : X) × (slice_get xs o ≡ Some x) × (test x ≡ true)
 any_at test [] any = cc any
 any_at {X} test (x ∷ xs) any = head_or_tail (test x) refl any (λ behind. any_at test xs behind)
@@ -369,17 +370,17 @@ none_destroying true (m ∷ ms) free is = cc free
 
 -- V7
 race_free_joined : (tables : List Interface) (written : List WrittenInterface) → NoneBroken tables written
-    → NamedInterfacesAreThere tables → DestroyingEventsAreRaceFree tables
+    → EachInterface tables (λ i. has_destroying_event i ≡ true → i.requests ≡ [])
+    → EachMessage tables Request (λ m. All (NotEndedIn (joined tables written)) m.kinds)
     → DestroyingEventsAreRaceFree (joined tables written)
-race_free_joined tables written none inside old = record {
-  no_requests = each_interface (λ i. has_destroying_event i ≡ true → i.requests ≡ []) tables written old.no_requests
+race_free_joined tables written none no_requests no_arguments = record {
+  no_requests = each_interface (λ i. has_destroying_event i ≡ true → i.requests ≡ []) tables written no_requests
       (λ k w at destroys.
       let event = any_at (λ m. m.destroys) w.events (sym (destroying tables written w.events) ∙ destroys) in
       let free = (keeps_at tables written none Event k w event.0 event.1 at event.2).race_free in
       ap (map (placing_message tables written)) (none_destroying event.1.destroys w.requests free event.3));
   no_arguments = each_message (λ m. All (NotEndedIn (joined tables written)) m.kinds) tables written Request
-      (λ place opcode m h. λ t d lt. old_kinds (get_or m.kinds t d) (old.no_arguments place opcode m h t d lt)
-      (inside Request place opcode m h t d lt))
+      no_arguments
       (λ k w o m at of.
       let names = all_names tables written in
       all_placed _ (kind_placed (first_place names) (length names)) (NotEndedIn (joined tables written))
@@ -391,14 +392,6 @@ race_free_joined tables written none inside old = record {
     past : interface_at (joined tables written) (length (all_names tables written)) ≡ None
     past = slice_get_past (joined tables written) (length (all_names tables written))
         (omega (arith, length_joined tables written, length_names tables written))
-
-    old_kinds : (k : Kind) → NotEndedIn tables k →
-        ((iface : Iface) → named_interface k ≡ Some iface → iface.0 < length tables)
-        → NotEndedIn (joined tables written) k
-    old_kinds k old inside null iface i e at = elim (either_interface tables written iface.0 i at) [
-      | inl front ↦ old null iface i e front
-      | inr b ↦ absurd (let lt = inside iface (ap named_interface e) in let is = b.place_is in omega (arith, lt, is))
-    ]
 
 -- V10
 argument_joined : (tables : List Interface) (written : List WrittenInterface) → ArgumentEndsInFixesAlone tables
@@ -415,7 +408,62 @@ argument_joined tables written old place side opcode m h =
     no_argument true = refl
     no_argument false = refl
 
-pub joined_valid : (tables : List Interface) (written : List WrittenInterface) → Valid tables
+-- V11
+server_joined : (tables : List Interface) (written : List WrittenInterface) → NoneBroken tables written
+    → EachMessage tables Request (λ m. server_objects m.kinds ≡ [])
+    → EachMessage tables Event (λ m. length (server_objects m.kinds) ≤ 1)
+    → ((side : Side) → EachMessage tables side (λ m. All (MadeRightly (joined tables written)) m.kinds))
+    → ServerMakesRightly (joined tables written)
+server_joined tables written none old_requests old_events old_made = record {
+  requests =
+      each_message (λ m. server_objects m.kinds ≡ []) tables written Request old_requests
+      (λ k w o m at of.
+      let keeps = keeps_at tables written none Request k w o m at of in
+      let count = count_by_server (first_place names) (length names) m.kinds in
+      none_left _ (let most = leb-true _ _ keeps.few_by_server in omega (arith, count, most)));
+  events =
+      each_message (λ m. length (server_objects m.kinds) ≤ 1) tables written Event old_events
+      (λ k w o m at of.
+      let keeps = keeps_at tables written none Event k w o m at of in
+      let count = count_by_server (first_place names) (length names) m.kinds in
+      let most = leb-true _ _ keeps.few_by_server in omega (arith, count, most));
+  interfaces = λ side.
+      each_message (λ m. All (MadeRightly (joined tables written)) m.kinds) tables written side (old_made side)
+      (λ k w o m at of.
+      all_placed _ (kind_placed (first_place names) (length names)) (MadeRightly (joined tables written))
+      (λ x t. made_rightly (joined tables written) (first_place names) (length names) (ended_of tables written)
+      (ended_at tables written) past x.kind x.iface t) m.kinds
+      (keeps_at tables written none side k w o m at of).none_forbidden);
+}
+  where
+    names : List (List ℕ)
+    names = all_names tables written
+
+    past : interface_at (joined tables written) (length names) ≡ None
+    past = slice_get_past (joined tables written) (length names)
+        (omega (arith, length_joined tables written, length_names tables written))
+
+-- tables that keep the rules in front of those of a text: where a rule names interfaces, they are
+-- those of both
+pub record KeepsInFront (tables : List Interface) (written : List WrittenInterface) : Type 0 where
+  pub names_distinct : NamesAreDistinct tables
+  pub fixed_four : HasFixedFour tables
+  pub small : AreSmall tables
+  pub few_objects_made : MakeFewObjects tables
+  pub unnamed_new_in_bind_alone : UnnamedNewInBindAlone tables
+  pub no_any_in_requests : NoAnyInRequests tables
+  pub no_requests : EachInterface tables (λ i. has_destroying_event i ≡ true → i.requests ≡ [])
+  pub no_arguments : EachMessage tables Request (λ m. All (NotEndedIn (joined tables written)) m.kinds)
+  pub sinces_in_range : SincesAreInRange tables
+  pub interfaces_there : (side : Side)
+      → EachMessage tables side (λ m. All (IsThereIn (joined tables written)) m.kinds)
+  pub argument_ends : ArgumentEndsInFixesAlone tables
+  pub no_server_objects : EachMessage tables Request (λ m. server_objects m.kinds ≡ [])
+  pub few_server_objects : EachMessage tables Event (λ m. length (server_objects m.kinds) ≤ 1)
+  pub made_rightly : (side : Side)
+      → EachMessage tables side (λ m. All (MadeRightly (joined tables written)) m.kinds)
+
+pub joined_valid : (tables : List Interface) (written : List WrittenInterface) → KeepsInFront tables written
     → first_broken tables written ≡ None → Valid (joined tables written)
 joined_valid tables written valid none =
     let keeps = none_broken tables written none in
@@ -426,31 +474,26 @@ joined_valid tables written valid none =
       few_objects_made = few_joined tables written keeps valid.few_objects_made;
       unnamed_new_in_bind_alone = unnamed_joined tables written keeps valid.unnamed_new_in_bind_alone;
       no_any_in_requests = any_joined tables written keeps valid.no_any_in_requests;
-      race_free = race_free_joined tables written keeps valid.interfaces_there valid.race_free;
+      race_free = race_free_joined tables written keeps valid.no_requests valid.no_arguments;
       sinces_in_range = sinces_joined tables written keeps valid.sinces_in_range;
       interfaces_there = interfaces_joined tables written keeps valid.interfaces_there;
       argument_ends = argument_joined tables written valid.argument_ends;
+      server_makes = server_joined tables written keeps valid.no_server_objects valid.few_server_objects
+          valid.made_rightly;
     }
 
 -- the places of joined tables fit a number of 16 bits
-pub few_joined_interfaces : (tables : List Interface) (written : List WrittenInterface) → Valid tables
-    → first_broken tables written ≡ None → length tables + length written ≤ 1024
-few_joined_interfaces tables written valid none =
-    let most = (joined_valid tables written valid none).small.interfaces
-    in omega (arith, most, length_joined tables written)
-
-pub places_fit : (tables : List Interface) (written : List WrittenInterface) → Valid tables
-    → first_broken tables written ≡ None → (place : List ℕ → Option ℕ)
+pub places_fit : (tables : List Interface) (written : List WrittenInterface)
+    → length tables + length written ≤ 1024 → (place : List ℕ → Option ℕ)
     → ((name : List ℕ) → place name ≡ first_place (all_names tables written) name) → (name : List ℕ)
     → unwrap_or (place name) (length tables + length written) < 65536
-places_fit tables written valid none place are name =
+places_fit tables written few place are name =
     rw (are name) (below (first_place (all_names tables written) name) refl)
   where
     below : (o : Option ℕ) → first_place (all_names tables written) name ≡ o
         → unwrap_or o (length tables + length written) < 65536
-    below None is = let few = few_joined_interfaces tables written valid none in omega (arith, few)
+    below None is = omega (arith, few)
     below (Some p) is =
-        let few = few_joined_interfaces tables written valid none in
         let within = first_place-within (all_names tables written) name p is in
         omega (arith, few, within, length_names tables written)
 

@@ -9,7 +9,8 @@ use Rattle.wl_interface_text.specs.Text.{WrittenMessage, WrittenInterface}
 use Rattle.wl_sigs.specs.Joined.{first_place}
 use Rattle.wl_sigs.specs.Broken.{is_first, makes_object, makes_unnamed, names_missing, most_new}
 use Rattle.wl_sigs.specs.Broken.{names_objects, is_race_free, interface_rule, message_rule}
-use Rattle.wl_sigs.specs.Broken.{broken_at, side_broken, interface_broken}
+use Rattle.wl_sigs.specs.Broken.{broken_at, side_broken, interface_broken, makes_server_object}
+use Rattle.wl_sigs.specs.Broken.{most_by_server, makes_forbidden}
 use Rattle.wl_sigs.specs.FirstBroken.{written_of}
 use Rattle.wl_sigs.proofs.FirstBrokenLine.{earlier_none, each_message_keeps}
 
@@ -55,6 +56,8 @@ pub record MessageKeeps (place : List ℕ → Option ℕ) (ended : List Bool) (i
   pub since : nat_le 1 m.since ≡ true
   pub to_version : nat_le m.since i.version ≡ true
   pub none_missing : list_all (λ k. not (names_missing place k)) m.kinds ≡ true
+  pub few_by_server : nat_le (count_by makes_server_object m.kinds) (most_by_server side) ≡ true
+  pub none_forbidden : list_all (λ k. not (makes_forbidden place ended k)) m.kinds ≡ true
 
 message_kept : (place : List ℕ → Option ℕ) (ended : List Bool) (i : WrittenInterface) (side : Side)
     (first : List ℕ → Option ℕ) (opcode : ℕ) (m : WrittenMessage)
@@ -67,10 +70,14 @@ message_kept place ended i side first opcode m none =
     let r6 = unless (names_objects side m) 6 _ r5.1 in
     let r7 = unless (is_race_free place ended i side m) 7 _ r6.1 in
     let r8 = unless (nat_le 1 m.since && nat_le m.since i.version) 8 _ r7.1 in
-    let r9 = unless (list_all (λ k. not (names_missing place k)) m.kinds) 9 None r8.1 in
+    let r9 = unless (list_all (λ k. not (names_missing place k)) m.kinds) 9 _ r8.1 in
+    let r11 = unless (nat_le (count_by makes_server_object m.kinds) (most_by_server side)
+    && list_all (λ k. not (makes_forbidden place ended k)) m.kinds) 11 None r9.1 in
     let names = both (is_name m.name) (is_first first m.name opcode) r1.0 in
     let sizes = both (nat_lt opcode 256) (nat_le (length m.kinds) 20) r3.0 in
     let sinces = both (nat_le 1 m.since) (nat_le m.since i.version) r8.0 in
+    let by_server = both (nat_le (count_by makes_server_object m.kinds) (most_by_server side))
+    (list_all (λ k. not (makes_forbidden place ended k)) m.kinds) r11.0 in
     record {
       named = names.0;
       first_named = names.1;
@@ -83,6 +90,8 @@ message_kept place ended i side first opcode m none =
       since = sinces.0;
       to_version = sinces.1;
       none_missing = r9.0;
+      few_by_server = by_server.0;
+      none_forbidden = by_server.1;
     }
 
 -- an interface of which no line breaks a rule

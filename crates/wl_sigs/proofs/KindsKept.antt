@@ -9,7 +9,9 @@ use Rattle.wl_wire.specs.declared.kind.Kind.{Kind}
 use Rattle.wl_wire.specs.declared.kind.Kind.TheVariants as kinds
 use Rattle.wl_wire.specs.declared.kind.Iface.{Iface}
 use Rattle.wl_sigs.specs.Tables.{Interface, interface_at, named_interface, has_destroying_event}
-use Rattle.wl_interface_text.specs.Text.{WrittenKind, takes_interface}
+use Rattle.wl_interface_text.specs.declared.written.BareKind.{BareKind}
+use Rattle.wl_interface_text.specs.declared.written.BareKind.TheVariants as bare
+use Rattle.wl_interface_text.specs.Text.{WrittenKind, needs_interface, takes_interface}
 use Rattle.wl_sigs.specs.Joined.{iface_named, with_iface}
 use Rattle.wl_sigs.specs.Broken.{is_new, is_object, is_ended}
 use Rattle.wl_sigs.proofs.PlacedKinds.{NotEndedIn}
@@ -26,68 +28,73 @@ all_tested test f P each (k ∷ ks) all =
     rw (each k (All-head P (f k) (map f ks) all), all_tested test f P each ks (All-tail P (f k) (map f ks) all)) refl
 
 -- V5
-pub was_named : (place : List ℕ → Option ℕ) (past : ℕ) (kind : Kind) (iface : Option (List ℕ))
-    → with_iface kind (option_map (iface_named place past) iface) ≢ kinds.New None
+pub was_named : (place : List ℕ → Option ℕ) (past : ℕ) (kind : BareKind) (iface : Option (List ℕ))
+    → with_iface past kind (option_map (iface_named place past) iface) ≢ kinds.New None
     → not (is_new kind && not (is_some iface)) ≡ true
-was_named place past kinds.Int iface never = refl
-was_named place past kinds.Uint iface never = refl
-was_named place past kinds.Fixed iface never = refl
-was_named place past (kinds.Str null) iface never = refl
-was_named place past (kinds.Obj null i) iface never = refl
-was_named place past (kinds.New i) None never = absurd (never refl)
-was_named place past (kinds.New i) (Some name) never = refl
-was_named place past kinds.Array iface never = refl
-was_named place past kinds.Fd iface never = refl
+was_named place past bare.Int iface never = refl
+was_named place past bare.Uint iface never = refl
+was_named place past bare.Fixed iface never = refl
+was_named place past (bare.Str null) iface never = refl
+was_named place past (bare.Obj null) iface never = refl
+was_named place past bare.New None never = absurd (never refl)
+was_named place past bare.New (Some name) never = refl
+was_named place past bare.NewByServer iface never = refl
+was_named place past bare.Array iface never = refl
+was_named place past bare.Fd iface never = refl
 
 -- V6
-pub was_no_any : (place : List ℕ → Option ℕ) (past : ℕ) (kind : Kind) (iface : Option (List ℕ))
-    → ((null : Bool) → with_iface kind (option_map (iface_named place past) iface) ≢ kinds.Obj null None)
+pub was_no_any : (place : List ℕ → Option ℕ) (past : ℕ) (kind : BareKind) (iface : Option (List ℕ))
+    → ((null : Bool) → with_iface past kind (option_map (iface_named place past) iface) ≢ kinds.Obj null None)
     → not (is_object kind && not (is_some iface)) ≡ true
-was_no_any place past kinds.Int iface never = refl
-was_no_any place past kinds.Uint iface never = refl
-was_no_any place past kinds.Fixed iface never = refl
-was_no_any place past (kinds.Str n) iface never = refl
-was_no_any place past (kinds.Obj n i) None never = absurd (never n refl)
-was_no_any place past (kinds.Obj n i) (Some name) never = refl
-was_no_any place past (kinds.New i) iface never = refl
-was_no_any place past kinds.Array iface never = refl
-was_no_any place past kinds.Fd iface never = refl
+was_no_any place past bare.Int iface never = refl
+was_no_any place past bare.Uint iface never = refl
+was_no_any place past bare.Fixed iface never = refl
+was_no_any place past (bare.Str n) iface never = refl
+was_no_any place past (bare.Obj n) None never = absurd (never n refl)
+was_no_any place past (bare.Obj n) (Some name) never = refl
+was_no_any place past bare.New iface never = refl
+was_no_any place past bare.NewByServer iface never = refl
+was_no_any place past bare.Array iface never = refl
+was_no_any place past bare.Fd iface never = refl
 
 -- V9
 placed_there : (past : ℕ) (o : Option ℕ) → unwrap_or o past < past → not (not (is_some o)) ≡ true
 placed_there past None lt = absurd (omega (arith, lt))
 placed_there past (Some p) lt = refl
 
-pub was_there : (place : List ℕ → Option ℕ) (past : ℕ) (kind : Kind) (iface : Option (List ℕ))
-    → ((i : Iface) → named_interface (with_iface kind (option_map (iface_named place past) iface)) ≡ Some i
+pub was_there : (place : List ℕ → Option ℕ) (past : ℕ) (kind : BareKind) (iface : Option (List ℕ))
+    → ((i : Iface) → named_interface (with_iface past kind (option_map (iface_named place past) iface)) ≡ Some i
     → i.0 < past)
-    → not (takes_interface kind && option_map_or (λ name. not (is_some (place name))) iface false) ≡ true
-was_there place past kinds.Int iface below = refl
-was_there place past kinds.Uint iface below = refl
-was_there place past kinds.Fixed iface below = refl
-was_there place past (kinds.Str null) iface below = refl
-was_there place past (kinds.Obj null x) None below = refl
-was_there place past (kinds.Obj null x) (Some name) below =
+    → not (takes_interface kind && option_map_or (λ name. not (is_some (place name))) iface (needs_interface kind)) ≡ true
+was_there place past bare.Int iface below = refl
+was_there place past bare.Uint iface below = refl
+was_there place past bare.Fixed iface below = refl
+was_there place past (bare.Str null) iface below = refl
+was_there place past (bare.Obj null) None below = refl
+was_there place past (bare.Obj null) (Some name) below =
     placed_there past (place name) (below (as_iface (unwrap_or (place name) past)) refl)
-was_there place past (kinds.New x) None below = refl
-was_there place past (kinds.New x) (Some name) below =
+was_there place past bare.New None below = refl
+was_there place past bare.New (Some name) below =
     placed_there past (place name) (below (as_iface (unwrap_or (place name) past)) refl)
-was_there place past kinds.Array iface below = refl
-was_there place past kinds.Fd iface below = refl
+was_there place past bare.NewByServer None below = absurd (let lt = below (as_iface past) refl in omega (arith, lt))
+was_there place past bare.NewByServer (Some name) below =
+    placed_there past (place name) (below (as_iface (unwrap_or (place name) past)) refl)
+was_there place past bare.Array iface below = refl
+was_there place past bare.Fd iface below = refl
 
 -- V7: in tables where `ended` says which interfaces have a destroying event, and has no more places than they
 pub was_not_ended : (tables : List Interface) (place : List ℕ → Option ℕ) (past : ℕ) (ended : List Bool)
     → ((p : ℕ) (b : Bool) → slice_get ended p ≡ Some b
     → (i : Interface) × (interface_at tables p ≡ Some i) × (has_destroying_event i ≡ b))
-    → (kind : Kind) (iface : Option (List ℕ)) → NotEndedIn tables
-    (with_iface kind (option_map (iface_named place past) iface))
+    → (kind : BareKind) (iface : Option (List ℕ)) → NotEndedIn tables
+    (with_iface past kind (option_map (iface_named place past) iface))
     → not (is_object kind && option_map_or (λ name. is_ended ended (place name)) iface false) ≡ true
-was_not_ended tables place past ended ends kinds.Int iface free = refl
-was_not_ended tables place past ended ends kinds.Uint iface free = refl
-was_not_ended tables place past ended ends kinds.Fixed iface free = refl
-was_not_ended tables place past ended ends (kinds.Str n) iface free = refl
-was_not_ended tables place past ended ends (kinds.Obj n x) None free = refl
-was_not_ended tables place past ended ends (kinds.Obj n x) (Some name) free =
+was_not_ended tables place past ended ends bare.Int iface free = refl
+was_not_ended tables place past ended ends bare.Uint iface free = refl
+was_not_ended tables place past ended ends bare.Fixed iface free = refl
+was_not_ended tables place past ended ends (bare.Str n) iface free = refl
+was_not_ended tables place past ended ends (bare.Obj n) None free = refl
+was_not_ended tables place past ended ends (bare.Obj n) (Some name) free =
     object_free (place name) (λ i at. free n (as_iface (unwrap_or (place name) past)) i refl at)
   where
     not_true : (o : Option Bool) → ((b : Bool) → o ≡ Some b → b ≡ false) → not (option_map_or (λ b. b) o false) ≡ true
@@ -98,6 +105,7 @@ was_not_ended tables place past ended ends (kinds.Obj n x) (Some name) free =
         → has_destroying_event i ≡ false) → not (is_ended ended o) ≡ true
     object_free None all = refl
     object_free (Some p) all = not_true (slice_get ended p) (λ b at. let it = ends p b at in sym it.2 ∙ all it.0 it.1)
-was_not_ended tables place past ended ends (kinds.New x) iface free = refl
-was_not_ended tables place past ended ends kinds.Array iface free = refl
-was_not_ended tables place past ended ends kinds.Fd iface free = refl
+was_not_ended tables place past ended ends bare.New iface free = refl
+was_not_ended tables place past ended ends bare.NewByServer iface free = refl
+was_not_ended tables place past ended ends bare.Array iface free = refl
+was_not_ended tables place past ended ends bare.Fd iface free = refl

@@ -11,12 +11,24 @@ mod KindsKept
 pub mod ValidKeeps
 mod LineRules
 mod FirstLine
-mod LinesApart
 mod TestedRules
 pub mod FirstWords
+mod Grown
+mod LikeInterface
+mod LeastRule
+mod AddedLines
+mod Gathering
+mod Unsaid
+mod Bodies
+mod GrownStays
+mod GrownValid
+mod ExtendedValid
+mod ReadTables
 mod TestsDecide
 mod Distinct
 mod ByPlace
+mod ServerObjects
+mod ServerObjectsTold
 mod RulesDecide
 mod CoreValid
 mod TextOutcome

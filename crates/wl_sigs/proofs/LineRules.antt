@@ -10,11 +10,16 @@ use Rattle.wl_wire.specs.declared.kind.Kind.{Kind}
 use Rattle.wl_wire.specs.declared.kind.Kind.TheVariants as kinds
 use Rattle.wl_wire.specs.declared.kind.Iface.{Iface}
 use Rattle.wl_sigs.specs.Tables.{Interface, interface_at, named_interface, has_destroying_event}
-use Rattle.wl_interface_text.specs.Text.{WrittenKind, takes_interface}
+use Rattle.wl_interface_text.specs.declared.written.BareKind.{BareKind}
+use Rattle.wl_interface_text.specs.declared.written.BareKind.TheVariants as bare
+use Rattle.wl_interface_text.specs.Text.{WrittenKind, needs_interface, takes_interface}
 use Rattle.wl_sigs.specs.Joined.{first_place, iface_named, with_iface}
 use Rattle.wl_sigs.specs.Broken.{is_first, is_new, is_object, is_ended}
 use Rattle.wl_sigs.proofs.FirstPlaces.{first_place-of, first_place-le}
 use Rattle.wl_sigs.proofs.PlacedKinds.{all_placed}
+
+abbrev as_iface : ℕ → Iface
+as_iface place = record { 0 = place }
 
 -- elements
 
@@ -80,32 +85,34 @@ kinds_fail test f P each ks kind at never =
     (λ all. never (all_contain P (map f ks) kind (all_placed (λ k. not (test k)) f P each ks all) at))
 
 -- V5
-pub unnamed_is : (place : List ℕ → Option ℕ) (past : ℕ) (kind : Kind) (iface : Option (List ℕ))
+pub unnamed_is : (place : List ℕ → Option ℕ) (past : ℕ) (kind : BareKind) (iface : Option (List ℕ))
     → is_new kind && not (is_some iface) ≡ true
-    → with_iface kind (option_map (iface_named place past) iface) ≡ kinds.New None
-unnamed_is place past kinds.Int iface t = cc t
-unnamed_is place past kinds.Uint iface t = cc t
-unnamed_is place past kinds.Fixed iface t = cc t
-unnamed_is place past (kinds.Str null) iface t = cc t
-unnamed_is place past (kinds.Obj null i) iface t = cc t
-unnamed_is place past (kinds.New i) None t = refl
-unnamed_is place past (kinds.New i) (Some name) t = cc t
-unnamed_is place past kinds.Array iface t = cc t
-unnamed_is place past kinds.Fd iface t = cc t
+    → with_iface past kind (option_map (iface_named place past) iface) ≡ kinds.New None
+unnamed_is place past bare.Int iface t = cc t
+unnamed_is place past bare.Uint iface t = cc t
+unnamed_is place past bare.Fixed iface t = cc t
+unnamed_is place past (bare.Str null) iface t = cc t
+unnamed_is place past (bare.Obj null) iface t = cc t
+unnamed_is place past bare.New None t = refl
+unnamed_is place past bare.New (Some name) t = cc t
+unnamed_is place past bare.NewByServer iface t = cc t
+unnamed_is place past bare.Array iface t = cc t
+unnamed_is place past bare.Fd iface t = cc t
 
 -- V6
-pub any_is : (place : List ℕ → Option ℕ) (past : ℕ) (kind : Kind) (iface : Option (List ℕ))
+pub any_is : (place : List ℕ → Option ℕ) (past : ℕ) (kind : BareKind) (iface : Option (List ℕ))
     → is_object kind && not (is_some iface) ≡ true
-    → (null : Bool) × (with_iface kind (option_map (iface_named place past) iface) ≡ kinds.Obj null None)
-any_is place past kinds.Int iface t = cc t
-any_is place past kinds.Uint iface t = cc t
-any_is place past kinds.Fixed iface t = cc t
-any_is place past (kinds.Str null) iface t = cc t
-any_is place past (kinds.Obj null i) None t = (null, refl)
-any_is place past (kinds.Obj null i) (Some name) t = cc t
-any_is place past (kinds.New i) iface t = cc t
-any_is place past kinds.Array iface t = cc t
-any_is place past kinds.Fd iface t = cc t
+    → (null : Bool) × (with_iface past kind (option_map (iface_named place past) iface) ≡ kinds.Obj null None)
+any_is place past bare.Int iface t = cc t
+any_is place past bare.Uint iface t = cc t
+any_is place past bare.Fixed iface t = cc t
+any_is place past (bare.Str null) iface t = cc t
+any_is place past (bare.Obj null) None t = (null, refl)
+any_is place past (bare.Obj null) (Some name) t = cc t
+any_is place past bare.New iface t = cc t
+any_is place past bare.NewByServer iface t = cc t
+any_is place past bare.Array iface t = cc t
+any_is place past bare.Fd iface t = cc t
 
 -- V7: an object of an interface that has a destroying event
 pub record IsEnded (tables : List Interface) (kind : Kind) : Type 0 where
@@ -119,15 +126,15 @@ pub record IsEnded (tables : List Interface) (kind : Kind) : Type 0 where
 pub ended_named : (tables : List Interface) (place : List ℕ → Option ℕ) (past : ℕ) (ended : List Bool)
     → ((p : ℕ) (b : Bool) → slice_get ended p ≡ Some b
     → (i : Interface) × (interface_at tables p ≡ Some i) × (has_destroying_event i ≡ b))
-    → (kind : Kind) (iface : Option (List ℕ)) → is_object kind
+    → (kind : BareKind) (iface : Option (List ℕ)) → is_object kind
     && option_map_or (λ name. is_ended ended (place name)) iface false ≡ true
-    → IsEnded tables (with_iface kind (option_map (iface_named place past) iface))
-ended_named tables place past ended ends kinds.Int iface t = cc t
-ended_named tables place past ended ends kinds.Uint iface t = cc t
-ended_named tables place past ended ends kinds.Fixed iface t = cc t
-ended_named tables place past ended ends (kinds.Str n) iface t = cc t
-ended_named tables place past ended ends (kinds.Obj null x) None t = cc t
-ended_named tables place past ended ends (kinds.Obj null x) (Some name) t = by_place (place name) refl t
+    → IsEnded tables (with_iface past kind (option_map (iface_named place past) iface))
+ended_named tables place past ended ends bare.Int iface t = cc t
+ended_named tables place past ended ends bare.Uint iface t = cc t
+ended_named tables place past ended ends bare.Fixed iface t = cc t
+ended_named tables place past ended ends (bare.Str n) iface t = cc t
+ended_named tables place past ended ends (bare.Obj null) None t = cc t
+ended_named tables place past ended ends (bare.Obj null) (Some name) t = by_place (place name) refl t
   where
     by_mark : (p : ℕ) → place name ≡ Some p → (o : Option Bool) → slice_get ended p ≡ o
         → option_map_or (λ b. b) o false ≡ true
@@ -148,31 +155,35 @@ ended_named tables place past ended ends (kinds.Obj null x) (Some name) t = by_p
         → IsEnded tables (kinds.Obj null (Some (iface_named place past name)))
     by_place None named t = cc t
     by_place (Some p) named t = by_mark p named (slice_get ended p) refl t
-ended_named tables place past ended ends (kinds.New x) iface t = cc t
-ended_named tables place past ended ends kinds.Array iface t = cc t
-ended_named tables place past ended ends kinds.Fd iface t = cc t
+ended_named tables place past ended ends bare.New iface t = cc t
+ended_named tables place past ended ends bare.NewByServer iface t = cc t
+ended_named tables place past ended ends bare.Array iface t = cc t
+ended_named tables place past ended ends bare.Fd iface t = cc t
 
 -- V9: the interface that stands past all
 missing_past : (past : ℕ) (o : Option ℕ) → not (is_some o) ≡ true → past ≤ unwrap_or o past
 missing_past past None t = omega arith
 missing_past past (Some p) t = cc t
 
-pub missing_named : (place : List ℕ → Option ℕ) (past : ℕ) (kind : Kind) (iface : Option (List ℕ))
-    → takes_interface kind && option_map_or (λ name. not (is_some (place name))) iface false ≡ true
-    → (i : Iface) × (named_interface (with_iface kind (option_map (iface_named place past) iface)) ≡ Some i)
+pub missing_named : (place : List ℕ → Option ℕ) (past : ℕ) (kind : BareKind) (iface : Option (List ℕ))
+    → takes_interface kind && option_map_or (λ name. not (is_some (place name))) iface (needs_interface kind) ≡ true
+    → (i : Iface) × (named_interface (with_iface past kind (option_map (iface_named place past) iface)) ≡ Some i)
     × (past ≤ i.0)
-missing_named place past kinds.Int iface t = cc t
-missing_named place past kinds.Uint iface t = cc t
-missing_named place past kinds.Fixed iface t = cc t
-missing_named place past (kinds.Str null) iface t = cc t
-missing_named place past (kinds.Obj null x) None t = cc t
-missing_named place past (kinds.Obj null x) (Some name) t =
+missing_named place past bare.Int iface t = cc t
+missing_named place past bare.Uint iface t = cc t
+missing_named place past bare.Fixed iface t = cc t
+missing_named place past (bare.Str null) iface t = cc t
+missing_named place past (bare.Obj null) None t = cc t
+missing_named place past (bare.Obj null) (Some name) t =
     (iface_named place past name, refl, missing_past past (place name) t)
-missing_named place past (kinds.New x) None t = cc t
-missing_named place past (kinds.New x) (Some name) t =
+missing_named place past bare.New None t = cc t
+missing_named place past bare.New (Some name) t =
     (iface_named place past name, refl, missing_past past (place name) t)
-missing_named place past kinds.Array iface t = cc t
-missing_named place past kinds.Fd iface t = cc t
+missing_named place past bare.NewByServer None t = (as_iface past, refl, omega arith)
+missing_named place past bare.NewByServer (Some name) t =
+    (iface_named place past name, refl, missing_past past (place name) t)
+missing_named place past bare.Array iface t = cc t
+missing_named place past bare.Fd iface t = cc t
 
 -- V1: a name that is not the first at its place
 pub earlier_name : (names : List (List ℕ)) (name : List ℕ) (here : ℕ) → slice_get names here ≡ Some name

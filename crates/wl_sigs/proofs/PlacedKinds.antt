@@ -11,7 +11,9 @@ use Rattle.wl_wire.specs.declared.kind.Kind.{Kind}
 use Rattle.wl_wire.specs.declared.kind.Kind.TheVariants as kinds
 use Rattle.wl_wire.specs.declared.kind.Iface.{Iface}
 use Rattle.wl_sigs.specs.Tables.{Interface, interface_at, new_objects, named_interface, has_destroying_event}
-use Rattle.wl_interface_text.specs.Text.{WrittenKind, takes_interface}
+use Rattle.wl_interface_text.specs.declared.written.BareKind.{BareKind}
+use Rattle.wl_interface_text.specs.declared.written.BareKind.TheVariants as bare
+use Rattle.wl_interface_text.specs.Text.{WrittenKind, needs_interface, takes_interface}
 use Rattle.wl_sigs.specs.Joined.{iface_named, with_iface, kind_placed}
 use Rattle.wl_sigs.specs.Broken.{is_new, is_object, makes_object, is_ended}
 
@@ -33,18 +35,19 @@ all_placed test f P each (k ∷ ks) all =
     both false b e = cc e
 
 -- as many new objects
-counted : (place : List ℕ → Option ℕ) (past : ℕ) (kind : Kind) (iface : Option (List ℕ)) (more : List Kind) (n : ℕ)
+counted : (place : List ℕ → Option ℕ) (past : ℕ) (kind : BareKind) (iface : Option (List ℕ)) (more : List Kind) (n : ℕ)
     → length (new_objects more) ≡ n
-    → length (new_objects (with_iface kind (option_map (iface_named place past) iface) ∷ more))
+    → length (new_objects (with_iface past kind (option_map (iface_named place past) iface) ∷ more))
     ≡ cond (is_new kind) 1 0 + n
-counted place past kinds.Int iface more n e = omega arith
-counted place past kinds.Uint iface more n e = omega arith
-counted place past kinds.Fixed iface more n e = omega arith
-counted place past (kinds.Str null) iface more n e = omega arith
-counted place past (kinds.Obj null i) iface more n e = omega arith
-counted place past (kinds.New i) iface more n e = omega arith
-counted place past kinds.Array iface more n e = omega arith
-counted place past kinds.Fd iface more n e = omega arith
+counted place past bare.Int iface more n e = omega arith
+counted place past bare.Uint iface more n e = omega arith
+counted place past bare.Fixed iface more n e = omega arith
+counted place past (bare.Str null) iface more n e = omega arith
+counted place past (bare.Obj null) iface more n e = omega arith
+counted place past bare.New iface more n e = omega arith
+counted place past bare.NewByServer iface more n e = omega arith
+counted place past bare.Array iface more n e = omega arith
+counted place past bare.Fd iface more n e = omega arith
 
 pub count_placed : (place : List ℕ → Option ℕ) (past : ℕ) (ks : List WrittenKind)
     → length (new_objects (map (kind_placed place past) ks)) ≡ count_by makes_object ks
@@ -55,32 +58,34 @@ count_placed place past (k ∷ ks) =
     (count_placed place past ks))
 
 -- V5
-pub not_unnamed : (place : List ℕ → Option ℕ) (past : ℕ) (kind : Kind) (iface : Option (List ℕ))
+pub not_unnamed : (place : List ℕ → Option ℕ) (past : ℕ) (kind : BareKind) (iface : Option (List ℕ))
     → not (is_new kind && not (is_some iface)) ≡ true
-    → with_iface kind (option_map (iface_named place past) iface) ≢ kinds.New None
-not_unnamed place past kinds.Int iface t e = cc e
-not_unnamed place past kinds.Uint iface t e = cc e
-not_unnamed place past kinds.Fixed iface t e = cc e
-not_unnamed place past (kinds.Str null) iface t e = cc e
-not_unnamed place past (kinds.Obj null i) iface t e = cc e
-not_unnamed place past (kinds.New i) None t e = cc t
-not_unnamed place past (kinds.New i) (Some name) t e = cc e
-not_unnamed place past kinds.Array iface t e = cc e
-not_unnamed place past kinds.Fd iface t e = cc e
+    → with_iface past kind (option_map (iface_named place past) iface) ≢ kinds.New None
+not_unnamed place past bare.Int iface t e = cc e
+not_unnamed place past bare.Uint iface t e = cc e
+not_unnamed place past bare.Fixed iface t e = cc e
+not_unnamed place past (bare.Str null) iface t e = cc e
+not_unnamed place past (bare.Obj null) iface t e = cc e
+not_unnamed place past bare.New None t e = cc t
+not_unnamed place past bare.New (Some name) t e = cc e
+not_unnamed place past bare.NewByServer iface t e = cc e
+not_unnamed place past bare.Array iface t e = cc e
+not_unnamed place past bare.Fd iface t e = cc e
 
 -- V6
-pub not_any : (place : List ℕ → Option ℕ) (past : ℕ) (kind : Kind) (iface : Option (List ℕ))
+pub not_any : (place : List ℕ → Option ℕ) (past : ℕ) (kind : BareKind) (iface : Option (List ℕ))
     → not (is_object kind && not (is_some iface)) ≡ true
-    → (null : Bool) → with_iface kind (option_map (iface_named place past) iface) ≢ kinds.Obj null None
-not_any place past kinds.Int iface t null e = cc e
-not_any place past kinds.Uint iface t null e = cc e
-not_any place past kinds.Fixed iface t null e = cc e
-not_any place past (kinds.Str n) iface t null e = cc e
-not_any place past (kinds.Obj n i) None t null e = cc t
-not_any place past (kinds.Obj n i) (Some name) t null e = cc e
-not_any place past (kinds.New i) iface t null e = cc e
-not_any place past kinds.Array iface t null e = cc e
-not_any place past kinds.Fd iface t null e = cc e
+    → (null : Bool) → with_iface past kind (option_map (iface_named place past) iface) ≢ kinds.Obj null None
+not_any place past bare.Int iface t null e = cc e
+not_any place past bare.Uint iface t null e = cc e
+not_any place past bare.Fixed iface t null e = cc e
+not_any place past (bare.Str n) iface t null e = cc e
+not_any place past (bare.Obj n) None t null e = cc t
+not_any place past (bare.Obj n) (Some name) t null e = cc e
+not_any place past bare.New iface t null e = cc e
+not_any place past bare.NewByServer iface t null e = cc e
+not_any place past bare.Array iface t null e = cc e
+not_any place past bare.Fd iface t null e = cc e
 
 -- V9
 there_named : (place : List ℕ → Option ℕ) (past : ℕ) → ((name : List ℕ) (p : ℕ) → place name ≡ Some p → p < past)
@@ -93,20 +98,23 @@ there_named place past within name (Some p) is t i e =
     subst (λ (x : Iface). x.0 < past) same lt
 
 pub there : (place : List ℕ → Option ℕ) (past : ℕ) → ((name : List ℕ) (p : ℕ) → place name ≡ Some p → p < past)
-    → (kind : Kind) (iface : Option (List ℕ))
-    → not (takes_interface kind && option_map_or (λ name. not (is_some (place name))) iface false) ≡ true
-    → (i : Iface) → named_interface (with_iface kind (option_map (iface_named place past) iface)) ≡ Some i → i.0 < past
-there place past within kinds.Int iface t i e = cc e
-there place past within kinds.Uint iface t i e = cc e
-there place past within kinds.Fixed iface t i e = cc e
-there place past within (kinds.Str null) iface t i e = cc e
-there place past within (kinds.Obj null x) None t i e = cc e
-there place past within (kinds.Obj null x) (Some name) t i e =
+    → (kind : BareKind) (iface : Option (List ℕ))
+    → not (takes_interface kind && option_map_or (λ name. not (is_some (place name))) iface (needs_interface kind)) ≡ true
+    → (i : Iface) → named_interface (with_iface past kind (option_map (iface_named place past) iface)) ≡ Some i → i.0 < past
+there place past within bare.Int iface t i e = cc e
+there place past within bare.Uint iface t i e = cc e
+there place past within bare.Fixed iface t i e = cc e
+there place past within (bare.Str null) iface t i e = cc e
+there place past within (bare.Obj null) None t i e = cc e
+there place past within (bare.Obj null) (Some name) t i e =
     there_named place past within name (place name) refl t i e
-there place past within (kinds.New x) None t i e = cc e
-there place past within (kinds.New x) (Some name) t i e = there_named place past within name (place name) refl t i e
-there place past within kinds.Array iface t i e = cc e
-there place past within kinds.Fd iface t i e = cc e
+there place past within bare.New None t i e = cc e
+there place past within bare.New (Some name) t i e = there_named place past within name (place name) refl t i e
+there place past within bare.NewByServer None t i e = cc t
+there place past within bare.NewByServer (Some name) t i e =
+    there_named place past within name (place name) refl t i e
+there place past within bare.Array iface t i e = cc e
+there place past within bare.Fd iface t i e = cc e
 
 -- V7: an object of an interface that no event destroys
 abbrev pub NotEndedIn : List Interface → Kind → Type 0
@@ -116,15 +124,15 @@ NotEndedIn tables k = (null : Bool) (iface : Iface) (i : Interface) → k ≡ ki
 pub not_ended : (tables : List Interface) (place : List ℕ → Option ℕ) (past : ℕ) (ended : List Bool)
     → ((p : ℕ) (i : Interface) → interface_at tables p ≡ Some i → slice_get ended p ≡ Some (has_destroying_event i))
     → interface_at tables past ≡ None
-    → (kind : Kind) (iface : Option (List ℕ)) → not
+    → (kind : BareKind) (iface : Option (List ℕ)) → not
     (is_object kind && option_map_or (λ name. is_ended ended (place name)) iface false) ≡ true
-    → NotEndedIn tables (with_iface kind (option_map (iface_named place past) iface))
-not_ended tables place past ended ends none kinds.Int iface t null f i e at = cc e
-not_ended tables place past ended ends none kinds.Uint iface t null f i e at = cc e
-not_ended tables place past ended ends none kinds.Fixed iface t null f i e at = cc e
-not_ended tables place past ended ends none (kinds.Str n) iface t null f i e at = cc e
-not_ended tables place past ended ends none (kinds.Obj n x) None t null f i e at = cc e
-not_ended tables place past ended ends none (kinds.Obj n x) (Some name) t null f i e at =
+    → NotEndedIn tables (with_iface past kind (option_map (iface_named place past) iface))
+not_ended tables place past ended ends none bare.Int iface t null f i e at = cc e
+not_ended tables place past ended ends none bare.Uint iface t null f i e at = cc e
+not_ended tables place past ended ends none bare.Fixed iface t null f i e at = cc e
+not_ended tables place past ended ends none (bare.Str n) iface t null f i e at = cc e
+not_ended tables place past ended ends none (bare.Obj n) None t null f i e at = cc e
+not_ended tables place past ended ends none (bare.Obj n) (Some name) t null f i e at =
     let same : as_iface (unwrap_or (place name) past) ≡ f = cc e in
     object_ended (place name) t (subst (λ (y : Iface). interface_at tables y.0 ≡ Some i) (sym same) at)
   where
@@ -136,6 +144,7 @@ not_ended tables place past ended ends none (kinds.Obj n x) (Some name) t null f
         → has_destroying_event i ≡ false
     object_ended None t at = let no : None ≡ Some i = sym none ∙ at in cc no
     object_ended (Some p) t at = is_false (slice_get ended p) (has_destroying_event i) (ends p i at) t
-not_ended tables place past ended ends none (kinds.New x) iface t null f i e at = cc e
-not_ended tables place past ended ends none kinds.Array iface t null f i e at = cc e
-not_ended tables place past ended ends none kinds.Fd iface t null f i e at = cc e
+not_ended tables place past ended ends none bare.New iface t null f i e at = cc e
+not_ended tables place past ended ends none bare.NewByServer iface t null f i e at = cc e
+not_ended tables place past ended ends none bare.Array iface t null f i e at = cc e
+not_ended tables place past ended ends none bare.Fd iface t null f i e at = cc e

@@ -17,13 +17,14 @@ use Rattle.wl_sigs.specs.Valid.{EachInterface, EachMessage, IsNameByte, IsTableN
 use Rattle.wl_sigs.specs.Valid.{HasFixedFour, AreSmall, MakeFewObjects, IsBind}
 use Rattle.wl_sigs.specs.Valid.{UnnamedNewInBindAlone, NoAnyInRequests, DestroyingEventsAreRaceFree}
 use Rattle.wl_sigs.specs.Valid.{SincesAreInRange, NamedInterfacesAreThere, ArgumentEndsInFixesAlone}
-use Rattle.wl_sigs.specs.Valid.{Valid}
+use Rattle.wl_sigs.specs.Valid.{ServerMakesRightly, Valid}
 use Rattle.wl_sigs.specs.Rules as test
 use Rattle.wl_sigs.proofs.TestsDecide.{Decides-le, Decides-empty, Decides-list_all, Decides-each}
 use Rattle.wl_sigs.proofs.TestsDecide.{Decides-both, Decides-message}
 use Rattle.wl_sigs.proofs.Lookups.{found, signature_from}
 use Rattle.wl_sigs.proofs.Distinct.{DistinctBy, Decides-distinct_by}
 use Rattle.wl_sigs.proofs.ByPlace.{Decides-by_place}
+use Rattle.wl_sigs.proofs.ServerObjects.{decides_server}
 
 -- names
 
@@ -139,6 +140,7 @@ decides_unnamed (kinds.Str null) = (λ _ e. cc, λ _. refl)
 decides_unnamed (kinds.Obj null iface) = (λ _ e. cc, λ _. refl)
 decides_unnamed (kinds.New None) = (λ h. cc, λ never. absurd (never refl))
 decides_unnamed (kinds.New (Some iface)) = (λ _ e. cc, λ _. refl)
+decides_unnamed (kinds.NewByServer iface) = (λ _ e. cc, λ _. refl)
 decides_unnamed kinds.Array = (λ _ e. cc, λ _. refl)
 decides_unnamed kinds.Fd = (λ _ e. cc, λ _. refl)
 
@@ -214,6 +216,7 @@ decides_any (kinds.Str null) = (λ _ n e. cc, λ _. refl)
 decides_any (kinds.Obj null None) = (λ h. cc, λ never. absurd (never null refl))
 decides_any (kinds.Obj null (Some iface)) = (λ _ n e. cc, λ _. refl)
 decides_any (kinds.New iface) = (λ _ null e. cc, λ _. refl)
+decides_any (kinds.NewByServer iface) = (λ _ null e. cc, λ _. refl)
 decides_any kinds.Array = (λ _ null e. cc, λ _. refl)
 decides_any kinds.Fd = (λ _ null e. cc, λ _. refl)
 
@@ -264,6 +267,7 @@ decides_ended tables (kinds.Obj null None) = (λ _ n iface i e at. cc, λ _. ref
 decides_ended tables (kinds.Obj null (Some iface)) =
     (object_ended tables null iface, λ all. ended_to (interface_at tables iface.0) (λ i at. all null iface i refl at))
 decides_ended tables (kinds.New iface) = (λ _ null other i e at. cc, λ _. refl)
+decides_ended tables (kinds.NewByServer iface) = (λ _ null other i e at. cc, λ _. refl)
 decides_ended tables kinds.Array = (λ _ null iface i e at. cc, λ _. refl)
 decides_ended tables kinds.Fd = (λ _ null iface i e at. cc, λ _. refl)
 
@@ -410,7 +414,8 @@ decides_argument tables =
 pub decides_rules : (tables : List Interface) →
     Decides (test.keep_rules tables) (NamesAreDistinct tables × AreSmall tables × MakeFewObjects tables
     × UnnamedNewInBindAlone tables × NoAnyInRequests tables × DestroyingEventsAreRaceFree tables
-    × SincesAreInRange tables × NamedInterfacesAreThere tables × ArgumentEndsInFixesAlone tables)
+    × SincesAreInRange tables × NamedInterfacesAreThere tables × ArgumentEndsInFixesAlone tables
+    × ServerMakesRightly tables)
 decides_rules tables =
     let a = test.names_are_distinct tables in
     let b = test.are_small tables in
@@ -421,8 +426,10 @@ decides_rules tables =
     let g = test.sinces_are_in_range tables in
     let h = test.named_interfaces_are_there tables in
     let k = test.argument_ends_in_fixes_alone tables in
+    let l = test.server_makes_rightly tables in
     Decides-like (test.keep_rules tables) (λ r. (
-      r.0.0.0.0.0.0.0.0,
+      r.0.0.0.0.0.0.0.0.0,
+      r.0.0.0.0.0.0.0.0.1,
       r.0.0.0.0.0.0.0.1,
       r.0.0.0.0.0.0.1,
       r.0.0.0.0.0.1,
@@ -432,7 +439,8 @@ decides_rules tables =
       r.0.1,
       r.1,
     ))
-    (λ r. ((((((((r.0, r.1), r.2), r.3), r.4), r.5), r.6), r.7), r.8))
+    (λ r. (((((((((r.0, r.1), r.2), r.3), r.4), r.5), r.6), r.7), r.8), r.9))
+    (Decides-and (a && b && c && d && e && f && g && h && k) l
     (Decides-and (a && b && c && d && e && f && g && h) k
     (Decides-and (a && b && c && d && e && f && g) h
     (Decides-and (a && b && c && d && e && f) g
@@ -442,7 +450,7 @@ decides_rules tables =
     (Decides-and (a && b) c (Decides-and a b (decides_names tables) (decides_small tables))
     (decides_few_objects tables)) (decides_bind tables)) (decides_no_any tables)) (decides_race_free tables))
     (decides_sinces tables))
-    (decides_interfaces tables)) (decides_argument tables))
+    (decides_interfaces tables)) (decides_argument tables)) (decides_server tables))
 
 pub valid_tested : (tables : List Interface) → Valid tables → HasFixedFour tables × (test.keep_rules tables ≡ true)
 valid_tested tables v = (
@@ -457,6 +465,7 @@ valid_tested tables v = (
     v.sinces_in_range,
     v.interfaces_there,
     v.argument_ends,
+    v.server_makes,
   ),
 )
 
@@ -475,4 +484,5 @@ tested_valid tables h =
           r.6;
       interfaces_there = r.7;
       argument_ends = r.8;
+      server_makes = r.9;
     }

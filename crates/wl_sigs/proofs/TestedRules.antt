@@ -14,12 +14,13 @@ use Rattle.wl_sigs.specs.declared.signature.Side.{Side}
 use Rattle.wl_sigs.specs.declared.signature.Side.TheVariants.{Request, Event}
 use Rattle.wl_sigs.specs.Rules.{is_name, is_empty}
 use Rattle.wl_sigs.specs.Tables.{MessageSignature, Interface, interface_at, new_objects, named_interface}
-use Rattle.wl_sigs.specs.Tables.{destroys_target}
+use Rattle.wl_sigs.specs.Tables.{destroys_target, server_objects}
 use Rattle.wl_sigs.specs.Valid.{IsTableName}
 use Rattle.wl_interface_text.specs.Text.{WrittenKind, WrittenMessage, WrittenInterface}
 use Rattle.wl_sigs.specs.Joined.{all_names, first_place, kind_placed, destroys_of, joined}
 use Rattle.wl_sigs.specs.Broken.{is_first, makes_object, makes_unnamed, takes_any, takes_ended}
 use Rattle.wl_sigs.specs.Broken.{names_missing, most_new, names_objects, is_race_free, ended_of}
+use Rattle.wl_sigs.specs.Broken.{makes_server_object, most_by_server, makes_forbidden}
 use Rattle.wl_sigs.specs.FirstBroken.{written_of, InterfaceBreaks, interface_misnamed}
 use Rattle.wl_sigs.specs.FirstBroken.{interface_named_again, interface_beyond, version_below_one}
 use Rattle.wl_sigs.specs.FirstBroken.{MessageBreaks, message_misnamed, message_named_again}
@@ -27,12 +28,15 @@ use Rattle.wl_sigs.specs.FirstBroken.{message_beyond, too_many_arguments, event_
 use Rattle.wl_sigs.specs.FirstBroken.{request_makes_two, new_without_interface, object_of_any}
 use Rattle.wl_sigs.specs.FirstBroken.{event_destroys, object_of_ended, since_below_one}
 use Rattle.wl_sigs.specs.FirstBroken.{since_above_version, interface_missing}
+use Rattle.wl_sigs.specs.FirstBroken.{request_has_server_object, event_has_two_server_objects}
+use Rattle.wl_sigs.specs.FirstBroken.{server_object_of_ended, server_object_of_fixed}
 use Rattle.wl_sigs.proofs.RulesDecide.{decides_name}
 use Rattle.wl_sigs.proofs.FirstPlaces.{first_place-within}
 use Rattle.wl_sigs.proofs.JoinedLookup.{mapped_at, placing, placing_message, placed_messages}
 use Rattle.wl_sigs.proofs.JoinedLookup.{length_joined, length_names, names_joined}
 use Rattle.wl_sigs.proofs.JoinedValid.{ended_at}
-use Rattle.wl_sigs.proofs.ValidKeeps.{placed_at, ended_is}
+use Rattle.wl_sigs.proofs.ValidKeeps.{placed_at, ended_is, name_there}
+use Rattle.wl_sigs.proofs.ServerObjects.{MadeRightly, count_by_server, made_rightly, wrongly_made}
 use Rattle.wl_sigs.proofs.PlacedKinds.{count_placed, not_unnamed, not_any, there, NotEndedIn, not_ended}
 use Rattle.wl_sigs.proofs.LineRules.{fails_unless, either_fails, left_fails, right_fails, some_kind}
 use Rattle.wl_sigs.proofs.LineRules.{kinds_fail, unnamed_is, any_is, ended_named, missing_named}
@@ -40,11 +44,11 @@ use Rattle.wl_sigs.proofs.LineRules.{earlier_name, not_first}
 use Rattle.wl_sigs.proofs.FirstLine.{Tested, tested, interface_tests, message_tests, Breaks}
 
 -- each test that fails says that its rule is broken
-abbrev EachSays : (ℕ → Type 0) → List Tested → Type 0
+abbrev pub EachSays : (ℕ → Type 0) → List Tested → Type 0
 EachSays Broken [] = Unit {0}
 EachSays Broken (t ∷ more) = (t.kept ≡ false → Broken t.rule) × EachSays Broken more
 
-each_says : (Broken : ℕ → Type 0) (tests : List Tested) → EachSays Broken tests → (rule k : ℕ)
+pub each_says : (Broken : ℕ → Type 0) (tests : List Tested) → EachSays Broken tests → (rule k : ℕ)
     → slice_get tests k ≡ Some (tested rule false) → Broken rule
 each_says Broken [] all rule k at = cc at
 each_says Broken (t ∷ more) all rule zero at =
@@ -58,7 +62,7 @@ pub record Says (Broken : ℕ → Type 0) (tests : List Tested) : Type 0 where
   pub from : (rule : ℕ) → Broken rule → Breaks tests rule
 
 -- the test at this place is of the rule and fails
-failing_at : (tests : List Tested) (k own rule : ℕ) (kept : Bool) → slice_get tests k ≡ Some (tested own kept)
+pub failing_at : (tests : List Tested) (k own rule : ℕ) (kept : Bool) → slice_get tests k ≡ Some (tested own kept)
     → rule ≡ own → kept ≡ false → Breaks tests rule
 failing_at tests k own rule kept at is fails = record {
   place = k;
@@ -77,7 +81,7 @@ not_name name fails is = let passes = (decides_name name).1 is in let no : false
 no_name : (name : List ℕ) → ¬ IsTableName name → is_name name ≡ false
 no_name name never = fails_unless (is_name name) (λ passes. never ((decides_name name).0 passes))
 
-not_lt : (a b : ℕ) → b ≤ a → nat_lt a b ≡ false
+pub not_lt : (a b : ℕ) → b ≤ a → nat_lt a b ≡ false
 not_lt a b le = fails_unless (nat_lt a b) (λ t. let lt = ltb-true a b t in omega (arith, lt, le))
 
 not_le : (a b : ℕ) → b < a → nat_le a b ≡ false
@@ -139,7 +143,7 @@ interface_says tables written k w at = record {
 
 -- a message
 
-abbrev MessageBroken : List Interface → List WrittenInterface → WrittenInterface → Side → ℕ → WrittenMessage → ℕ
+abbrev pub MessageBroken : List Interface → List WrittenInterface → WrittenInterface → Side → ℕ → WrittenMessage → ℕ
     → Type 0
 MessageBroken tables written w side o m = MessageBreaks (joined tables written) (placing tables written w) side o
     (placing_message tables written m)
@@ -161,7 +165,7 @@ both_race : (destroys empty : Bool) → destroys_target (destroys_of destroys) �
 both_race true empty destroys e = e
 both_race false empty destroys e = cc destroys
 
-target_is : (b : Bool) → b ≡ true → destroys_target (destroys_of b) ≡ true
+pub target_is : (b : Bool) → b ≡ true → destroys_target (destroys_of b) ≡ true
 target_is true e = refl
 target_is false e = cc e
 
@@ -185,13 +189,13 @@ event_race_fails : (place : List ℕ → Option ℕ) (ended : List Bool) (w : Wr
 event_race_fails place ended w Request m is e = cc is
 event_race_fails place ended w Event m is e = e
 
-pub message_says : (tables : List Interface) (written : List WrittenInterface) (k : ℕ) (w : WrittenInterface)
+pub message_says : (tables : List Interface) (written : List WrittenInterface) (w : WrittenInterface)
     (side : Side) (o : ℕ) (m : WrittenMessage)
-    → slice_get written k ≡ Some w → slice_get (written_of side w) o ≡ Some m
+    → slice_get (written_of side w) o ≡ Some m
     → Says (MessageBroken tables written w side o m)
     (message_tests (first_place (all_names tables written)) (ended_of tables written) w side
     (first_place (map (λ n. n.name) (written_of side w))) o m)
-message_says tables written k w side o m at of = record {
+message_says tables written w side o m of = record {
   to = λ rule breaks. each_says Broken tests (
     name_says,
     (
@@ -200,7 +204,10 @@ message_says tables written k w side o m at of = record {
         few_says side refl,
         (
           unnamed_says,
-          (any_says side refl, (race_says side refl, (since_says, (missing_says, tt)))),
+          (
+            any_says side refl,
+            (race_says side refl, (since_says, (missing_says, (server_says, tt)))),
+          ),
         ),
       ),
     ),
@@ -242,6 +249,9 @@ message_says tables written k w side o m at of = record {
 
     count : length (new_objects (map kind_of m.kinds)) ≡ count_by makes_object m.kinds
     count = count_placed place past m.kinds
+
+    by_server : length (server_objects (map kind_of m.kinds)) ≡ count_by makes_server_object m.kinds
+    by_server = count_by_server place past m.kinds
 
     lens : length all ≡ past
     lens = omega (arith, length_joined tables written, length_names tables written)
@@ -319,7 +329,58 @@ message_says tables written k w side o m at of = record {
         interface_missing (kind_of it.kind) missing.0 refl it.there missing.1
         (let le = missing.2 in omega (arith, le, lens))
 
+    -- V11
+    many_says : (s : Side) → side ≡ s → nat_le (count_by makes_server_object m.kinds) (most_by_server s) ≡ false
+        → Broken 11
+    many_says Request is e = request_has_server_object refl is
+        (let lt = leb-false (count_by makes_server_object m.kinds) 0 e in omega (arith, lt, by_server))
+    many_says Event is e = event_has_two_server_objects refl is
+        (let lt = leb-false (count_by makes_server_object m.kinds) 1 e in omega (arith, lt, by_server))
+
+    forbidden_says : list_all (λ k. not (makes_forbidden place ended k)) m.kinds ≡ false → Broken 11
+    forbidden_says e =
+        let it = some_kind (makes_forbidden place ended) kind_of m.kinds e in
+        let made = wrongly_made all place past ended (ended_is tables written) (name_there tables written)
+        it.kind.kind it.kind.iface it.passes in
+        let there = subst (λ (x : Kind). Contains (map kind_of m.kinds) x) made.is it.there in
+        elim made.wrong [
+          | inl fixed ↦ server_object_of_fixed made.iface made.interface refl there made.at fixed
+          | inr ends ↦ server_object_of_ended made.iface made.interface refl there made.at ends
+        ]
+
+    server_says : nat_le (count_by makes_server_object m.kinds) (most_by_server side)
+        && list_all (λ k. not (makes_forbidden place ended k)) m.kinds ≡ false → Broken 11
+    server_says e = elim (either_fails (nat_le (count_by makes_server_object m.kinds) (most_by_server side))
+        (list_all (λ k. not (makes_forbidden place ended k)) m.kinds) e) [
+          | inl many ↦ many_says side refl many
+          | inr forbidden ↦ forbidden_says forbidden.1
+        ]
+
+    -- the test of V11 fails where one of its two parts does
+    many_back : (rule most : ℕ) → rule ≡ 11 → most_by_server side ≡ most → most < length (server_objects (map kind_of m.kinds))
+        → Breaks tests rule
+    many_back rule most is at_most lt =
+        failing_at tests 8 11 rule _ refl is (left_fails (nat_le (count_by makes_server_object m.kinds)
+        (most_by_server side)) (list_all (λ k. not (makes_forbidden place ended k)) m.kinds)
+        (not_le (count_by makes_server_object m.kinds) (most_by_server side) (omega (arith, lt, by_server, at_most))))
+
+    forbidden_back : (rule : ℕ) (iface : Iface) → rule ≡ 11 → Contains (map kind_of m.kinds) (kinds.NewByServer iface)
+        → ¬ MadeRightly all (kinds.NewByServer iface) → Breaks tests rule
+    forbidden_back rule iface is there never =
+        failing_at tests 8 11 rule _ refl is (right_fails (nat_le (count_by makes_server_object m.kinds)
+        (most_by_server side)) (list_all (λ k. not (makes_forbidden place ended k)) m.kinds)
+        (kinds_fail (makes_forbidden place ended) kind_of (MadeRightly all)
+        (λ x t. made_rightly all place past ended (ended_at tables written) beyond x.kind x.iface t) m.kinds
+        (kinds.NewByServer iface) there never))
+
     back : (rule : ℕ) → Broken rule → Breaks tests rule
+    back rule (request_has_server_object is request lt) = many_back rule 0 is (ap most_by_server request) lt
+    back rule (event_has_two_server_objects is event lt) = many_back rule 1 is (ap most_by_server event) lt
+    back rule (server_object_of_ended iface j is there found ends) =
+        forbidden_back rule iface is there (λ right.
+        let no : true ≡ false = sym ends ∙ (right iface j refl found).0 in cc no)
+    back rule (server_object_of_fixed iface j is there found fixed) =
+        forbidden_back rule iface is there (λ right. (right iface j refl found).1 fixed)
     back rule (message_misnamed is never) =
         failing_at tests 0 1 rule _ refl is (left_fails (is_name m.name) (is_first (first_place own_names) m.name o)
         (no_name m.name never))

@@ -27,7 +27,7 @@ Decides-list_all test P each xs = Decides-by_and test P (list_all test) each ref
 each_from : {X : Type 0} (P : X → Type 0) (xs : List X) → All P xs → (k : ℕ) (x : X) → slice_get xs k ≡ Some x → P x
 each_from P xs all k x at = subst P (get_or_from_slice_get xs k x x at) (all k x (slice_get_within xs k x at))
 
-all_from_each : {X : Type 0} (P : X → Type 0) (xs : List X) → ((k : ℕ) (x : X) → slice_get xs k ≡ Some x → P x)
+pub all_from_each : {X : Type 0} (P : X → Type 0) (xs : List X) → ((k : ℕ) (x : X) → slice_get xs k ≡ Some x → P x)
     → All P xs
 all_from_each P xs each k d within = each k (get_or xs k d) (slice_get-get_or xs k d within)
 

@@ -6,42 +6,48 @@ use Rattle.wl_interface_text.specs.declared.fault.TableFault.TheVariants.{BadLin
 use Rattle.wl_interface_text.specs.TableText.{TableText, IsFirstBadLine}
 use Rattle.wl_interface_text.specs.Text.{WrittenInterface, interfaces_from}
 use Rattle.wl_interface_text.proofs.Texts.{text_lists, first_bad}
-use Rattle.wl_sigs.specs.Broken.{Broken, first_broken}
-use Rattle.wl_sigs.specs.FirstBroken.{IsFirstBrokenLine}
-use Rattle.wl_sigs.specs.Joined.{joined}
-use Rattle.wl_sigs.specs.Outcome.{joined_unless, outcome_of, outcome}
+use Rattle.wl_sigs.specs.Broken.{Broken}
+use Rattle.wl_sigs.specs.Extended.{extended}
+use Rattle.wl_sigs.specs.Extending.{first_line_broken}
+use Rattle.wl_sigs.specs.FirstLineBroken.{ExtendsRightly, IsFirstBrokenLine}
+use Rattle.wl_sigs.specs.Outcome.{extended_unless, outcome_of, outcome}
 use Rattle.wl_sigs.specs.Tables.{Interface}
 use Rattle.wl_sigs.specs.Valid.{Valid}
-use Rattle.wl_sigs.proofs.FirstWords.{first_line}
-use Rattle.wl_sigs.proofs.JoinedValid.{joined_valid}
-use Rattle.wl_sigs.proofs.ValidKeeps.{valid_unbroken}
+use Rattle.wl_sigs.proofs.AddedLines.{first_line}
+use Rattle.wl_sigs.proofs.ExtendedValid.{extends_rightly, extended_valid, valid_line_unbroken}
 
 abbrev Told : List Interface → List ℕ → List Interface → Type 0
-Told tables text all = (written : List WrittenInterface) × TableText text written × (joined tables written ≡ all)
-    × Valid all
+Told tables text all = (written : List WrittenInterface) × TableText text written × ExtendsRightly tables written
+    × (extended tables written ≡ all) × Valid all
 
 unbroken_told : (tables all : List Interface) (text : List ℕ) (written : List WrittenInterface) → Valid tables
     → TableText text written
-    → (o : Option Broken) → first_broken tables written ≡ o → joined_unless tables written o ≡ Ok all
+    → (o : Option Broken) → first_line_broken tables written ≡ o → extended_unless tables written o ≡ Ok all
     → Told tables text all
 unbroken_told tables all text written valid told None unbroken is =
-    let same : joined tables written ≡ all = cc is in
-    (written, told, same, subst Valid same (joined_valid tables written valid unbroken))
+    let same : extended tables written ≡ all = cc is in (
+      written,
+      told,
+      extends_rightly tables written unbroken,
+      same,
+      subst Valid same (extended_valid tables written valid unbroken),
+    )
 unbroken_told tables all text written valid told (Some it) broken is = cc is
 
 read_told : (tables all : List Interface) (text : List ℕ) → Valid tables → (r : Result (List WrittenInterface) ℕ)
     → interfaces_from 1 (lines text) [] ≡ r → outcome_of tables r ≡ Ok all → Told tables text all
 read_told tables all text valid (Ok written) read is =
-    unbroken_told tables all text written valid ((text_lists text written).0 read) (first_broken tables written) refl is
+    unbroken_told tables all text written valid ((text_lists text written).0 read)
+    (first_line_broken tables written) refl is
 read_told tables all text valid (Err n) read is = cc is
 
 told_read : (tables all : List Interface) (text : List ℕ) → Valid tables → Told tables text all
     → outcome tables text ≡ Ok all
 told_read tables all text valid told =
     let read : interfaces_from 1 (lines text) [] ≡ Ok told.0 = (text_lists text told.0).1 told.1 in
-    let whole : Valid (joined tables told.0) = subst Valid (sym told.2) told.3 in
-    ap (outcome_of tables) read ∙ ap (joined_unless tables told.0) (valid_unbroken tables told.0 valid whole)
-    ∙ ap Ok told.2
+    let whole : Valid (extended tables told.0) = subst Valid (sym told.3) told.4 in
+    ap (outcome_of tables) read
+    ∙ ap (extended_unless tables told.0) (valid_line_unbroken tables told.0 valid told.2 whole) ∙ ap Ok told.3
 
 pub texts_told : (tables all : List Interface) (text : List ℕ) → Valid tables
     → (outcome tables text ≡ Ok all) ↔ Told tables text all
@@ -52,13 +58,13 @@ texts_told tables all text valid = (
 )
 
 unbroken_stands : (tables : List Interface) (written : List WrittenInterface) (n : ℕ) → (o : Option Broken)
-    → joined_unless tables written o ≡ Err (BadLine n) → ⊥
+    → extended_unless tables written o ≡ Err (BadLine n) → ⊥
 unbroken_stands tables written n None is = cc is
 unbroken_stands tables written n (Some it) is = cc is
 
 read_bad : (tables : List Interface) (text : List ℕ) (n : ℕ) → (r : Result (List WrittenInterface) ℕ)
     → interfaces_from 1 (lines text) [] ≡ r → outcome_of tables r ≡ Err (BadLine n) → IsFirstBadLine text n
-read_bad tables text n (Ok written) read is = absurd (unbroken_stands tables written n (first_broken tables written) is)
+read_bad tables text n (Ok written) read is = absurd (unbroken_stands tables written n (first_line_broken tables written) is)
 read_bad tables text n (Err m) read is =
     let same : m ≡ n = cc is in
     (first_bad text n).0 (read ∙ ap Err same)
@@ -80,7 +86,7 @@ IsBroken tables text line rule = (written : List WrittenInterface) × TableText 
 
 broken_stands : (tables : List Interface) (text : List ℕ) (line rule : ℕ) (written : List WrittenInterface)
     → TableText text written
-    → (o : Option Broken) → first_broken tables written ≡ o → joined_unless tables written o ≡ Err (BadTable line rule)
+    → (o : Option Broken) → first_line_broken tables written ≡ o → extended_unless tables written o ≡ Err (BadTable line rule)
     → IsBroken tables text line rule
 broken_stands tables text line rule written told None unbroken is = cc is
 broken_stands tables text line rule written told (Some it) broken is =
@@ -90,7 +96,7 @@ broken_stands tables text line rule written told (Some it) broken is =
     ∙ ap (λ (r : ℕ). broken_of line r) breaks in (
       written,
       told,
-      (first_line tables text written (broken_of line rule) told).0
+      (first_line tables written (broken_of line rule)).0
           (broken ∙ ap (λ (b : Broken). Some b) same),
     )
 
@@ -98,16 +104,16 @@ read_broken : (tables : List Interface) (text : List ℕ) (line rule : ℕ) → 
     → interfaces_from 1 (lines text) [] ≡ r → outcome_of tables r ≡ Err (BadTable line rule)
     → IsBroken tables text line rule
 read_broken tables text line rule (Ok written) read is =
-    broken_stands tables text line rule written ((text_lists text written).0 read) (first_broken tables written) refl is
+    broken_stands tables text line rule written ((text_lists text written).0 read) (first_line_broken tables written) refl is
 read_broken tables text line rule (Err m) read is = cc is
 
 broken_read : (tables : List Interface) (text : List ℕ) (line rule : ℕ) → IsBroken tables text line rule
     → outcome tables text ≡ Err (BadTable line rule)
 broken_read tables text line rule is =
     let read : interfaces_from 1 (lines text) [] ≡ Ok is.0 = (text_lists text is.0).1 is.1 in
-    let broken : first_broken tables is.0 ≡ Some (broken_of line rule) =
-    (first_line tables text is.0 (broken_of line rule) is.1).1 is.2 in
-    ap (outcome_of tables) read ∙ ap (joined_unless tables is.0) broken
+    let broken : first_line_broken tables is.0 ≡ Some (broken_of line rule) =
+    (first_line tables is.0 (broken_of line rule)).1 is.2 in
+    ap (outcome_of tables) read ∙ ap (extended_unless tables is.0) broken
 
 pub texts_broken : (tables : List Interface) (text : List ℕ) (line rule : ℕ)
     → (outcome tables text ≡ Err (BadTable line rule)) ↔ IsBroken tables text line rule

@@ -20,19 +20,21 @@ use Rattle.wl_sigs.specs.Broken.{is_first, makes_object, makes_unnamed, takes_an
 use Rattle.wl_sigs.specs.Broken.{names_missing, most_new, names_objects, is_race_free}
 use Rattle.wl_sigs.specs.Broken.{interface_rule, message_rule, messages_broken, side_broken}
 use Rattle.wl_sigs.specs.Broken.{interface_broken, interfaces_broken, ended_of, first_broken}
+use Rattle.wl_sigs.specs.Broken.{makes_server_object, most_by_server, makes_forbidden}
 use Rattle.wl_sigs.proofs.RulesDecide.{decides_name}
 use Rattle.wl_sigs.proofs.Lookups.{signature_from}
 use Rattle.wl_sigs.specs.FirstBroken.{written_of}
 use Rattle.wl_sigs.proofs.Kept.{InterfaceKeeps, MessageKeeps}
-use Rattle.wl_sigs.proofs.FirstPlaces.{first_place-of}
+use Rattle.wl_sigs.proofs.FirstPlaces.{first_place-of, first_place-within}
 use Rattle.wl_sigs.proofs.JoinedLookup.{mapped_at, placing, placing_message, placed_messages}
 use Rattle.wl_sigs.proofs.JoinedLookup.{length_joined, length_names, names_joined}
 use Rattle.wl_sigs.proofs.JoinedValid.{destroying, ended_joined}
 use Rattle.wl_sigs.proofs.PlacedKinds.{count_placed, NotEndedIn}
+use Rattle.wl_sigs.proofs.ServerObjects.{MadeRightly, count_by_server, was_made_rightly}
 use Rattle.wl_sigs.proofs.KindsKept.{all_tested, was_named, was_no_any, was_there, was_not_ended}
 
 -- what stands behind others
-behind : {X : Type 0} (xs ys : List X) (k j : ℕ) (y : X) → j ≡ length xs + k → slice_get ys k ≡ Some y
+pub behind : {X : Type 0} (xs ys : List X) (k j : ℕ) (y : X) → j ≡ length xs + k → slice_get ys k ≡ Some y
     → slice_get (xs ++ ys) j ≡ Some y
 behind [] ys k j y e at = let same : j ≡ k = omega arith in rw same at
 behind (x ∷ xs) ys k zero y e at = absurd (omega arith)
@@ -103,7 +105,7 @@ ended_is tables written p b at = mapped_at has_destroying_event (joined tables w
     (rw (ended_joined tables written) at)
 
 -- V7 at an event
-any_true : {X : Type 0} (test : X → Bool) (xs : List X) (o : ℕ) (x : X) → slice_get xs o ≡ Some x → test x ≡ true
+pub any_true : {X : Type 0} (test : X → Bool) (xs : List X) (o : ℕ) (x : X) → slice_get xs o ≡ Some x → test x ≡ true
     → list_any test xs ≡ true
 any_true test [] o x at passes = cc at
 any_true test (y ∷ ys) zero x at passes = let same : y ≡ x = cc at in rw (ap test same ∙ passes) refl
@@ -181,6 +183,48 @@ none_unnamed tables written two valid side k w o m at of =
           (λ x never. was_named (first_place names) (length names) x.kind x.iface never) m.kinds named
     ]
 
+-- an element stands at each place within
+some_at : {X : Type 0} (xs : List X) (k : ℕ) → k < length xs → (x : X) × (slice_get xs k ≡ Some x)
+some_at [] k lt = absurd (omega arith)
+some_at (x ∷ xs) zero lt = (x, refl)
+some_at (x ∷ xs) (suc k) lt = some_at xs k (omega arith)
+
+-- each name that has a place has an interface there
+pub name_there : (tables : List Interface) (written : List WrittenInterface) (name : List ℕ) (p : ℕ)
+    → first_place (all_names tables written) name ≡ Some p
+    → (i : Interface) × (interface_at (joined tables written) p ≡ Some i)
+name_there tables written name p named =
+    let within = first_place-within (all_names tables written) name p named in
+    some_at (joined tables written) p
+    (omega (arith, within, length_joined tables written, length_names tables written))
+
+-- V11
+few_by_server : (tables : List Interface) (written : List WrittenInterface) → Valid (joined tables written)
+    → (side : Side) (k : ℕ) (w : WrittenInterface) (o : ℕ) (m : WrittenMessage)
+    → slice_get written k ≡ Some w → slice_get (written_of side w) o ≡ Some m
+    → count_by makes_server_object m.kinds ≤ most_by_server side
+few_by_server tables written valid Request k w o m at of =
+    let names = all_names tables written in
+    let none = ap length (valid.server_makes.requests _ _ _ (message_at tables written Request k w o m at of)) in
+    omega (arith, none, count_by_server (first_place names) (length names) m.kinds)
+few_by_server tables written valid Event k w o m at of =
+    let names = all_names tables written in
+    let most = valid.server_makes.events _ _ _ (message_at tables written Event k w o m at of) in
+    omega (arith, most, count_by_server (first_place names) (length names) m.kinds)
+
+none_forbidden : (tables : List Interface) (written : List WrittenInterface) → Valid (joined tables written)
+    → (side : Side) (k : ℕ) (w : WrittenInterface) (o : ℕ) (m : WrittenMessage)
+    → slice_get written k ≡ Some w → slice_get (written_of side w) o ≡ Some m
+    → list_all (λ x. not (makes_forbidden (first_place (all_names tables written)) (ended_of tables written) x)) m.kinds
+    ≡ true
+none_forbidden tables written valid side k w o m at of =
+    let names = all_names tables written in
+    all_tested (λ x. not (makes_forbidden (first_place names) (ended_of tables written) x))
+    (kind_placed (first_place names) (length names)) (MadeRightly (joined tables written))
+    (λ x right. was_made_rightly (joined tables written) (first_place names) (length names) (ended_of tables written)
+    (ended_is tables written) (name_there tables written) x.kind x.iface right) m.kinds
+    (valid.server_makes.interfaces side _ _ _ (message_at tables written side k w o m at of))
+
 message_keeps : (tables : List Interface) (written : List WrittenInterface) → 2 ≤ length tables
     → Valid (joined tables written) → (side : Side) (k : ℕ) (w : WrittenInterface) (o : ℕ) (m : WrittenMessage)
     → slice_get written k ≡ Some w → slice_get (written_of side w) o ≡ Some m
@@ -221,6 +265,8 @@ message_keeps tables written two valid side k w o m at of =
           (λ i e. let lt = below i e in omega
           (arith, lt, length_joined tables written, length_names tables written)))
           m.kinds (valid.interfaces_there side _ _ _ here);
+      few_by_server = le-leb _ _ (few_by_server tables written valid side k w o m at of);
+      none_forbidden = none_forbidden tables written valid side k w o m at of;
     }
   where
     alone : (p : ℕ) → slice_get (map (λ n. n.name) (written_of side w)) p ≡ Some m.name → p ≡ o
@@ -250,6 +296,8 @@ message_unbroken place ended i side first opcode m keeps =
       keeps.since,
       keeps.to_version,
       keeps.none_missing,
+      keeps.few_by_server,
+      keeps.none_forbidden,
     ) refl
 
 messages_unbroken : (rule : ℕ → WrittenMessage → Option ℕ) (n : ℕ) (ms : List WrittenMessage)
@@ -273,9 +321,9 @@ interfaces_unbroken place ended n (i ∷ is) none =
     (λ k x at. let next : n + 1 + k ≡ n + suc k = omega arith in rw next (none (suc k) x at)) in
     rw (here, rest) refl
 
-pub valid_unbroken : (tables : List Interface) (written : List WrittenInterface) → Valid tables
+pub valid_unbroken : (tables : List Interface) (written : List WrittenInterface) → 2 ≤ length tables
     → Valid (joined tables written) → first_broken tables written ≡ None
-valid_unbroken tables written old valid =
+valid_unbroken tables written two valid =
     interfaces_unbroken place ended (length tables) written (λ k w at.
     let own = interface_unbroken place (length tables + k) w (interface_keeps tables written valid k w at) in
     rw (own, side_unbroken Request k w at, side_unbroken Event k w at) refl)
@@ -285,9 +333,6 @@ valid_unbroken tables written old valid =
 
     ended : List Bool
     ended = ended_of tables written
-
-    two : 2 ≤ length tables
-    two = let within = slice_get_within tables 1 _ old.fixed_four.registry in omega (arith, within)
 
     side_unbroken : (side : Side) (k : ℕ) (w : WrittenInterface) → slice_get written k ≡ Some w
         → side_broken place ended w side (written_of side w) ≡ None

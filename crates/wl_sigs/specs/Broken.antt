@@ -4,13 +4,15 @@ use Rattle.std.specs.Prelude.{length, map, Bool, true, false, slice_get, Option,
 use Rattle.std.specs.Prelude.{option_map, if◌then◌else◌, is_some}
 use Rattle.std.specs.Option.{option_map_or}
 use Rattle.std.specs.List.{list_all, list_any, count_by}
-use Rattle.wl_wire.specs.declared.kind.Kind.{Kind}
-use Rattle.wl_wire.specs.declared.kind.Kind.TheVariants as kinds
 use Rattle.wl_sigs.specs.declared.signature.Side.{Side}
 use Rattle.wl_sigs.specs.declared.signature.Side.TheVariants.{Request, Event}
-use Rattle.wl_sigs.specs.Tables.{Interface, has_destroying_event}
-use Rattle.wl_sigs.specs.Rules.{is_name, is_empty}
-use Rattle.wl_interface_text.specs.Text.{WrittenKind, WrittenMessage, WrittenInterface, takes_interface}
+use Rattle.wl_sigs.specs.Tables.{Interface, has_destroying_event, max_interfaces, max_messages}
+use Rattle.wl_sigs.specs.Tables.{max_args}
+use Rattle.wl_sigs.specs.Rules.{is_name, is_empty, is_fixed_place}
+use Rattle.wl_interface_text.specs.declared.written.BareKind.{BareKind}
+use Rattle.wl_interface_text.specs.declared.written.BareKind.TheVariants as bare
+use Rattle.wl_interface_text.specs.Text.{WrittenKind, WrittenMessage, WrittenInterface}
+use Rattle.wl_interface_text.specs.Text.{needs_interface, takes_interface}
 use Rattle.wl_sigs.specs.Joined.{all_names, first_place}
 
 -- a line that breaks a rule, and the least rule that it breaks
@@ -24,15 +26,22 @@ is_first place name here = option_map_or (λ first. first == here) (place name) 
 
 -- kinds
 
-abbrev pub is_new : Kind → Bool
-is_new (kinds.New iface) = true
+abbrev pub is_new : BareKind → Bool
+is_new bare.New = true
 is_new _ = false
 
 abbrev pub makes_object : WrittenKind → Bool
 makes_object k = is_new k.kind
 
-abbrev pub is_object : Kind → Bool
-is_object (kinds.Obj null iface) = true
+abbrev pub is_made_by_server : BareKind → Bool
+is_made_by_server bare.NewByServer = true
+is_made_by_server _ = false
+
+abbrev pub makes_server_object : WrittenKind → Bool
+makes_server_object k = is_made_by_server k.kind
+
+abbrev pub is_object : BareKind → Bool
+is_object (bare.Obj null) = true
 is_object _ = false
 
 -- a new object without an interface
@@ -53,24 +62,42 @@ abbrev pub takes_ended : (List ℕ → Option ℕ) → List Bool → WrittenKind
 takes_ended place ended k =
     is_object k.kind && option_map_or (λ name. is_ended ended (place name)) k.iface false
 
--- an interface that is not there
+-- an interface that is not there, or no name where there has to be one
 abbrev pub names_missing : (List ℕ → Option ℕ) → WrittenKind → Bool
 names_missing place k =
-    takes_interface k.kind && option_map_or (λ name. not (is_some (place name))) k.iface false
+    takes_interface k.kind
+    && option_map_or (λ name. not (is_some (place name))) k.iface (needs_interface k.kind)
+
+-- whether the server may not make objects of the interface of a place, by the list of those that
+-- have a destroying event
+abbrev pub is_forbidden : List Bool → Option ℕ → Bool
+is_forbidden ended None = false
+is_forbidden ended (Some place) = is_fixed_place place || is_ended ended (Some place)
+
+-- a new object of the server of such an interface
+abbrev pub makes_forbidden : (List ℕ → Option ℕ) → List Bool → WrittenKind → Bool
+makes_forbidden place ended k =
+    is_made_by_server k.kind
+    && option_map_or (λ name. is_forbidden ended (place name)) k.iface false
 
 -- rules at one line
 
 abbrev pub interface_rule : (List ℕ → Option ℕ) → ℕ → WrittenInterface → Option ℕ
 interface_rule place here i =
     if not (is_name i.name && is_first place i.name here) then Some 1
-    else (if not (nat_lt here 1024) then Some 3
+    else (if not (nat_lt here max_interfaces) then Some 3
     else (if not (nat_le 1 i.version) then Some 8
     else None))
 
--- the most new objects of a message
+-- the most new objects of the client that a message has
 abbrev pub most_new : Side → ℕ
 most_new Request = 1
 most_new Event = 0
+
+-- the most new objects of the server
+abbrev pub most_by_server : Side → ℕ
+most_by_server Request = 0
+most_by_server Event = 1
 
 -- V6 holds
 abbrev pub names_objects : Side → WrittenMessage → Bool
@@ -83,20 +110,28 @@ abbrev pub is_race_free : (List ℕ → Option ℕ) → List Bool → WrittenInt
 is_race_free place ended i Request m = list_all (λ k. not (takes_ended place ended k)) m.kinds
 is_race_free place ended i Event m = not m.destroys || is_empty i.requests
 
+-- the least rule from V6 on that a message of the interface breaks
+abbrev pub later_rule : (List ℕ → Option ℕ) → List Bool → WrittenInterface → Side → WrittenMessage
+    → Option ℕ
+later_rule place ended i side m =
+    if not (names_objects side m) then Some 6
+    else (if not (is_race_free place ended i side m) then Some 7
+    else (if not (nat_le 1 m.since && nat_le m.since i.version) then Some 8
+    else (if not (list_all (λ k. not (names_missing place k)) m.kinds) then Some 9
+    else (if not (nat_le (count_by makes_server_object m.kinds) (most_by_server side)
+    && list_all (λ k. not (makes_forbidden place ended k)) m.kinds) then Some 11
+    else None))))
+
 -- the least rule that a message of the interface breaks, where `first` gives the opcodes of the
 -- first messages of their names
 abbrev pub message_rule : (List ℕ → Option ℕ) → List Bool → WrittenInterface → Side
     → (List ℕ → Option ℕ) → ℕ → WrittenMessage → Option ℕ
 message_rule place ended i side first opcode m =
     if not (is_name m.name && is_first first m.name opcode) then Some 1
-    else (if not (nat_lt opcode 256 && nat_le (length m.kinds) 20) then Some 3
+    else (if not (nat_lt opcode max_messages && nat_le (length m.kinds) max_args) then Some 3
     else (if not (nat_le (count_by makes_object m.kinds) (most_new side)) then Some 4
     else (if not (list_all (λ k. not (makes_unnamed k)) m.kinds) then Some 5
-    else (if not (names_objects side m) then Some 6
-    else (if not (is_race_free place ended i side m) then Some 7
-    else (if not (nat_le 1 m.since && nat_le m.since i.version) then Some 8
-    else (if not (list_all (λ k. not (names_missing place k)) m.kinds) then Some 9
-    else None)))))))
+    else later_rule place ended i side m)))
 
 -- all lines
 
@@ -104,11 +139,16 @@ abbrev pub broken_at : ℕ → Option ℕ → Option Broken
 broken_at line rule =
     option_map (λ r. let it : Broken = record { line = line; rule = r } in it) rule
 
--- the one of the earlier line
+-- whether one stands at an earlier line than the other, or at the same and its rule is less
+abbrev pub comes_first : Broken → Broken → Bool
+comes_first this other =
+    nat_lt this.line other.line || ((this.line == other.line) && nat_lt this.rule other.rule)
+
+-- the one of the earlier line, or of the lesser rule at one line
 abbrev pub earlier : Option Broken → Option Broken → Option Broken
 earlier None other = other
 earlier (Some this) None = Some this
-earlier (Some this) (Some other) = if nat_lt other.line this.line then Some other else Some this
+earlier (Some this) (Some other) = if comes_first other this then Some other else Some this
 
 -- the first line of messages that breaks a rule, where the first message has this opcode
 abbrev pub messages_broken : (ℕ → WrittenMessage → Option ℕ) → ℕ → List WrittenMessage

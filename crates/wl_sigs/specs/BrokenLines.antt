@@ -1,6 +1,24 @@
 -- Broken lines as the code has them.
+use Rattle.std.specs.Prelude.{ℕ, List, [], Bool, false, Option, Some, None}
 use Rattle.wl_sigs.specs.declared.rules.BrokenLine.{BrokenLine}
-use Rattle.wl_sigs.specs.Broken.{Broken}
+use Rattle.wl_sigs.specs.declared.signature.Side.TheVariants.{Request, Event}
+use Rattle.wl_sigs.specs.Tables.{Interface}
+use Rattle.wl_interface_text.specs.Text.{WrittenMessage, WrittenInterface}
+use Rattle.wl_sigs.specs.Broken.{Broken, earlier}
+use Rattle.wl_sigs.specs.Extending.{added_side_broken}
+
+-- a message of which only the name and the since number are known
+abbrev pub named_since : List ℕ → ℕ → WrittenMessage
+named_since name since =
+    record { line = 0; name = name; since = since; kinds = []; destroys = false }
+
+-- the first broken line of what is added to an interface at a place, if something may be said of it
+abbrev pub added_here : List Interface → (List ℕ → Option ℕ) → List Bool → ℕ → Interface
+    → Option WrittenInterface → Option Broken
+added_here tables place ended here i None = None
+added_here tables place ended here i (Some more) =
+    earlier (added_side_broken tables place ended here i more Request)
+    (added_side_broken tables place ended here i more Event)
 
 abbrev pub broken : BrokenLine → Broken
 broken it = record { line = it.line; rule = it.rule }

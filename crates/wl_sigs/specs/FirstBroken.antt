@@ -1,5 +1,5 @@
--- Which line of a text breaks which rule of valid tables, in the words of the rules, and what it
--- means that a line is the first that breaks one.
+-- Which line of a text's own interfaces breaks which rule of valid tables, in the words of the
+-- rules.
 use Rattle.std.specs.Prelude.{◌≡◌, ℕ, ◌+◌, ◌<◌, ◌≤◌, List, length, Bool, true, slice_get, Some}
 use Rattle.std.specs.Prelude.{None}
 use Rattle.std.specs.List.{Contains}
@@ -10,10 +10,10 @@ use Rattle.wl_sigs.specs.declared.signature.Side.{Side}
 use Rattle.wl_sigs.specs.declared.signature.Side.TheVariants.{Request, Event}
 use Rattle.wl_sigs.specs.Tables.{MessageSignature, Interface, interface_at, message_of, new_objects}
 use Rattle.wl_sigs.specs.Tables.{has_destroying_event, destroys_target, named_interface}
-use Rattle.wl_sigs.specs.Valid.{IsTableName}
+use Rattle.wl_sigs.specs.Tables.{server_objects, max_interfaces, max_messages, max_args}
+use Rattle.wl_sigs.specs.Valid.{IsTableName, IsFixedPlace}
 use Rattle.wl_interface_text.specs.Text.{WrittenMessage, WrittenInterface}
 use Rattle.wl_sigs.specs.Joined.{joined}
-use Rattle.wl_sigs.specs.Broken.{Broken}
 
 -- the messages of a side
 abbrev pub written_of : Side → WrittenInterface → List WrittenMessage
@@ -53,7 +53,7 @@ pub data InterfaceBreaks (all : List Interface) (place : ℕ) (i : Interface) (r
   interface_named_again : (earlier : ℕ) (j : Interface) → rule ≡ 1 → earlier < place
       → interface_at all earlier ≡ Some j → j.name ≡ i.name → InterfaceBreaks all place i rule
   -- V3: 1,024 stand before it
-  interface_beyond : rule ≡ 3 → 1024 ≤ place → InterfaceBreaks all place i rule
+  interface_beyond : rule ≡ 3 → max_interfaces ≤ place → InterfaceBreaks all place i rule
   -- V8
   version_below_one : rule ≡ 8 → i.version < 1 → InterfaceBreaks all place i rule
 
@@ -66,9 +66,9 @@ pub data MessageBreaks (all : List Interface) (i : Interface) (side : Side) (opc
       → message_of side earlier i ≡ Some n → n.name ≡ m.name
       → MessageBreaks all i side opcode m rule
   -- V3: 256 of the side stand before it, or it has more than 20 arguments
-  message_beyond : rule ≡ 3 → 256 ≤ opcode → MessageBreaks all i side opcode m rule
-  too_many_arguments : rule ≡ 3 → 20 < length m.kinds → MessageBreaks all i side opcode m rule
-  -- V4: an event makes an object, or a request more than one
+  message_beyond : rule ≡ 3 → max_messages ≤ opcode → MessageBreaks all i side opcode m rule
+  too_many_arguments : rule ≡ 3 → max_args < length m.kinds → MessageBreaks all i side opcode m rule
+  -- V4: an event has a new object of the client, or a request more than one
   event_makes : rule ≡ 4 → side ≡ Event → 0 < length (new_objects m.kinds)
       → MessageBreaks all i side opcode m rule
   request_makes_two : rule ≡ 4 → side ≡ Request → 1 < length (new_objects m.kinds)
@@ -93,6 +93,18 @@ pub data MessageBreaks (all : List Interface) (i : Interface) (side : Side) (opc
   interface_missing : (kind : Kind) (iface : Iface) → rule ≡ 9 → Contains m.kinds kind
       → named_interface kind ≡ Some iface → length all ≤ iface.0
       → MessageBreaks all i side opcode m rule
+  -- V11: a request has a new object of the server, or an event more than one; or the interface of
+  -- one has a destroying event, or is one of the four that are always the same
+  request_has_server_object : rule ≡ 11 → side ≡ Request → 0 < length (server_objects m.kinds)
+      → MessageBreaks all i side opcode m rule
+  event_has_two_server_objects : rule ≡ 11 → side ≡ Event → 1 < length (server_objects m.kinds)
+      → MessageBreaks all i side opcode m rule
+  server_object_of_ended : (iface : Iface) (j : Interface) → rule ≡ 11
+      → Contains m.kinds (kinds.NewByServer iface) → interface_at all iface.0 ≡ Some j
+      → has_destroying_event j ≡ true → MessageBreaks all i side opcode m rule
+  server_object_of_fixed : (iface : Iface) (j : Interface) → rule ≡ 11
+      → Contains m.kinds (kinds.NewByServer iface) → interface_at all iface.0 ≡ Some j
+      → IsFixedPlace iface.0 → MessageBreaks all i side opcode m rule
 
 -- The line breaks the rule: it declares an interface or a message that does, among the tables that
 -- the text's interfaces make behind these.
@@ -104,11 +116,3 @@ pub data BreaksRule (tables : List Interface) (written : List WrittenInterface) 
       → DeclaresMessage tables written line place i side opcode m
       → MessageBreaks (joined tables written) i side opcode m rule
       → BreaksRule tables written line rule
-
--- The line breaks the rule and no lesser one, and no earlier line breaks any.
-pub record IsFirstBrokenLine (tables : List Interface) (written : List WrittenInterface)
-    (it : Broken)
-    : Type 0 where
-  pub breaks : BreaksRule tables written it.line it.rule
-  pub least : (rule : ℕ) → BreaksRule tables written it.line rule → it.rule ≤ rule
-  pub first : (line rule : ℕ) → BreaksRule tables written line rule → it.line ≤ line

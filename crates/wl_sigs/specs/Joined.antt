@@ -7,6 +7,8 @@ use Rattle.wl_wire.specs.declared.kind.Iface.{Iface}
 use Rattle.wl_sigs.specs.declared.signature.Destroys.{Destroys}
 use Rattle.wl_sigs.specs.declared.signature.Destroys.TheVariants.{Nothing, Target}
 use Rattle.wl_sigs.specs.Tables.{MessageSignature, Interface}
+use Rattle.wl_interface_text.specs.declared.written.BareKind.{BareKind}
+use Rattle.wl_interface_text.specs.declared.written.BareKind.TheVariants as bare
 use Rattle.wl_interface_text.specs.Text.{WrittenKind, WrittenMessage, WrittenInterface}
 
 -- the names of the interfaces of the tables, then those of the text
@@ -21,14 +23,21 @@ first_place names name = position (λ other. bytes_eq other name) names
 abbrev pub iface_named : (List ℕ → Option ℕ) → ℕ → List ℕ → Iface
 iface_named place past name = record { 0 = unwrap_or (place name) past }
 
--- the kind with the place of its interface
-abbrev pub with_iface : Kind → Option Iface → Kind
-with_iface (kinds.Obj null _) iface = kinds.Obj null iface
-with_iface (kinds.New _) iface = kinds.New iface
-with_iface kind iface = kind
+-- The kind with its interface, if it has one. A text names that of each new object of the server;
+-- without a name it would be the one past all.
+abbrev pub with_iface : ℕ → BareKind → Option Iface → Kind
+with_iface past bare.Int iface = kinds.Int
+with_iface past bare.Uint iface = kinds.Uint
+with_iface past bare.Fixed iface = kinds.Fixed
+with_iface past (bare.Str null) iface = kinds.Str null
+with_iface past (bare.Obj null) iface = kinds.Obj null iface
+with_iface past bare.New iface = kinds.New iface
+with_iface past bare.NewByServer iface = kinds.NewByServer (unwrap_or iface (record { 0 = past }))
+with_iface past bare.Array iface = kinds.Array
+with_iface past bare.Fd iface = kinds.Fd
 
 abbrev pub kind_placed : (List ℕ → Option ℕ) → ℕ → WrittenKind → Kind
-kind_placed place past k = with_iface k.kind (option_map (iface_named place past) k.iface)
+kind_placed place past k = with_iface past k.kind (option_map (iface_named place past) k.iface)
 
 -- what a message destroys: its target, or nothing
 abbrev pub destroys_of : Bool → Destroys

@@ -10,7 +10,11 @@ pub mod Joined
 pub mod Broken
 pub mod Places
 pub mod BrokenLines
-pub mod Outcome
 pub mod FirstBroken
+pub mod Extended
+pub mod Extending
+pub mod FirstLineBroken
+pub mod Outcome
 pub mod ByName
 pub mod NameHash
+pub mod Samples

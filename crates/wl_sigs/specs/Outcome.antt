@@ -5,21 +5,24 @@ use Rattle.wl_interface_text.specs.declared.fault.TableFault.{TableFault}
 use Rattle.wl_interface_text.specs.declared.fault.TableFault.TheVariants.{BadLine, BadTable}
 use Rattle.wl_sigs.specs.Tables.{Interface}
 use Rattle.wl_interface_text.specs.Text.{WrittenInterface, interfaces_from}
-use Rattle.wl_sigs.specs.Joined.{joined}
-use Rattle.wl_sigs.specs.Broken.{Broken, first_broken}
+use Rattle.wl_sigs.specs.Broken.{Broken}
+use Rattle.wl_sigs.specs.Extended.{extended}
+use Rattle.wl_sigs.specs.Extending.{first_line_broken}
 
--- the tables of a text's interfaces behind these, or the first line that breaks a rule
-abbrev pub joined_unless : List Interface → List WrittenInterface → Option Broken
+-- the tables extended by a text and followed by its interfaces, or the first line that breaks a rule
+abbrev pub extended_unless : List Interface → List WrittenInterface → Option Broken
     → Result (List Interface) TableFault
-joined_unless tables written None = Ok (joined tables written)
-joined_unless tables written (Some it) = Err (BadTable it.line it.rule)
+extended_unless tables written None = Ok (extended tables written)
+extended_unless tables written (Some it) = Err (BadTable it.line it.rule)
 
 abbrev pub outcome_of : List Interface → Result (List WrittenInterface) ℕ
     → Result (List Interface) TableFault
 outcome_of tables (Err line) = Err (BadLine line)
-outcome_of tables (Ok written) = joined_unless tables written (first_broken tables written)
+outcome_of tables (Ok written) =
+    extended_unless tables written (first_line_broken tables written)
 
--- The tables of a text behind these; else the first line that has no form or is a message before
--- any interface; else the first line that breaks a rule, and the least rule there.
+-- The tables extended by a text and followed by its interfaces; else the first line that has no form
+-- or is a message before any interface; else the first line that breaks a rule, and the least rule
+-- there.
 abbrev pub outcome : List Interface → List ℕ → Result (List Interface) TableFault
 outcome tables text = outcome_of tables (interfaces_from 1 (lines text) [])

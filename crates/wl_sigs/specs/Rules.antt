@@ -2,15 +2,17 @@
 -- holds. V2 has no test: all tables begin with the core interfaces, and its four are among these.
 use Rattle.std.specs.Prelude.{ℕ, ◌+◌, List, [], ◌∷◌, map, length, Bool, true, false, not, ◌&&◌}
 use Rattle.std.specs.Prelude.{◌||◌, nat_le, nat_lt, nat_eq, bytes_eq, Option, Some, None}
-use Rattle.std.specs.List.{list_all}
+use Rattle.std.specs.List.{list_all, list_any}
 use Rattle.wl_wire.specs.declared.kind.Kind.{Kind}
 use Rattle.wl_wire.specs.declared.kind.Kind.TheVariants as kinds
 use Rattle.wl_wire.specs.declared.kind.Iface.{Iface}
 use Rattle.wl_sigs.specs.declared.signature.Side.{Side}
 use Rattle.wl_sigs.specs.declared.signature.Side.TheVariants.{Request, Event}
 use Rattle.wl_sigs.specs.Tables.{MessageSignature, Interface, interface_at, messages_of}
-use Rattle.wl_sigs.specs.Tables.{new_objects, has_destroying_event, named_interface}
-use Rattle.wl_sigs.specs.Tables.{destroys_argument}
+use Rattle.wl_sigs.specs.Tables.{new_objects, has_destroying_event, has_destroying_request}
+use Rattle.wl_sigs.specs.Tables.{named_interface, destroys_argument, server_objects}
+use Rattle.wl_sigs.specs.Tables.{has_server_object}
+use Rattle.wl_sigs.specs.Tables.{max_name_len, max_interfaces, max_messages, max_args}
 
 -- each element passes, given its place, where the first stands at n
 abbrev pub all_from : {X : Type 0} → (ℕ → X → Bool) → ℕ → List X → Bool
@@ -31,7 +33,7 @@ abbrev pub is_name_byte : ℕ → Bool
 is_name_byte b = (nat_le 97 b && nat_le b 122) || ((nat_le 48 b && nat_le b 57) || nat_eq b 95)
 
 abbrev pub is_name : List ℕ → Bool
-is_name name = nat_le 1 (length name) && nat_le (length name) 256 && list_all is_name_byte name
+is_name name = nat_le 1 (length name) && nat_le (length name) max_name_len && list_all is_name_byte name
 
 abbrev pub are_distinct : List (List ℕ) → Bool
 are_distinct [] = true
@@ -49,9 +51,9 @@ names_are_distinct tables =
 -- V3
 abbrev pub are_small : List Interface → Bool
 are_small tables =
-    nat_le (length tables) 1024
-    && both_sides (λ side. list_all (λ i. nat_le (length (messages_of side i)) 256) tables)
-    && both_sides (each_message (λ m. nat_le (length m.kinds) 20) tables)
+    nat_le (length tables) max_interfaces
+    && both_sides (λ side. list_all (λ i. nat_le (length (messages_of side i)) max_messages) tables)
+    && both_sides (each_message (λ m. nat_le (length m.kinds) max_args) tables)
 
 -- V4
 abbrev pub make_few_objects : List Interface → Bool
@@ -86,6 +88,11 @@ no_any_in_requests tables =
 abbrev pub is_ended_by_event : Option Interface → Bool
 is_ended_by_event None = false
 is_ended_by_event (Some i) = has_destroying_event i
+
+-- whether a request can end an object of this version, where its interface is this one
+abbrev pub is_ended_by_request : ℕ → Option Interface → Bool
+is_ended_by_request version None = false
+is_ended_by_request version (Some i) = has_destroying_request version i
 
 -- whether an argument is an object of an interface with a destroying event
 abbrev pub may_be_ended : List Interface → Kind → Bool
@@ -126,6 +133,34 @@ argument_ends_in_fixes_alone tables =
     nat_eq place 18 || both_sides (λ side. list_all ends_no_argument (messages_of side i)))
     0 tables
 
+-- whether a place is that of one of the four interfaces that V2 and V10 fix
+abbrev pub is_fixed_place : ℕ → Bool
+is_fixed_place place =
+    nat_eq place 0 || (nat_eq place 1 || (nat_eq place 2 || nat_eq place 18))
+
+-- whether the server may not make objects of the interface that stands at a place
+abbrev pub is_unmakeable : ℕ → Option Interface → Bool
+is_unmakeable place None = false
+is_unmakeable place (Some i) = is_fixed_place place || has_destroying_event i
+
+-- whether an argument is a new object of the server of such an interface
+abbrev pub is_wrongly_made : List Interface → Kind → Bool
+is_wrongly_made tables (kinds.NewByServer iface) =
+    is_unmakeable iface.0 (interface_at tables iface.0)
+is_wrongly_made tables _ = false
+
+-- V11
+abbrev pub server_makes_rightly : List Interface → Bool
+server_makes_rightly tables =
+    each_message (λ m. is_empty (server_objects m.kinds)) tables Request
+    && each_message (λ m. nat_le (length (server_objects m.kinds)) 1) tables Event
+    && both_sides (each_message (λ m.
+    list_all (λ k. not (is_wrongly_made tables k)) m.kinds) tables)
+
+-- whether some event has a new object of the server
+abbrev pub has_server_objects : List Interface → Bool
+has_server_objects tables = list_any (λ i. list_any has_server_object i.events) tables
+
 -- all rules but V2
 abbrev pub keep_rules : List Interface → Bool
 keep_rules tables =
@@ -133,3 +168,4 @@ keep_rules tables =
     && unnamed_new_in_bind_alone tables && no_any_in_requests tables
     && destroying_events_are_race_free tables && sinces_are_in_range tables
     && named_interfaces_are_there tables && argument_ends_in_fixes_alone tables
+    && server_makes_rightly tables

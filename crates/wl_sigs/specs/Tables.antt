@@ -1,7 +1,7 @@
 -- Signature tables, without where they lie in memory.
-use Rattle.std.specs.Prelude.{ℕ, List, [], ◌∷◌, Bool, true, false, slice_get, bytes_eq, position}
-use Rattle.std.specs.Prelude.{Option, Some, None, option_map, option_and_then}
-use Rattle.std.specs.List.{list_any}
+use Rattle.std.specs.Prelude.{◌≡◌, ℕ, List, [], ◌∷◌, Bool, true, false, ◌&&◌, nat_le, slice_get}
+use Rattle.std.specs.Prelude.{bytes_eq, position, Option, Some, None, option_map, option_and_then}
+use Rattle.std.specs.List.{Contains, list_any}
 use Rattle.wl_wire.specs.declared.kind.Kind.{Kind}
 use Rattle.wl_wire.specs.declared.kind.Kind.TheVariants as kinds
 use Rattle.wl_wire.specs.declared.kind.Iface.{Iface}
@@ -24,6 +24,20 @@ pub record Interface : Type 0 where
   pub version : ℕ
   pub requests : List MessageSignature
   pub events : List MessageSignature
+
+-- the most bytes of a name, interfaces of tables, messages of an interface and side, and arguments
+-- of a message
+abbrev pub max_name_len : ℕ
+max_name_len = 256
+
+abbrev pub max_interfaces : ℕ
+max_interfaces = 1024
+
+abbrev pub max_messages : ℕ
+max_messages = 256
+
+abbrev pub max_args : ℕ
+max_args = 20
 
 -- the interface at a place of the tables, if there is one
 abbrev pub interface_at : List Interface → ℕ → Option Interface
@@ -48,12 +62,25 @@ abbrev pub place_of : List Interface → List ℕ → Option Iface
 place_of tables name =
     option_map (λ place. record { 0 = place }) (position (λ i. bytes_eq i.name name) tables)
 
--- for each new object among the arguments, in order, its interface, or none where the signature
--- gives none
+-- for each new object of the client among the arguments, in order, its interface, or none where the
+-- signature gives none
 abbrev pub new_objects : List Kind → List (Option Iface)
 new_objects [] = []
 new_objects (kinds.New iface ∷ more) = iface ∷ new_objects more
 new_objects (_ ∷ more) = new_objects more
+
+-- for each new object of the server among the arguments, in order, its interface
+abbrev pub server_objects : List Kind → List Iface
+server_objects [] = []
+server_objects (kinds.NewByServer iface ∷ more) = iface ∷ server_objects more
+server_objects (_ ∷ more) = server_objects more
+
+-- for each new object of either, in order, its interface, or none where the signature gives none
+abbrev pub made_objects : List Kind → List (Option Iface)
+made_objects [] = []
+made_objects (kinds.New iface ∷ more) = iface ∷ made_objects more
+made_objects (kinds.NewByServer iface ∷ more) = Some iface ∷ made_objects more
+made_objects (_ ∷ more) = made_objects more
 
 abbrev pub first : {X : Type 0} → List X → Option X
 first [] = None
@@ -62,7 +89,7 @@ first (x ∷ xs) = Some x
 -- Whether a message makes an object, and of which interface: `Some None` where only the bytes tell.
 -- In valid tables no message makes more than one.
 abbrev pub makes : MessageSignature → Option (Option Iface)
-makes m = first (new_objects m.kinds)
+makes m = first (made_objects m.kinds)
 
 -- whether a message destroys the object that it is for
 abbrev pub destroys_target : Destroys → Bool
@@ -86,8 +113,32 @@ destroys_argument (Arg place) = true
 abbrev pub has_destroying_event : Interface → Bool
 has_destroying_event i = list_any (λ m. destroys_target m.destroys) i.events
 
+-- whether a request of the interface destroys its object, where that has this version
+abbrev pub has_destroying_request : ℕ → Interface → Bool
+has_destroying_request version i =
+    list_any (λ m. destroys_target m.destroys && nat_le m.since version) i.requests
+
 -- the interface that an argument names: of an object or a new object, where the signature gives one
 abbrev pub named_interface : Kind → Option Iface
 named_interface (kinds.Obj null iface) = iface
 named_interface (kinds.New iface) = iface
+named_interface (kinds.NewByServer iface) = Some iface
 named_interface _ = None
+
+-- whether an argument is a new object of the server
+abbrev pub is_by_server : Kind → Bool
+is_by_server (kinds.NewByServer iface) = true
+is_by_server _ = false
+
+-- whether a message has a new object of the server
+abbrev pub has_server_object : MessageSignature → Bool
+has_server_object m = list_any is_by_server m.kinds
+
+-- Some event of the tables has a new object of the server.
+pub record HasServerObjects (tables : List Interface) : Type 0 where
+  pub place : ℕ
+  pub opcode : ℕ
+  pub event : MessageSignature
+  pub iface : Iface
+  pub at : signature_at tables place Event opcode ≡ Some event
+  pub has : Contains event.kinds (kinds.NewByServer iface)

@@ -1,4 +1,4 @@
--- The ten rules that make signature tables valid.
+-- The eleven rules that make signature tables valid.
 use Rattle.std.specs.Prelude.{◌≡◌, ◌≢◌, ℕ, ◌≤◌, ◌<◌, ◌⊎◌, List, [], length, Bool, true, false, Some}
 use Rattle.std.specs.Prelude.{None}
 use Rattle.std.specs.List.{All}
@@ -8,8 +8,10 @@ use Rattle.wl_sigs.specs.declared.signature.Side.{Side}
 use Rattle.wl_sigs.specs.declared.signature.Side.TheVariants.{Request, Event}
 use Rattle.wl_sigs.specs.Tables.{MessageSignature, Interface, interface_at, messages_of}
 use Rattle.wl_sigs.specs.Tables.{signature_at, new_objects, has_destroying_event, named_interface}
-use Rattle.wl_sigs.specs.Tables.{destroys_argument}
-use Rattle.wl_sigs.specs.Fixed.{wl_display, wl_registry, wl_callback, wl_fixes}
+use Rattle.wl_sigs.specs.Tables.{destroys_argument, server_objects}
+use Rattle.wl_sigs.specs.Tables.{max_name_len, max_interfaces, max_messages, max_args}
+use Rattle.wl_sigs.specs.Fixed.{wl_display, wl_registry, wl_callback, wl_fixes, display, registry}
+use Rattle.wl_sigs.specs.Fixed.{callback, fixes}
 
 -- P holds of each interface
 abbrev pub EachInterface : List Interface → (Interface → Type 0) → Type 0
@@ -27,7 +29,7 @@ IsNameByte b = ((97 ≤ b) × (b ≤ 122)) ⊎ ((48 ≤ b) × (b ≤ 57)) ⊎ (b
 -- a name: 1 to 256 such bytes
 pub record IsTableName (name : List ℕ) : Type 0 where
   pub some : 1 ≤ length name
-  pub few : length name ≤ 256
+  pub few : length name ≤ max_name_len
   pub bytes : All IsNameByte name
 
 -- V1: interfaces and messages have names; those of interfaces are distinct, and those of messages
@@ -52,11 +54,11 @@ pub record HasFixedFour (tables : List Interface) : Type 0 where
 
 -- V3: at most 1,024 interfaces, 256 requests and 256 events in each, 20 arguments in each message
 pub record AreSmall (tables : List Interface) : Type 0 where
-  pub interfaces : length tables ≤ 1024
-  pub messages : (side : Side) → EachInterface tables (λ i. length (messages_of side i) ≤ 256)
-  pub arguments : (side : Side) → EachMessage tables side (λ m. length m.kinds ≤ 20)
+  pub interfaces : length tables ≤ max_interfaces
+  pub messages : (side : Side) → EachInterface tables (λ i. length (messages_of side i) ≤ max_messages)
+  pub arguments : (side : Side) → EachMessage tables side (λ m. length m.kinds ≤ max_args)
 
--- V4: no event makes an object, and no request makes more than one
+-- V4: no event has a new object of the client, and no request more than one
 pub record MakeFewObjects (tables : List Interface) : Type 0 where
   pub events : EachMessage tables Event (λ m. new_objects m.kinds ≡ [])
   pub requests : EachMessage tables Request (λ m. length (new_objects m.kinds) ≤ 1)
@@ -110,6 +112,21 @@ ArgumentEndsInFixesAlone tables =
     → signature_at tables place side opcode ≡ Some m
     → (place ≡ 18) ⊎ (destroys_argument m.destroys ≡ false)
 
+-- the place is that of one of the four
+abbrev pub IsFixedPlace : ℕ → Type 0
+IsFixedPlace place =
+    (place ≡ display.0) ⊎ (place ≡ registry.0) ⊎ (place ≡ callback.0) ⊎ (place ≡ fixes.0)
+
+-- V11: a new object of the server stands in an event, and at most one in each; its interface has no
+-- destroying event, and is none of the four
+pub record ServerMakesRightly (tables : List Interface) : Type 0 where
+  pub requests : EachMessage tables Request (λ m. server_objects m.kinds ≡ [])
+  pub events : EachMessage tables Event (λ m. length (server_objects m.kinds) ≤ 1)
+  pub interfaces : (side : Side) → EachMessage tables side (λ m.
+      All (λ k. (iface : Iface) (i : Interface)
+      → k ≡ kinds.NewByServer iface → interface_at tables iface.0 ≡ Some i
+      → (has_destroying_event i ≡ false) × ¬ IsFixedPlace iface.0) m.kinds)
+
 -- Valid tables. A proof cites one of the rules.
 pub record Valid (tables : List Interface) : Type 0 where
   pub names_distinct : NamesAreDistinct tables
@@ -122,3 +139,4 @@ pub record Valid (tables : List Interface) : Type 0 where
   pub sinces_in_range : SincesAreInRange tables
   pub interfaces_there : NamedInterfacesAreThere tables
   pub argument_ends : ArgumentEndsInFixesAlone tables
+  pub server_makes : ServerMakesRightly tables

@@ -2,9 +2,15 @@
 ghost use Rattle.wl_sigs.specs.Joined.{message_placed, interface_placed};
 ghost use Rattle.wl_sigs.specs.NameHash.{name_hash};
 ghost use Rattle.wl_sigs.specs.Places.{place_in};
-ghost use Rattle.std.specs.Prelude.{◌≡◌, ℕ, ◌<◌, List, unwrap_or, IfOk, map, slice_get};
+ghost use Rattle.wl_sigs.specs.Extended.{grown_by, unsaid};
+ghost use Rattle.std.specs.Prelude.{◌||◌, false};
+ghost use Rattle.std.specs.Option.{option_map_or};
+ghost use Rattle.wl_sigs.specs.Extending.{is_object_of, is_server_object_of};
+ghost use Rattle.std.specs.Prelude.{◌≡◌, ℕ, ◌<◌, ◌++◌, List, unwrap_or, IfOk, map, slice_get};
 ghost use Rattle.std.specs.Prelude.{option_copied, option_map, position, bytes_eq};
-ghost use Rattle.wl_sigs.specs.Tables.{has_destroying_event, message_of, messages_of};
+ghost use Rattle.std.specs.List.{list_any};
+ghost use Rattle.wl_sigs.specs.Tables.{has_destroying_event, has_destroying_request};
+ghost use Rattle.wl_sigs.specs.Tables.{has_server_object, message_of, messages_of};
 ghost use Rattle.wl_sigs.specs.Written.{message_written, interface_written};
 
 use crate::core_interfaces::{CoreInterface, CoreMessage};
@@ -108,6 +114,62 @@ impl<A: Allocator> Entry<A> {
             .iter()
             .any(|event| event.destroys() == Destroys::Target)
     }
+
+    /// Whether a request destroys its target, where that has this version.
+    pub(crate) fn has_destroying_request(&self, version: u32) -> bool
+        ensures { result ≡ has_destroying_request version self.now }
+    {
+        self.requests
+            .iter()
+            .any(|request| request.destroys_at(version))
+    }
+
+    /// The messages of a side.
+    pub(crate) fn messages(&self, side: Side) -> &[Signature<A>]
+        ensures { result.now ≡ messages_of side self.now }
+    {
+        match side {
+            Side::Request => self.requests.as_slice(),
+            Side::Event => self.events.as_slice(),
+        }
+    }
+
+    /// Whether a request has an object of the interface at this place.
+    pub(crate) fn takes_object_of(&self, place: usize) -> bool
+        ensures { result ≡ list_any (λ m. list_any (is_object_of place) m.kinds) self.now.requests }
+    {
+        self.requests
+            .iter()
+            .any(|request| request.takes_object_of(place))
+    }
+
+    /// Whether an event has a new object of the server of the interface at this place.
+    pub(crate) fn makes_server_object_of(&self, place: usize) -> bool
+        ensures { result
+            ≡ list_any (λ m. list_any (is_server_object_of place) m.kinds) self.now.events }
+    {
+        self.events
+            .iter()
+            .any(|event| event.makes_server_object_of(place))
+    }
+
+    /// Whether an event destroys its target, of these and of what is added to it.
+    pub(crate) fn is_ended_with(&self, more: Option<&WrittenInterface<'_, A>>) -> bool
+        ensures { result ≡ (has_destroying_event self.now
+            || option_map_or (λ w. list_any (λ m. m.destroys) w.events) (option_copied more.entry) false) }
+    {
+        let Some(more) = more else {
+            return self.has_destroying_event();
+        };
+        self.has_destroying_event() || more.has_destroying_event()
+    }
+
+    /// Whether an event has a new object of the server.
+    pub(crate) fn has_server_objects(&self) -> bool
+        ensures { result ≡ list_any has_server_object self.now.events }
+    {
+        self.events.iter().any(|event| event.has_server_object())
+    }
 }
 
 impl<A: Allocator + Clone + Drop> Entry<A> {
@@ -136,6 +198,57 @@ impl<A: Allocator + Clone + Drop> Entry<A> {
         })
     }
 
+    /// The same interface in memory of its own, with what is added to it.
+    pub(crate) fn grown<'n>(
+        &self,
+        alloc: &A,
+        places: &Places<'n, A>,
+        past: usize,
+        more: Option<&WrittenInterface<'n, A>>,
+    ) -> Result<Self, AllocError>
+        requires places { (name : List ℕ) → unwrap_or (place_in places.now name) past < 65536 }
+        requires past { past < 65536 }
+        ensures { IfOk result (λ i. i
+            ≡ grown_by (place_in places.now) past self.now (option_copied more.entry)) }
+    {
+        let Some(more) = more else {
+            return self.copy(alloc);
+        };
+        Ok(Entry {
+            name: Name::from_slice(alloc, self.name())?,
+            hash: name_hash(self.name()),
+            version: more.version,
+            requests: grown_signatures(
+                alloc,
+                places,
+                past,
+                self.requests.as_slice(),
+                more.requests.as_slice(),
+            )?,
+            events: grown_signatures(
+                alloc,
+                places,
+                past,
+                self.events.as_slice(),
+                more.events.as_slice(),
+            )?,
+        })
+    }
+
+    /// What a text says of the interface that says nothing of it: no message.
+    pub(crate) fn unsaid(&self, alloc: &A) -> Result<WrittenInterface<'_, A>, AllocError>
+        ensures { IfOk result (λ more. more ≡ unsaid self.now) }
+    {
+        Ok(WrittenInterface {
+            line: 0,
+            extends: true,
+            name: self.name(),
+            version: self.version,
+            requests: Vec::new(alloc.clone()?),
+            events: Vec::new(alloc.clone()?),
+        })
+    }
+
     /// An interface of a text, with the places of the interfaces that it names.
     pub(crate) fn placed<'n>(
         alloc: &A,
@@ -143,7 +256,8 @@ impl<A: Allocator + Clone + Drop> Entry<A> {
         past: usize,
         interface: &WrittenInterface<'n, A>,
     ) -> Result<Self, AllocError>
-        requires { (name : List ℕ) → unwrap_or (place_in places.now name) past < 65536 }
+        requires places { (name : List ℕ) → unwrap_or (place_in places.now name) past < 65536 }
+        requires past { past < 65536 }
         ensures { IfOk result (λ i. i ≡ interface_placed (place_in places.now) past interface.now) }
     {
         Ok(Entry {
@@ -169,13 +283,34 @@ fn copies_of<A: Allocator + Clone + Drop>(
     Ok(copies)
 }
 
+// The signatures, and those of further messages behind them.
+fn grown_signatures<'n, A: Allocator + Clone + Drop>(
+    alloc: &A,
+    places: &Places<'n, A>,
+    past: usize,
+    signatures: &[Signature<A>],
+    messages: &[WrittenMessage<'n, A>],
+) -> Result<Vec<Signature<A>, A>, AllocError>
+    requires places { (name : List ℕ) → unwrap_or (place_in places.now name) past < 65536 }
+    requires past { past < 65536 }
+    ensures { IfOk result (λ v. v.items ≡ signatures.now
+        ++ map (message_placed (place_in places.now) past) messages.now) }
+{
+    let mut all = copies_of(alloc, signatures)?;
+    'messages: for message in messages {
+        all.push(Signature::placed(alloc, places, past, message)?)?;
+    }
+    Ok(all)
+}
+
 fn placed_signatures<'n, A: Allocator + Clone + Drop>(
     alloc: &A,
     places: &Places<'n, A>,
     past: usize,
     messages: &[WrittenMessage<'n, A>],
 ) -> Result<Vec<Signature<A>, A>, AllocError>
-    requires { (name : List ℕ) → unwrap_or (place_in places.now name) past < 65536 }
+    requires places { (name : List ℕ) → unwrap_or (place_in places.now name) past < 65536 }
+    requires past { past < 65536 }
     ensures { IfOk result (λ v. v.items
         ≡ map (message_placed (place_in places.now) past) messages.now) }
 {

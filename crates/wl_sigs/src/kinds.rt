@@ -9,7 +9,7 @@ use crate::places::{Places, place_in};
 use std::alloc::{AllocError, Allocator, Global};
 use std::fmt::{self, Debug, Formatter};
 use std::mem::size_of;
-use wl_interface_text::WrittenKind;
+use wl_interface_text::{BareKind, WrittenKind};
 use wl_wire::{Iface, Kind};
 
 /// How many kinds lie in the value itself. Most messages have no more arguments, and with their
@@ -58,7 +58,8 @@ impl<A: Allocator + Clone + Drop> Kinds<A> {
         past: usize,
         kinds: &[WrittenKind<'n>],
     ) -> Result<Self, AllocError>
-        requires { (name : List ℕ) → unwrap_or (place_in places.now name) past < 65536 }
+        requires places { (name : List ℕ) → unwrap_or (place_in places.now name) past < 65536 }
+        requires past { past < 65536 }
         ensures { IfOk result (λ kept.
             kinds_listed kept ≡ map (kind_placed (place_in places.now) past) kinds.now) }
     {
@@ -81,6 +82,7 @@ fn few_placed<'n, A: Allocator>(
     kinds: &[WrittenKind<'n>],
 ) -> Front<Kind, FEW_KINDS>
     requires places { (name : List ℕ) → unwrap_or (place_in places.now name) past < 65536 }
+    requires past { past < 65536 }
     requires few { length kinds.now ≤ 4 }
     ensures { result ≡ map (kind_placed (place_in places.now) past) kinds.now }
 {
@@ -97,7 +99,8 @@ fn many_placed<'n, A: Allocator + Clone + Drop>(
     past: usize,
     kinds: &[WrittenKind<'n>],
 ) -> Result<Vec<Kind, A>, AllocError>
-    requires { (name : List ℕ) → unwrap_or (place_in places.now name) past < 65536 }
+    requires places { (name : List ℕ) → unwrap_or (place_in places.now name) past < 65536 }
+    requires past { past < 65536 }
     ensures { IfOk result (λ v. v.items ≡ map (kind_placed (place_in places.now) past) kinds.now) }
 {
     let mut placed = Vec::with_capacity(alloc.clone()?, kinds.len())?;
@@ -109,7 +112,8 @@ fn many_placed<'n, A: Allocator + Clone + Drop>(
 
 // The kind of an argument with the place of its interface, or `past` where its name has none.
 fn kind_placed<'n, A: Allocator>(places: &Places<'n, A>, past: usize, k: &WrittenKind<'n>) -> Kind
-    requires { (name : List ℕ) → unwrap_or (place_in places.now name) past < 65536 }
+    requires places { (name : List ℕ) → unwrap_or (place_in places.now name) past < 65536 }
+    requires past { past < 65536 }
     ensures { result ≡ kind_placed (place_in places.now) past k.now }
 {
     let iface = match k.iface {
@@ -120,8 +124,14 @@ fn kind_placed<'n, A: Allocator>(places: &Places<'n, A>, past: usize, k: &Writte
         None => None,
     };
     match k.kind {
-        Kind::Obj { null, .. } => Kind::Obj { null, iface },
-        Kind::New(_) => Kind::New(iface),
-        kind => kind,
+        BareKind::Int => Kind::Int,
+        BareKind::Uint => Kind::Uint,
+        BareKind::Fixed => Kind::Fixed,
+        BareKind::Str { null } => Kind::Str { null },
+        BareKind::Obj { null } => Kind::Obj { null, iface },
+        BareKind::New => Kind::New(iface),
+        BareKind::NewByServer => Kind::NewByServer(iface.unwrap_or(Iface(past as u16))),
+        BareKind::Array => Kind::Array,
+        BareKind::Fd => Kind::Fd,
     }
 }

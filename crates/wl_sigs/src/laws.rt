@@ -1,14 +1,18 @@
 //! Laws of valid tables. They do nothing: their contracts state facts about the definitions.
-ghost use Rattle.std.specs.Prelude.{◌≡◌, ◌↔◌, ℕ, List, Ok, Err, Some, None, true};
+ghost use Rattle.std.specs.Prelude.{◌≡◌, ◌↔◌, ℕ, ◌≤◌, List, Ok, Err, Some, None, true, false};
+ghost use Rattle.std.specs.List.{All};
 ghost use Rattle.wl_sigs.specs.declared.signature.Side.{Side};
 ghost use Rattle.wl_sigs.specs.Broken.{Broken, first_broken};
 ghost use Rattle.wl_sigs.specs.Core.{core_tables};
-ghost use Rattle.wl_sigs.specs.FirstBroken.{IsFirstBrokenLine};
+ghost use Rattle.wl_sigs.specs.Extended.{extended};
+ghost use Rattle.wl_sigs.specs.Extending.{first_line_broken};
+ghost use Rattle.wl_sigs.specs.FirstLineBroken.{ExtendsRightly, IsFirstBrokenLine};
 ghost use Rattle.wl_sigs.specs.Joined.{joined};
 ghost use Rattle.wl_sigs.specs.Opcodes.{opcodes, opcodes_in};
 ghost use Rattle.wl_sigs.specs.Outcome.{outcome};
 ghost use Rattle.wl_sigs.specs.Rules.{keep_rules};
-ghost use Rattle.wl_sigs.specs.Tables.{Interface, interface_at, place_of};
+ghost use Rattle.wl_sigs.specs.Tables.{Interface, MessageSignature, interface_at, message_of};
+ghost use Rattle.wl_sigs.specs.Tables.{place_of};
 ghost use Rattle.wl_sigs.specs.Valid.{Valid, HasFixedFour};
 ghost use Rattle.wl_interface_text.specs.TableText.{IsFirstBadLine, TableText};
 ghost use Rattle.wl_interface_text.specs.Text.{WrittenInterface};
@@ -34,30 +38,51 @@ pub fn opcodes_are_of_their_names()
     ensures { (side : Side) → opcodes side ≡ opcodes_in core_tables side }
 {}
 
-/// The interfaces of a text break no rule behind valid tables exactly where the tables are valid
-/// that both make together.
+/// No line of a text breaks a rule behind valid tables exactly where no extension does by itself
+/// and the tables are valid that tables and text make together.
 pub fn unbroken_where_valid()
     ensures { (tables : List Interface) (written : List WrittenInterface) → Valid tables
-        → (first_broken tables written ≡ None) ↔ Valid (joined tables written) }
+        → (first_line_broken tables written ≡ None)
+        ↔ (ExtendsRightly tables written × Valid (extended tables written)) }
 {}
 
-/// Of the interfaces that a text lists, the broken line that is found is the first that breaks a
-/// rule of valid tables behind these, and the rule the least that it breaks.
+/// What a text is that extends no interface: its own interfaces behind the tables, and the first
+/// line of these that breaks a rule.
+pub fn without_extensions()
+    ensures { (tables : List Interface) (written : List WrittenInterface)
+        → All (λ i. i.extends ≡ false) written
+        → (extended tables written ≡ joined tables written)
+        × (first_line_broken tables written ≡ first_broken tables written) }
+{}
+
+/// A text leaves each interface of the tables at its place, and its messages at their opcodes. The
+/// version is not lowered.
+pub fn places_and_opcodes_stay()
+    ensures { (tables : List Interface) (written : List WrittenInterface) (place : ℕ)
+        (i : Interface) → interface_at tables place ≡ Some i
+        → (j : Interface) × (interface_at (extended tables written) place ≡ Some j)
+        × (j.name ≡ i.name) × (i.version ≤ j.version)
+        × ((side : Side) (opcode : ℕ) (m : MessageSignature) → message_of side opcode i ≡ Some m
+        → message_of side opcode j ≡ Some m) }
+{}
+
+/// Of what a text lists, the broken line that is found is the first that breaks a rule of valid
+/// tables behind these, and the rule the least that it breaks.
 pub fn first_broken_is_first()
-    ensures { (tables : List Interface) (text : List ℕ) (written : List WrittenInterface)
-        (it : Broken) → TableText text written
-        → (first_broken tables written ≡ Some it) ↔ IsFirstBrokenLine tables written it }
+    ensures { (tables : List Interface) (written : List WrittenInterface) (it : Broken)
+        → (first_line_broken tables written ≡ Some it) ↔ IsFirstBrokenLine tables written it }
 {}
 
-/// A text is read behind valid tables, as the tables joined with those that it lists, exactly where
-/// it lists interfaces and the joined tables are valid. It has a bad line exactly where some line
-/// may not stand in it: the first such line. It has a line that breaks a rule exactly where it
-/// lists interfaces, some of which break one: the first such line, and the least rule that it
-/// breaks.
+/// A text is read behind valid tables, as the tables extended by what it lists, exactly where it
+/// lists interfaces and extensions, none of these breaks a rule by itself, and the extended tables
+/// are valid. It has a bad line exactly where some line may not stand in it: the first such line.
+/// It has a line that breaks a rule exactly where it lists interfaces and extensions, some of which
+/// break one: the first such line, and the least rule that it breaks.
 pub fn texts_are_told()
     ensures told { (tables all : List Interface) (text : List ℕ) → Valid tables
         → (outcome tables text ≡ Ok all) ↔ ((written : List WrittenInterface)
-        × TableText text written × (joined tables written ≡ all) × Valid all) }
+        × TableText text written × ExtendsRightly tables written
+        × (extended tables written ≡ all) × Valid all) }
     ensures bad { (tables : List Interface) (text : List ℕ) (n : ℕ)
         → (outcome tables text ≡ Err (BadLine n)) ↔ IsFirstBadLine text n }
     ensures broken { (tables : List Interface) (text : List ℕ) (line rule : ℕ)

@@ -1,12 +1,14 @@
 //! The signatures of the messages of Wayland's core interfaces.
 //!
-//! Arguments carry no type on the wire: the signature of a message says which they are. The tables
+//! Arguments have no type on the wire: the signature of a message gives it. The tables
 //! list interfaces, and for each its requests and its events, at their opcodes. (Chapter "Wayland
 //! Protocol and Model of Operation", sections "Interfaces" and "Wire Format".)
 #![tactic(auto)]
 
+mod added;
 mod core_interfaces;
 pub mod event;
+mod extending;
 mod front;
 mod hash;
 mod interface;
@@ -16,14 +18,16 @@ mod name;
 mod places;
 pub mod request;
 mod rules;
+pub mod samples;
 mod signature;
 mod tables;
 mod wanted;
 
 pub use laws::{
-    first_broken_is_first, found_by_its_name, opcodes_are_of_their_names, texts_are_told,
-    unbroken_where_valid, valid_where_tests_pass,
+    first_broken_is_first, found_by_its_name, opcodes_are_of_their_names, places_and_opcodes_stay,
+    texts_are_told, unbroken_where_valid, valid_where_tests_pass, without_extensions,
 };
+pub use rules::MAX_ARGS;
 pub use signature::{Destroys, Side, Signature};
 pub use tables::Tables;
 pub use wl_interface_text::TableFault;

@@ -3,7 +3,7 @@
 //! `request::wl_surface::COMMIT` is the opcode of wl_surface.commit in the core tables, and so each
 //! constant is that of the message of its name: the law `opcodes_are_of_their_names` says so.
 //!
-//! Made by tools/core-files.
+//! Made by tools/dev/core-files.
 
 pub mod wl_display {
     pub const SYNC: u16 = 0;

@@ -1,5 +1,5 @@
 //! The rules of valid tables, at the lines of a text.
-ghost use Rattle.std.specs.Prelude.{◌≡◌, ℕ, ◌+◌, ◌<◌, ◌≤◌, not, List, map, length, Some, None};
+ghost use Rattle.std.specs.Prelude.{◌≡◌, ℕ, ◌+◌, ◌<◌, ◌≤◌, ◌&&◌, nat_le, not, List, map, length, Some, None};
 ghost use Rattle.std.specs.Prelude.{option_map, option_copied, is_some, IfOk};
 ghost use Rattle.std.specs.Prelude.{Option, bytes_eq, slice_get};
 ghost use Rattle.std.specs.List.{list_all, list_any, count_by};
@@ -7,17 +7,33 @@ ghost use Rattle.wl_sigs.specs.Broken.{is_first, is_object, makes_object, makes_
 ghost use Rattle.wl_sigs.specs.Broken.{takes_ended, names_missing, interface_rule, message_rule};
 ghost use Rattle.wl_sigs.specs.Broken.{names_objects, is_race_free, most_new, earlier, broken_at};
 ghost use Rattle.wl_sigs.specs.Broken.{messages_broken, side_broken, interface_broken};
-ghost use Rattle.wl_sigs.specs.Broken.{interfaces_broken, is_ended};
+ghost use Rattle.wl_sigs.specs.Broken.{interfaces_broken, is_ended, is_forbidden};
+ghost use Rattle.wl_sigs.specs.Broken.{makes_forbidden, makes_server_object, most_by_server};
+ghost use Rattle.wl_sigs.specs.Broken.{later_rule, comes_first};
 ghost use Rattle.wl_sigs.specs.Joined.{first_place};
 ghost use Rattle.wl_sigs.specs.Places.{place_in, AreFirst};
 ghost use Rattle.wl_sigs.specs.BrokenLines.{broken};
-ghost use Rattle.wl_sigs.specs.Rules.{is_name, is_name_byte, is_empty};
+ghost use Rattle.wl_sigs.specs.Rules.{is_name, is_name_byte, is_empty, is_fixed_place};
+ghost use Rattle.wl_sigs.specs.Tables.{max_interfaces};
 
 use crate::places::{Places, place_in, places_of};
 use crate::signature::Side;
 use std::alloc::{AllocError, Allocator};
-use wl_interface_text::{WrittenInterface, WrittenKind, WrittenMessage, takes_interface};
-use wl_wire::Kind;
+use wl_interface_text::{
+    BareKind, WrittenInterface, WrittenKind, WrittenMessage, needs_interface, takes_interface,
+};
+
+/// The most bytes that the name of an interface or a message has.
+const MAX_NAME_LEN: usize = 256;
+
+/// The most interfaces that tables have.
+const MAX_INTERFACES: usize = 1024;
+
+/// The most requests that an interface has, and the most events.
+const MAX_MESSAGES: usize = 256;
+
+/// The most arguments that a message has.
+pub const MAX_ARGS: usize = 20;
 
 /// The most messages of a side that are compared by name with those before them: of so few this
 /// takes fewer steps than a map of the names, and no memory.
@@ -45,11 +61,15 @@ fn are_name_bytes(name: &[u8]) -> bool
 fn is_name(name: &[u8]) -> bool
     ensures { result ≡ is_name name.now }
 {
-    name.len() >= 1 && name.len() <= 256 && are_name_bytes(name)
+    name.len() >= 1 && name.len() <= MAX_NAME_LEN && are_name_bytes(name)
 }
 
-// Whether a name stands first at a place.
-fn is_first<'n, A: Allocator>(places: &Places<'n, A>, name: &'n [u8], here: usize) -> bool
+/// Whether a name stands first at a place.
+pub(crate) fn is_first<'n, A: Allocator>(
+    places: &Places<'n, A>,
+    name: &'n [u8],
+    here: usize,
+) -> bool
     ensures { result ≡ is_first (place_in places.now) name.now here }
 {
     match place_in(places, name) {
@@ -61,13 +81,19 @@ fn is_first<'n, A: Allocator>(places: &Places<'n, A>, name: &'n [u8], here: usiz
 fn makes_object(k: &WrittenKind) -> bool
     ensures { result ≡ makes_object k.now }
 {
-    matches!(k.kind, Kind::New(_))
+    k.kind == BareKind::New
 }
 
-fn is_object(kind: Kind) -> bool
+fn makes_server_object(k: &WrittenKind) -> bool
+    ensures { result ≡ makes_server_object k.now }
+{
+    k.kind == BareKind::NewByServer
+}
+
+fn is_object(kind: BareKind) -> bool
     ensures { result ≡ is_object kind }
 {
-    matches!(kind, Kind::Obj { .. })
+    matches!(kind, BareKind::Obj { .. })
 }
 
 fn makes_unnamed(k: &WrittenKind) -> bool
@@ -107,8 +133,39 @@ fn takes_ended<'n, A: Allocator>(
 fn names_missing<'n, A: Allocator>(places: &Places<'n, A>, k: &WrittenKind<'n>) -> bool
     ensures { result ≡ names_missing (place_in places.now) k.now }
 {
+    let is_missing = match k.iface {
+        Some(name) => place_in(places, name).is_none(),
+        None => needs_interface(k.kind),
+    };
+    takes_interface(k.kind) && is_missing
+}
+
+// Whether a place is that of one of the four interfaces that are always the same.
+fn is_fixed_place(place: usize) -> bool
+    ensures { result ≡ is_fixed_place place }
+{
+    place == 0 || (place == 1 || (place == 2 || place == 18))
+}
+
+// Whether the server may not make objects of the interface of a place.
+fn is_forbidden(ended: &[bool], place: Option<usize>) -> bool
+    ensures { result ≡ is_forbidden ended.now place }
+{
+    match place {
+        Some(at) => is_fixed_place(at) || is_ended(ended, place),
+        None => false,
+    }
+}
+
+fn makes_forbidden<'n, A: Allocator>(
+    places: &Places<'n, A>,
+    ended: &[bool],
+    k: &WrittenKind<'n>,
+) -> bool
+    ensures { result ≡ makes_forbidden (place_in places.now) ended.now k.now }
+{
     match k.iface {
-        Some(name) => takes_interface(k.kind) && place_in(places, name).is_none(),
+        Some(name) => makes_server_object(k) && is_forbidden(ended, place_in(places, name)),
         None => false,
     }
 }
@@ -117,6 +174,12 @@ fn count_new(kinds: &[WrittenKind]) -> usize
     ensures { result ≡ count_by makes_object kinds.now }
 {
     kinds.iter().filter(|k| makes_object(*k)).count()
+}
+
+fn count_by_server(kinds: &[WrittenKind]) -> usize
+    ensures { result ≡ count_by makes_server_object kinds.now }
+{
+    kinds.iter().filter(|k| makes_server_object(*k)).count()
 }
 
 fn none_unnamed(kinds: &[WrittenKind]) -> bool
@@ -158,6 +221,22 @@ fn none_missing<'n, A: Allocator>(places: &Places<'n, A>, kinds: &[WrittenKind<'
     true
 }
 
+fn none_forbidden<'n, A: Allocator>(
+    places: &Places<'n, A>,
+    ended: &[bool],
+    kinds: &[WrittenKind<'n>],
+) -> bool
+    ensures { result
+        ≡ list_all (λ k. not (makes_forbidden (place_in places.now) ended.now k)) kinds.now }
+{
+    'kinds: for k in kinds {
+        if makes_forbidden(places, ended, k) {
+            return false;
+        }
+    }
+    true
+}
+
 // The least rule that an interface at a place breaks by itself.
 fn interface_rule<'n, A: Allocator>(
     places: &Places<'n, A>,
@@ -168,7 +247,7 @@ fn interface_rule<'n, A: Allocator>(
 {
     if !(is_name(interface.name) && is_first(places, interface.name, here)) {
         Some(1)
-    } else if here >= 1024 {
+    } else if here >= MAX_INTERFACES {
         Some(3)
     } else if interface.version < 1 {
         Some(8)
@@ -183,6 +262,15 @@ fn most_new(side: Side) -> usize
     match side {
         Side::Request => 1,
         Side::Event => 0,
+    }
+}
+
+fn most_by_server(side: Side) -> usize
+    ensures { result ≡ most_by_server side }
+{
+    match side {
+        Side::Request => 0,
+        Side::Event => 1,
     }
 }
 
@@ -210,8 +298,58 @@ fn is_race_free<'n, A: Allocator>(
     }
 }
 
-// The least rule that a message of an interface breaks.
-fn message_rule<'n, A: Allocator>(
+// Whether a message came with a version of its interface, from 1 on.
+fn is_since_a_version<'n, A: Allocator>(
+    interface: &WrittenInterface<'n, A>,
+    message: &WrittenMessage<'n, A>,
+) -> bool
+    ensures { result ≡ (nat_le 1 message.now.since
+        && nat_le message.now.since interface.now.version) }
+{
+    message.since >= 1 && message.since <= interface.version
+}
+
+// Whether the new objects of the server stand as V11 asks.
+fn makes_rightly<'n, A: Allocator>(
+    places: &Places<'n, A>,
+    ended: &[bool],
+    side: Side,
+    kinds: &[WrittenKind<'n>],
+) -> bool
+    ensures { result ≡ (nat_le (count_by makes_server_object kinds.now) (most_by_server side)
+        && list_all (λ k. not (makes_forbidden (place_in places.now) ended.now k)) kinds.now) }
+{
+    count_by_server(kinds) <= most_by_server(side) && none_forbidden(places, ended, kinds)
+}
+
+// The least rule from V6 on that a message of an interface breaks.
+fn later_rule<'n, A: Allocator>(
+    places: &Places<'n, A>,
+    ended: &[bool],
+    interface: &WrittenInterface<'n, A>,
+    side: Side,
+    message: &WrittenMessage<'n, A>,
+) -> Option<u8>
+    ensures { result ≡ later_rule (place_in places.now) ended.now interface.now side message.now }
+{
+    let kinds = message.kinds.as_slice();
+    if !names_objects(side, message) {
+        Some(6)
+    } else if !is_race_free(places, ended, interface, side, message) {
+        Some(7)
+    } else if !is_since_a_version(interface, message) {
+        Some(8)
+    } else if !none_missing(places, kinds) {
+        Some(9)
+    } else if !makes_rightly(places, ended, side, kinds) {
+        Some(11)
+    } else {
+        None
+    }
+}
+
+/// The least rule that a message of an interface breaks.
+pub(crate) fn message_rule<'n, A: Allocator>(
     places: &Places<'n, A>,
     ended: &[bool],
     interface: &WrittenInterface<'n, A>,
@@ -227,38 +365,38 @@ fn message_rule<'n, A: Allocator>(
     let kinds = message.kinds.as_slice();
     if !(is_name(message.name) && is_first_named) {
         Some(1)
-    } else if !(opcode < 256 && kinds.len() <= 20) {
+    } else if !(opcode < MAX_MESSAGES && kinds.len() <= MAX_ARGS) {
         Some(3)
     } else if count_new(kinds) > most_new(side) {
         Some(4)
     } else if !none_unnamed(kinds) {
         Some(5)
-    } else if !names_objects(side, message) {
-        Some(6)
-    } else if !is_race_free(places, ended, interface, side, message) {
-        Some(7)
-    } else if !(message.since >= 1 && message.since <= interface.version) {
-        Some(8)
-    } else if !none_missing(places, kinds) {
-        Some(9)
     } else {
-        None
+        later_rule(places, ended, interface, side, message)
     }
 }
 
-// The one of the earlier line.
-fn earlier(this: Option<BrokenLine>, other: Option<BrokenLine>) -> Option<BrokenLine>
+// Whether one stands at an earlier line than the other, or at the same and its rule is less.
+fn comes_first(this: BrokenLine, other: BrokenLine) -> bool
+    ensures { result ≡ comes_first (broken this) (broken other) }
+{
+    this.line < other.line || (this.line == other.line && this.rule < other.rule)
+}
+
+/// The one of the earlier line, or of the lesser rule at one line.
+pub(crate) fn earlier(this: Option<BrokenLine>, other: Option<BrokenLine>) -> Option<BrokenLine>
     ensures { option_map broken result
         ≡ earlier (option_map broken this) (option_map broken other) }
 {
     match (this, other) {
-        (Some(this), Some(other)) if other.line < this.line => Some(other),
+        (Some(this), Some(other)) if comes_first(other, this) => Some(other),
         (None, other) => other,
         (this, _) => this,
     }
 }
 
-fn broken_at(line: usize, rule: Option<u8>) -> Option<BrokenLine>
+/// The line, if it breaks a rule.
+pub(crate) fn broken_at(line: usize, rule: Option<u8>) -> Option<BrokenLine>
     ensures { option_map broken result ≡ broken_at line rule }
 {
     let rule = rule?;
@@ -335,7 +473,8 @@ fn opcodes_of<'n, A: Allocator + Clone + Drop>(
     Ok(Some(opcodes))
 }
 
-fn message_names<'n, A: Allocator + Clone + Drop>(
+/// The names of messages.
+pub(crate) fn message_names<'n, A: Allocator + Clone + Drop>(
     alloc: &A,
     messages: &[WrittenMessage<'n, A>],
 ) -> Result<Vec<&'n [u8], A>, AllocError>
@@ -388,7 +527,7 @@ pub(crate) fn interfaces_broken<'n, A: Allocator + Clone + Drop>(
     from: usize,
     interfaces: &[WrittenInterface<'n, A>],
 ) -> Result<Option<BrokenLine>, AllocError>
-    requires { from ≤ 1024 }
+    requires { from ≤ max_interfaces }
     ensures { IfOk result (λ found. option_map broken found
         ≡ interfaces_broken (place_in places.now) ended.now from interfaces.now) }
 {

@@ -1,8 +1,10 @@
 //! What the tables say of one message.
-ghost use Rattle.std.specs.Prelude.{◌≡◌, ℕ, ◌<◌, List, IfOk, unwrap_or};
+ghost use Rattle.std.specs.Prelude.{◌≡◌, ℕ, ◌<◌, ◌&&◌, List, IfOk, nat_le, unwrap_or};
 ghost use Rattle.wl_sigs.specs.Joined.{destroys_of, message_placed};
+ghost use Rattle.std.specs.List.{list_any};
+ghost use Rattle.wl_sigs.specs.Extending.{is_object_of, is_server_object_of};
 ghost use Rattle.wl_sigs.specs.Places.{place_in};
-ghost use Rattle.wl_sigs.specs.Tables.{destroys_one};
+ghost use Rattle.wl_sigs.specs.Tables.{destroys_one, destroys_target, has_server_object};
 ghost use Rattle.wl_sigs.specs.Written.{message_written};
 
 use crate::core_interfaces::CoreMessage;
@@ -12,7 +14,7 @@ use crate::places::Places;
 use std::alloc::{AllocError, Allocator, Global};
 use std::marker::Model;
 use wl_interface_text::WrittenMessage;
-use wl_wire::Kind;
+use wl_wire::{Iface, Kind};
 
 /// What a message destroys.
 #[derive(Clone, Copy, Debug, PartialEq, Eq)]
@@ -93,6 +95,38 @@ impl<A: Allocator> Signature<A> {
         self.kinds.as_slice()
     }
 
+    /// Whether one of its arguments is a new object of the server.
+    pub(crate) fn has_server_object(&self) -> bool
+        ensures { result ≡ has_server_object self.now }
+    {
+        self.kinds()
+            .iter()
+            .any(|kind| matches!(kind, Kind::NewByServer(_)))
+    }
+
+    /// Whether one of its arguments is an object of the interface at this place.
+    pub(crate) fn takes_object_of(&self, place: usize) -> bool
+        ensures { result ≡ list_any (is_object_of place) self.now.kinds }
+    {
+        self.kinds().iter().any(|kind| is_object_of(*kind, place))
+    }
+
+    /// Whether one of its arguments is a new object of the server of the interface at this place.
+    pub(crate) fn makes_server_object_of(&self, place: usize) -> bool
+        ensures { result ≡ list_any (is_server_object_of place) self.now.kinds }
+    {
+        self.kinds()
+            .iter()
+            .any(|kind| is_server_object_of(*kind, place))
+    }
+
+    /// Whether the message destroys its target, where that has this version.
+    pub(crate) fn destroys_at(&self, version: u32) -> bool
+        ensures { result ≡ (destroys_target self.now.destroys && nat_le self.now.since version) }
+    {
+        matches!(self.destroys, Destroys::Target) && self.since <= version
+    }
+
     /// What the message destroys.
     pub fn destroys(&self) -> Destroys
         ensures { result ≡ self.now.destroys }
@@ -132,7 +166,8 @@ impl<A: Allocator + Clone + Drop> Signature<A> {
         past: usize,
         message: &WrittenMessage<'n, A>,
     ) -> Result<Self, AllocError>
-        requires { (name : List ℕ) → unwrap_or (place_in places.now name) past < 65536 }
+        requires places { (name : List ℕ) → unwrap_or (place_in places.now name) past < 65536 }
+        requires past { past < 65536 }
         ensures { IfOk result (λ s. s ≡ message_placed (place_in places.now) past message.now) }
     {
         Ok(Signature {
@@ -141,6 +176,27 @@ impl<A: Allocator + Clone + Drop> Signature<A> {
             kinds: Kinds::placed(alloc, places, past, message.kinds.as_slice())?,
             destroys: destroys_of(message.destroys),
         })
+    }
+}
+
+fn is_object_of(kind: Kind, place: usize) -> bool
+    ensures { result ≡ is_object_of place kind }
+{
+    match kind {
+        Kind::Obj {
+            iface: Some(Iface(at)),
+            ..
+        } => at as usize == place,
+        _ => false,
+    }
+}
+
+fn is_server_object_of(kind: Kind, place: usize) -> bool
+    ensures { result ≡ is_server_object_of place kind }
+{
+    match kind {
+        Kind::NewByServer(Iface(at)) => at as usize == place,
+        _ => false,
     }
 }
 

@@ -1,24 +1,29 @@
 //! Interfaces in their order.
-ghost use Rattle.std.specs.Prelude.{◌≡◌, ◌⊎◌, ◌↔◌, ℕ, Err, Some, None, IfOk, map, slice_get};
+ghost use Rattle.std.specs.Prelude.{◌≡◌, ◌⊎◌, ◌↔◌, ℕ, [], true, Err, Some, None, IfOk, map, slice_get};
 ghost use Rattle.std.specs.Prelude.{option_copied};
 ghost use Rattle.std.specs.Prelude.{option_map, position, bytes_eq, length, IfSome, ◌<◌};
 ghost use Rattle.wl_sigs.specs.Core.{core_tables};
 ghost use Rattle.wl_sigs.specs.ByName.{opcode_of};
-ghost use Rattle.wl_sigs.specs.Tables.{MessageSignature, interface_at, signature_at, place_of};
-ghost use Rattle.wl_sigs.specs.Rules.{is_ended_by_event};
+ghost use Rattle.wl_sigs.specs.Tables.{HasServerObjects, MessageSignature, interface_at};
+ghost use Rattle.wl_sigs.specs.Tables.{signature_at, place_of};
+ghost use Rattle.wl_sigs.specs.Rules.{has_server_objects, is_ended_by_event, is_ended_by_request};
 ghost use Rattle.wl_sigs.specs.Valid.{Valid};
 ghost use Rattle.wl_sigs.specs.Written.{interface_written};
-ghost use Rattle.wl_sigs.specs.Joined.{all_names, joined};
-ghost use Rattle.wl_sigs.specs.Broken.{ended_of, first_broken};
+ghost use Rattle.wl_sigs.specs.Joined.{all_names};
+ghost use Rattle.wl_sigs.specs.Broken.{ended_of};
+ghost use Rattle.wl_sigs.specs.Extended.{gathered, grown, whole_of};
+ghost use Rattle.wl_sigs.specs.Extending.{messages_or_declared_broken};
 ghost use Rattle.wl_sigs.specs.BrokenLines.{broken};
 ghost use Rattle.wl_sigs.specs.Places.{place_in, ArePlaces};
 ghost use Rattle.wl_sigs.specs.Outcome.{outcome};
 ghost use Rattle.wl_interface_text.specs.declared.fault.TableFault.TheVariants.{Memory};
 
+use crate::added::added_broken;
 use crate::core_interfaces::{CORE, CoreInterface};
+use crate::extending::{Gathered, gather};
 use crate::interface::Entry;
 use crate::places::{Places, places_of};
-use crate::rules::{BrokenLine, interfaces_broken};
+use crate::rules::{BrokenLine, earlier, interfaces_broken};
 use crate::signature::{Side, Signature};
 use crate::wanted::WantedName;
 use std::alloc::{AllocError, Allocator, Global};
@@ -34,8 +39,9 @@ const HASHED_NAME: usize = 256;
 ///
 /// Tables are always valid: names are distinct and spelled of `a` to `z`, `0` to `9` and `_`;
 /// wl_display, wl_registry and wl_callback come first, and wl_fixes has its place; sizes are
-/// bounded; no event makes an object and no request more than one; an object that an event may
-/// destroy is never named by a request; and wl_fixes.destroy_registry alone destroys its argument.
+/// bounded; a message makes at most one object, a request one of the client, an event one of the
+/// server; an object that an event may destroy is never named by a request; and
+/// wl_fixes.destroy_registry alone destroys its argument.
 #[derive(Debug, Drop)]
 pub struct Tables<A: Allocator = Global> {
     interfaces: Vec<Entry<A>, A>,
@@ -118,6 +124,36 @@ impl<A: Allocator> Tables<A> {
         }
     }
 
+    /// Whether the interface at a place has, at a version, a request that destroys its object. False
+    /// past the tables.
+    pub fn ends_by_request(&self, iface: Iface, version: u32) -> bool
+        ensures answer { result ≡ is_ended_by_request version (interface_at self.now iface.0) }
+        ensures valid { Valid self.now }
+    {
+        let Some(entry) = self.entry(iface) else {
+            return false;
+        };
+        entry.has_destroying_request(version)
+    }
+
+    /// Whether some event has a new object of the server, an `N` of a text. It asks each event.
+    pub fn has_server_objects(&self) -> bool
+        ensures answer { result ≡ has_server_objects self.now }
+        ensures told { (result ≡ true) ↔ HasServerObjects self.now }
+        ensures valid { Valid self.now }
+    {
+        self.lists_server_objects()
+    }
+
+    fn lists_server_objects(&self) -> bool
+        ensures answer { result ≡ has_server_objects self.now }
+        ensures valid { Valid self.now }
+    {
+        self.interfaces
+            .iter()
+            .any(|entry| entry.has_server_objects())
+    }
+
     fn entry(&self, iface: Iface) -> Option<&Entry<A>>
         ensures answer { option_copied result ≡ interface_at self.now iface.0 }
         ensures valid { Valid self.now }
@@ -136,7 +172,7 @@ impl<A: Allocator + Clone + Drop> Tables<A> {
         Self::of(alloc, &CORE)
     }
 
-    /// These tables followed by those of a text.
+    /// These tables extended by a text, and followed by the interfaces that it declares.
     ///
     /// The text is lines, each ended by a line feed, which the last may lack; one carriage return
     /// before a line feed is dropped. An empty line and a line that begins with `#` are skipped.
@@ -144,33 +180,55 @@ impl<A: Allocator + Clone + Drop> Tables<A> {
     ///
     /// ```text
     /// "interface " name " " number
+    /// "extend " name " " number
     /// side " " name *( " " arg ) [ " D" ] [ " @" number ]
     /// side = "request" or "event"
-    /// arg  = i | u | f | s | ?s | a | h | o | ?o | o(name) | ?o(name) | n | n(name)
+    /// arg  = i | u | f | s | ?s | a | h | o | ?o | o(name) | ?o(name) | n | n(name) | N(name)
     /// ```
     ///
     /// where the first number is the version of the interface, `D` marks a message that destroys
     /// its target, and `@` gives the version that brought the message, 1 where it is missing. A
     /// name is one or more bytes other than space, `(`, `)` and the line feed; a number is 1 to 10
     /// decimal digits, at most 4,294,967,295. `o` alone takes an object of any interface, and `n`
-    /// alone makes one whose interface only the bytes tell. A message belongs to the last interface
-    /// line above it. An argument may name an interface that stands further down; of equal names it
-    /// names the first, those of these tables counted as earlier.
+    /// alone makes one whose interface only the bytes tell. `N` is a new object that the server
+    /// makes. A message belongs to the last line above it of the first two forms. An argument may
+    /// name an interface that stands further down; of equal names it names the first, those of
+    /// these tables counted as earlier.
+    ///
+    /// A line `extend` is of the first interface of its name, of these tables or declared further
+    /// up: it has this version from now on, and the messages below the line stand behind those that
+    /// it has. Its place and its opcodes stay.
     ///
     /// `BadLine` (TB1) and `BadTable` (TB2) come as `TableFault` says; the first interface or
-    /// message of a name breaks no rule by it, the later does. `Memory` (TB3) may come in place of
-    /// any answer.
+    /// message of a name breaks no rule by it, the later does. An `extend` breaks V9 where no
+    /// interface above has its name, V8 where its version is less than the one that it has, V2
+    /// where it is of wl_display, wl_registry, wl_callback or wl_fixes. `Memory` (TB3) may come in
+    /// place of any answer.
     pub fn read_more(&self, text: &[u8]) -> Result<Self, TableFault>
         ensures exact { (result ≡ outcome self.now text.now) ⊎ (result ≡ Err Memory) }
         ensures valid { IfOk result (λ tables. Valid tables) }
     {
         let written = read_interfaces(self.interfaces.allocator(), text)?;
-        let places = self.places(written.as_slice())?;
-        let broken = self.first_broken(&places, written.as_slice())?;
-        if let Some(BrokenLine { line, rule }) = broken {
+        let (gathered, of_extensions) = gather(self.unsaid()?, written)?;
+        let places = self.places(gathered.declared.as_slice())?;
+        let of_others = self.first_broken(&places, &gathered)?;
+        if let Some(BrokenLine { line, rule }) = earlier(of_extensions, of_others) {
             return Err(TableFault::BadTable { line, rule });
         }
-        Ok(self.joined(&places, written.as_slice())?)
+        Ok(self.extended(&places, &gathered)?)
+    }
+
+    // What a text says that says nothing of these interfaces, and declares none.
+    fn unsaid<'n>(&'n self) -> Result<Gathered<'n, A>, AllocError>
+        ensures { IfOk result (λ g. g ≡ gathered self.now []) }
+    {
+        let alloc = self.interfaces.allocator();
+        let mut added = Vec::with_capacity(alloc.clone()?, self.interfaces.len())?;
+        for entry in &self.interfaces {
+            added.push(entry.unsaid(alloc)?)?;
+        }
+        let declared = Vec::new(alloc.clone()?);
+        Ok(Gathered { added, declared })
     }
 
     // The first place of each name of these interfaces and those of a text.
@@ -184,39 +242,48 @@ impl<A: Allocator + Clone + Drop> Tables<A> {
         places_of(self.interfaces.allocator(), names.as_slice())
     }
 
-    // The first line of a text that breaks a rule, behind these tables.
+    // The first line that adds a message to these interfaces, or declares an interface or one of
+    // its messages, and breaks a rule.
     fn first_broken<'n>(
-        &self,
+        &'n self,
         places: &Places<'n, A>,
-        written: &[WrittenInterface<'n, A>],
+        gathered: &Gathered<'n, A>,
     ) -> Result<Option<BrokenLine>, AllocError>
-        requires { ArePlaces (place_in places.now) self.now written.now }
+        requires { ArePlaces (place_in places.now) self.now gathered.now.declared }
         ensures { IfOk result (λ found. option_map broken found
-            ≡ first_broken self.now written.now) }
+            ≡ messages_or_declared_broken self.now gathered.now) }
     {
-        let ended = self.all_ended(written)?;
-        let from = self.interfaces.len();
         let alloc = self.interfaces.allocator();
-        interfaces_broken(alloc, places, ended.as_slice(), from, written)
+        let entries = self.interfaces.as_slice();
+        let added = gathered.added.as_slice();
+        let declared = gathered.declared.as_slice();
+        let all_ended = self.all_ended(gathered)?;
+        let ended = all_ended.as_slice();
+        let of_added = added_broken(alloc, entries, places, ended, added)?;
+        let of_declared = interfaces_broken(alloc, places, ended, entries.len(), declared)?;
+        Ok(earlier(of_added, of_declared))
     }
 
-    // These tables followed by those of a text that breaks no rule.
-    fn joined<'n>(
+    // These tables extended by a text that breaks no rule, and followed by its interfaces.
+    fn extended<'n>(
         &self,
         places: &Places<'n, A>,
-        written: &[WrittenInterface<'n, A>],
+        gathered: &Gathered<'n, A>,
     ) -> Result<Self, AllocError>
-        requires places { ArePlaces (place_in places.now) self.now written.now }
-        requires unbroken { first_broken self.now written.now ≡ None }
-        ensures { IfOk result (λ tables. tables ≡ joined self.now written.now) }
+        requires places { ArePlaces (place_in places.now) self.now gathered.now.declared }
+        requires valid { Valid (whole_of self.now gathered.now) }
+        ensures { IfOk result (λ tables. tables ≡ whole_of self.now gathered.now) }
     {
         let alloc = self.interfaces.allocator();
-        let past = self.interfaces.len() + written.len();
+        let entries = self.interfaces.as_slice();
+        let added = gathered.added.as_slice();
+        let declared = gathered.declared.as_slice();
+        let past = entries.len() + declared.len();
         let mut interfaces = Vec::with_capacity(alloc.clone()?, past)?;
-        for entry in &self.interfaces {
-            interfaces.push(entry.copy(alloc)?)?;
+        for (place, entry) in entries.iter().enumerate() {
+            interfaces.push(entry.grown(alloc, places, past, added.get(place))?)?;
         }
-        for interface in written {
+        for interface in declared {
             interfaces.push(Entry::placed(alloc, places, past, interface)?)?;
         }
         Ok(Tables { interfaces })
@@ -241,16 +308,21 @@ impl<A: Allocator + Clone + Drop> Tables<A> {
         Ok(names)
     }
 
-    // Which of these interfaces, and then of those of a text, an event of theirs may end.
-    fn all_ended(&self, written: &[WrittenInterface<'_, A>]) -> Result<Vec<bool, A>, AllocError>
-        ensures { IfOk result (λ ended. ended.items ≡ ended_of self.now written.now) }
+    // Which of these interfaces, with what is added to them, and then of those of a text, an event
+    // of theirs may end.
+    fn all_ended(&self, gathered: &Gathered<'_, A>) -> Result<Vec<bool, A>, AllocError>
+        ensures { IfOk result (λ ended. ended.items
+            ≡ ended_of (grown self.now gathered.now) gathered.now.declared) }
     {
         let alloc = self.interfaces.allocator();
+        let entries = self.interfaces.as_slice();
+        let added = gathered.added.as_slice();
+        let declared = gathered.declared.as_slice();
         let mut ended = Vec::new(alloc.clone()?);
-        for entry in &self.interfaces {
-            ended.push(entry.has_destroying_event())?;
+        for (place, entry) in entries.iter().enumerate() {
+            ended.push(entry.is_ended_with(added.get(place)))?;
         }
-        for interface in written {
+        for interface in declared {
             ended.push(interface.has_destroying_event())?;
         }
         Ok(ended)

@@ -1,0 +1,10 @@
+use Rattle.std.proofs.Common.{◌≡◌, take}
+use Rattle.std.specs.Prelude.{option_map}
+use Rattle.wl_sigs.specs.BrokenLines.{broken}
+use Rattle.wl_sigs.specs.Extending.{added_broken}
+use Rattle.wl_sigs.specs.Places.{place_in}
+use Rattle.wl_sigs.proofs.added.added_broken.Given as goal
+
+abbrev pub invariant-loop-here : goal.invariant-loop-here
+invariant-loop-here g l = option_map broken l.first
+    ≡ added_broken l.interfaces (place_in l.places) l.ended 0 (take l.here l.interfaces) l.added

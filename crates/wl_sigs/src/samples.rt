@@ -1,0 +1,84 @@
+//! What some texts of tables come to, worked out by hand. Each is the contract of a function that
+//! does nothing.
+ghost use Rattle.std.specs.Prelude.{◌≡◌, codes, Some, None};
+ghost use Rattle.wl_interface_text.specs.declared.fault.TableFault.TheVariants.{BadLine, BadTable};
+ghost use Rattle.wl_sigs.specs.Samples.{fault_of_text, version_in_text, message_in_text};
+ghost use Rattle.wl_sigs.specs.declared.signature.Side.TheVariants.{Request};
+
+/// An event that makes an object, an event that names it, and the request that ends it. Then one
+/// without a name, and one of the client in its place.
+#[tactic(auto, unfolding(crate::specs::Core::core_tables))]
+pub fn server_objects()
+    ensures made { fault_of_text (codes
+        "interface dev 3\nrequest release D\nevent made N(off)\nevent show ?o(off)\ninterface off 3\nrequest destroy D")
+        ≡ None }
+    ensures nameless { fault_of_text (codes "interface dev 3\nevent made N") ≡ Some (BadLine 2) }
+    ensures of_client { fault_of_text (codes "interface dev 3\nevent made n(dev)")
+        ≡ Some (BadTable 2 4) }
+{}
+
+/// Extensions of wl_seat, of an interface further up, and of both, one after another; with an
+/// interface that stands further down.
+#[tactic(auto, unfolding(crate::specs::Core::core_tables))]
+pub fn extensions()
+    ensures same { fault_of_text (codes "extend wl_seat 9") ≡ None }
+    ensures newer { fault_of_text (codes
+        "extend wl_seat 10\nrequest make n(off) @10\nextend wl_seat 11\nevent show ?o(off) @11\ninterface off 1\nrequest destroy D")
+        ≡ None }
+    ensures of_text { fault_of_text (codes
+        "interface off 1\nrequest destroy D\nextend off 2\nrequest name s @2") ≡ None }
+    ensures at_its_place { version_in_text (codes "extend wl_seat 10\nextend wl_seat 12") 9
+        ≡ Some 12 }
+    ensures behind { message_in_text (codes "extend wl_seat 10\nrequest first\nrequest next") 9
+        Request 5 ≡ Some (codes "next") }
+    ensures in_front { message_in_text (codes "extend wl_seat 10\nrequest first") 9 Request 3
+        ≡ Some (codes "release") }
+{}
+
+/// Extensions out of place: of each of the four that are always the same, below the version that is
+/// there, of no interface and of one that stands further down; messages that break V1, V7 twice,
+/// V8 and V11 by what stands elsewhere.
+#[tactic(auto, unfolding(crate::specs::Core::core_tables))]
+pub fn extensions_out_of_place()
+    ensures display { fault_of_text (codes "extend wl_display 2") ≡ Some (BadTable 1 2) }
+    ensures registry { fault_of_text (codes "extend wl_registry 2") ≡ Some (BadTable 1 2) }
+    ensures callback { fault_of_text (codes "extend wl_callback 2") ≡ Some (BadTable 1 2) }
+    ensures fixes { fault_of_text (codes "extend wl_fixes 2") ≡ Some (BadTable 1 2) }
+    ensures lower { fault_of_text (codes "extend wl_seat 10\nextend wl_seat 9")
+        ≡ Some (BadTable 2 8) }
+    ensures unknown { fault_of_text (codes "extend dev 2") ≡ Some (BadTable 1 9) }
+    ensures above { fault_of_text (codes "extend dev 2\ninterface dev 1") ≡ Some (BadTable 1 9) }
+    ensures named_again { fault_of_text (codes "extend wl_seat 10\nrequest release D @10")
+        ≡ Some (BadTable 2 1) }
+    ensures has_requests { fault_of_text (codes "extend wl_seat 10\nevent gone D @10")
+        ≡ Some (BadTable 2 7) }
+    ensures is_argument { fault_of_text (codes
+        "interface dev 1\nrequest take o(off)\ninterface off 1\nextend off 2\nevent gone D")
+        ≡ Some (BadTable 2 7) }
+    ensures later { fault_of_text (codes "extend wl_seat 10\nrequest newer @11")
+        ≡ Some (BadTable 2 8) }
+    ensures is_made { fault_of_text (codes
+        "interface dev 1\nevent made N(off)\ninterface off 1\nextend off 2\nevent gone D")
+        ≡ Some (BadTable 2 11) }
+{}
+
+/// V11: in a request, twice in an event, of an interface that an event further down destroys, and
+/// of each of the four that are always the same.
+#[tactic(auto, unfolding(crate::specs::Core::core_tables))]
+pub fn server_objects_out_of_place()
+    ensures request { fault_of_text (codes "interface dev 3\nrequest make N(dev)")
+        ≡ Some (BadTable 2 11) }
+    ensures two { fault_of_text (codes "interface dev 3\nevent made N(dev) N(dev)")
+        ≡ Some (BadTable 2 11) }
+    ensures ended { fault_of_text (codes
+        "interface dev 3\nevent made N(off)\ninterface off 3\nevent gone D")
+        ≡ Some (BadTable 2 11) }
+    ensures display { fault_of_text (codes "interface dev 3\nevent made N(wl_display)")
+        ≡ Some (BadTable 2 11) }
+    ensures registry { fault_of_text (codes "interface dev 3\nevent made N(wl_registry)")
+        ≡ Some (BadTable 2 11) }
+    ensures callback { fault_of_text (codes "interface dev 3\nevent made N(wl_callback)")
+        ≡ Some (BadTable 2 11) }
+    ensures fixes { fault_of_text (codes "interface dev 3\nevent made N(wl_fixes)")
+        ≡ Some (BadTable 2 11) }
+{}
