@@ -121,7 +121,7 @@ fn socket<'a>(alloc: Global) -> Result<Command<'a>, AllocError>
     ensures { IfOk result (λ c. app_of c ≡ socket_command) }
 {
     Command::new(alloc, "socket")
-        .about("Prints the same session, played over a Unix socket")
+        .about("Runs the session of `demo` over a Unix socket and prints it")
         .arg(path(alloc))
 }
 
@@ -169,7 +169,7 @@ fn piece<'a>(alloc: Global) -> Arg<'a>
         .value_name("N")
         .value_parser(clap::value_parser!(u32).range(1..=4096))
         .default_value(MOST_PIECE)
-        .help("The most bytes carried at once, 1 to 4096")
+        .help("The most bytes carried at once, from 1 to 4096")
 }
 
 /// The argument that says where the socket is bound.
@@ -179,7 +179,7 @@ fn path<'a>(alloc: Global) -> Arg<'a>
 {
     Arg::new(alloc, "PATH")
         .required(true)
-        .help("Where the socket is bound; nothing may be there")
+        .help("The path to bind the socket at; it must not exist yet")
 }
 
 /// The word that a command was given for the argument of this name, or none.

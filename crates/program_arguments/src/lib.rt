@@ -1,6 +1,6 @@
-//! What the words of a command line ask `waywire` for.
+//! Which job the words of a command line ask `waywire` for.
 //!
-//! The words are read by the parser `clap`, whose contracts say what they mean for a given list of
+//! The parser `clap` reads the words. Its contracts say what words mean for a given list of
 //! commands and arguments; `specs/Asking.antt` is that list.
 #![tactic(auto)]
 

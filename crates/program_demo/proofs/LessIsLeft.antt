@@ -10,10 +10,11 @@ use Rattle.std.specs.declared.result.Result.TheVariants.{Ok, Err}
 use Rattle.wl_message.specs.declared.amounts.Amounts.{Amounts}
 use Rattle.wl_message.specs.Outgoing.{QueuedMessage, Outgoing, all_bytes, waiting_bytes, newly_begun, after_taking}
 use Rattle.wl_objects.specs.declared.error.NextError.{NextError}
+use Rattle.wl_connection.proofs.Roles.{fewer_wait}
 use Rattle.wl_client.specs.Reports as events
-use Rattle.wl_client.proofs.ReadsGoOn as client
+use Rattle.wl_client.proofs.ReadingStays as client
 use Rattle.wl_server.specs.Requests as requests
-use Rattle.wl_server.proofs.ReadsGoOn as server
+use Rattle.wl_server.proofs.ReadingStays as server
 use Rattle.theory_connection.specs.Pair.{PairState, Move, Reply, ClientSend, ClientBind, ServerSend}
 use Rattle.theory_connection.specs.Pair.{ServerDrop, PostError, AddGlobal, Withdraw, Announce}
 use Rattle.theory_connection.specs.Pair.{CarryToServer, CarryToClient, ClientNext, ServerNext}
@@ -100,11 +101,11 @@ less_left (CarryToClient most) (CarryToClient carried) p p' does busy =
 less_left (CarryToClient most) _ p p' does busy = absurd does
 less_left ServerNext (ServerNext answer) p p' does busy =
     read_less requests.needs_memory (requests.next_answer p.server) (left_for ServerNext) p
-    (with_server p (requests.after_next p.server)) does (server.fewer_wait p.server) busy
+    (with_server p (requests.after_next p.server)) does (fewer_wait requests.server_role server.is_role p.server) busy
 less_left ServerNext _ p p' does busy = absurd does
 less_left ClientNext (ClientNext answer) p p' does busy =
     read_less events.needs_memory (events.next_answer p.client) (left_for ClientNext) p
-    (with_client p (events.after_next p.client)) does (client.fewer_wait p.client) busy
+    (with_client p (events.after_next p.client)) does (fewer_wait events.client_role client.is_role p.client) busy
 less_left ClientNext _ p p' does busy = absurd does
 less_left (ClientSend target opcode given) (ClientSend reply) p p' does busy = absurd (cc busy)
 less_left (ClientSend target opcode given) _ p p' does busy = absurd does

@@ -1,6 +1,10 @@
 -- The program's failures.
 use Rattle.std.specs.Prelude.{◌≡◌, ◌≢◌, ℕ, ◌<◌, List, ◌++◌, length, codes, Option, IfSome}
+use Rattle.std.specs.declared.result.Result.{Result}
+use Rattle.std.specs.declared.result.Result.TheVariants.{Ok, Err}
 use Rattle.std.specs.Fmt.{decimal}
+use Rattle.std.specs.IoError.{error_kind}
+use Rattle.std.specs.declared.io.Error.{Error}
 use Rattle.wl_recording.specs.declared.recording.RecordingError.{RecordingError}
 use Rattle.wl_recording.specs.declared.recording.RecordingError.TheVariants as recordings
 use Rattle.wl_recording.specs.Text.{IsFirstBad}
@@ -13,7 +17,8 @@ use Rattle.program_socket.specs.declared.error.SocketError.TheVariants as socket
 use Rattle.program_jobs.specs.declared.failure.Failure.{Failure}
 use Rattle.program_jobs.specs.declared.failure.Failure.TheVariants.{CannotRead, TooLong, BadLine}
 use Rattle.program_jobs.specs.declared.failure.Failure.TheVariants.{BadTablesLine, BreaksRule}
-use Rattle.program_jobs.specs.declared.failure.Failure.TheVariants.{CannotWrite, SocketFailed, Memory}
+use Rattle.program_jobs.specs.declared.failure.Failure.TheVariants.{CannotWrite, SocketFailed}
+use Rattle.program_jobs.specs.declared.failure.Failure.TheVariants.{Memory}
 
 -- what the faults of a recording are to the program
 abbrev pub recording_failure : RecordingError → Failure
@@ -41,6 +46,13 @@ IsSocketFailure kind (BadLine line) = ⊥
 IsSocketFailure kind (BadTablesLine line) = ⊥
 IsSocketFailure kind (BreaksRule line rule) = ⊥
 IsSocketFailure kind CannotWrite = ⊥
+
+-- what a call of the socket gave, or why it failed, which the kind of its error decides
+abbrev pub IsCalled : {T : Type 0} → Result T Error → Result T Failure → Type 0
+IsCalled (Ok given) (Ok it) = it ≡ given
+IsCalled (Ok given) (Err why) = ⊥
+IsCalled (Err error) (Ok it) = ⊥
+IsCalled (Err error) (Err why) = IsSocketFailure (error_kind error) why
 
 -- the exit status
 abbrev pub status_of : Failure → ℕ

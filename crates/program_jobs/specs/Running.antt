@@ -1,5 +1,5 @@
 -- What a run of the whole program does.
-use Rattle.std.specs.Prelude.{◌≡◌, ◌≢◌, ℕ, List, Option, String, Vec, codes}
+use Rattle.std.specs.Prelude.{◌≡◌, ◌≢◌, ℕ, List, Option, String, Vec, codes, ⊤}
 use Rattle.std.specs.Cow.{cow_str_bytes}
 use Rattle.std.specs.declared.result.Result.{Result}
 use Rattle.std.specs.declared.result.Result.TheVariants.{Ok, Err}
@@ -58,32 +58,35 @@ pub data OpensFile {R O E : Type 0} (remaining : R → Option (List ℕ))
 -- tables first. Where one cannot be opened nothing is printed, and standard error is given the
 -- failure's line: the status is 4 where it is out of memory, and otherwise 3. A job with a socket
 -- is done over the one that was bound at its path; where none could be bound, the same is said of
--- that. A job that has neither is done over empty files.
+-- that. The status is 0 only where the path of that socket was removed. A job that has neither is
+-- done over empty files.
 pub data Opened {R S O E : Type 0} (remaining : R → Option (List ℕ))
     (contents : O → Option (List ℕ)) (said : E → Option (List ℕ))
     (opens : List ℕ → Result R Error → Type 0) (binds : List ℕ → Result S Error → Type 0)
+    (removes : S → Result ⊤ Error → Type 0)
     (job : Job) (out out' : O) (err err' : E) (status : ℕ) : Type 0 where
   over : (known_tables : Option (List ℕ)) (name : List ℕ)
       → HasOpened remaining opens job known_tables → NamesFile job name
       → OpensFile remaining contents said opens job known_tables name out out' err err' status
-      → Opened remaining contents said opens binds job out out' err err' status
+      → Opened remaining contents said opens binds removes job out out' err err' status
   no_tables : (name : List ℕ) (why : Error) (failure : Failure)
       → NamesTables job name → opens name (Err why)
       → IsOpenFailure name (error_kind why) failure → status ≡ status_of failure
       → out' ≡ out → AppendsFront (said err) (said err') (failure_line failure)
-      → Opened remaining contents said opens binds job out out' err err' status
+      → Opened remaining contents said opens binds removes job out out' err err' status
   bound : (path : List ℕ) (socket : S) (known_tables known : Option (List ℕ))
       → NamesPath job path → binds path (Ok socket)
+      → (status ≡ 0 → removes socket (Ok tt))
       → Acted contents said job known_tables known out out' err err' status
-      → Opened remaining contents said opens binds job out out' err err' status
+      → Opened remaining contents said opens binds removes job out out' err err' status
   not_bound : (path : List ℕ) (why : Error) (failure : Failure)
       → NamesPath job path → binds path (Err why)
       → IsSocketFailure (error_kind why) failure → status ≡ status_of failure
       → out' ≡ out → AppendsFront (said err) (said err') (failure_line failure)
-      → Opened remaining contents said opens binds job out out' err err' status
+      → Opened remaining contents said opens binds removes job out out' err err' status
   alone : (known_tables known : Option (List ℕ)) → (ReadsFile job → ⊥) → (BindsSocket job → ⊥)
       → Acted contents said job known_tables known out out' err err' status
-      → Opened remaining contents said opens binds job out out' err err' status
+      → Opened remaining contents said opens binds removes job out out' err err' status
 
 -- Help is printed and nothing is said, or the output did not take it, or not all of it; for
 -- anything else nothing is printed, the status is that of the stop, and standard error is given its
@@ -124,15 +127,16 @@ pub data Unread {E : Type 0} (said : E → Option (List ℕ)) (kind : ErrorKind)
 pub data RunsWords {A M R S O E : Type 0} (words : Result (Vec (String A) M) Error)
     (remaining : R → Option (List ℕ)) (contents : O → Option (List ℕ))
     (said : E → Option (List ℕ)) (opens : List ℕ → Result R Error → Type 0)
-    (binds : List ℕ → Result S Error → Type 0) (out out' : O) (err err' : E) (status : ℕ)
+    (binds : List ℕ → Result S Error → Type 0) (removes : S → Result ⊤ Error → Type 0)
+    (out out' : O) (err err' : E) (status : ℕ)
     : Type 0 where
   did : (list : Vec (String A) M) (job : Job) → words ≡ Ok list → Asks (texts_of list.items) job
-      → Opened remaining contents said opens binds job out out' err err' status
-      → RunsWords words remaining contents said opens binds out out' err err' status
+      → Opened remaining contents said opens binds removes job out out' err err' status
+      → RunsWords words remaining contents said opens binds removes out out' err err' status
   stopped : (list : Vec (String A) M) (stop : Stop)
       → words ≡ Ok list → Stops (texts_of list.items) stop
       → StopTold contents said stop out out' err err' status
-      → RunsWords words remaining contents said opens binds out out' err err' status
+      → RunsWords words remaining contents said opens binds removes out out' err err' status
   not_read : (why : Error) → words ≡ Err why
       → Unread said (error_kind why) err err' status → out' ≡ out
-      → RunsWords words remaining contents said opens binds out out' err err' status
+      → RunsWords words remaining contents said opens binds removes out out' err err' status

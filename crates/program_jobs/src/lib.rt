@@ -1,7 +1,7 @@
 //! The jobs of the command `waywire`: what each prints, and a run of the whole program.
 //!
-//! A job is done over any reader and any writers. What it prints is whole before any of it is
-//! written. What the words of a command line ask for is in `program_arguments`.
+//! A job works over any reader and any writers. Its output is complete before any of it is
+//! written. `program_arguments` says which job the words of a command line ask for.
 #![tactic(auto)]
 
 mod acting;

@@ -55,7 +55,7 @@ where
     requires opens { F.IsAlwaysCallable opener }
     requires binds { B.IsAlwaysCallable binder }
     ensures { RunsWords words R.remaining O.contents E.contents (FnReturnsAt F.Fn opener)
-        (FnOnceReturnsAt B.FnOnce binder) out.old out.new err.old err.new result.status }
+        (FnOnceReturnsAt B.FnOnce binder) S.removes out.old out.new err.old err.new result.status }
 {
     let status = match words {
         Ok(words) => match job_of(alloc, words.as_slice()) {
@@ -125,7 +125,7 @@ where
     requires opens { F.IsAlwaysCallable opener }
     requires binds { B.IsAlwaysCallable binder }
     ensures { Opened R.remaining O.contents E.contents (FnReturnsAt F.Fn opener)
-        (FnOnceReturnsAt B.FnOnce binder) job.now out.old out.new err.old err.new result }
+        (FnOnceReturnsAt B.FnOnce binder) S.removes job.now out.old out.new err.old err.new result }
 {
     match job {
         Job::Trace {

@@ -1,7 +1,8 @@
 //! The session of both ends over a socket that is bound, connected to itself, and removed.
-ghost use Rattle.std.specs.Prelude.{◌≡◌, IfOk, IfErr};
+ghost use Rattle.std.specs.Prelude.{◌≡◌, IfOk, IfErr, Ok, OnOk};
 ghost use Rattle.wl_sigs.specs.Core.{core_tables};
 ghost use Rattle.program_socket.specs.Socket.{IsShownOverStreams};
+ghost use Rattle.program_jobs.specs.Failing.{IsCalled};
 ghost use Rattle.program_jobs.specs.Output.{IsSocketRefusal};
 
 use crate::acting::Printed;
@@ -16,6 +17,12 @@ use wl_sigs::Tables;
 ///
 /// What is generic over it cannot drop it, so that each way out of a session removes the path.
 pub trait BoundSocket {
+    ghost use Rattle.std.specs.Prelude.{Result, ⊤};
+    ghost use Rattle.std.specs.declared.io.Error.{Error};
+
+    // What comes of the removal of this socket's path.
+    ghost removes: { Self → Result ⊤ Error → Type 0 } = { λ _ _. ⊤ };
+
     /// One end of a connection, closed when it is dropped.
     type Stream: Read + Write + Drop;
 
@@ -26,10 +33,12 @@ pub trait BoundSocket {
     fn accept(&self) -> io::Result<Self::Stream>;
 
     /// Removes the path.
-    fn remove(self) -> io::Result<()>;
+    fn remove(self) -> io::Result<()>
+        ensures { removes self result };
 }
 
-/// What the session over a bound socket prints. The path is removed whatever came of the session.
+/// What the session over a bound socket prints, where its path was removed. That is tried whatever
+/// came of the session.
 pub(crate) fn run_over_socket<A: Allocator + Clone + Drop, B: BoundSocket>(
     alloc: A,
     global: Global,
@@ -38,17 +47,16 @@ pub(crate) fn run_over_socket<A: Allocator + Clone + Drop, B: BoundSocket>(
     ensures shows { IfOk result (λ o. IsShownOverStreams core_tables o.text.items
         × (o.status ≡ 0)) }
     ensures refused { IfErr result IsSocketRefusal }
+    ensures removed { OnOk result (B.removes bound (Ok tt)) }
 {
     let text = play_session(alloc, global, &bound);
-    let removed = bound.remove();
+    let removed = called(bound.remove());
     let text = text?;
-    match removed {
-        Ok(()) => Ok(Printed {
-            text,
-            status: status::SUCCESS,
-        }),
-        Err(error) => Err(Failure::of_socket(&error)),
-    }
+    removed?;
+    Ok(Printed {
+        text,
+        status: status::SUCCESS,
+    })
 }
 
 /// The session over the two ends of one connection.
@@ -60,17 +68,17 @@ fn play_session<A: Allocator + Clone + Drop, B: BoundSocket>(
     ensures shows { IfOk result (λ text. IsShownOverStreams core_tables text.items) }
     ensures refused { IfErr result IsSocketRefusal }
 {
-    let client = connected(bound.connect())?;
-    let server = connected(bound.accept())?;
+    let client = called(bound.connect())?;
+    let server = called(bound.accept())?;
     Ok(socket_text(alloc, &Tables::core(global)?, client, server)?)
 }
 
-/// One end of a connection, if there is one.
-fn connected<S: Drop>(end: io::Result<S>) -> Result<S, Failure<'static>>
-    ensures { IfErr result IsSocketRefusal }
+/// What a call of the socket gave, or why it failed.
+fn called<T: Drop>(call: io::Result<T>) -> Result<T, Failure<'static>>
+    ensures { IsCalled call result }
 {
-    match end {
-        Ok(stream) => Ok(stream),
+    match call {
+        Ok(given) => Ok(given),
         Err(error) => Err(Failure::of_socket(&error)),
     }
 }

@@ -71,7 +71,7 @@ drawing_surface =
     ClientSend the_compositor 0 (new_object ∷ [])
     ∷ ClientSend the_surface 6 [] ∷ ClientSend the_surface 0 [] ∷ []
 
--- the boxes of each end
+-- the queues of each end
 abbrev pub sizes : Sizes
 sizes = record {
   out_bytes = 65536;

@@ -1,4 +1,4 @@
-//! The session of the demonstration, without how it is carried: its objects, the boxes of both
+//! The session of the demonstration, without how it is carried: its objects, the queues of both
 //! ends, and the last line of what is printed of it.
 //!
 //! A client binds two globals, asks for a callback, and makes, commits and destroys a surface.

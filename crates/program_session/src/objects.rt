@@ -1,4 +1,4 @@
-//! The objects of the session, and the boxes of its two ends.
+//! The objects of the session, and the queues of its two ends.
 
 use wl_message::{Limit, Sizes};
 use wl_objects::Object;
@@ -15,7 +15,7 @@ pub const CALLBACK: Object = Object { id: 5, birth: 4 };
 /// The surface has the id of the callback, which is gone by then.
 pub const SURFACE: Object = Object { id: 5, birth: 5 };
 
-/// The boxes of each end.
+/// The queues of each end.
 pub const SIZES: Sizes = Sizes {
     out_bytes: 65_536,
     out_tokens: 64,

@@ -1,10 +1,13 @@
 -- Two ends, and the stream of each.
-use Rattle.std.specs.Prelude.{◌≡◌, ℕ, List, [], length, Option, None}
+use Rattle.std.specs.Prelude.{◌≡◌, ◌≢◌, ◌+◌, ℕ, List, [], length, Option, None}
+use Rattle.std.specs.declared.result.Result.{Result}
+use Rattle.std.specs.declared.result.Result.TheVariants.{Ok, Err}
 use Rattle.std.specs.Io.KnownBytes.{Appends, Consumes}
 use Rattle.wl_message.specs.Outgoing.{all_tokens, newly_begun, waiting_bytes}
 use Rattle.wl_connection.specs.Core.{Core, with_gone}
 use Rattle.wl_connection.specs.Reads.{Reading, Reads, with_arrivals}
 use Rattle.theory_connection.specs.Pair.{PairState}
+use Rattle.program_socket.specs.declared.error.SocketError.{SocketError}
 
 -- What is known of a stream: the bytes that it has left to give, and those that it was given, each
 -- as far as that is known.
@@ -39,3 +42,12 @@ pub record Receives {E R : Type 0} (reading : Reading E R) (count : ℕ) (bytes 
   pub given : Consumes had has bytes
   pub reports : List R
   pub read : Reads reading (with_arrivals reading end bytes []) reports None end'
+
+-- What is made of a read, with so many retries before and after it. The bytes that it gave are
+-- counted. The end of the input is a failure. A failed read counts as no bytes and uses up a retry,
+-- and is a failure where none is left.
+abbrev pub CountsRead : {E : Type 0} → Result ℕ E → Result ℕ SocketError → ℕ → ℕ → Type 0
+CountsRead (Ok n) (Ok count) left left' = (count ≡ n) × (n ≢ 0) × (left' ≡ left)
+CountsRead (Ok n) (Err why) left left' = n ≡ 0
+CountsRead (Err error) (Ok count) left left' = (count ≡ 0) × (left' + 1 ≡ left)
+CountsRead (Err error) (Err why) left left' = left ≡ 0

@@ -1,15 +1,15 @@
 //! One turn: what one end has written goes into its stream, and the other end reads as many bytes
 //! from its own.
-ghost use Rattle.std.specs.Prelude.{◌≡◌, ◌<◌, ◌+◌, [], length, IfOk, OnOk, List, None};
+ghost use Rattle.std.specs.Prelude.{◌≡◌, ◌+◌, [], length, IfOk, OnOk, OnErr, List, None};
 ghost use Rattle.std.specs.Io.KnownBytes.{Consumes};
 ghost use Rattle.wl_message.specs.Outgoing.{waiting_bytes};
 ghost use Rattle.wl_connection.specs.Core.{with_gone};
 ghost use Rattle.wl_connection.specs.Reads.{Reads, with_arrivals, reading_of};
-ghost use Rattle.program_socket.specs.Streams.{Sends};
+ghost use Rattle.program_socket.specs.Streams.{CountsRead, Sends};
 
 use crate::error::SocketError;
 use std::alloc::Allocator;
-use std::io::{Read, Write};
+use std::io::{self, Read, Write};
 use wl_connection::{End, Receiver, read_all};
 use wl_message::FlushError;
 
@@ -62,13 +62,25 @@ pub(crate) fn receive<R: Read, A: Allocator>(
     let mut buffer = [0u8; MOST];
     'reads: while bytes.len() < count {
         let most = MOST.min(count - bytes.len());
-        match reader.read(&mut buffer[..most]) {
-            Ok(0) => return Err(SocketError::Failed),
-            Ok(n) => bytes.extend_from_slice(&buffer[..n])?,
-            Err(_) => try_again(retries)?,
-        }
+        let n = counted_read(reader.read(&mut buffer[..most]), retries)?;
+        bytes.extend_from_slice(&buffer[..n])?;
     }
     Ok(bytes)
+}
+
+/// How many bytes a read gave, and none where it failed and is to be made again. It fails at the
+/// end of the input, whatever retries are left, and where a read failed and none is left.
+fn counted_read(read: io::Result<usize>, retries: &mut usize) -> Result<usize, SocketError>
+    ensures { CountsRead read result retries.old retries.new }
+{
+    match read {
+        Ok(0) => Err(SocketError::Failed),
+        Ok(n) => Ok(n),
+        Err(_) => {
+            try_again(retries)?;
+            Ok(0)
+        }
+    }
 }
 
 /// Hands bytes to an end, which reads all messages that wait then.
@@ -95,7 +107,8 @@ pub(crate) fn deliver<E: Receiver, A: Allocator>(
 
 /// Uses up one of the retries, or fails where none is left.
 fn try_again(retries: &mut usize) -> Result<(), SocketError>
-    ensures { OnOk result (retries.new < retries.old) }
+    ensures used { OnOk result (retries.new + 1 ≡ retries.old) }
+    ensures none { OnErr result (retries.old ≡ 0) }
 {
     if *retries == 0 {
         return Err(SocketError::Failed);

@@ -206,7 +206,7 @@ pub never_bad : (o : Outgoing) (i : Arrived) (ms : List QueuedMessage) (n : ℕ)
     → ⊥
 never_bad o i ms n f h = never_bad_at o i ms f.begun n f refl h
 
--- empty boxes: nothing is in flight
+-- empty queues: nothing is in flight
 none_at : (o : Outgoing) (i : Arrived) (ms bs : List QueuedMessage) (f : InFlight o i ms) → f.begun ≡ bs → i.bytes ≡ []
     → o.left ≡ [] → o.messages ≡ [] → ms ≡ []
 none_at o i ms [] f e x y z = f.all ∙ ap (λ l. l ++ o.messages) e ∙ z
@@ -229,7 +229,7 @@ back_nil : (xs ys : List ℕ) → xs ++ ys ≡ [] → ys ≡ []
 back_nil [] ys h = h
 back_nil (x ∷ xs) ys h = cc
 
--- with empty boxes nothing is in flight
+-- with empty queues nothing is in flight
 pub none_in_flight : (o : Outgoing) (i : Arrived) (ms : List QueuedMessage) → InFlight o i ms → i.bytes ≡ []
     → waiting_bytes o ≡ [] → ms ≡ []
 none_in_flight o i ms f x y =

@@ -20,7 +20,7 @@ use Rattle.wl_object_map.specs.declared.object.Entry.{Entry}
 use Rattle.wl_objects.specs.declared.error.SendError.{SendError}
 use Rattle.wl_object_map.specs.View.{View, Sound, look, next_id, can_open}
 use Rattle.wl_objects.specs.Writing.{Given, wired, message_bytes}
-use Rattle.wl_objects.specs.Messages.{NewObject, made, ended_id, Client as client_end, after, checked}
+use Rattle.wl_objects.specs.Messages.{NewObject, made, ended_id, after, checked}
 use Rattle.wl_connection.specs.Core.{Core}
 use Rattle.wl_connection.specs.Sending.{send_answer, after_send, after_checked, made_at, version_at, opens_object}
 use Rattle.theory_connection.specs.Meant.{Born, Known, Arg, object_at, ended_by, tokens, wire}
@@ -204,14 +204,14 @@ left_by core target opcode given signature v e c k =
     let id = ended_id signature.destroys target.id (map (wired 0) given) in
     ap (after_checked core Request target opcode given) e
     ∙ ((λ i. record core {
-      view = after client_end core.view (mk i) signature.destroys id;
+      view = after Request core.view (mk i) signature.destroys id;
       outbox = record core.outbox {
         messages = core.outbox.messages
             ++ queued (message_bytes target.id opcode (k.wire_is i)) (t i) ∷ [];
       };
     })
     ∙ (λ i. record core {
-      view = after_is client_end core.view (option_map made_of (made_in m.args)) signature.destroys id m.ends
+      view = after_is Request core.view (option_map made_of (made_in m.args)) signature.destroys id m.ends
           (call_ends core Request target opcode given signature v c k) i;
       outbox = record core.outbox {
         messages = core.outbox.messages

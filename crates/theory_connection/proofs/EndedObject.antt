@@ -13,7 +13,7 @@ use Rattle.wl_sigs.specs.Fixed as fixed
 use Rattle.wl_sigs.specs.Fixed.{registry}
 use Rattle.wl_sigs.specs.Valid.{Valid}
 use Rattle.wl_object_map.specs.View.{View}
-use Rattle.wl_objects.specs.Messages.{Role, NewObject, after, opens, destroyed, ended_id}
+use Rattle.wl_objects.specs.Messages.{NewObject, after, opens, destroyed, ended_id}
 use Rattle.wl_connection.proofs.Ends.{the_destroy, is_the_destroy}
 use Rattle.theory_connection.specs.Stands.{FitsSignature, SuitKinds}
 use Rattle.theory_connection.specs.Meant.{Known, Message, Arg, born_of, rearg, wire, objects, object_at, ended_by}
@@ -127,20 +127,20 @@ pub record EndsAs (what : Destroys) (id : ℕ) (o : Option Known) : Type 0 where
   pub flag : destroys_one what ≡ is_some o
   pub same : IfThere (λ x. x.id ≡ id) o
 
--- the objects of an end without what a message destroys
-abbrev pub ended_view : Role → View → Option Known → View
-ended_view end v None = v
-ended_view end v (Some x) = destroyed end v x.id
+-- the objects of the end that writes this side, without what a message destroys
+abbrev pub ended_view : Side → View → Option Known → View
+ended_view side v None = v
+ended_view side v (Some x) = destroyed side v x.id
 
 -- the view after a message is that with what it ends ended
-pub after_is : (end : Role) (v : View) (new : Option NewObject) (what : Destroys) (id : ℕ) (o : Option Known)
-    → EndsAs what id o → after end v new what id ≡ ended_view end (opens v new) o
-after_is end v new Nothing id None e = refl
-after_is end v new Nothing id (Some x) e = absurd (let f = e.flag in cc f)
-after_is end v new Target id None e = absurd (let f = e.flag in cc f)
-after_is end v new Target id (Some x) e = ap (destroyed end (opens v new)) (sym e.same)
-after_is end v new (ends_arg k) id None e = absurd (let f = e.flag in cc f)
-after_is end v new (ends_arg k) id (Some x) e = ap (destroyed end (opens v new)) (sym e.same)
+pub after_is : (side : Side) (v : View) (new : Option NewObject) (what : Destroys) (id : ℕ) (o : Option Known)
+    → EndsAs what id o → after side v new what id ≡ ended_view side (opens v new) o
+after_is side v new Nothing id None e = refl
+after_is side v new Nothing id (Some x) e = absurd (let f = e.flag in cc f)
+after_is side v new Target id None e = absurd (let f = e.flag in cc f)
+after_is side v new Target id (Some x) e = ap (destroyed side (opens v new)) (sym e.same)
+after_is side v new (ends_arg k) id None e = absurd (let f = e.flag in cc f)
+after_is side v new (ends_arg k) id (Some x) e = ap (destroyed side (opens v new)) (sym e.same)
 
 ends_argument : (target : Known) (args : List (Arg Known)) (k : ℕ) → k ≡ 0 → (x : Known) → args ≡ Obj (Some x) ∷ []
     → EndsAs (ends_arg k) (ended_id (ends_arg k) target.id (map wire args)) (ended_by (ends_arg k) target args)

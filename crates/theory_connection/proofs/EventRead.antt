@@ -7,7 +7,7 @@ use Rattle.std.specs.declared.option.Option.TheVariants.{None, Some}
 use Rattle.std.specs.declared.result.Result.TheVariants.{Ok}
 use Rattle.std.proofs.lemmas.Bool.{ne_eqb, and_parts}
 use Rattle.wl_wire.specs.Argument.{Uint}
-use Rattle.wl_sigs.specs.declared.signature.Side.TheVariants.{Event as event_side}
+use Rattle.wl_sigs.specs.declared.signature.Side.TheVariants.{Request as request_side, Event as event_side}
 use Rattle.wl_sigs.specs.declared.signature.Destroys.TheVariants.{Nothing}
 use Rattle.wl_sigs.specs.Tables.{Interface, signature_at}
 use Rattle.wl_sigs.specs.Valid.{Valid}
@@ -21,7 +21,7 @@ use Rattle.wl_object_map.specs.declared.object.State.{State}
 use Rattle.wl_object_map.specs.declared.object.State.TheVariants as states
 use Rattle.wl_object_map.specs.View.{View, look, closed}
 use Rattle.wl_objects.specs.Reading.{descriptors}
-use Rattle.wl_objects.specs.Messages.{is_error, is_delete_id, same_iface, Client as client_end}
+use Rattle.wl_objects.specs.Messages.{is_error, is_delete_id, same_iface}
 use Rattle.wl_objects.specs.Messages.{after, ended_id, after_delete_id}
 use Rattle.wl_connection.specs.Core.{Core}
 use Rattle.wl_connection.specs.Receiving.{found, is_none}
@@ -125,7 +125,7 @@ in_event p w m cs asked s n e =
 abbrev pub after_event : client.State → Message Known → ℕ → Bool → client.State
 after_event st m n teaches = record {
   core = record st.core {
-    view = ended_view client_end st.core.view m.ends;
+    view = ended_view request_side st.core.view m.ends;
     inbox = without_first st.core.inbox n (length (tokens m.args));
     read = min (st.core.read + n) 18446744073709551615;
     failed = false;
@@ -159,10 +159,10 @@ event_answer p m n entry tables f valid d s =
     tokens_taken tables m.target.born.version f.signature.kinds m.args f.args in
     let registers : same_iface entry.iface registry ≡ is_registry m.target.born = ap is_registry s in
     let v = p.client.core.view in
-    let a = after client_end v None f.signature.destroys
+    let a = after request_side v None f.signature.destroys
     (ended_id f.signature.destroys m.target.id (map wire m.args)) in
-    let left : a ≡ ended_view client_end v m.ends =
-    after_is client_end v None f.signature.destroys _ m.ends (ends_as tables event_side m f valid) in
+    let left : a ≡ ended_view request_side v m.ends =
+    after_is request_side v None f.signature.destroys _ m.ends (ends_as tables event_side m f valid) in
     record {
       tells_it = rw (error, delete) refl;
       leaves = λ i. record {
@@ -212,7 +212,7 @@ event_stands p w m cs asked s n i y =
     let t = i.tells_it in
     let held : IfThere (IsHeldInRows (client_rows v)) m.ends =
     ends_have (IsHeldInRows (client_rows v)) p.server.core.tables event_side m f t.target t.args in
-    let rows : client_rows (ended_view client_end v m.ends) ≡ client_ends m.ends (client_rows v) =
+    let rows : client_rows (ended_view request_side v m.ends) ≡ client_ends m.ends (client_rows v) =
     client_after v None m.ends tt (if_by (held_row v) m.ends held) in
     record {
       terms = s.terms;

@@ -5,7 +5,6 @@ use Rattle.std.proofs.lemmas.List.{append_assoc}
 use Rattle.wl_sigs.specs.declared.signature.Side.TheVariants.{Event as event_side}
 use Rattle.wl_objects.specs.Writing.{message_len}
 use Rattle.wl_object_map.specs.View.{look, closed}
-use Rattle.wl_objects.specs.Messages.{Server as server_end}
 use Rattle.wl_connection.specs.Core.{Core}
 use Rattle.wl_connection.proofs.Messages.{whole_within}
 use Rattle.wl_server.proofs.Registries.{has_fewer}
@@ -50,7 +49,7 @@ there_mortal p w asked told s x h e one =
 -- the server's core with it
 abbrev pub told_core : Core → Message Known → Core
 told_core c m = record c {
-  view = ended_view server_end c.view m.ends;
+  view = ended_view event_side c.view m.ends;
   outbox = record c.outbox {
     messages = (c.outbox.messages ++ spelled_meant m ∷ [])
         ++ map spelled_coming (delete m.ends);
@@ -68,7 +67,7 @@ tell_stands p w asked told s m c =
     let there : IfThere (ThereRow (server_rows v)) m.ends =
     ends_have (ThereRow (server_rows v)) p.server.core.tables event_side m f c.target c.args in
     let mortal : IfThere Mortal m.ends = both_if (there_mortal p w asked told s) m.ends there c.ends in
-    let rows : server_rows (ended_view server_end v m.ends) ≡ server_ends m.ends (server_rows v) =
+    let rows : server_rows (ended_view event_side v m.ends) ≡ server_ends m.ends (server_rows v) =
     server_after v None m.ends tt in
     let news = Event m ∷ delete m.ends in
     record {

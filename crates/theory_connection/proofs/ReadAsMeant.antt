@@ -25,10 +25,11 @@ use Rattle.wl_object_map.specs.declared.object.Entry.{Entry}
 use Rattle.wl_object_map.specs.declared.object.State.{State}
 use Rattle.wl_object_map.specs.declared.object.State.TheVariants as states
 use Rattle.wl_object_map.specs.View.{View, look, free_or_next, has_room}
+use Rattle.wl_objects.specs.declared.lookup.NewId.{NewId}
 use Rattle.wl_objects.specs.declared.lookup.NewId.TheVariants.{Free}
 use Rattle.wl_objects.specs.Reading.{Reader, value_fault, iface_of, is_of, arguments_at, value_or_fault}
 use Rattle.wl_objects.specs.Reading.{descriptors, is_descriptor_kind, in_state, reported_argument}
-use Rattle.wl_objects.specs.Reading.{reports_of, head_or, tokens_after}
+use Rattle.wl_objects.specs.Reading.{reports_of, head_or, tokens_after, by_maker}
 use Rattle.wl_objects.specs.Writing.{spelled as spelled_values, message_len, message_bytes}
 use Rattle.wl_objects.specs.Messages.{reader_of, received, is_error, NewObject, made_by, made, or_else as made_or_else}
 use Rattle.theory_connection.specs.Meant.{Born, Known, Message, Arg, rearg, born_of, number_of_birth, wire}
@@ -89,6 +90,12 @@ is_of_same (Some iface) e d h k = rw h k
 abbrev strict : Reader → Reader
 strict r = record r { forgives = false }
 
+-- an object that an argument makes is one of the client
+by_client : (tables : List Interface) (version : ℕ) (kind : Kind) (id : ℕ) (new : NewObject) (of_client of_server : NewId)
+    → made_by tables version kind (New id) ≡ Some new → by_maker kind of_client of_server ≡ of_client
+by_client tables version (kinds.New iface) id new of_client of_server e = refl
+by_client tables version kind id new of_client of_server e = absurd (cc)
+
 right : (tables : List Interface) (version place : ℕ) (r : Reader) (kind : Kind) (a : Arg Known)
     → NamesRightly tables version kind a → Finds r a
     → value_fault (strict r) place kind (wire a) ≡ None
@@ -98,7 +105,8 @@ right tables version place r kind (Obj (Some x)) n m =
     let of : is_of (iface_of kind) m.entry ≡ true =
     is_of_same (iface_of kind) m.entry (live_entry x.born) m.iface n.1 in
     rw (some, m.there, of) refl
-right tables version place r kind (New x) n m = rw m refl
+right tables version place r kind (New x) n m =
+    rw (by_client tables version kind x.id _ (r.new_id x.id) (r.new_server_id x.id) n, m) refl
 right tables version place r kind (NewNamed name own x) n m = rw m refl
 right tables version place r kind a n m = refl
 
@@ -140,6 +148,7 @@ tokens_one (kinds.Obj null iface) (Obj None) s = refl
 tokens_one (kinds.Obj null iface) (Obj (Some x)) s = refl
 tokens_one (kinds.New (Some iface)) (New x) s = refl
 tokens_one (kinds.New None) (NewNamed name own x) s = refl
+tokens_one (kinds.NewByServer iface) (New x) s = refl
 tokens_one kinds.Array (Array z) s = refl
 tokens_one kinds.Fd (Fd z) s = refl
 tokens_one _ _ s = absurd s
@@ -290,6 +299,7 @@ made_one tables version (kinds.Obj null iface) (Obj None) s n = refl
 made_one tables version (kinds.Obj null iface) (Obj (Some x)) s n = refl
 made_one tables version (kinds.New (Some iface)) (New x) s n = n
 made_one tables version (kinds.New None) (NewNamed name own x) s n = n
+made_one tables version (kinds.NewByServer iface) (New x) s n = n
 made_one tables version kinds.Array (Array z) s n = refl
 made_one tables version kinds.Fd (Fd z) s n = refl
 made_one tables version _ _ s n = absurd s

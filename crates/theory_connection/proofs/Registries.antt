@@ -4,12 +4,13 @@ use Rattle.std.specs.Prelude.{option_map, nat_eq, is_some}
 use Rattle.std.specs.declared.option.Option.{Option}
 use Rattle.std.specs.declared.option.Option.TheVariants.{None, Some}
 use Rattle.wl_wire.specs.declared.kind.Iface.{Iface}
+use Rattle.wl_sigs.specs.declared.signature.Side.TheVariants.{Event}
 use Rattle.wl_sigs.specs.Tables.{Interface, interface_at}
 use Rattle.wl_sigs.specs.Fixed.{registry}
 use Rattle.wl_sigs.specs.Valid.{Valid}
 use Rattle.wl_object_map.specs.declared.object.Entry.{Entry}
 use Rattle.wl_object_map.specs.View.{View, Sound, look}
-use Rattle.wl_objects.specs.Messages.{same_iface, opens, Server as server_end}
+use Rattle.wl_objects.specs.Messages.{same_iface, opens}
 use Rattle.wl_connection.specs.Core.{Core}
 use Rattle.wl_server.specs.State as server
 use Rattle.wl_server.specs.State.{untold}
@@ -110,7 +111,7 @@ fresh_row v (Some x) f = fresh_look (look v x.id) f.free
 -- the registries stand after a request is read
 pub has_read : (c : Core) (rs : List server.Registry) (n o : Option Known) → Sound c.view
     → IsFreshId c.view (option_map made_of n) → IfThere (HeldRow c.view) o → HasRegistries c.view rs
-    → HasRegistries (ended_view server_end (opens c.view (option_map made_of n)) o)
+    → HasRegistries (ended_view Event (opens c.view (option_map made_of n)) o)
     (registries_left o (registries_after c rs (option_map made_of n)))
 has_read c rs n None s f r h = has_opened c rs (option_map made_of n) f h
 has_read c rs n (Some x) s f r h =
@@ -122,6 +123,6 @@ has_read c rs n (Some x) s f r h =
 -- the registries stand after an event that ends no registry
 pub has_told_one : (v : View) (rs : List server.Registry) (o : Option Known)
     → IfThere (λ (x : Known). (d : Entry) → look v x.id ≡ Some d → d.iface ≢ registry) o → HasRegistries v rs
-    → HasRegistries (ended_view server_end v o) rs
+    → HasRegistries (ended_view Event v o) rs
 has_told_one v rs None f h = h
 has_told_one v rs (Some x) f h = has_fewer v rs x.id f h

@@ -7,7 +7,7 @@ use Rattle.std.specs.declared.option.Option.{Option}
 use Rattle.std.specs.declared.option.Option.TheVariants.{None, Some}
 use Rattle.std.specs.declared.result.Result.TheVariants.{Ok}
 use Rattle.std.proofs.lemmas.List.{append-nil}
-use Rattle.wl_sigs.specs.declared.signature.Side.TheVariants.{Request as request_side}
+use Rattle.wl_sigs.specs.declared.signature.Side.TheVariants.{Request as request_side, Event as event_side}
 use Rattle.wl_sigs.specs.declared.signature.Destroys.{Destroys}
 use Rattle.wl_sigs.specs.declared.signature.Destroys.TheVariants.{Nothing, Target, Arg as ends_arg}
 use Rattle.wl_sigs.specs.Tables.{destroys_one}
@@ -20,7 +20,7 @@ use Rattle.wl_message.specs.Outgoing as boxes
 use Rattle.wl_wire.specs.Argument.{Uint, Obj}
 use Rattle.wl_object_map.specs.declared.object.Entry.{Entry}
 use Rattle.wl_object_map.specs.View.{View, Sound, look}
-use Rattle.wl_objects.specs.Messages.{opens, made as made_message, is_bind, reader_of, Server as server_end, after}
+use Rattle.wl_objects.specs.Messages.{opens, made as made_message, is_bind, reader_of, after}
 use Rattle.wl_objects.specs.Reading.{descriptors, reports_of}
 use Rattle.wl_connection.specs.Core.{Core, past, with_view}
 use Rattle.wl_connection.specs.Receiving.{Found, found}
@@ -143,7 +143,7 @@ delete_fits p (Some x) h = (h, tt)
 -- the server's core as it is left
 abbrev pub left_core : Core → Message Known → ℕ → Core
 left_core c m n = record c {
-  view = ended_view server_end (opens c.view (option_map made_of (made_in m.args))) m.ends;
+  view = ended_view event_side (opens c.view (option_map made_of (made_in m.args))) m.ends;
   inbox = without_first c.inbox n (length (tokens m.args));
   outbox = record c.outbox { messages = c.outbox.messages ++ map spelled_coming (delete m.ends) };
   read = min (c.read + n) 18446744073709551615;
@@ -215,10 +215,10 @@ left_is st m n entry f v s h hs =
     let object = ended st.core (the_found n m entry f.signature) in
     let e = ends_rightly st m n entry f v s h hs in
     let new = option_map made_of (made_in m.args) in
-    let view = after_is server_end st.core.view new what object.id m.ends e.ends in
+    let view = after_is event_side st.core.view new what object.id m.ends e.ends in
     (λ i. record st {
       core = with_following (destroys_one what) object.id
-          (with_view (past st.core n (count i)) (after server_end st.core.view (made i) what object.id));
+          (with_view (past st.core n (count i)) (after event_side st.core.view (made i) what object.id));
       registries = without_registry registry_birth (destroys_one what) object.birth
           (registries_after st.core st.registries (made i));
     })
@@ -234,7 +234,7 @@ left_is st m n entry f v s h hs =
           (registries_after st.core st.registries new);
     })
     (followed (destroys_one what) object.id m.ends
-    (with_view (past st.core n (length (tokens m.args))) (ended_view server_end (opens st.core.view new) m.ends))
+    (with_view (past st.core n (length (tokens m.args))) (ended_view event_side (opens st.core.view new) m.ends))
     e.ends.flag e.ends.same))
 
 -- ---- deletes follow

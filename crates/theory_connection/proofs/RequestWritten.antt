@@ -6,7 +6,7 @@ use Rattle.std.specs.declared.option.Option.TheVariants.{None, Some}
 use Rattle.wl_objects.specs.Writing.{message_len}
 use Rattle.wl_object_map.specs.View.{View, Sound, next_id, can_open, opened_at}
 use Rattle.wl_object_map.specs.Sounds.{Sound-opened}
-use Rattle.wl_objects.specs.Messages.{Client as client_end, opens as opens_view}
+use Rattle.wl_objects.specs.Messages.{opens as opens_view}
 use Rattle.wl_connection.specs.Core.{Core}
 use Rattle.wl_connection.proofs.Messages.{whole_within}
 use Rattle.theory_connection.specs.Meant.{Known, Message, Coming, renamed, rearg, born_of, wire}
@@ -43,7 +43,7 @@ pub record CanAsk (p : PairState) (m : Message Known) : Type 0 where
 -- the client's core with it
 abbrev pub asked_core : Core → Message Known → Core
 asked_core c m = record c {
-  view = ended_view client_end (opens_view c.view (option_map made_of (made_in m.args))) m.ends;
+  view = ended_view Request (opens_view c.view (option_map made_of (made_in m.args))) m.ends;
   outbox = record c.outbox { messages = c.outbox.messages ++ spelled_meant m ∷ [] };
 }
 
@@ -70,7 +70,7 @@ ask_stands p w asked told s m c =
     ends_have (OpenRow (client_rows v)) p.server.core.tables Request m f c.target c.args in
     let no_event : IfThere (λ x. test_of p x.born ≡ false) m.ends =
     ends_have (λ x. test_of p x.born ≡ false) p.server.core.tables Request m f c.target_plain c.args_plain in
-    let rows : client_rows (ended_view client_end (opens_view v (option_map made_of new)) m.ends)
+    let rows : client_rows (ended_view Request (opens_view v (option_map made_of new)) m.ends)
     ≡ client_ends m.ends (client_makes (client_rows v) new) =
     client_after v new m.ends c.new (if_by (λ x h. held_row v x (inl h)) m.ends opened) in
     let objects_stand = client_message s.client new m.ends

@@ -6,13 +6,14 @@ use Rattle.std.specs.declared.option.Option.{Option}
 use Rattle.std.specs.declared.option.Option.TheVariants.{None, Some}
 use Rattle.std.proofs.lemmas.Bool.Decides.{nat_tests}
 use Rattle.wl_wire.specs.Argument.{Obj}
+use Rattle.wl_sigs.specs.declared.signature.Side.TheVariants.{Request, Event}
 use Rattle.wl_object_map.specs.declared.object.Entry.{Entry}
 use Rattle.wl_object_map.specs.declared.object.State.{State}
 use Rattle.wl_object_map.specs.declared.object.State.TheVariants as states
 use Rattle.wl_object_map.specs.View.{View, Sound, look, opened_at, closed, zombie}
 use Rattle.wl_object_map.specs.Views.{look-opened_at, row-opened_at, row-closed, row-zombied}
 use Rattle.wl_object_map.specs.Sounds.{Sound-opened_at, Sound-closed, Sound-zombied}
-use Rattle.wl_objects.specs.Messages.{Client, Server, opens}
+use Rattle.wl_objects.specs.Messages.{opens}
 use Rattle.theory_connection.specs.Meant.{Born, Known, Arg, rearg, objects_in_arg, objects, new_object_in}
 use Rattle.theory_connection.specs.Meant.{made_in, token_in, tokens, born_of_entry}
 use Rattle.theory_connection.specs.World.{Row, Open, Ending, IfThere, Each}
@@ -65,7 +66,7 @@ there_row v x h = let m = map_some born_of_entry (look v x.id) x.born h
 
 -- the server's rows after a message that makes this and ends that
 pub server_after : (v : View) (n o : Option Known) → IfThere (Fresh (server_rows v)) n
-    → server_rows (ended_view Server (opens v (option_map made_of n)) o)
+    → server_rows (ended_view Event (opens v (option_map made_of n)) o)
     ≡ server_ends o (server_makes (server_rows v) n)
 server_after v None None g = refl
 server_after v None (Some x) g = server_closed v x.id
@@ -83,7 +84,7 @@ apart v y id e f h =
 
 -- the client's rows after a message that makes this and ends that
 pub client_after : (v : View) (n o : Option Known) → IfThere (Fresh (client_rows v)) n → IfThere (HeldRow v) o
-    → client_rows (ended_view Client (opens v (option_map made_of n)) o)
+    → client_rows (ended_view Request (opens v (option_map made_of n)) o)
     ≡ client_ends o (client_makes (client_rows v) n)
 client_after v None None g h = refl
 client_after v None (Some x) g h = client_zombied v x.id h.entry h.there
@@ -98,7 +99,7 @@ client_after v (Some y) (Some x) g h =
 
 -- what is made is counted, and no count falls
 pub births_kept : (v : View) (n o : Option Known)
-    → v.births ≤ (ended_view Server (opens v (option_map made_of n)) o).births
+    → v.births ≤ (ended_view Event (opens v (option_map made_of n)) o).births
 births_kept v None None = omega arith
 births_kept v None (Some x) = omega arith
 births_kept v (Some y) None = omega arith
@@ -120,7 +121,7 @@ server_opens_rows v (Some y) g = server_opened v y g.birth
 -- the server's view stays sound
 pub server_sound : (v : View) (n o : Option Known) → Sound v → IfThere (Fresh (server_rows v)) n
     → IfThere (ThereRow (server_rows v)) o → IfThere Mortal o
-    → Sound (ended_view Server (opens v (option_map made_of n)) o)
+    → Sound (ended_view Event (opens v (option_map made_of n)) o)
 server_sound v n None s g h y = server_opens_sound v n s g
 server_sound v n (Some x) s g h y =
     let k = there_kept (server_rows v) n x g h in
@@ -130,7 +131,7 @@ server_sound v n (Some x) s g h y =
 
 -- a new object at the client is free to the tests: it is the next
 pub client_sound : (v : View) (n o : Option Known) → Sound (opens v (option_map made_of n)) → IfThere Mortal o
-    → Sound (ended_view Client (opens v (option_map made_of n)) o)
+    → Sound (ended_view Request (opens v (option_map made_of n)) o)
 client_sound v n None s y = s
 client_sound v n (Some x) s y = Sound-zombied (opens v (option_map made_of n)) x.id s y
 
@@ -146,7 +147,7 @@ opens_live v (Some y) l = λ id e h. ⊎_elim (λ p. ap (λ (d : Entry). d.state
 
 -- the server's rows stay live
 pub server_live : (v : View) (n o : Option Known) → AllLive v
-    → AllLive (ended_view Server (opens v (option_map made_of n)) o)
+    → AllLive (ended_view Event (opens v (option_map made_of n)) o)
 server_live v n None l = opens_live v n l
 server_live v n (Some x) l = λ id e h. opens_live v n l id e (row-closed (opens v (option_map made_of n)) x.id id e h).1
 
@@ -210,7 +211,7 @@ kept_version false d = refl
 
 -- versions stay from 1 at the client
 pub client_aged : (v : View) (n o : Option Known) → IfThere (λ y. 1 ≤ y.born.version) n → Aged v
-    → Aged (ended_view Client (opens v (option_map made_of n)) o)
+    → Aged (ended_view Request (opens v (option_map made_of n)) o)
 client_aged v n None g a = opens_aged v n g a
 client_aged v n (Some x) g a = λ id e h.
     let z = row-zombied (opens v (option_map made_of n)) x.id id e h in
@@ -220,7 +221,7 @@ client_aged v n (Some x) g a = λ id e h.
 
 -- versions stay from 1 at the server
 pub server_aged : (v : View) (n o : Option Known) → IfThere (λ y. 1 ≤ y.born.version) n → Aged v
-    → Aged (ended_view Server (opens v (option_map made_of n)) o)
+    → Aged (ended_view Event (opens v (option_map made_of n)) o)
 server_aged v n None g a = opens_aged v n g a
 server_aged v n (Some x) g a = λ id e h. opens_aged v n g a id e
     (row-closed (opens v (option_map made_of n)) x.id id e h).1

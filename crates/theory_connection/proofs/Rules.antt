@@ -182,7 +182,7 @@ ends_so tables x opcode m h d =
     let o = of_message tables x.iface.0 Event opcode m h in
     ap is_ended_by_event o.there ∙ event_ends o.interface opcode m o.message d
 
--- no event makes an object
+-- no event has a new object of the client
 pub no_event_new : (tables : List Interface) → Valid tables → (place opcode : ℕ) (m : MessageSignature)
     → signature_at tables place Event opcode ≡ Some m → length (new_objects m.kinds) ≤ 0
 no_event_new tables v place opcode m h = let e = ap length (v.few_objects_made.events place opcode m h)

@@ -21,7 +21,7 @@ use Rattle.wl_objects.specs.declared.error.SendError.{SendError}
 use Rattle.wl_objects.specs.declared.error.SendError.TheVariants as refusals
 use Rattle.wl_object_map.specs.View.{View, look, next_id, closed}
 use Rattle.wl_objects.specs.Writing.{Given, wired, message_bytes, is_live_as}
-use Rattle.wl_objects.specs.Messages.{NewObject, ended_id, Server as server_end, after, checked, live_row, same_iface}
+use Rattle.wl_objects.specs.Messages.{NewObject, ended_id, after, checked, live_row, same_iface}
 use Rattle.wl_connection.specs.Core.{Core}
 use Rattle.wl_connection.specs.Sending.{send_answer, after_send, after_checked, made_at, opens_object, with_following}
 use Rattle.wl_connection.proofs.Ends.{no_event}
@@ -112,18 +112,18 @@ left_by core target opcode given signature v e c k n =
     let ended = call_ends core Event target opcode given signature v c k in
     ap (after_checked core Event target opcode given) e
     ∙ (λ i. with_following (destroys_one signature.destroys) id (record core {
-      view = after server_end core.view (mk i) signature.destroys id;
+      view = after Event core.view (mk i) signature.destroys id;
       outbox = record core.outbox {
         messages = core.outbox.messages
             ++ queued (message_bytes target.id opcode (k.wire_is i)) (t i) ∷ [];
       };
     }))
     ∙ (λ i. with_following (destroys_one signature.destroys) id (record core {
-      view = after_is server_end core.view None signature.destroys id m.ends ended i;
+      view = after_is Event core.view None signature.destroys id m.ends ended i;
       outbox = record core.outbox { messages = core.outbox.messages ++ spelled_meant m ∷ [] };
     }))
     ∙ followed (destroys_one signature.destroys) id m.ends (record core {
-      view = ended_view server_end core.view m.ends;
+      view = ended_view Event core.view m.ends;
       outbox = record core.outbox { messages = core.outbox.messages ++ spelled_meant m ∷ [] };
     }) ended.flag ended.same
 
@@ -138,7 +138,7 @@ tells_world p w asked told s m c =
     (each_by (ThereRow (server_rows v)) (λ (x : Known). IsThere w.server x.born)
     (λ x h. s.server.sets.shown x.id x.born h) (objects m.args) c.args)))
 
-same_births : (v : View) (o : Option Known) → (ended_view server_end v o).births ≡ v.births
+same_births : (v : View) (o : Option Known) → (ended_view Event v o).births ≡ v.births
 same_births v None = refl
 same_births v (Some x) = refl
 
@@ -154,7 +154,7 @@ tells_one p w asked told s m c =
     let news = event_of m ∷ delete m.ends in
     let below = s.server.sets.below in
     let ended : IfThere (λ x. x.born.birth < v.births) m.ends = if_by (λ x h. below x.id x.born h) m.ends there in
-    telling (ended_view server_end v m.ends) (told_core p.server.core m).outbox p.server.registries news
+    telling (ended_view Event v m.ends) (told_core p.server.core m).outbox p.server.registries news
     (same_births v m.ends)
     (each_more (IsBelow v.births) (tells (event_of m)) (all_tells (delete m.ends))
     (event_below (server_rows v) v.births below m c.target c.args ended)

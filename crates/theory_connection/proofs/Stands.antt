@@ -6,6 +6,8 @@ use Rattle.std.specs.declared.option.Option.{Option}
 use Rattle.std.specs.declared.option.Option.TheVariants.{None, Some}
 use Rattle.std.proofs.lemmas.Bool.{ne_eqb}
 use Rattle.std.proofs.lemmas.List.{map-append}
+use Rattle.wl_sigs.specs.declared.signature.Side.{Side}
+use Rattle.wl_sigs.specs.declared.signature.Side.TheVariants.{Request, Event}
 use Rattle.wl_message.specs.Arrived.{Arrived, without_first, in_front}
 use Rattle.wl_message.specs.Cut.{Whole, IsMessage}
 use Rattle.wl_message.specs.Outgoing as boxes
@@ -14,7 +16,7 @@ use Rattle.wl_object_map.specs.declared.object.Entry.{Entry}
 use Rattle.wl_object_map.specs.View.{View, Sound, look, closed}
 use Rattle.wl_object_map.specs.Views.{look-opened_at, look-closed, look-zombied}
 use Rattle.wl_object_map.specs.Sounds.{Sound-closed}
-use Rattle.wl_objects.specs.Messages.{Role, Client, Server, opens}
+use Rattle.wl_objects.specs.Messages.{opens}
 use Rattle.theory_connection.specs.Meant.{Born, Known, born_of, number_of_birth, born_of_entry}
 use Rattle.theory_connection.specs.World.{Row, Open, Each, IfThere, born_into, same, ending, gone, put, births_counted}
 use Rattle.theory_connection.specs.Flight.{Rows, Fresh, IsHeldInRows, client_rows, server_rows, row_of_entry}
@@ -43,12 +45,12 @@ display_opens {X = X} f v (Some x) e g h = look-opened_at v x.id x.born.iface x.
     other i g = ne_eqb 1 i (λ k. (let q : ◌≡◌ {A = Option X} (Some (f e)) None = ap (option_map f)
         (sym h ∙ ap (look v) k) ∙ g in cc q))
 
-display_ends : (end : Role) (v : View) (o : Option Known) (e : Entry) → IfThere Mortal o → look v 1 ≡ Some e
-    → look (ended_view end v o) 1 ≡ Some e
-display_ends end v None e y h = h
-display_ends Client v (Some x) e y h = let b : nat_eq 1 x.id ≡ false = ne_eqb 1 x.id (λ k. y (sym k))
+display_ends : (side : Side) (v : View) (o : Option Known) (e : Entry) → IfThere Mortal o → look v 1 ≡ Some e
+    → look (ended_view side v o) 1 ≡ Some e
+display_ends side v None e y h = h
+display_ends Request v (Some x) e y h = let b : nat_eq 1 x.id ≡ false = ne_eqb 1 x.id (λ k. y (sym k))
     in look-zombied v x.id 1 ∙ rw b h
-display_ends Server v (Some x) e y h = let b : nat_eq 1 x.id ≡ false = ne_eqb 1 x.id (λ k. y (sym k))
+display_ends Event v (Some x) e y h = let b : nat_eq 1 x.id ≡ false = ne_eqb 1 x.id (λ k. y (sym k))
     in look-closed v x.id 1 ∙ rw b h
 
 -- ---- the client's objects
@@ -65,7 +67,7 @@ module _ {view : View} {failed : Bool} {births : ℕ} {held : ℕ → Option Row
       → IfThere (IsHeldInRows (client_rows view)) ends
       → IfThere (IsHeldInRows (client_makes (client_rows view) new)) ends
       → IfThere Mortal ends → (now : Bool) → now ≡ false
-      → ClientStands (ended_view Client (opens view (option_map made_of new)) ends) now
+      → ClientStands (ended_view Request (opens view (option_map made_of new)) ends) now
       (births_counted (option_map born_of new) births) (ending (option_map born_of ends)
       (born_into Open (option_map born_of new) held))
   client_message new ends sound fresh version there still mortal now lives =
@@ -78,7 +80,7 @@ module _ {view : View} {failed : Bool} {births : ℕ} {held : ℕ → Option Row
         births = counted_map born_of new births ∙ ap (births_counted new) s.births
             ∙ sym (ap (λ (x : Rows Row). x.births) rows ∙ births_ends ends made ∙ births_makes (client_rows view) new);
         sound = client_sound view new ends sound mortal;
-        display = display_ends Client (opens view (option_map made_of new)) ends _ mortal
+        display = display_ends Request (opens view (option_map made_of new)) ends _ mortal
             (display_opens row_of_entry view new _ (if_by (λ x f. f.free) new fresh) s.display);
         versions = client_aged view new ends version s.versions;
         lives = lives;
@@ -92,7 +94,7 @@ module _ {view : View} {failed : Bool} {births : ℕ} {held : ℕ → Option Row
         (sym (client_closed view x.id)) (client_deleted (client_rows view) held x s.sets there);
     births = s.births;
     sound = Sound-closed view x.id s.sound (ap is_some (held_row view x there).there) mortal;
-    display = display_ends Server view (Some x) _ mortal s.display;
+    display = display_ends Event view (Some x) _ mortal s.display;
     versions = closed_aged view x.id s.versions;
     lives = lives;
   }
@@ -103,7 +105,7 @@ module _ {view : View} {failed : Bool} {there : ℕ → Option Born} (s : Server
   -- A message makes this at the server, and ends that: the server's objects stand again.
   pub server_message : (new ends : Option Known) → IfThere (Fresh (server_rows view)) new
       → IfThere (λ x. 1 ≤ x.born.version) new → IfThere (ThereRow (server_rows view)) ends → IfThere Mortal ends
-      → ServerStands (ended_view Server (opens view (option_map made_of new)) ends) failed
+      → ServerStands (ended_view Event (opens view (option_map made_of new)) ends) failed
       (gone (option_map born_of ends) (born_into same (option_map born_of new) there))
   server_message new ends fresh version has mortal = record {
     sets = subst (λ (r : Rows Born). ShowsBirths number_of_birth r.rows r.births
@@ -113,7 +115,7 @@ module _ {view : View} {failed : Bool} {there : ℕ → Option Born} (s : Server
         (server_made (server_rows view) there new s.sets fresh)
         (if_by (λ x h. there_kept (server_rows view) new x fresh h) ends has));
     sound = server_sound view new ends s.sound fresh has mortal;
-    display = display_ends Server (opens view (option_map made_of new)) ends _ mortal
+    display = display_ends Event (opens view (option_map made_of new)) ends _ mortal
         (display_opens born_of_entry view new _ (if_by (λ x f. f.free) new fresh) s.display);
     versions = server_aged view new ends version s.versions;
     live = server_live view new ends s.live;

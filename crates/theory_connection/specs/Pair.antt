@@ -234,6 +234,6 @@ Does p ServerNext (ServerNext reply) p' =
     (with_server p (requests.after_next p.server)) reply p'
 Does p _ _ p' = ⊥
 
--- nothing waits in any of the four boxes
+-- nothing waits in any of the four queues
 abbrev pub drained : PairState → Type 0
 drained p = (is_drained p.client.core ≡ true) × (is_drained p.server.core ≡ true)

@@ -96,7 +96,7 @@ SuitKinds tables version (kind ∷ kinds) (a ∷ args) =
 SuitKinds tables version _ _ = ⊥
 
 -- A message in flight fits a signature of its target's interface and version, and is no
--- wl_display.error. A header can tell its size; that this is within the limit is said of the boxes
+-- wl_display.error. A header can tell its size; that this is within the limit is said of the queues
 -- (InFlight).
 pub record FitsSignature (tables : List Interface) (side : Side) (m : Message Known) : Type 0 where
   pub signature : sigs.MessageSignature
@@ -184,7 +184,7 @@ pub record IsGlobal (tables : List Interface) (global : server.Global) : Type 0 
 abbrev pub by_event : List Interface → Born → Bool
 by_event tables x = is_ended_by_event (interface_at tables x.iface.0)
 
--- What an end goes by: its tables, and the limits of its boxes.
+-- What an end goes by: its tables, and the limits of its queues.
 pub record Terms : Type 0 where
   pub tables : List Interface
   pub out_limit : ℕ
@@ -232,7 +232,7 @@ pub record ServerStands (view : View) (failed : Bool) (there : ℕ → Option Bo
 pub record Travel {M W : Type 0} (as_born : M → W) (as_sent : M → boxes.QueuedMessage)
     (Fitly : M → Type 0) (from : Outgoing) (to : Arrived) (births : List W) (messages : List M)
     : Type 0 where
-  -- the world has them in flight by births, and the boxes in their canonical spellings, by ids
+  -- the world has them in flight by births, and the queues in their canonical spellings, by ids
   pub in_world : births ≡ map as_born messages
   pub in_boxes : InFlight from to (map as_sent messages)
   -- each fits a signature; each bind and each global told is of a global that was given

@@ -62,7 +62,7 @@ pub fn run_more()
         → Runs pair world (moves ++ move ∷ []) (replies ++ reply ∷ []) next) }
 {}
 
-/// Once nothing waits in any box, both ends hold the same objects under the same numbers.
+/// Once nothing waits in any queue, both ends hold the same objects under the same numbers.
 pub fn drained_agree()
     ensures { (pair : PairState) (world : World) → Stands pair world → world.ended ≡ false
         → drained pair

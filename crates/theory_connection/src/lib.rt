@@ -1,5 +1,6 @@
 //! The two ends of a Wayland connection together, as definitions alone: the world of births that
-//! they stand for, what each of their calls may return in it, and the laws that they keep it.
+//! both ends describe, what each of their calls may return in it, and the laws that they keep to
+//! it.
 //!
 //! Each law is the contract of a function that does nothing.
 #![tactic(auto)]

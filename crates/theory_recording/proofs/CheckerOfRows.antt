@@ -3,6 +3,7 @@ use Rattle.std.proofs.Common.{◌≡◌, ℕ, ◌+◌, true, false, List, inl, i
 use Rattle.std.specs.Prelude.{option_map, nat_eq, nat_le}
 use Rattle.std.specs.declared.option.Option.TheVariants.{None, Some}
 use Rattle.std.proofs.lemmas.Bool.Decides.{nat_tests}
+use Rattle.wl_sigs.specs.Tables.{Interface}
 use Rattle.wl_objects.specs.declared.lookup.NewId.TheVariants.{Free}
 use Rattle.wl_objects.specs.Reading.{Reader}
 use Rattle.wl_recording.specs.declared.piece.Direction.TheVariants.{ToServer, ToClient}
@@ -17,9 +18,9 @@ use Rattle.theory_connection.proofs.ReadAsMeant.{HasObject}
 use Rattle.theory_recording.specs.Follows.{KnownAs, entry_at}
 
 -- what a request names
-pub open_known : (k : Knows) (places : List ℕ) (here : Rows Row) (x : Known) → KnownAs k places here → OpenRow here x
-    → HasObject (reader_by k ToServer) x
-open_known k places here x a h = record {
+pub open_known : (tables : List Interface) (k : Knows) (places : List ℕ) (here : Rows Row) (x : Known) → KnownAs k places here → OpenRow here x
+    → HasObject (reader_by tables k ToServer) x
+open_known tables k places here x a h = record {
   entry = entry_at places (Open x.born);
   there = ap if_open (a.objects x.id ∙ ap (option_map (entry_at places)) h);
   iface = refl;
@@ -27,16 +28,16 @@ open_known k places here x a h = record {
 }
 
 -- what an event names
-pub held_known : (k : Knows) (places : List ℕ) (here : Rows Row) (x : Known) → KnownAs k places here
+pub held_known : (tables : List Interface) (k : Knows) (places : List ℕ) (here : Rows Row) (x : Known) → KnownAs k places here
     → IsHeldInRows here x
-    → HasObject (reader_by k ToClient) x
-held_known k places here x a (inl h) = record {
+    → HasObject (reader_by tables k ToClient) x
+held_known tables k places here x a (inl h) = record {
   entry = entry_at places (Open x.born);
   there = a.objects x.id ∙ ap (option_map (entry_at places)) h;
   iface = refl;
   version = refl;
 }
-held_known k places here x a (inr h) = record {
+held_known tables k places here x a (inr h) = record {
   entry = entry_at places (Ending x.born);
   there = a.objects x.id ∙ ap (option_map (entry_at places)) h;
   iface = refl;
@@ -44,9 +45,9 @@ held_known k places here x a (inr h) = record {
 }
 
 -- a new object
-fresh_known : (k : Knows) (places : List ℕ) (here : Rows Row) (x : Known) → KnownAs k places here → Fresh here x
-    → (reader_by k ToServer).new_id x.id ≡ Free
-fresh_known k places here x a f =
+fresh_known : (tables : List Interface) (k : Knows) (places : List ℕ) (here : Rows Row) (x : Known) → KnownAs k places here → Fresh here x
+    → (reader_by tables k ToServer).new_id x.id ≡ Free
+fresh_known tables k places here x a f =
     let none : k.object x.id ≡ None = a.objects x.id ∙ ap (option_map (entry_at places)) f.free in
     let zero : nat_eq x.id 0 ≡ false = (let s = f.some in grind (arith, nat_tests)) in
     let next : nat_le x.id (k.used + 1) ≡ true = (let n = f.next in let u = a.used in grind (arith, nat_tests)) in
@@ -62,13 +63,13 @@ abbrev IsMade : List (Arg Known) → Arg Known → Type 0
 IsMade all a = IfThere (λ x. made_in all ≡ Some x) (new_object_in a)
 
 -- a new id that is fresh to the rows is free to the checker
-pub news_free : (k : Knows) (places : List ℕ) (here : Rows Row) (args all : List (Arg Known)) → KnownAs k places here
-    → IfThere (Fresh here) (made_in all) → Each (IsMade all) args → Each (IsFree (reader_by k ToServer)) args
-news_free k places here args all a g h =
-    each_by (IsMade all) (IsFree (reader_by k ToServer))
-    (λ arg made. if_by {P = λ (x : Known). made_in all ≡ Some x} {Q = λ (x : Known). (reader_by k ToServer).new_id x.id
+pub news_free : (tables : List Interface) (k : Knows) (places : List ℕ) (here : Rows Row) (args all : List (Arg Known)) → KnownAs k places here
+    → IfThere (Fresh here) (made_in all) → Each (IsMade all) args → Each (IsFree (reader_by tables k ToServer)) args
+news_free tables k places here args all a g h =
+    each_by (IsMade all) (IsFree (reader_by tables k ToServer))
+    (λ arg made. if_by {P = λ (x : Known). made_in all ≡ Some x} {Q = λ (x : Known). (reader_by tables k ToServer).new_id x.id
     ≡ Free}
-    (λ x e. fresh_known k places here x a (subst (IfThere (Fresh here)) e g)) (new_object_in arg) made) args h
+    (λ x e. fresh_known tables k places here x a (subst (IfThere (Fresh here)) e g)) (new_object_in arg) made) args h
 
 -- none is new
 pub news_none : (r : Reader) (args all : List (Arg Known)) → made_in all ≡ None → Each (IsMade all) args

@@ -69,9 +69,9 @@ body_is m stream more p e =
 -- it is no bad bind, and the tokens brought
 -- so far are at least those taken before it and its own.
 pub frame_called : (limit : ℕ) (tables : List Interface) (k : Knows) (d : Direction) (m : Message Known)
-    (stream more : List ℕ) (p t : ℕ) (o : HasObject (reader_by k d) m.target) (f : FitsSignature tables (side_of d) m)
+    (stream more : List ℕ) (p t : ℕ) (o : HasObject (reader_by tables k d) m.target) (f : FitsSignature tables (side_of d) m)
     → IsMessage limit (spelled_meant m).bytes → drop p stream ≡ (spelled_meant m).bytes ++ more
-    → Each (Finds (reader_by k d)) m.args
+    → Each (Finds (reader_by tables k d)) m.args
     → k.taken d + length (tokens m.args) ≤ t
     → is_bad_bind tables k (side_of d) m.opcode (call_as d m o.entry f.signature).received ≡ false
     → judged limit tables k stream (framed d t (mark p (length (spelled_meant m).bytes)))
@@ -83,7 +83,7 @@ frame_called limit tables k d m stream more p t o f whole e args w good =
     let header = header_at (drop p stream) in
     let q = parted (drop p stream) more m.target.id m.opcode vs e (omega (arith, f.low)) f.opcode f.len in
     let enough : length (tokens m.args) ≤ t - k.taken d = omega (arith, w) in
-    let read = received_by_any tables (side_of d) (reader_by k d) m header
+    let read = received_by_any tables (side_of d) (reader_by tables k d) m header
     (t - k.taken d) o f q.object q.opcode_is args enough in
     let whole_one = judged_message tables k (framed d t (mark p n)) header (take (n - 8) (drop (p + 8) stream)) in
     ap (λ (b : Bool). cond b whole_one (Err BadSize)) size

@@ -6,11 +6,12 @@ use Rattle.std.proofs.lemmas.List.{get_or_append_left}
 use Rattle.std.proofs.lemmas.Bool.{and_right, cases_lt, lt-ltb, le-ltb}
 use Rattle.std.proofs.Math.Seq.{get_or-append_seam}
 use Rattle.std.proofs.lemmas.Bool.Decides.{nat_tests}
-use Rattle.std.specs.Prelude.{Option, option_map, not, nat_eq, max}
+use Rattle.std.specs.Prelude.{Option, option_map, not, ◌&&◌, ◌≤◌, nat_eq, max}
 use Rattle.std.specs.declared.result.Result.TheVariants.{Ok}
 use Rattle.wl_sigs.specs.Tables.{Interface}
 use Rattle.wl_object_map.specs.declared.object.Entry.{Entry}
 use Rattle.wl_object_map.specs.declared.object.State.TheVariants.{Live}
+use Rattle.wl_object_map.specs.Ranges.{is_of_server}
 use Rattle.wl_objects.specs.Messages.{NewObject}
 use Rattle.wl_check.specs.Changes.{Call, changes}
 use Rattle.wl_check.specs.Places.{KnownAtPlace as Knows, is_id, is_made, frees, made_entry, new_of, used_by}
@@ -101,7 +102,11 @@ at_deleted birth_places x here id false t = let there : put here.rows x.id None 
 -- ---- a message that makes an object, or none, and destroys one, or none
 
 frees_none : (id : ℕ) → frees None id ≡ false
-frees_none id = and_right (not (nat_eq id 1)) false refl
+frees_none id = and_right (not (nat_eq id 1) && not (is_of_server id)) false refl
+
+-- an id of the client's range
+of_client : (id : ℕ) → id ≤ 1048576 → is_of_server id ≡ false
+of_client id low = grind (arith, nat_tests)
 
 most_is : (a b : ℕ) → max b a ≡ most a b
 most_is a b = elim (cases_lt a b) [
@@ -147,10 +152,10 @@ held_made : (here : Rows Row) (n : Option Known) (x : Known) → IfThere (Fresh 
 held_made here None x f h = h
 held_made here (Some y) x f h = held_other here x y.id (Some (Open y.born)) h (held_some here x y.id h f.free)
 
-used_made : (here : Rows Row) (n : Option Known) (count : ℕ) → count ≡ here.used
+used_made : (here : Rows Row) (n : Option Known) (count : ℕ) → IfThere (Fresh here) n → count ≡ here.used
     → used_by (option_map made_of n) count ≡ (client_makes here n).used
-used_made here None count e = e
-used_made here (Some y) count e = ap (max y.id) e ∙ most_is here.used y.id
+used_made here None count f e = e
+used_made here (Some y) count f e = rw (of_client y.id f.low) (ap (max y.id) e ∙ most_is here.used y.id)
 
 births_made : (birth_places : List ℕ) (p : ℕ) (here : Rows Row) (n : Option Known) → length birth_places ≡ here.births
     → length (birth_places ++ maker (option_map made_of n) p) ≡ (client_makes here n).births
@@ -209,16 +214,19 @@ known_behind k k' birth_places p here n o a f h objects used =
           ∙ ap (unless_deleted (frees None id) (is_id (ended_ids o) id))
           (makes_objects birth_places p here n a.births below f id)
           ∙ ends_objects (birth_places ++ maker (option_map made_of n) p) v o held id;
-      used = used ∙ used_made here n k.used a.used ∙ sym same.0;
+      used = used ∙ used_made here n k.used f a.used ∙ sym same.0;
       births = births_made birth_places p here n a.births ∙ sym same.1;
       below = below_ended v o held (below_made here n f a.below);
     }
 
 -- ---- a delete_id
 
-frees_some : (i id : ℕ) (b : Bool) → is_id (Some i) id ≡ b → i ≢ 1 → frees (Some i) id ≡ b
-frees_some i id true e h = let ne : nat_eq id 1 ≡ false = grind (arith, nat_tests) in rw (ne, e) refl
-frees_some i id false e h = rw e (and_right (not (nat_eq id 1)) false refl)
+frees_some : (i id : ℕ) (b : Bool) → is_id (Some i) id ≡ b → i ≢ 1 → i ≤ 1048576 → frees (Some i) id ≡ b
+frees_some i id true e h low =
+    let ne : nat_eq id 1 ≡ false = grind (arith, nat_tests) in
+    let of : is_of_server id ≡ false = grind (arith, nat_tests) in
+    rw (ne, of, e) refl
+frees_some i id false e h low = rw e (and_right (not (nat_eq id 1) && not (is_of_server id)) false refl)
 
 below_deleted : (v : Rows Row) (i : ℕ) → AllBelow v → AllBelow (at v i None)
 below_deleted v i below = λ id r e. elim (put_tells v.rows i None id) [
@@ -228,12 +236,12 @@ below_deleted v i below = λ id r e. elim (put_tells v.rows i None id) [
 
 -- behind the delete of an object the checker no longer knows it
 pub known_deleted : (k k' : Knows) (birth_places : List ℕ) (here : Rows Row) (x : Known) → KnownAs k birth_places here
-    → x.id ≢ 1
+    → x.id ≢ 1 → x.id ≤ 1048576
     → ((id : ℕ) → k'.object id ≡ unless_deleted (frees (Some x.id) id) false (k.object id)) → k'.used ≡ k.used
     → KnownAs k' birth_places (at here x.id None)
-known_deleted k k' birth_places here x a ne objects used = record {
+known_deleted k k' birth_places here x a ne low objects used = record {
   objects = λ id. objects id
-      ∙ ap (λ (b : Bool). unless_deleted b false (k.object id)) (frees_some x.id id (is_id (Some x.id) id) refl ne)
+      ∙ ap (λ (b : Bool). unless_deleted b false (k.object id)) (frees_some x.id id (is_id (Some x.id) id) refl ne low)
       ∙ ap (unless_deleted (is_id (Some x.id) id) false) (a.objects id)
       ∙ at_deleted birth_places x here id (is_id (Some x.id) id) refl;
   used = used ∙ a.used;

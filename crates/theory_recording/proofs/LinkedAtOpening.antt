@@ -42,6 +42,7 @@ abbrev first_known : Knows
 first_known = record {
   object = λ id. first_entry (nat_eq id 1);
   used = 1;
+  server_used = 0;
   advertised_version = λ name iface. 0;
   taken = λ d. 0;
 }
@@ -49,7 +50,13 @@ first_known = record {
 known_none : (limit : ℕ) (tables : List Interface) → first_known ≡ knowledge tables []
 known_none limit tables =
     known_first tables (session_of limit []) first_known
-    (record { objects = λ id. refl; used_is = refl; advertised_is = λ n i. refl; taken_is = λ d. refl })
+    (record {
+      objects = λ id. refl;
+      used_is = refl;
+      server_used_is = refl;
+      advertised_is = λ n i. refl;
+      taken_is = λ d. refl;
+    })
     ∙ ap (λ (ms : List Judged). known (changes_at tables ms) 1) (none_judged limit tables)
 
 first_places : (tables : List Interface) → birth_places tables [] ≡ 0 ∷ []

@@ -7,13 +7,13 @@ use Rattle.std.proofs.lemmas.Bool.{eqb-true, eq-eqb, and_parts}
 use Rattle.std.proofs.lemmas.List.{append_assoc}
 use Rattle.wl_wire.specs.declared.kind.Iface.{Iface}
 use Rattle.wl_sigs.specs.declared.signature.Side.TheVariants.{Request as request_side, Event as event_side}
-use Rattle.wl_sigs.specs.Tables.{Interface, place_of}
+use Rattle.wl_sigs.specs.Tables.{Interface}
 use Rattle.wl_message.specs.Arrived.{without_first, in_front}
 use Rattle.wl_message.specs.Cut.{Whole}
 use Rattle.wl_message.specs.Outgoing.{Outgoing}
 use Rattle.wl_object_map.specs.declared.object.Entry.{Entry}
 use Rattle.wl_object_map.specs.View.{View, closed}
-use Rattle.wl_objects.specs.Messages.{Client as client_end, Server as server_end, opens, is_bind}
+use Rattle.wl_objects.specs.Messages.{opens, is_bind}
 use Rattle.wl_client.specs.declared.globals.Global.{Global as Remembered}
 use Rattle.wl_client.specs.State as client
 use Rattle.wl_client.specs.State.{is_named}
@@ -196,7 +196,7 @@ request_links p w w' m ms told n whole there l s =
     let seen = rest_seen spelled_meant (pair_limit p) ToServer p.recording p.client.core.outbox p.server.core.inbox
     ((knows p).taken ToServer) n m ms l.stands.requests.in_boxes whole l.requests in
     let births = p.server.core.view.births in
-    let now = (ended_view server_end (opens p.server.core.view (option_map made_of (made_in m.args))) m.ends).births in
+    let now = (ended_view event_side (opens p.server.core.view (option_map made_of (made_in m.args))) m.ends).births in
     let dead = delete m.ends in
     let counted = more_counted births told dead l.counted (delete_below births m.ends there) in
     record {
@@ -230,12 +230,12 @@ told_advertised tables given k m a r e t = a (rw (r, eq-eqb m.opcode 0 e) refl) 
 event_joins : (test : Born → Bool) (m : Message Known) (asked_later : List (Message Known)) (rest : List (Coming Known))
     (here : Rows Row) (v : View) (tables : List Interface) (f : FitsSignature tables event_side m)
     → Joins test (all_asks asked_later) (all_tells (Event m ∷ rest)) here (client_rows v)
-    → Joins test (all_asks asked_later) (all_tells rest) here (client_rows (ended_view client_end v m.ends))
+    → Joins test (all_asks asked_later) (all_tells rest) here (client_rows (ended_view request_side v m.ends))
 event_joins test m asked_later rest here v tables f j =
     let t = tells_at m.target (objects m.args) m.ends j.reads in
     let held : IfThere (IsHeldInRows (client_rows v)) m.ends =
     ends_have (IsHeldInRows (client_rows v)) tables event_side m f t.target t.args in
-    let rows : client_rows (ended_view client_end v m.ends) ≡ client_ends m.ends (client_rows v) =
+    let rows : client_rows (ended_view request_side v m.ends) ≡ client_ends m.ends (client_rows v) =
     client_after v None m.ends tt (if_by (held_row v) m.ends held) in
     record {
       common = j.common;
@@ -300,7 +300,7 @@ pub event_links : (p : PairState) (w w' : World) (asked : List (Message Known)) 
 event_links p w w' asked m cs n entry whole l s =
     let tables = p.server.core.tables in
     let fit = l.stands.events.fit.0 in
-    coming_links p w w' asked (Event m) cs n (ended_view client_end p.client.core.view m.ends)
+    coming_links p w w' asked (Event m) cs n (ended_view request_side p.client.core.view m.ends)
     (after_event p.client m n (teaches m entry)).globals whole l
     (λ here rest j. event_joins (by_event tables) m l.requests.later rest here p.client.core.view tables fit.fits j)
     (λ told. learns (Advertised p) tables p.client.core.tables p.server.globals p.client.globals m

@@ -1,10 +1,13 @@
 -- An event or a delete is recorded.
-use Rattle.std.proofs.Common.{◌≡◌, ◌≢◌, ℕ, ◌+◌, ◌<◌, ◌≤◌, true, false, cond, None, Some, List, []}
+use Rattle.std.proofs.Common.{◌≡◌, ◌≢◌, ℕ, suc, ◌+◌, ◌<◌, ◌≤◌, true, false, cond, None, Some, List, []}
 use Rattle.std.proofs.Common.{◌∷◌, ◌++◌, length, map, drop, inl, refl, sym, ap, subst, ◌∙◌, arith}
 use Rattle.std.proofs.Common.{append-nil}
 use Rattle.std.specs.Prelude.{codes, Option}
 use Rattle.std.specs.declared.result.Result.TheVariants.{Ok}
 use Rattle.wl_wire.specs.declared.kind.Iface.{Iface}
+use Rattle.wl_wire.specs.declared.kind.Kind.{Kind}
+use Rattle.wl_wire.specs.declared.kind.Kind.TheVariants as kinds
+use Rattle.wl_wire.specs.Argument.{New}
 use Rattle.wl_sigs.specs.declared.signature.Side.TheVariants.{Event as event_side}
 use Rattle.wl_sigs.specs.declared.signature.Destroys.{Destroys}
 use Rattle.wl_sigs.specs.declared.signature.Destroys.TheVariants.{Nothing}
@@ -14,16 +17,18 @@ use Rattle.wl_sigs.specs.Fixed as fixed
 use Rattle.wl_sigs.specs.Valid.{Valid}
 use Rattle.wl_message.specs.Cut.{IsMessage}
 use Rattle.wl_object_map.specs.declared.object.Entry.{Entry}
-use Rattle.wl_objects.specs.Messages.{is_delete_id, ended_id}
+use Rattle.wl_object_map.specs.declared.object.State.TheVariants.{Live}
+use Rattle.wl_objects.specs.Messages.{NewObject, is_delete_id, ended_id, or_else}
 use Rattle.wl_client.specs.declared.globals.Global.{Global as Remembered}
 use Rattle.wl_server.specs.State.{Global}
 use Rattle.wl_recording.specs.declared.piece.Direction.TheVariants.{ToClient}
-use Rattle.wl_check.specs.Changes.{changes, destroyed_id, is_global, first_number}
-use Rattle.wl_check.specs.Places.{is_id, unless_deleted, frees}
+use Rattle.wl_check.specs.Changes.{changes, destroyed_id, is_global, first_number, made_by_server, made_by_event}
+use Rattle.wl_check.specs.Places.{is_id, is_made, made_entry, new_of, used_by, unless_deleted, frees}
 use Rattle.wl_check.specs.Rules.{reader_by}
 use Rattle.wl_check.specs.Session.{Judged}
 use Rattle.wl_check.proofs.LongerRecording.{behind_one, advertised_own}
-use Rattle.theory_connection.specs.Meant.{Born, Known, Message, Coming, Event, Delete, objects}
+use Rattle.theory_connection.specs.Meant.{Born, Known, Arg, Message, Coming, Event, Delete, objects}
+use Rattle.theory_connection.specs.Meant.{made_in, new_object_in}
 use Rattle.theory_connection.specs.Meant.{wire, tokens, spelled_meant, spelled_coming}
 use Rattle.theory_connection.specs.World.{Row, Open, Each, IfThere, display_born}
 use Rattle.theory_connection.proofs.EndedObject.{if_by}
@@ -37,7 +42,7 @@ use Rattle.theory_connection.proofs.WholeInFlight.{each_rest, all_tells_more, de
 use Rattle.theory_connection.proofs.Plain.{free_asks}
 use Rattle.theory_connection.proofs.EventRead.{deleting, delete_signature}
 use Rattle.theory_connection.proofs.ReadAsMeant.{HasObject}
-use Rattle.theory_recording.specs.Follows.{Follows, knowledge, birth_places, TellsAdvertised, KnownAs}
+use Rattle.theory_recording.specs.Follows.{Follows, knowledge, birth_places, maker, TellsAdvertised, KnownAs}
 use Rattle.theory_recording.proofs.LeadsByAction.{held_here, reads_parted, reads_one_way}
 use Rattle.theory_recording.proofs.LeadsByMessage.{event_recorded, delete_recorded}
 use Rattle.theory_recording.proofs.JudgedAsMeant.{all_found, call_as, frame_called}
@@ -102,6 +107,25 @@ seen_more seen c = all_tells_more seen (c ∷ []) ∙ ap (λ (es : List Tell). a
 
 -- ---- an event
 
+-- What an end writes or reads makes an object by a request alone: an event's arguments name none that is new, so
+-- that the checker sees it make none.
+makes_none : (version : ℕ) (kind : Kind) (a : Arg Known) → new_object_in a ≡ None
+    → made_by_server version kind (wire a) ≡ None
+makes_none version (kinds.NewByServer iface) (New x) e = absurd (cc e)
+makes_none version kind a e = refl
+
+both_none : (a b : Option Known) → or_else a b ≡ None → (a ≡ None) × (b ≡ None)
+both_none None b e = (refl, e)
+both_none (Some x) b e = absurd (cc e)
+
+makes_nothing : (version : ℕ) (ks : List Kind) (args : List (Arg Known)) → made_in args ≡ None
+    → made_by_event version ks (map wire args) ≡ None
+makes_nothing version [] args e = refl
+makes_nothing version (kind ∷ ks) [] e = refl
+makes_nothing version (kind ∷ ks) (a ∷ args) e =
+    let none = both_none (new_object_in a) (made_in args) e in
+    rw (makes_none version kind a none.0, makes_nothing version ks args none.1) refl
+
 -- what it advertises
 own_global : (tables : List Interface) (e : List Judged) (m : Message Known) (entry : Entry)
     (signature : sigs.MessageSignature)
@@ -144,11 +168,11 @@ event_one limit tables given asked_seen asked_later told client server remembere
     let r = event_recorded m.target (objects m.args) m.ends f.joins next.reads
     (let l = next.counted.0 in omega (arith, l, first)) below
     (if_by (λ x l. omega (arith, l, first)) m.ends ended) in
-    let o = held_known k ps f.here m.target a r.target in
-    let names = each_by (IsHeldInRows f.here) (HasObject (reader_by k ToClient)) (λ x h. held_known k ps f.here x a h)
+    let o = held_known tables k ps f.here m.target a r.target in
+    let names = each_by (IsHeldInRows f.here) (HasObject (reader_by tables k ToClient)) (λ x h. held_known tables k ps f.here x a h)
     (objects m.args) r.args in
-    let args = all_found (reader_by k ToClient) m.args names
-    (news_none (reader_by k ToClient) m.args m.args fit.makes_none fit.fits.new_is) in
+    let args = all_found (reader_by tables k ToClient) m.args names
+    (news_none (reader_by tables k ToClient) m.args m.args fit.makes_none fit.fits.new_is) in
     let call = call_as ToClient m o.entry fit.fits.signature in
     let e' = e ++ Ok call ∷ [] in
     let k' = knowledge tables e' in
@@ -164,8 +188,8 @@ event_one limit tables given asked_seen asked_later told client server remembere
       next = record {
         passed = go_on_more e (Ok call) f.passed (goes_on_as tables ToClient m o.entry fit.fits o.iface);
         here = client_ends m.ends f.here;
-        known_as = known_call tables e f.here ToClient m o.entry fit.fits None valid a tt r.target r.args refl
-            deleted_is;
+        known_as = known_call tables e f.here ToClient m o.entry fit.fits None valid a tt r.target r.args
+            (makes_nothing o.entry.version fit.fits.signature.kinds m.args fit.makes_none) deleted_is;
         joins = record {
           common = r.joins.common;
           leads = r.joins.leads;
@@ -196,24 +220,29 @@ display_held tables e asked_later seen client remembered f valid there =
 -- what is known behind a delete
 known_delete : (tables : List Interface) (e : List Judged) (here : Rows Row) (x : Known) (entry : Entry)
     (signature : sigs.MessageSignature) → KnownAs (knowledge tables e) (birth_places tables e) here → x.id ≢ 1
-    → entry.iface ≡ display_born.iface → signature.destroys ≡ Nothing
+    → x.id ≤ 1048576 → entry.iface ≡ display_born.iface → signature.destroys ≡ Nothing
     → KnownAs (knowledge tables (e ++ Ok (call_as ToClient (deleting x) entry signature) ∷ []))
     (birth_places tables (e ++ Ok (call_as ToClient (deleting x) entry signature) ∷ [])) (at here x.id None)
-known_delete tables e here x entry signature a mortal iface keeps =
+known_delete tables e here x entry signature a mortal low iface keeps =
     let call = call_as ToClient (deleting x) entry signature in
     let k = knowledge tables e in
     let k' = knowledge tables (e ++ Ok call ∷ []) in
+    let p = suc (length e) in
     let b = behind_one tables e call in
+    let made_is : (changes tables call).made ≡ None =
+    makes_nothing entry.version signature.kinds (deleting x).args refl in
     let deleted_is : (changes tables call).deleted ≡ Some x.id =
     ap (λ (i : Iface). cond (is_delete_id event_side i 1) (first_number (map wire (deleting x).args)) None)
     iface in
     let destroyed_is : (changes tables call).destroyed ≡ None =
     ap (λ (d : Destroys). destroyed_id (destroys_one d) (ended_id d 1 (map wire (deleting x).args))) keeps in
-    let known = known_deleted k k' (birth_places tables e) here x a mortal
-    (λ id. b.objects id ∙ (λ i. unless_deleted (frees (deleted_is i) id) (is_id (destroyed_is i) id) (k.object id)))
-    b.used_is in
-    subst (λ (ps : List ℕ). KnownAs k' ps (at here x.id None))
-    (sym (places_behind tables e call ∙ append-nil (birth_places tables e))) known
+    let known = known_deleted k k' (birth_places tables e) here x a mortal low
+    (λ id. b.objects id ∙ (λ i. cond (is_made (made_is i) id) (Some (made_entry p Live (new_of (made_is i))))
+    (unless_deleted (frees (deleted_is i) id) (is_id (destroyed_is i) id) (k.object id))))
+    (b.used_is ∙ ap (λ (o : Option NewObject). used_by o k.used) made_is) in
+    let there = places_behind tables e call ∙ ap (λ (o : Option NewObject). birth_places tables e ++ maker o p) made_is
+    ∙ append-nil (birth_places tables e) in
+    subst (λ (ps : List ℕ). KnownAs k' ps (at here x.id None)) (sym there) known
 
 delete_one : (limit : ℕ) (tables : List Interface) (asked_seen asked_later : List (Message Known))
     (told : List (Coming Known)) (client : Rows Row) (server : Rows Born) (remembered : List Remembered)
@@ -244,7 +273,7 @@ delete_one limit tables asked_seen asked_later told client server remembered str
     let both : Some fits.signature ≡ Some (fixed.message (codes "delete_id") 1 (fixed.uint ∷ []) Nothing) =
     sym fits.there ∙ display_there in
     let same : fits.signature ≡ fixed.message (codes "delete_id") 1 (fixed.uint ∷ []) Nothing = cc both in
-    let o = held_known k ps f.here (deleting x).target a
+    let o = held_known tables k ps f.here (deleting x).target a
     (display_held tables e asked_later seen client remembered f valid w.display) in
     let call = call_as ToClient (deleting x) o.entry fits.signature in
     let k' = knowledge tables (e ++ Ok call ∷ []) in
@@ -257,7 +286,7 @@ delete_one limit tables asked_seen asked_later told client server remembered str
       next = record {
         passed = go_on_more e (Ok call) f.passed (goes_on_as tables ToClient (deleting x) o.entry fits o.iface);
         here = at f.here x.id None;
-        known_as = known_delete tables e f.here x o.entry fits.signature a now.mortal o.iface
+        known_as = known_delete tables e f.here x o.entry fits.signature a now.mortal low o.iface
             (ap (λ (s : sigs.MessageSignature). s.destroys) same);
         joins = record {
           common = r.joins.common;

@@ -38,11 +38,11 @@ ask_one limit tables given told_seen client remembered stream more t p e m ms va
     let k = knowledge tables e in
     let a = f.known_as in
     let r = ask_recorded m.target (objects m.args) (made_in m.args) m.ends f.joins.leads in
-    let o = open_known k (birth_places tables e) f.here m.target a r.target in
-    let names = each_by (OpenRow f.here) (HasObject (reader_by k ToServer))
-    (λ x h. open_known k (birth_places tables e) f.here x a h) (objects m.args) r.args in
-    let args = all_found (reader_by k ToServer) m.args names
-    (news_free k (birth_places tables e) f.here m.args m.args a r.new fit.fits.new_is) in
+    let o = open_known tables k (birth_places tables e) f.here m.target a r.target in
+    let names = each_by (OpenRow f.here) (HasObject (reader_by tables k ToServer))
+    (λ x h. open_known tables k (birth_places tables e) f.here x a h) (objects m.args) r.args in
+    let args = all_found (reader_by tables k ToServer) m.args names
+    (news_free tables k (birth_places tables e) f.here m.args m.args a r.new fit.fits.new_is) in
     let good = no_bad_bind tables given k m o.entry fit valid globals o.iface o.version f.binds.0 in
     let call = call_as ToServer m o.entry fit.fits.signature in
     let e' = e ++ Ok call ∷ [] in

@@ -33,7 +33,8 @@ abbrev pub knowledge : List Interface → List Judged → Knows
 knowledge tables judged = known (changes_at tables judged) (suc (length judged))
 
 -- The places of what makes an object, in their order: wl_display, of birth 0, is made at place 0,
--- and the object of birth b by the b-th request that makes one.
+-- and the object of birth b by the b-th message that makes one. Of a pair this is a request: its
+-- ends neither write nor read events that make an object.
 abbrev pub maker : Option NewObject → ℕ → List ℕ
 maker None place = []
 maker (Some new) place = place ∷ []

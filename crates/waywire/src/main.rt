@@ -1,4 +1,4 @@
-//! Recorded sessions of Wayland clients, as text.
+//! The command `waywire`: prints and checks recorded sessions of Wayland clients.
 #![tactic(auto)]
 
 use program_jobs::{BoundSocket, ExitStatus, run};

@@ -1,16 +1,16 @@
 //! Both ends of a Wayland connection, without the socket.
 //!
 //! A [`Client`] and a [`Server`] write and read the messages of the Wayland protocol. They know
-//! which objects each end has, and see to it that an object that arrives is the one that its writer
-//! meant. Nothing here does I/O: an end computes over bytes and tokens that are handed in and out.
-//! Which socket carries these, when it is read, and on which thread, is the caller's choice, so a
-//! toolkit, a compositor, a proxy and a test use the same two types.
+//! which objects each end has, and an object that arrives is the one that its writer meant. Nothing
+//! here does I/O: an end computes over bytes and tokens that are handed in and out. The caller
+//! chooses which socket carries these, when it is read, and on which thread. So a toolkit, a
+//! compositor, a proxy and a test use the same two types.
 //!
-//! What each call returns and leaves is its contract, and is proved. Together, for two ends of this
-//! library that begin together, over a transport that keeps bytes in order and descriptors in step:
-//! up to the first error that the server posts, each end reads exactly the messages that the other
-//! wrote, however the bytes are cut, and once both streams are drained both ends have the same
-//! objects.
+//! The contract of each call says what it returns and what it leaves, and is proved. More is proved
+//! of two ends of this library that start together, over a transport that keeps bytes in order and
+//! descriptors in step. Up to the first error that the server posts, each end reads exactly the
+//! messages that the other wrote, however the bytes are cut. Once both streams are drained, both
+//! ends have the same objects.
 //!
 //! # The loop
 //!
@@ -22,17 +22,17 @@
 //! 3. **The socket.** The caller writes these bytes and descriptors to its socket, and reads what
 //!    the other end wrote.
 //! 4. **Feed.** `feed` moves what was read into the end's inbox, as much as it has room for, and
-//!    returns how much that was. Bytes may come in any cut, down to single ones.
-//! 5. **Next.** `next` reads one message and lends its report, or returns `None` as long as none is
-//!    whole. The caller goes on until `None`, and sends its replies on the way. `next_owned`
-//!    returns a report of its own, for a caller that keeps it.
+//!    returns how much that was. Bytes may be cut anywhere, down to single ones.
+//! 5. **Next.** `next` reads one message and returns a report that borrows from the end, or `None`
+//!    as long as no message is whole. The caller goes on until `None`, and sends its replies on the
+//!    way. `next_owned` returns an owned report, for a caller that keeps it.
 //!
-//! [`Client::read_all`] and [`Server::read_all`] are steps 4 and 5 for a list of pieces. Where no
+//! [`Client::read_all`] and [`Server::read_all`] are steps 4 and 5 for a list of pieces. If no
 //! descriptors pass, `flush` writes what waits to a stream (steps 2 and 3), and `fill` reads from
 //! one (steps 3 and 4). No call waits by itself, and none calls back.
 //!
-//! The calls that both ends have, such as `take` and `feed`, are those of the trait [`End`]: bring
-//! it in with them, and write code for either end over it.
+//! The calls that both ends have, such as `take` and `feed`, are those of the trait [`End`]: import
+//! it to call them, and write code for either end over it.
 //!
 //! Messages have names: [`request::wl_surface::COMMIT`](request) is the opcode of
 //! wl_surface.commit, and [`event::wl_callback::DONE`](event) that of wl_callback.done.
@@ -46,28 +46,76 @@
 //! with, and the report has it as [`GotRef::Fd`]. No token is given to another message, and none is
 //! lost while the end has not failed. No descriptor is ever closed here.
 //!
+//! When a connection ends, take what is still to be sent, and then call `take_waiting_tokens`. It
+//! gives the end up: it moves the tokens that wait into a slice of the caller's, first those that
+//! were not read and then those that were not sent, and returns how many it moved. Repeat this call
+//! until it returns 0, with room for 20 tokens or more, and close what they stand for.
+//!
 //! # Who owns what
 //!
 //! - [`Tables`] say which messages there are: those of the core interfaces ([`Tables::core`]), and
-//!   those that a text declares ([`Tables::read_more`]). They are made once, and lent to any number
-//!   of ends.
-//! - An end owns its objects, its inbox and its outbox. [`Sizes`] says how large these two boxes
+//!   those that a text declares ([`Tables::read_more`]). Make them once; any number of ends borrows
+//!   them.
+//! - An end owns its objects, its inbox and its outbox. [`Sizes`] says how large these two queues
 //!   are, which never grow, and how long a message may be ([`Limit`]). The objects are kept in a
-//!   [`Table`]: [`SlotTable`], whose calls take constant time, but for an opening that doubles its
+//!   [`Table`]: [`SlotTable`], whose calls take constant time, except an opening that doubles its
 //!   vector, or its plain twin [`MapTable`].
 //! - An [`Object`] is a plain value: an id and a birth, which tells it from every other object that
-//!   ever had that id. A call that names an object of the past is refused, and never reaches its
-//!   successor.
-//! - A report of `next` ([`Incoming`], [`Request`]) lends its strings, its arrays and its tokens
-//!   from the end, until the end's next call of any kind: to keep one beyond that is an error of
-//!   the compiler. [`Args`] goes through the arguments. A report of `next_owned`
-//!   ([`OwnedIncoming`], [`OwnedRequest`]) owns them. `next_with_entry` and `next_owned_with_entry`
-//!   also tell what the object was before the message ([`Entry`]), and `shown` of the first prints
-//!   it. After an event for an object that the client has destroyed ([`Incoming::Discarded`]) the
-//!   caller closes the descriptors that its tokens stand for.
-//! - What allocates is given an allocator first, and returns an error where it has no memory. After
-//!   an end's `new` these allocate: the opening of an object, [`Server::add_global`], and the
-//!   reports of `next_owned` and `read_all`.
+//!   ever had that id. A call that names an object which is gone is refused; it never reaches a
+//!   later object with the same id.
+//! - A report of `next` ([`Incoming`], [`Request`]) borrows its strings, arrays and tokens from the
+//!   end, until the end's next call of any kind: code that keeps it longer does not compile.
+//!   [`Args`] goes through the arguments. A report of `next_owned` ([`OwnedIncoming`],
+//!   [`OwnedRequest`]) owns them. `next_with_entry` and `next_owned_with_entry` also say what the
+//!   object was before the message ([`Entry`]), and `shown` of the first prints it. After an event
+//!   for an object that the client has destroyed ([`Incoming::Discarded`]), the caller closes the
+//!   descriptors that its tokens stand for.
+//! - What allocates is given an allocator first, and returns an error if memory runs out. After an
+//!   end's `new` these allocate: the opening of an object, [`Server::add_global`], and the reports
+//!   of `next_owned` and `read_all`.
+//!
+//! # What a report holds
+//!
+//! A client's [`Incoming`] and its owned twin have these cases:
+//!
+//! - `Event { target, opcode, args }`: an event for a live object.
+//! - `Discarded { target, opcode, tokens }`: an event for an object that the client has destroyed.
+//! - `Deleted { object }`: wl_display.delete_id; the object is gone, and its id is free again.
+//! - `Stray { id }`: a delete_id for no object, or for wl_display; nothing changed.
+//! - `Error { id, named, code, text }`: wl_display.error; `named` is the client's object of that
+//!   id.
+//!
+//! A server's [`Request`] has `target`, `opcode` and `args`.
+//!
+//! An argument is a [`GotRef`] of [`Args::next`], or a [`Got`] of [`OwnedArgs::as_slice`]. The
+//! cases are the same:
+//!
+//! - `Int(i32)`, `Uint(u32)`, `Fixed(Fixed)`: the number. A [`Fixed`] counts 256ths (`raw`).
+//! - `Str(Option<..>)`: the bytes without the ending NUL, or `None` for the null string.
+//! - `Obj(Named)`: an object by [`Named`], as its reader has it. It is `Null`, `Live(object)`, or
+//!   `Dead(object)`, which the reader has destroyed.
+//! - `New(object)`: the object that the message made.
+//! - `Bound { iface, version, object }`: the object that a bind made, and the name and version of
+//!   its interface. Of all messages wl_registry.bind alone has one.
+//! - `Array(..)`: the bytes.
+//! - `Fd(u32)`: the token of a descriptor.
+//!
+//! So the arguments of a bind are two where a server reads it: `Uint(name)`, the global's name, and
+//! `Bound { iface, version, object }`. A pattern with `New` or `Str` in its place compiles, and
+//! never matches a bind.
+//!
+//! `next_with_entry` returns an [`IncomingWithEntry`] or a [`RequestWithEntry`]:
+//!
+//! - `incoming: Incoming`, `entry: Option<Entry>`: what the client had of the target of an event,
+//!   of the object that delete_id ended, or of the object that an error names. It is `None` at
+//!   `Stray`, and where an error names no object that the client has.
+//! - `request: Request`, `entry: Entry`: what the server had of the target, also where the request
+//!   has destroyed it.
+//!
+//! An [`Entry`] has the object's `birth`, `iface`, `version` and `state`. `shown` of both takes the
+//! tables, and `{}` prints what it returns as the line of the message in a trace: an object whose
+//! interface the signature leaves open as `unknown@7`, a descriptor by its token, the arguments of
+//! a `Discarded` as `..`. The owned twins have the same fields, and no `shown`.
 //!
 //! # What an error leaves
 //!
@@ -84,7 +132,7 @@
 //!
 //! # Beyond one end
 //!
-//! A [`Pair`] is a client and a server with nothing between, for tests; it plays a list of
+//! A [`Pair`] is a client and a server with nothing between them, for tests; it plays a list of
 //! [`Move`]s. A [`Recording`] is what passed at one point of a connection; a [`Tee`] records what
 //! is read from a stream. [`trace`] prints a recording message by message, and [`check`] says
 //! whether it is lawful, and where not. An [`Inspector`] does both while a session goes on, piece
@@ -94,9 +142,18 @@
 //!
 //! # A client and a server
 //!
-//! The crate `hello` is this program. A buffer stands where a connection has a socket. The lines
-//! with `ghost` and `requires` are for the proof, and the `for` loops have an upper bound since
-//! every loop here is proved to end.
+//! The crate `hello` is this program, with a buffer in place of a socket. The lines with `ghost`
+//! and `requires` are for the proof, and the `for` loops have an upper bound since every loop here
+//! is proved to end.
+//!
+//! Its line of `crates.txt` names `wl_message` beside `wl`: it slices by what `take` returned, and
+//! its file `proofs/Amounts.antt` proves with a lemma of that crate that this is within the slice.
+//! A program that slices by `taken.bytes.min(4096)`, as the crate `proxy` does, needs no such file.
+//!
+//! `rt try` runs a program without proof, on an interpreter for at most 20,000,000 steps and also
+//! compiled with checks. A longer program gets the line `interpreter: no-answer: the run did not
+//! finish within 20000000 steps: the program may loop forever`. That says nothing against it, and
+//! the line `checked:` tells how the compiled run ended. `--steps N` gives the interpreter more.
 //!
 //! ```
 //! ghost use Rattle.std.specs.Prelude.{◌≤◌, length};
@@ -112,7 +169,7 @@
 //!
 //! type Server<'t> = wl::Server<'t, SlotTable>;
 //!
-//! /// Room for 65,536 bytes and 64 tokens in each box.
+//! /// Room for 65,536 bytes and 64 tokens in each queue.
 //! const SIZES: Sizes = Sizes {
 //!     out_bytes: 65_536,
 //!     out_tokens: 64,
@@ -266,6 +323,233 @@
 //!     Ok(())
 //! }
 //! ```
+//!
+//! # The calls
+//!
+//! `T` is the table of objects, `T::Alloc` its allocator, and `A` an allocator. The contracts are
+//! in the sources, and `docs/CONTRACTS.md` lists their clauses. These calls ask for something:
+//!
+//! - `new` of a client, a server and a pair for sizes that [`Sizes::is_allowed`] allows, and that
+//!   of a pair for one limit in both;
+//! - [`Recording::add`] for at most 65,536 tokens;
+//! - `make_zombie` of a table for a live object, `close` for an id that has one, and neither for id
+//!   1.
+//!
+//! What the library's own crates call of these types is left out: `core` of an end, `prepare` and
+//! `fill_last` of a recording, `append_to` of a piece that passed.
+//!
+//! ```text
+//! trait End: a Client or a Server
+//!     fn feed(&mut self, bytes: &[u8], tokens: &[u32]) -> Fed
+//!     fn take(&mut self, bytes: &mut [u8], tokens: &mut [u32]) -> Taken
+//!     fn peek(&self) -> Peek<'_>
+//!     fn sent(&mut self, bytes: usize) -> Taken
+//!     fn space(&self) -> (&[u8], &[u8])
+//!     fn received(&mut self, bytes: usize, tokens: &[u32]) -> Fed
+//!     fn in_room(&self) -> Fed
+//!     fn goes(&self, bytes: usize, tokens: usize) -> Taken
+//!     fn is_drained(&self) -> bool
+//!     fn has_failed(&self) -> bool
+//!     fn fill<R: Read>(&mut self, reader: &mut R) -> Result<usize, FillError>
+//!     fn flush<W: Write>(&mut self, writer: &mut W) -> Result<usize, FlushError>
+//!     fn take_waiting_tokens(&mut self, tokens: &mut [u32]) -> usize
+//!     fn token_to_go(&self, place: usize) -> Option<u32>
+//!     fn display(&self) -> Object
+//!     fn live(&self, object: Object) -> Option<(Iface, u32)>
+//!     fn table(&self) -> &Self::Table
+//! Client<'t, T: Table>
+//!     fn new(alloc: T::Alloc, tables: &'t Tables, sizes: Sizes) -> Result<Self, AllocError>
+//!     fn send(
+//!         &mut self, target: Object, opcode: u16, args: &[Arg<'_>],
+//!     ) -> Result<Option<Object>, SendError>
+//!     fn bind(
+//!         &mut self, registry: Object, name: u32, iface: &[u8], version: u32,
+//!     ) -> Result<Object, SendError>
+//!     fn next(&mut self) -> Result<Option<Incoming<'_>>, NextError>
+//!     fn next_with_entry(&mut self) -> Result<Option<IncomingWithEntry<'_>>, NextError>
+//!     fn next_owned(&mut self) -> Result<Option<OwnedIncoming<T::Alloc>>, NextError>
+//!     fn next_owned_with_entry(
+//!         &mut self,
+//!     ) -> Result<Option<OwnedIncomingWithEntry<T::Alloc>>, NextError>
+//!     fn read_all(
+//!         &mut self, pieces: &[Piece<'_>], reports: &mut Vec<OwnedIncoming<T::Alloc>, T::Alloc>,
+//!     ) -> ReadAll
+//!     fn remembers(&self, name: u32) -> bool
+//! Server<'t, T: Table>
+//!     fn new(alloc: T::Alloc, tables: &'t Tables, sizes: Sizes) -> Result<Self, AllocError>
+//!     fn send(
+//!         &mut self, target: Object, opcode: u16, args: &[Arg<'_>],
+//!     ) -> Result<Option<Object>, SendError>
+//!     fn announce(&mut self) -> Result<usize, SendError>
+//!     fn drop_object(&mut self, object: Object) -> Result<(), SendError>
+//!     fn post_error(&mut self, object: Object, code: u32, text: &[u8]) -> Result<(), SendError>
+//!     fn add_global(&mut self, iface: Iface, version: u32) -> Result<u32, GlobalError>
+//!     fn withdraw(&mut self, name: u32) -> Result<(), GlobalError>
+//!     fn next(&mut self) -> Result<Option<Request<'_>>, NextError>
+//!     fn next_with_entry(&mut self) -> Result<Option<RequestWithEntry<'_>>, NextError>
+//!     fn next_owned(&mut self) -> Result<Option<OwnedRequest<T::Alloc>>, NextError>
+//!     fn next_owned_with_entry(
+//!         &mut self,
+//!     ) -> Result<Option<OwnedRequestWithEntry<T::Alloc>>, NextError>
+//!     fn read_all(
+//!         &mut self, pieces: &[Piece<'_>], reports: &mut Vec<OwnedRequest<T::Alloc>, T::Alloc>,
+//!     ) -> ReadAll
+//! IncomingWithEntry<'a>
+//!     fn shown<'t>(&self, tables: &'t Tables) -> ShownIncoming<'t, 'a>
+//! RequestWithEntry<'a>
+//!     fn shown<'t>(&self, tables: &'t Tables) -> ReportLine<'t, 'a>
+//! Args<'a>
+//!     fn len(&self) -> usize
+//!     fn is_empty(&self) -> bool
+//!     fn next(&mut self) -> Option<GotRef<'a>>
+//!     fn to_owned<A: Allocator + Clone + Drop>(
+//!         &self, alloc: &A,
+//!     ) -> Result<OwnedArgs<A>, AllocError>
+//! OwnedArgs<A>
+//!     fn as_slice(&self) -> &[Got<A>]
+//!     fn into_vec(self) -> Option<Vec<Got<A>, A>>
+//!     fn none() -> Self
+//!     fn from_vec(items: Vec<Got<A>, A>) -> Self
+//! Tokens
+//!     fn as_slice(&self) -> &[u32]
+//! Bytes<A>
+//!     fn as_slice(&self) -> &[u8]
+//!     fn len(&self) -> usize
+//!     fn is_empty(&self) -> bool
+//!     fn copy_of(alloc: A, bytes: &[u8]) -> Result<Bytes<A>, AllocError>
+//!     fn from_vec(items: Vec<u8, A>) -> Bytes<A>
+//!     fn into_vec(self) -> Vec<u8, A>
+//! Fixed
+//!     fn from_raw(raw: i32) -> Fixed
+//!     fn raw(self) -> i32
+//!     fn from_int(whole: i32) -> Option<Fixed>
+//!     fn to_int(self) -> i32
+//! Limit
+//!     fn new(bytes: u32) -> Option<Limit>
+//!     fn allows(self, size: u16) -> bool
+//!     fn is_message(self, bytes: &[u8]) -> bool
+//! Sizes
+//!     fn is_allowed(&self) -> bool
+//! Tables<A>
+//!     fn core(alloc: A) -> Result<Self, AllocError>
+//!     fn read_more(&self, text: &[u8]) -> Result<Self, TableFault>
+//!     fn interface(&self, name: &[u8]) -> Option<Iface>
+//!     fn name(&self, iface: Iface) -> Option<&[u8]>
+//!     fn version(&self, iface: Iface) -> Option<u32>
+//!     fn message(&self, iface: Iface, side: Side, opcode: u16) -> Option<&Signature<A>>
+//!     fn opcode(&self, iface: Iface, side: Side, name: &[u8]) -> Option<u16>
+//!     fn ends_by_event(&self, iface: Iface) -> bool
+//!     fn ends_by_request(&self, iface: Iface, version: u32) -> bool
+//!     fn has_server_objects(&self) -> bool
+//! Signature<A>
+//!     fn name(&self) -> &[u8]
+//!     fn since(&self) -> u32
+//!     fn kinds(&self) -> &[Kind]
+//!     fn destroys(&self) -> Destroys
+//! Destroys
+//!     fn destroys_one(self) -> bool
+//! trait Table: a SlotTable or a MapTable
+//!     fn new(alloc: Self::Alloc, display: Iface) -> Result<Self, AllocError>
+//!     fn look(&self, id: u32) -> Option<Entry>
+//!     fn is_free(&self, id: u32) -> bool
+//!     fn has_room(&self, id: u32) -> bool
+//!     fn can_open(&self) -> bool
+//!     fn used(&self) -> u32
+//!     fn births(&self) -> u64
+//!     fn len(&self) -> u32
+//!     fn open_next(&mut self, iface: Iface, version: u32) -> Result<Object, TableError>
+//!     fn open_at(&mut self, id: u32, iface: Iface, version: u32) -> Result<Object, TableError>
+//!     fn make_zombie(&mut self, id: u32)
+//!     fn close(&mut self, id: u32)
+//! Pair<'t, T: Table>
+//!     fn new(
+//!         alloc: T::Alloc, tables: &'t Tables, client: Sizes, server: Sizes,
+//!     ) -> Result<Self, AllocError>
+//!     fn run(
+//!         &mut self, moves: &[Move<T::Alloc>],
+//!     ) -> Result<Vec<Reply<T::Alloc>, T::Alloc>, AllocError>
+//!     fn agree(&self) -> bool
+//!     fn drained(&self) -> bool
+//!     fn len(&self) -> usize
+//!     fn recording(&self) -> &Recording<T::Alloc>
+//!     fn ended_at(&self) -> Option<usize>
+//! Recording<A>
+//!     fn new(alloc: A) -> Self
+//!     fn add(&mut self, direction: Direction, bytes: &[u8], tokens: u32) -> Result<(), AllocError>
+//!     fn pieces(&self) -> &[Passed<A>]
+//!     fn parse(alloc: A, text: &[u8]) -> Result<Self, RecordingError>
+//!     fn to_text(&self) -> Result<Vec<u8, A>, AllocError>
+//! Tee<R, A>, which is a Read
+//!     fn new(alloc: A, reader: R, room: usize) -> Result<Self, AllocError>
+//!     fn reader(&mut self) -> &mut R
+//!     fn add_to<B: Allocator + Clone>(
+//!         &mut self, recording: &mut Recording<B>, direction: Direction,
+//!     ) -> Result<(), AllocError>
+//! Inspector<'t, A>
+//!     fn new(alloc: A, tables: &'t Tables, limit: Limit) -> Result<Self, AllocError>
+//!     fn pass(
+//!         &mut self, direction: Direction, bytes: &[u8], tokens: usize,
+//!     ) -> Result<(), AllocError>
+//!     fn lines(&self) -> &[u8]
+//!     fn verdict(&self) -> Verdict
+//! Twins<A>
+//!     fn new(alloc: A) -> Result<Self, AllocError>
+//!     fn add(&mut self, at_server: Object, at_client: Object) -> Result<(), AllocError>
+//!     fn at_client(&self, of_server: Object) -> Option<Object>
+//!     fn at_server(&self, of_client: Object) -> Option<Object>
+//!     fn remove(&mut self, of_client: Object) -> Option<Object>
+//!     fn request_arg<'a>(&self, argument: GotRef<'a>) -> Option<Arg<'a>>
+//!     fn event_arg<'a>(&self, argument: GotRef<'a>) -> Option<Arg<'a>>
+//! fn check<A: Allocator + Clone>(
+//!     alloc: A, recording: &Recording<A>, tables: &Tables, limit: Limit,
+//! ) -> Result<Verdict, AllocError>
+//! fn trace<A: Allocator + Clone>(
+//!     alloc: A, recording: &Recording<A>, tables: &Tables, limit: Limit,
+//! ) -> Result<(Vec<u8, A>, Verdict), AllocError>
+//! fn same_rows<T: Table>(client: &Client<'_, T>, server: &Server<'_, T>) -> bool
+//! ```
+//!
+//! # The types
+//!
+//! ```text
+//! Object { id: u32, birth: u64 }
+//! Entry { birth: u64, iface: Iface, version: u32, state: State }
+//! State: Live, Zombie
+//! Iface(u16), the place of an interface in the tables
+//! Arg<'a>: Int(i32), Uint(u32), Fixed(Fixed), Str(Option<&'a [u8]>), Obj(Option<Object>), New,
+//!     Array(&'a [u8]), Fd(u32)
+//! Amounts { bytes: usize, tokens: usize }, which `Fed` and `Taken` are
+//! Sizes { out_bytes: usize, out_tokens: usize, in_bytes: usize, in_tokens: usize, limit: Limit }
+//! Limit { bytes: u16 }, which `Limit::new` makes; 4096 in `Limit::USUAL`
+//! Piece<'a> { bytes: &'a [u8], tokens: &'a [u32] }
+//! Peek<'a> { front: &'a [u8], back: &'a [u8], tokens: usize }
+//! ReadAll { pieces: usize, part: Fed, stop: Option<NextError> }
+//! NextError: Fault { fault: Fault, offset: u64 }, Failed, Memory, OutFull
+//! Fault: BadSize, UnknownObject, UnknownMessage, BadArgument(usize, ArgFault), BadObject(usize),
+//!     BadNewId(usize), TrailingBytes, MissingDescriptor, BadBind, TooManyObjects
+//! ArgFault: Short, NullNotAllowed, NoEndingNul, InnerNul
+//! SendError: Failed, Stale, NoSuchMessage, TooOld, WrongArgs(usize), BadObject(usize), BadBind,
+//!     TooLong, Full, NoIds, Memory, NotDroppable
+//! GlobalError: Failed, BadGlobal, TooMany, Memory, NoSuchGlobal
+//! FillError: Io, NoRoom
+//! FlushError: Io { written: usize }, NeedsTokens { written: usize }
+//! TableError: NoIds, NotNext, InUse, Memory
+//! TableFault: BadLine { line: usize }, BadTable { line: usize, rule: u8 }, Memory
+//! RecordingError: BadLine { line: usize }, Memory
+//! Side: Request, Event
+//! Direction: ToServer, ToClient
+//! Kind: Int, Uint, Fixed, Str { null: bool }, Obj { null: bool, iface: Option<Iface> },
+//!     New(Option<Iface>), NewByServer(Iface), Array, Fd
+//! Destroys: Nothing, Target, Arg(usize)
+//! Passed<A> { direction: Direction, bytes: Bytes<A>, tokens: u32 }
+//! Verdict:
+//!     Lawful { requests: usize, events: usize, left_to_server: usize, left_to_client: usize },
+//!     Broken { direction: Direction, index: usize, offset: usize, fault: Fault }
+//! Carried: Moved(Fed), Memory
+//! ```
+//!
+//! A [`Move`] is a call of one end of a pair, with its arguments owned ([`SendArg`]), or a carry of
+//! at most a given number of bytes. Its [`Reply`] has the same case with what the call returns.
 #![tactic(auto)]
 
 pub use wl_check::Inspector;

@@ -27,7 +27,7 @@ use Rattle.wl_check.specs.declared.verdict.Verdict.{Verdict}
 use Rattle.wl_check.specs.declared.verdict.Verdict.TheVariants.{Lawful, Broken}
 use Rattle.wl_check.specs.Merged.{same_direction}
 use Rattle.wl_check.specs.Changes.{Call, changes, beginning}
-use Rattle.wl_check.specs.Places.{holder, is_ending, used, advertised_version, taken, taken_after}
+use Rattle.wl_check.specs.Places.{holder, is_ending, used, server_used, advertised_version, taken, taken_after}
 use Rattle.wl_check.specs.Places.{deletes_id, unless_deleted, object_after, KnownAtPlace, known, IsKnownBehind}
 use Rattle.wl_check.specs.Places.{IsFirst}
 use Rattle.wl_check.specs.Rules.{judged, judged_message, judged_front}
@@ -193,14 +193,15 @@ first_taken ToClient = refl
 
 pub known_first : (tables : List Interface) (s : Session) (k : KnownAtPlace) → IsFirst k
     → k ≡ known (changes_at tables (messages tables s)) 1
-unfolding holder is_ending used advertised_version taken
+unfolding holder is_ending used server_used advertised_version taken
 known_first tables s k h =
     let o = fun_ext (λ id. h.objects id ∙ sym (named_next (changes_at tables (messages tables s)) 0 id
     ∙ first_object id)) in
     let u = h.used_is in
+    let v = h.server_used_is in
     let t = fun_ext (λ n. fun_ext (λ i. h.advertised_is n i)) in
     let d = fun_ext (λ x. h.taken_is x ∙ sym (first_taken x)) in
-    λ i. record { object = o i; used = u i; advertised_version = t i; taken = d i }
+    λ i. record { object = o i; used = u i; server_used = v i; advertised_version = t i; taken = d i }
 
 pub at_first : {A : Type 0} (tables : List Interface) (s : Session) (p : Progress A) → IsFirst (known_in p.known)
     → p.to_server ≡ no_tally → p.to_client ≡ no_tally → p.known.taken_to_server ≡ 0 → p.known.taken_to_client ≡ 0

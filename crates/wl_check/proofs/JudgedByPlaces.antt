@@ -9,7 +9,7 @@ use Rattle.wl_recording.specs.declared.piece.Direction.{Direction}
 use Rattle.wl_check.specs.declared.changes.MessageChanges.{MessageChanges}
 use Rattle.wl_check.specs.declared.frames.FramedMessage.{FramedMessage}
 use Rattle.wl_check.specs.Places.{holder, is_ending, live_or_zombie, entry_made_at, object_named, used}
-use Rattle.wl_check.specs.Places.{advertised_version, taken, KnownAtPlace, known}
+use Rattle.wl_check.specs.Places.{server_used, advertised_version, taken, KnownAtPlace, known}
 use Rattle.wl_check.specs.Rules.{judged}
 use Rattle.wl_check.specs.Session.{Judged, changes_of, changes_at, judged_after, messages, Session}
 use Rattle.wl_check.proofs.KnownBehindMessage.{holder_before}
@@ -46,6 +46,11 @@ unfolding used
 used_same s t zero a = refl
 used_same s t (suc p) a = rw (a p (omega arith), used_same s t p (less s t p a)) refl
 
+server_used_same : (s t : ℕ → MessageChanges) (p : ℕ) → Agree s t p → server_used s p ≡ server_used t p
+unfolding server_used
+server_used_same s t zero a = refl
+server_used_same s t (suc p) a = rw (a p (omega arith), server_used_same s t p (less s t p a)) refl
+
 advertised_same : (s t : ℕ → MessageChanges) (p n i : ℕ) → Agree s t p
     → advertised_version s p n i ≡ advertised_version t p n i
 unfolding advertised_version
@@ -61,9 +66,10 @@ pub known_same : (s t : ℕ → MessageChanges) (p : ℕ) → Agree s t p → kn
 known_same s t p a =
     let o = fun_ext (λ i. named_same s t p i a) in
     let u = used_same s t p a in
+    let v = server_used_same s t p a in
     let g = fun_ext (λ n. fun_ext (λ i. advertised_same s t p n i a)) in
     let k = fun_ext (λ d. taken_same s t p d a) in
-    λ i. record { object = o i; used = u i; advertised_version = g i; taken = k i }
+    λ i. record { object = o i; used = u i; server_used = v i; advertised_version = g i; taken = k i }
 
 -- ---- the messages of a front are those of the whole
 

@@ -72,12 +72,12 @@ received_same tables side r header body w n valid is =
 pub judged_is : (tables : List Interface) (k : KnownAtPlace) (frame : FramedMessage) (header : Header) (body : List ℕ)
     (n w : ℕ) (x : Result Received Fault) → Valid tables
     → n ≡ min w 18446744073709551615 → w ≡ frame.tokens - k.taken frame.direction
-    → x ≡ received tables (side_of frame.direction) (reader_by k frame.direction) header body n
+    → x ≡ received tables (side_of frame.direction) (reader_by tables k frame.direction) header body n
     → judged_message tables k frame header body ≡ called tables k frame.direction header.opcode x
 judged_is tables k frame header body n w x valid n_is w_is x_is =
     ap (λ (y : Result Received Fault). called tables k frame.direction header.opcode y)
-    (sym (x_is ∙ received_same tables (side_of frame.direction) (reader_by k frame.direction) header body w n valid n_is
-    ∙ ap (received tables (side_of frame.direction) (reader_by k frame.direction) header body) w_is))
+    (sym (x_is ∙ received_same tables (side_of frame.direction) (reader_by tables k frame.direction) header body w n valid n_is
+    ∙ ap (received tables (side_of frame.direction) (reader_by tables k frame.direction) header body) w_is))
 
 pub called_bad : (tables : List Interface) (k : KnownAtPlace) (d : Direction) (opcode : ℕ) (r : Received)
     → is_bad_bind tables k (side_of d) opcode r ≡ true → called tables k d opcode (Ok r) ≡ Err BadBind
@@ -90,9 +90,9 @@ called_good tables k d opcode r h = rw h refl
 
 pub from_side : (tables : List Interface) (k : KnownAtPlace) (d : Direction) (header : Header) (body : List ℕ) (n : ℕ)
     (side : Side) (x : Result Received Fault) → side ≡ side_of d
-    → x ≡ received tables side (reader_by k d) header body n
-    → x ≡ received tables (side_of d) (reader_by k d) header body n
-from_side tables k d header body n side x is h = h ∙ ap (λ (s : Side). received tables s (reader_by k d) header body n)
+    → x ≡ received tables side (reader_by tables k d) header body n
+    → x ≡ received tables (side_of d) (reader_by tables k d) header body n
+from_side tables k d header body n side x is h = h ∙ ap (λ (s : Side). received tables s (reader_by tables k d) header body n)
     is
 
 -- the parts of a message, as the code lends them

@@ -1,21 +1,26 @@
 -- What is held, open, used and advertised at a place, by the messages before it.
-use Rattle.std.proofs.Common.{◌≡◌, ℕ, zero, suc, ◌+◌, ◌<◌, ◌≤◌, Bool, true, false, ◌&&◌, ◌||◌, cond}
+use Rattle.std.proofs.Common.{◌≡◌, ℕ, zero, suc, ◌+◌, ◌<◌, ◌≤◌, ◌-◌, Bool, true, false, ◌&&◌, ◌||◌, cond}
 use Rattle.std.proofs.Common.{Some, None, refl, sym, ap, ◌∙◌, subst, inl, inr, arith, nat_lt}
 use Rattle.std.proofs.Common.{nat_eq, max, ◌↔◌}
 use Rattle.std.specs.Prelude.{Option}
-use Rattle.std.proofs.lemmas.Bool.{cases_Bool, cases_order, cases_lt, lt-ltb, ltb-true, and_parts, eqb-true, eq-eqb}
+use Rattle.std.proofs.lemmas.Bool.{cases_Bool, cases_order, cases_lt, lt-ltb, ltb-true, and_parts, eqb-true, eq-eqb, leb-true}
+use Rattle.wl_object_map.specs.Ranges.{first_server_id, is_of_server}
 use Rattle.wl_objects.specs.Messages.{NewObject}
 use Rattle.wl_check.specs.declared.changes.AdvertisedGlobal.{AdvertisedGlobal}
 use Rattle.wl_check.specs.declared.changes.MessageChanges.{MessageChanges}
-use Rattle.wl_check.specs.Places.{makes_id, is_made, deletes_id, destroys_id, holder, is_ending, used}
-use Rattle.wl_check.specs.Places.{used_by, advertised_version, advertises, advertised_once}
+use Rattle.wl_check.specs.Places.{makes_id, is_made, deletes_id, destroys_id, holder, is_ending, used, server_used}
+use Rattle.wl_check.specs.Places.{used_by, server_used_by, advertised_version, advertises, advertised_once}
 use Rattle.wl_check.specs.Places.{advertised_by}
 use Rattle.wl_check.specs.Text.{StaysHeld, StaysOpen, WasUsed, WasAdvertised}
 
--- no object is made with an id that is held, and each new id was used before or is the next
+-- no object is made with an id of the client's range that is held, and each new id was used before
+-- or is the next of its range
 pub record IsFresh (s : ℕ → MessageChanges) (p : ℕ) : Type 0 where
-  pub no_holder : (i : ℕ) → makes_id (s p) i ≡ true → holder s p i ≡ None
-  pub next : (new : NewObject) → (s p).made ≡ Some new → (0 < new.id) × (new.id ≤ used s p + 1)
+  pub no_holder : (i : ℕ) → is_of_server i ≡ false → makes_id (s p) i ≡ true → holder s p i ≡ None
+  pub next : (new : NewObject) → (s p).made ≡ Some new → is_of_server new.id ≡ false
+      → (0 < new.id) × (new.id ≤ used s p + 1)
+  pub next_of_server : (new : NewObject) → (s p).made ≡ Some new → is_of_server new.id ≡ true
+      → new.id ≤ first_server_id + server_used s p
 
 abbrev pub AreFresh : (ℕ → MessageChanges) → ℕ → Type 0
 AreFresh s p = (q : ℕ) → q < p → IsFresh s q
@@ -23,17 +28,25 @@ AreFresh s p = (q : ℕ) → q < p → IsFresh s q
 -- ---- held
 
 held_before : (s : ℕ → MessageChanges) (p m i : ℕ) → m < p → StaysHeld s (suc p) m i → StaysHeld s p m i
-held_before s p m i below h = record { before = below; made = h.made; kept = λ q a b. h.kept q a (omega arith) }
+held_before s p m i below h = record {
+  before = below;
+  made = h.made;
+  kept = λ q a b. h.kept q a (omega arith);
+  latest = λ of_server q a b. h.latest of_server q a (omega arith);
+}
 
 to_step : (s : ℕ → MessageChanges) (p m i : ℕ) (made del : Bool) (o : Option ℕ) → makes_id (s p) i ≡ made
-    → deletes_id (s p) i ≡ del → (made ≡ true → o ≡ None) → (StaysHeld s p m i → o ≡ Some m) → StaysHeld s (suc p) m i
-    → cond made (Some p) (cond del None o) ≡ Some m
+    → deletes_id (s p) i ≡ del → (is_of_server i ≡ false → made ≡ true → o ≡ None) → (StaysHeld s p m i → o ≡ Some m)
+    → StaysHeld s (suc p) m i → cond made (Some p) (cond del None o) ≡ Some m
 to_step s p m i made del o is_made is_del fresh ih h = elim (cases_order m p) [
   | inl e ↦ (let now : made ≡ true = sym is_made ∙ subst (λ (x : ℕ). makes_id (s x) i ≡ true) e h.made
       in rw now (ap (λ x. Some x) (sym e)))
   | inr w ↦ elim w [
     | inl below ↦ (let was : o ≡ Some m = ih (held_before s p m i below h) in elim (cases_Bool made) [
-      | inl now ↦ absurd (let none : o ≡ None = fresh now in cc)
+      | inl now ↦ absurd (elim (cases_Bool (is_of_server i)) [
+        | inl of_server ↦ (let other : made ≡ false = sym is_made ∙ h.latest of_server p below (omega arith) in cc)
+        | inr of_client ↦ (let none : o ≡ None = fresh of_client now in cc)
+      ])
       | inr other ↦ (let keep : del ≡ false = sym is_del ∙ h.kept p below (omega arith) in rw (other, keep) was)
     ])
     | inr above ↦ absurd (omega (arith, h.before))
@@ -54,6 +67,7 @@ from_step s p m i true del o is_made is_del ih e = let same : p ≡ m = cc
       before = omega arith;
       made = subst (λ (x : ℕ). makes_id (s x) i ≡ true) same is_made;
       kept = λ q a b. absurd (omega arith);
+      latest = λ of_server q a b. absurd (omega arith);
     }
 from_step s p m i false true o is_made is_del ih e = absurd (cc)
 from_step s p m i false false o is_made is_del ih e = let h : StaysHeld s p m i = ih e in record {
@@ -63,6 +77,11 @@ from_step s p m i false false o is_made is_del ih e = let h : StaysHeld s p m i 
     | inl same ↦ rw same is_del
     | inr w ↦ elim w
         [ inl below ↦ h.kept q a below | inr above ↦ absurd (omega arith) ]
+  ];
+  latest = λ of_server q a b. elim (cases_order q p) [
+    | inl same ↦ rw same is_made
+    | inr w ↦ elim w
+        [ inl below ↦ h.latest of_server q a below | inr above ↦ absurd (omega arith) ]
   ];
 }
 
@@ -119,12 +138,10 @@ later_used s p i w = record { birth = w.birth; before = (let b = w.before in ome
 made_id : (o : Option NewObject) (new : NewObject) → o ≡ Some new → is_made o new.id ≡ true
 made_id o new e = rw e (eq-eqb new.id new.id refl)
 
-used_step : (s : ℕ → MessageChanges) (p i : ℕ) (o : Option NewObject) → (s p).made ≡ o
-    → ((new : NewObject) → o ≡ Some new → new.id ≤ used s p + 1) → (i ≤ used s p → WasUsed s p i)
-    → i ≤ used_by o (used s p) → WasUsed s (suc p) i
-used_step s p i None e next ih h = later_used s p i (ih h)
-used_step s p i (Some new) e next ih h = elim (cases_lt (used s p) i) [
-  | inl above ↦ (let n = next new refl in let same : new.id ≡ i = omega arith in
+used_past : (s : ℕ → MessageChanges) (p i : ℕ) (new : NewObject) → (s p).made ≡ Some new → new.id ≤ used s p + 1
+    → (i ≤ used s p → WasUsed s p i) → i ≤ max new.id (used s p) → WasUsed s (suc p) i
+used_past s p i new e next ih h = elim (cases_lt (used s p) i) [
+  | inl above ↦ (let same : new.id ≡ i = omega arith in
       record {
         birth = p;
         before = omega arith;
@@ -134,27 +151,42 @@ used_step s p i (Some new) e next ih h = elim (cases_lt (used s p) i) [
   | inr fine ↦ later_used s p i (ih fine)
 ]
 
+used_step : (s : ℕ → MessageChanges) (p i : ℕ) (o : Option NewObject) → (s p).made ≡ o
+    → ((new : NewObject) → o ≡ Some new → is_of_server new.id ≡ false → new.id ≤ used s p + 1)
+    → (i ≤ used s p → WasUsed s p i) → i ≤ used_by o (used s p) → WasUsed s (suc p) i
+used_step s p i None e next ih h = later_used s p i (ih h)
+used_step s p i (Some new) e next ih h = elim (cases_Bool (is_of_server new.id)) [
+  | inl of_server ↦ (let same : i ≤ used s p = rw of_server at h in later_used s p i (ih same))
+  | inr of_client ↦ (let past : i ≤ max new.id (used s p) = rw of_client at h
+      in used_past s p i new e (next new refl of_client) ih past)
+]
+
 used_from : (s : ℕ → MessageChanges) (p i : ℕ) → AreFresh s p → 0 < i → i ≤ used s p → WasUsed s p i
 unfolding used
 used_from s zero i fresh pos h = absurd (omega arith)
-used_from s (suc p) i fresh pos h = used_step s p i (s p).made refl (λ new e. ((fresh p (omega arith)).next new e).1)
+used_from s (suc p) i fresh pos h = used_step s p i (s p).made refl
+    (λ new e of_client. ((fresh p (omega arith)).next new e of_client).1)
     (used_from s p i (λ q b. fresh q (omega arith)) pos) h
 
 used_keeps : (o : Option NewObject) (n : ℕ) → n ≤ used_by o n
 used_keeps None n = omega arith
-used_keeps (Some new) n = omega arith
+used_keeps (Some new) n = elim (cases_Bool (is_of_server new.id))
+    [ inl of_server ↦ rw of_server (omega arith) | inr of_client ↦ rw of_client (omega arith) ]
 
-made_used : (o : Option NewObject) (n i : ℕ) → is_made o i ≡ true → i ≤ used_by o n
-made_used None n i h = absurd (cc)
-made_used (Some new) n i h = let e = eqb-true new.id i h in omega (arith, e)
+made_used : (o : Option NewObject) (n i : ℕ) → is_of_server i ≡ false → is_made o i ≡ true → i ≤ used_by o n
+made_used None n i of_client h = absurd (cc)
+made_used (Some new) n i of_client h = let e = eqb-true new.id i h in
+    let same : is_of_server new.id ≡ false = ap (λ (x : ℕ). is_of_server x) e ∙ of_client in
+    rw same (omega (arith, e))
 
-used_at : (s : ℕ → MessageChanges) (p q i : ℕ) → q < p → makes_id (s q) i ≡ true → i ≤ used s p
+used_at : (s : ℕ → MessageChanges) (p q i : ℕ) → is_of_server i ≡ false → q < p → makes_id (s q) i ≡ true
+    → i ≤ used s p
 unfolding used
-used_at s zero q i b m = absurd (omega arith)
-used_at s (suc p) q i b m = elim (cases_order q p) [
-  | inl same ↦ made_used (s p).made (used s p) i (subst (λ (x : ℕ). makes_id (s x) i ≡ true) same m)
+used_at s zero q i of_client b m = absurd (omega arith)
+used_at s (suc p) q i of_client b m = elim (cases_order q p) [
+  | inl same ↦ made_used (s p).made (used s p) i of_client (subst (λ (x : ℕ). makes_id (s x) i ≡ true) same m)
   | inr o ↦ elim o [
-    | inl less ↦ (let u = used_at s p q i less m in let k = used_keeps (s p).made (used s p) in omega (arith, u, k))
+    | inl less ↦ (let u = used_at s p q i of_client less m in let k = used_keeps (s p).made (used s p) in omega (arith, u, k))
     | inr more ↦ absurd (omega arith)
   ]
 ]
@@ -163,14 +195,89 @@ made_some : (o : Option NewObject) (i : ℕ) → is_made o i ≡ true → (new :
 made_some None i h = absurd (cc)
 made_some (Some new) i h = (new, refl, eqb-true new.id i h)
 
-pub used_is : (s : ℕ → MessageChanges) (p i : ℕ) → AreFresh s p → ((0 < i) × (i ≤ used s p)) ↔ WasUsed s p i
-used_is s p i fresh = (
+pub used_is : (s : ℕ → MessageChanges) (p i : ℕ) → AreFresh s p → is_of_server i ≡ false
+    → ((0 < i) × (i ≤ used s p)) ↔ WasUsed s p i
+used_is s p i fresh of_client = (
   λ h. used_from s p i fresh h.0 h.1,
   λ w. (
-    let n = made_some (s w.birth).made i w.made in let f = (fresh w.birth w.before).next n.0 n.1 in let pos = f.0
-        in let e = n.2 in omega (arith, pos, e),
-    used_at s p w.birth i w.before w.made,
+    let n = made_some (s w.birth).made i w.made in let e = n.2 in
+        let same : is_of_server n.0.id ≡ false = ap (λ (x : ℕ). is_of_server x) e ∙ of_client in
+        let f = (fresh w.birth w.before).next n.0 n.1 same in let pos = f.0
+        in omega (arith, pos, e),
+    used_at s p w.birth i of_client w.before w.made,
   ),
+)
+
+-- ---- used, of the server's range
+
+server_used_past : (s : ℕ → MessageChanges) (p i : ℕ) (new : NewObject) → (s p).made ≡ Some new
+    → first_server_id ≤ new.id → new.id ≤ first_server_id + server_used s p
+    → (i < first_server_id + server_used s p → WasUsed s p i)
+    → i < first_server_id + max (new.id - first_server_id + 1) (server_used s p) → WasUsed s (suc p) i
+server_used_past s p i new e first next ih h = elim (cases_lt i (first_server_id + server_used s p)) [
+  | inl fine ↦ later_used s p i (ih fine)
+  | inr above ↦ (let same : new.id ≡ i = omega arith in
+      record {
+        birth = p;
+        before = omega arith;
+        made = subst (λ (x : ℕ). makes_id (s p) x ≡ true) same
+            (made_id (s p).made new e);
+      })
+]
+
+server_used_step : (s : ℕ → MessageChanges) (p i : ℕ) (o : Option NewObject) → (s p).made ≡ o
+    → ((new : NewObject) → o ≡ Some new → is_of_server new.id ≡ true → new.id ≤ first_server_id + server_used s p)
+    → (i < first_server_id + server_used s p → WasUsed s p i)
+    → i < first_server_id + server_used_by o (server_used s p) → WasUsed s (suc p) i
+server_used_step s p i None e next ih h = later_used s p i (ih h)
+server_used_step s p i (Some new) e next ih h = elim (cases_Bool (is_of_server new.id)) [
+  | inl of_server ↦ (let past : i < first_server_id + max (new.id - first_server_id + 1) (server_used s p) =
+      rw of_server at h
+      in server_used_past s p i new e (leb-true first_server_id new.id of_server) (next new refl of_server) ih past)
+  | inr of_client ↦ (let same : i < first_server_id + server_used s p = rw of_client at h in later_used s p i (ih same))
+]
+
+server_used_from : (s : ℕ → MessageChanges) (p i : ℕ) → AreFresh s p → is_of_server i ≡ true
+    → i < first_server_id + server_used s p → WasUsed s p i
+unfolding server_used
+server_used_from s zero i fresh of_server h = absurd (let first = leb-true first_server_id i of_server
+    in omega (arith, first))
+server_used_from s (suc p) i fresh of_server h = server_used_step s p i (s p).made refl
+    (λ new e of_it. (fresh p (omega arith)).next_of_server new e of_it)
+    (server_used_from s p i (λ q b. fresh q (omega arith)) of_server) h
+
+server_used_keeps : (o : Option NewObject) (n : ℕ) → n ≤ server_used_by o n
+server_used_keeps None n = omega arith
+server_used_keeps (Some new) n = elim (cases_Bool (is_of_server new.id))
+    [ inl of_server ↦ rw of_server (omega arith) | inr of_client ↦ rw of_client (omega arith) ]
+
+made_server_used : (o : Option NewObject) (n i : ℕ) → is_of_server i ≡ true → is_made o i ≡ true
+    → i < first_server_id + server_used_by o n
+made_server_used None n i of_server h = absurd (cc)
+made_server_used (Some new) n i of_server h = let e = eqb-true new.id i h in
+    let same : is_of_server new.id ≡ true = ap (λ (x : ℕ). is_of_server x) e ∙ of_server in
+    let first = leb-true first_server_id i of_server in
+    rw same (omega (arith, e, first))
+
+server_used_at : (s : ℕ → MessageChanges) (p q i : ℕ) → is_of_server i ≡ true → q < p → makes_id (s q) i ≡ true
+    → i < first_server_id + server_used s p
+unfolding server_used
+server_used_at s zero q i of_server b m = absurd (omega arith)
+server_used_at s (suc p) q i of_server b m = elim (cases_order q p) [
+  | inl same ↦ made_server_used (s p).made (server_used s p) i of_server
+      (subst (λ (x : ℕ). makes_id (s x) i ≡ true) same m)
+  | inr o ↦ elim o [
+    | inl less ↦ (let u = server_used_at s p q i of_server less m
+        in let k = server_used_keeps (s p).made (server_used s p) in omega (arith, u, k))
+    | inr more ↦ absurd (omega arith)
+  ]
+]
+
+pub server_used_is : (s : ℕ → MessageChanges) (p i : ℕ) → AreFresh s p → is_of_server i ≡ true
+    → (i < first_server_id + server_used s p) ↔ WasUsed s p i
+server_used_is s p i fresh of_server = (
+  λ h. server_used_from s p i fresh of_server h,
+  λ w. server_used_at s p w.birth i of_server w.before w.made,
 )
 
 -- ---- advertised

@@ -9,7 +9,7 @@ use Rattle.wl_object_map.specs.declared.object.State.TheVariants.{Live}
 use Rattle.wl_check.specs.declared.changes.MessageChanges.{MessageChanges}
 use Rattle.wl_check.specs.Places.{makes_id, deletes_id, destroys_id, holder, is_ending, live_or_zombie, made_entry}
 use Rattle.wl_check.specs.Places.{new_of, entry_made_at, object_named, unless_deleted, object_after}
-use Rattle.wl_check.specs.Places.{used_after, advertised_after, taken_after, used}
+use Rattle.wl_check.specs.Places.{used_after, server_used_after, advertised_after, taken_after, used, server_used}
 use Rattle.wl_check.specs.Places.{advertised_version, taken, KnownAtPlace, known, IsKnownBehind}
 
 -- nothing stands between a place and the next
@@ -63,13 +63,14 @@ named_next s p i = next s p i (makes_id (s p) i)
 
 pub known_next : (s : ℕ → MessageChanges) (p : ℕ) (before after : KnownAtPlace) → before ≡ known s p
     → IsKnownBehind p (s p) before after → after ≡ known s (suc p)
-unfolding used advertised_version taken
+unfolding used server_used advertised_version taken
 known_next s p before after is n =
     let o = fun_ext (λ id. n.objects id ∙ ap (λ (k : KnownAtPlace). object_after p (s p) id (k.object id)) is
     ∙ sym (named_next s p id)) in
     let u = n.used_is ∙ ap (λ (k : KnownAtPlace). used_after (s p) k.used) is in
+    let v = n.server_used_is ∙ ap (λ (k : KnownAtPlace). server_used_after (s p) k.server_used) is in
     let t = fun_ext (λ name. fun_ext (λ iface. n.advertised_is name iface
     ∙ ap (λ (k : KnownAtPlace). advertised_after (s p) name iface (k.advertised_version name iface)) is)) in
     let d = fun_ext (λ direction. n.taken_is direction
     ∙ ap (λ (k : KnownAtPlace). taken_after (s p) direction (k.taken direction)) is) in
-    λ i. record { object = o i; used = u i; advertised_version = t i; taken = d i }
+    λ i. record { object = o i; used = u i; server_used = v i; advertised_version = t i; taken = d i }

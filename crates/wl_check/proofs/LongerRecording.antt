@@ -20,6 +20,7 @@ use Rattle.wl_check.specs.declared.frames.FramedMessage.{FramedMessage}
 use Rattle.wl_check.specs.Merged.{stream_of, piece_tokens, completed, completed_at, merged, merged_within}
 use Rattle.wl_check.specs.Changes.{Call, changes}
 use Rattle.wl_check.specs.Places.{KnownAtPlace, known, object_named, object_after, used, used_after}
+use Rattle.wl_check.specs.Places.{server_used, server_used_after}
 use Rattle.wl_check.specs.Places.{advertised_version, advertised_after, advertised_by, advertises}
 use Rattle.wl_check.specs.Places.{taken, taken_after, IsKnownBehind}
 use Rattle.wl_check.specs.Rules.{judged, judged_message}
@@ -175,7 +176,7 @@ changes_last tables e call = ap (changes_of tables) (get_seam e (Ok call))
 pub behind_one : (tables : List Interface) (e : List Judged) (call : Call)
     → IsKnownBehind (suc (length e)) (changes tables call) (known (changes_at tables e) (suc (length e)))
     (known (changes_at tables (e ++ Ok call ∷ [])) (suc (length (e ++ Ok call ∷ []))))
-unfolding used advertised_version taken
+unfolding used server_used advertised_version taken
 behind_one tables e call =
     let all = e ++ Ok call ∷ [] in
     let s = changes_at tables all in
@@ -187,6 +188,7 @@ behind_one tables e call =
       objects = λ id. ap (λ m. object_named s m id) n ∙ named_next s p id
           ∙ (λ i. object_after p (here i) id ((front i).object id));
       used_is = ap (used s) n ∙ (λ i. used_after (here i) ((front i).used));
+      server_used_is = ap (server_used s) n ∙ (λ i. server_used_after (here i) ((front i).server_used));
       advertised_is = λ name iface. ap (λ m. advertised_version s m name iface) n
           ∙ (λ i. advertised_after (here i) name iface ((front i).advertised_version name iface));
       taken_is = λ direction. ap (λ m. taken s m direction) n

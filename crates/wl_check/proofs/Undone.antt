@@ -117,30 +117,33 @@ pub pair_itself : (key : ℕ × ℕ) → pair_cmp key key ≡ Equal
 pair_itself key = rw (tied_itself nat_cmp_total key.0, tied_itself nat_cmp_total key.1) refl
 
 -- the version of a global, where it was not put in after all
-pub put_back_none : (key : ℕ × ℕ) (version : Option ℕ) (objects : List (Option Entry))
+pub put_back_none : (key : ℕ × ℕ) (version : Option ℕ) (objects server : List (Option Entry))
     (old new : List ((ℕ × ℕ) × ℕ))
     → version ≡ lookup (is_at (pair_cmp key)) old → lookup (is_at (pair_cmp key)) old ≡ None → new ≡ old
-    → put_back (Global key version) (record { objects = objects; globals = new })
-    ≡ record { objects = objects; globals = old }
-put_back_none key version objects old new found absent same =
+    → put_back (Global key version) (record { objects = objects; server_objects = server; globals = new })
+    ≡ record { objects = objects; server_objects = server; globals = old }
+put_back_none key version objects server old new found absent same =
     rw (found ∙ absent) (λ i. record {
       objects = objects;
+      server_objects = server;
       globals = (ap (remove_entry (is_at (pair_cmp key))) same ∙ none_removed (is_at (pair_cmp key)) old absent) i;
     })
 
 -- and where it was
-pub put_back_global : (key : ℕ × ℕ) (version : Option ℕ) (w : ℕ) (objects : List (Option Entry))
+pub put_back_global : (key : ℕ × ℕ) (version : Option ℕ) (w : ℕ) (objects server : List (Option Entry))
     (old new : List ((ℕ × ℕ) × ℕ)) → version ≡ lookup (is_at (pair_cmp key)) old → new ≡ insert_entry pair_cmp old key w
     → (IsSome version → keys_of new ≡ keys_of old)
-    → put_back (Global key version) (record { objects = objects; globals = new })
-    ≡ record { objects = objects; globals = old }
-put_back_global key None w objects old new found is keys = λ i. record {
+    → put_back (Global key version) (record { objects = objects; server_objects = server; globals = new })
+    ≡ record { objects = objects; server_objects = server; globals = old }
+put_back_global key None w objects server old new found is keys = λ i. record {
   objects = objects;
+  server_objects = server;
   globals = (ap (remove_entry (is_at (pair_cmp key))) is
       ∙ put_removed pair_cmp key w old (pair_itself key) (sym found)) i;
 }
-put_back_global key (Some v) w objects old new found is keys = λ i. record {
+put_back_global key (Some v) w objects server old new found is keys = λ i. record {
   objects = objects;
+  server_objects = server;
   globals = (ap (λ (l : List ((ℕ × ℕ) × ℕ)). set_value (is_at (pair_cmp key)) l v) is
       ∙ set_again pair_cmp key v w old (sym found) (ap (λ (l : List ((ℕ × ℕ) × ℕ)). keys_of l) (sym is) ∙ keys refl)) i;
 }

@@ -1,21 +1,54 @@
 -- The objects that are held and the globals that were advertised, and how what was overwritten is
 -- put back.
-use Rattle.std.specs.Prelude.{ℕ, List, [], ◌∷◌, set, take, Option, Some, None}
+use Rattle.std.specs.Prelude.{◌≡◌, ℕ, ◌+◌, ◌-◌, ◌≤◌, max, List, [], ◌∷◌, length, get_or, set}
+use Rattle.std.specs.Prelude.{take, if◌then◌else◌, Option, Some, None}
 use Rattle.std.specs.BTreeMap.{is_at}
 use Rattle.std.specs.Map.{lookup, remove_entry, set_value}
 use Rattle.std.specs.Option.{unwrap_or}
 use Rattle.std.specs.declared.cmp.Ordering.{Ordering}
 use Rattle.std.specs.Ordering.{nat_cmp, ordering_then}
 use Rattle.wl_object_map.specs.declared.object.Entry.{Entry}
+use Rattle.wl_object_map.specs.Ranges.{first_server_id, is_of_server}
 use Rattle.wl_check.specs.declared.overwritten.Overwritten.{Overwritten}
 use Rattle.wl_check.specs.declared.overwritten.Overwritten.TheVariants.{Object, Global}
 use Rattle.wl_check.specs.declared.overwritten.UndoList.{UndoList}
 use Rattle.wl_check.specs.declared.overwritten.UndoList.TheVariants.{Off, On}
 
--- what stands at each id, and the greatest advertised version for each name and interface
+-- what stands at each id of the client's range, and at each of the server's, from its first on; and
+-- the greatest advertised version for each name and interface
 pub record Held : Type 0 where
   pub objects : List (Option Entry)
+  pub server_objects : List (Option Entry)
   pub globals : List ((ℕ × ℕ) × ℕ)
+
+-- the object that is held with an id
+abbrev pub held_object : Held → ℕ → Option Entry
+held_object held id =
+    if is_of_server id then get_or held.server_objects (id - first_server_id) None
+    else get_or held.objects id None
+
+-- how many slots there are in the range of an id
+abbrev pub slots_in : Held → ℕ → ℕ
+slots_in held id = if is_of_server id then length held.server_objects else length held.objects
+
+-- No more slots are kept than there were ids: behind slot 0 as many as the greatest of the client's
+-- range that was used, and of the server's range as many as were used.
+pub record HasFewSlots (held : Held) (used server_used : ℕ) : Type 0 where
+  pub objects : length held.objects ≤ used + 1
+  pub server_objects : length held.server_objects ≤ server_used
+
+-- in the range of an id there are slots up to it, or as many as before; in the other as before
+pub record AreReached (id : ℕ) (before after : Held) : Type 0 where
+  pub objects : length after.objects
+      ≡ (if is_of_server id then length before.objects else max (length before.objects) (id + 1))
+  pub server_objects : length after.server_objects ≡ (if is_of_server id
+      then max (length before.server_objects) (id - first_server_id + 1)
+      else length before.server_objects)
+
+-- the number of slots is what it was
+pub record HasSlotsOf (before after : Held) : Type 0 where
+  pub objects : length after.objects ≡ length before.objects
+  pub server_objects : length after.server_objects ≡ length before.server_objects
 
 -- the order of names and interfaces
 abbrev pub pair_cmp : ℕ × ℕ → ℕ × ℕ → Ordering
@@ -25,11 +58,13 @@ pair_cmp a b = ordering_then (nat_cmp a.0 b.0) (nat_cmp a.1 b.1)
 abbrev pub held_version : Held → ℕ × ℕ → ℕ
 held_version held key = unwrap_or (lookup (is_at (pair_cmp key)) held.globals) 0
 
--- what was overwritten stands where it stood: an object, and of the slots those that there were; a
--- version, or none
+-- what was overwritten stands where it stood: an object, and of the slots of its range those that
+-- there were; a version, or none
 abbrev pub put_back : Overwritten → Held → Held
 put_back (Object id entry slots) held =
-    record held { objects = take slots (set held.objects id entry) }
+    if is_of_server id then record held {
+      server_objects = take slots (set held.server_objects (id - first_server_id) entry);
+    } else record held { objects = take slots (set held.objects id entry) }
 put_back (Global key None) held =
     record held { globals = remove_entry (is_at (pair_cmp key)) held.globals }
 put_back (Global key (Some version)) held =

@@ -8,5 +8,6 @@ pub mod Seen
 pub mod Trace
 pub mod SessionState
 pub mod Text
+pub mod Samples
 pub mod Printed
 pub mod Inspected

@@ -1,11 +1,12 @@
 -- What is known at a place of a session, by what stands at the places before it. wl_display stands
 -- at place 0, and the messages of the merged list at 1, 2, ..; an object is named by the place of
--- the request that made it, which is its birth.
-use Rattle.std.specs.Prelude.{◌≡◌, ℕ, zero, suc, ◌+◌, max, Bool, true, false, not, ◌&&◌, ◌||◌}
-use Rattle.std.specs.Prelude.{nat_lt, nat_eq, if◌then◌else◌, Option, Some, None, option_map}
+-- the message that made it, which is its birth.
+use Rattle.std.specs.Prelude.{◌≡◌, ℕ, zero, suc, ◌+◌, ◌-◌, max, Bool, true, false, not, ◌&&◌}
+use Rattle.std.specs.Prelude.{◌||◌, nat_lt, nat_eq, if◌then◌else◌, Option, Some, None, option_map}
 use Rattle.wl_object_map.specs.declared.object.Entry.{Entry}
 use Rattle.wl_object_map.specs.declared.object.State.{State}
 use Rattle.wl_object_map.specs.declared.object.State.TheVariants.{Live, Zombie}
+use Rattle.wl_object_map.specs.Ranges.{first_server_id, is_of_server}
 use Rattle.wl_objects.specs.Messages.{NewObject}
 use Rattle.wl_sigs.specs.Fixed.{display}
 use Rattle.wl_recording.specs.declared.piece.Direction.{Direction}
@@ -17,9 +18,9 @@ abbrev pub is_id : Option ℕ → ℕ → Bool
 is_id None id = false
 is_id (Some other) id = nat_eq other id
 
--- the delete_id of 1 changes nothing
+-- the delete_id of 1 changes nothing, nor does that of an id of the server's range
 abbrev pub frees : Option ℕ → ℕ → Bool
-frees deleted id = not (nat_eq id 1) && is_id deleted id
+frees deleted id = not (nat_eq id 1) && not (is_of_server id) && is_id deleted id
 
 abbrev pub is_made : Option NewObject → ℕ → Bool
 is_made None id = false
@@ -29,7 +30,7 @@ is_made (Some new) id = nat_eq new.id id
 abbrev pub makes_id : MessageChanges → ℕ → Bool
 makes_id changes id = is_made changes.made id
 
--- it is the delete_id of this id, and that of 1 changes nothing
+-- it is the delete_id of this id, and one that changes something
 abbrev pub deletes_id : MessageChanges → ℕ → Bool
 deletes_id changes id = frees changes.deleted id
 
@@ -38,7 +39,7 @@ abbrev pub destroys_id : MessageChanges → ℕ → Bool
 destroys_id changes id = is_id changes.destroyed id
 
 -- The object that is held at a place with this id: the last that was made, unless a delete_id
--- stands between.
+-- that frees the id stands between.
 unfoldable pub holder : (ℕ → MessageChanges) → ℕ → ℕ → Option ℕ
 holder session zero id = None
 holder session (suc place) id =
@@ -75,13 +76,22 @@ object_named session place id =
     (live_or_zombie (is_ending session birth place id)))
     (holder session place id)
 
--- the counts behind a message
+-- the counts behind a message: the greatest id used of the client's range, and how many ids were
+-- used of the server's
 abbrev pub used_by : Option NewObject → ℕ → ℕ
 used_by None count = count
-used_by (Some new) count = max new.id count
+used_by (Some new) count = if is_of_server new.id then count else max new.id count
+
+abbrev pub server_used_by : Option NewObject → ℕ → ℕ
+server_used_by None count = count
+server_used_by (Some new) count =
+    if is_of_server new.id then max (new.id - first_server_id + 1) count else count
 
 abbrev pub used_after : MessageChanges → ℕ → ℕ
 used_after changes count = used_by changes.made count
+
+abbrev pub server_used_after : MessageChanges → ℕ → ℕ
+server_used_after changes count = server_used_by changes.made count
 
 abbrev pub advertises : ℕ → ℕ → AdvertisedGlobal → Bool
 advertises name iface global = nat_eq global.name name && nat_eq global.iface.0 iface
@@ -101,10 +111,16 @@ abbrev pub taken_after : MessageChanges → Direction → ℕ → ℕ
 taken_after changes direction count =
     count + (if same_direction changes.direction direction then changes.tokens else 0)
 
--- the greatest id used before a place
+-- the greatest id of the client's range used before a place
 unfoldable pub used : (ℕ → MessageChanges) → ℕ → ℕ
 used session zero = 0
 used session (suc place) = used_after (session place) (used session place)
+
+-- how many ids of the server's range were used before a place: the first so many
+unfoldable pub server_used : (ℕ → MessageChanges) → ℕ → ℕ
+server_used session zero = 0
+server_used session (suc place) =
+    server_used_after (session place) (server_used session place)
 
 -- the greatest version that an event before a place advertised for this name and this interface; 0
 -- where none did
@@ -123,6 +139,7 @@ taken session (suc place) direction =
 pub record KnownAtPlace : Type 0 where
   pub object : ℕ → Option Entry
   pub used : ℕ
+  pub server_used : ℕ
   pub advertised_version : ℕ → ℕ → ℕ
   pub taken : Direction → ℕ
 
@@ -130,6 +147,7 @@ abbrev pub known : (ℕ → MessageChanges) → ℕ → KnownAtPlace
 known session place = record {
   object = object_named session place;
   used = used session place;
+  server_used = server_used session place;
   advertised_version = advertised_version session place;
   taken = taken session place;
 }
@@ -154,6 +172,7 @@ pub record IsKnownBehind (p : ℕ) (changes : MessageChanges) (before after : Kn
   where
     pub objects : (id : ℕ) → after.object id ≡ object_after p changes id (before.object id)
     pub used_is : after.used ≡ used_after changes before.used
+    pub server_used_is : after.server_used ≡ server_used_after changes before.server_used
     pub advertised_is : (name iface : ℕ) → after.advertised_version name iface
         ≡ advertised_after changes name iface (before.advertised_version name iface)
     pub taken_is : (direction : Direction) → after.taken direction
@@ -164,5 +183,6 @@ pub record IsFirst (k : KnownAtPlace) : Type 0 where
   pub objects : (id : ℕ) → k.object id ≡ (if nat_eq id 1
       then Some (record { birth = 0; iface = display; version = 1; state = Live }) else None)
   pub used_is : k.used ≡ 1
+  pub server_used_is : k.server_used ≡ 0
   pub advertised_is : (name iface : ℕ) → k.advertised_version name iface ≡ 0
   pub taken_is : (direction : Direction) → k.taken direction ≡ 0

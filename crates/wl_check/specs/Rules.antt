@@ -8,11 +8,13 @@ use Rattle.wl_wire.specs.declared.header.Header.{Header}
 use Rattle.wl_wire.specs.declared.kind.Iface.{Iface}
 use Rattle.wl_wire.specs.Word.{header_at}
 use Rattle.wl_sigs.specs.declared.signature.Side.{Side}
+use Rattle.wl_sigs.specs.Rules.{is_ended_by_request}
 use Rattle.wl_sigs.specs.Tables.{Interface, interface_at}
 use Rattle.wl_message.specs.Cut.{is_size}
 use Rattle.wl_object_map.specs.declared.object.Entry.{Entry}
 use Rattle.wl_objects.specs.declared.error.Fault.{Fault}
 use Rattle.wl_objects.specs.declared.error.Fault.TheVariants.{BadSize, BadBind}
+use Rattle.wl_object_map.specs.Ranges.{first_server_id, max_server_id, is_of_server}
 use Rattle.wl_object_map.specs.View.{lives, max_ids}
 use Rattle.wl_objects.specs.Reading.{Reader}
 use Rattle.wl_objects.specs.Messages.{Received, NewObject, made, received, is_bind, new_id_of}
@@ -32,15 +34,30 @@ abbrev pub nameable : Direction → Option Entry → Option Entry
 nameable ToServer entry = if_open entry
 nameable ToClient entry = entry
 
--- An id for a new object: not 0, of no held object, and used before or the next one.
+-- An id for a new object of the client: not 0, of no held object, and used before or the next one.
 abbrev pub is_free_id : KnownAtPlace → ℕ → Bool
 is_free_id k id = not (nat_eq id 0) && is_none (k.object id) && nat_le id (k.used + 1)
 
--- what the reader of a message knows; births play no part
-abbrev pub reader_by : KnownAtPlace → Direction → Reader
-reader_by k direction = record {
+-- whether an object is open, and a request can end it: its interface has a destroying one at the
+-- object's version
+abbrev pub waits_for_request : List Interface → Option Entry → Bool
+waits_for_request tables None = false
+waits_for_request tables (Some entry) =
+    lives entry.state && is_ended_by_request entry.version (interface_at tables entry.iface.0)
+
+-- An id for a new object of the server: one of its range, of no open object that a request can
+-- end, and used before or the next one.
+abbrev pub is_free_server_id : List Interface → KnownAtPlace → ℕ → Bool
+is_free_server_id tables k id =
+    is_of_server id && not (waits_for_request tables (k.object id))
+    && nat_le id (first_server_id + k.server_used)
+
+-- What the reader of a message knows; births play no part.
+abbrev pub reader_by : List Interface → KnownAtPlace → Direction → Reader
+reader_by tables k direction = record {
   object = λ id. nameable direction (k.object id);
   new_id = λ id. new_id_of (is_free_id k id) (nat_le id max_ids);
+  new_server_id = λ id. new_id_of (is_free_server_id tables k id) (nat_le id max_server_id);
   birth = 0;
   forgives = false;
 }
@@ -78,7 +95,7 @@ abbrev pub judged_message : List Interface → KnownAtPlace → FramedMessage �
     → Result Call Fault
 judged_message tables k frame header body =
     called tables k frame.direction header.opcode
-    (received tables (side_of frame.direction) (reader_by k frame.direction) header body
+    (received tables (side_of frame.direction) (reader_by tables k frame.direction) header body
     (frame.tokens - k.taken frame.direction))
 
 -- A message of a direction's stream, judged by what is known at its place: what it is, or the first

@@ -1,5 +1,5 @@
 -- What the code's own types stand for.
-use Rattle.std.specs.Prelude.{ℕ, ◌+◌, get_or, if◌then◌else◌, Option, Some, None, List}
+use Rattle.std.specs.Prelude.{ℕ, ◌+◌, if◌then◌else◌, Option, Some, None, List}
 use Rattle.std.specs.declared.result.Result.{Result}
 use Rattle.std.specs.declared.result.Result.TheVariants.{Ok, Err}
 use Rattle.wl_message.specs.Cut.{Front, More, Bad, Whole}
@@ -12,7 +12,7 @@ use Rattle.wl_objects.specs.declared.reading.Received.{Received}
 use Rattle.wl_objects.specs.Seen.{received_of}
 use Rattle.wl_sigs.specs.Tables.{Interface}
 use Rattle.wl_check.specs.Changes.{Call, changes}
-use Rattle.wl_check.specs.Held.{held_version}
+use Rattle.wl_check.specs.Held.{held_object, held_version}
 use Rattle.wl_check.specs.Places.{KnownAtPlace}
 use Rattle.wl_check.specs.declared.frames.FramedMessage.{FramedMessage}
 use Rattle.wl_check.specs.declared.progress.Progress.{Progress}
@@ -31,8 +31,9 @@ taken_of_direction k ToClient = k.taken_to_client
 
 abbrev pub known_in : {A : Type 0} → KnownState A → KnownAtPlace
 known_in k = record {
-  object = λ id. get_or k.held.objects id None;
+  object = held_object k.held;
   used = k.used;
+  server_used = k.server_used;
   advertised_version = λ name iface. held_version k.held (name, iface);
   taken = taken_of_direction k;
 }

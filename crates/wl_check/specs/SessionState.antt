@@ -214,6 +214,7 @@ pub record IsReady {A : Type 0} (limit : ℕ) (tables : List Interface) (o : Out
 abbrev pub numbers_in : {A : Type 0} → SessionState A → Numbers
 numbers_in c = record {
   used = c.progress.known.used;
+  server_used = c.progress.known.server_used;
   taken_to_server = c.progress.known.taken_to_server;
   taken_to_client = c.progress.known.taken_to_client;
   to_server = c.progress.to_server;
@@ -229,6 +230,7 @@ gone_back held n c = record c {
     known = record {
       held = held;
       used = n.used;
+      server_used = n.server_used;
       taken_to_server = n.taken_to_server;
       taken_to_client = n.taken_to_client;
     };

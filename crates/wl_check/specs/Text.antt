@@ -5,6 +5,7 @@ use Rattle.std.specs.Prelude.{if◌then◌else◌, length, slice_get, drop, take
 use Rattle.std.specs.declared.result.Result.TheVariants.{Ok}
 use Rattle.std.specs.List.{filter, AllByRecursion}
 use Rattle.wl_message.specs.Cut.{is_size, front, Bad}
+use Rattle.wl_object_map.specs.Ranges.{is_of_server}
 use Rattle.wl_check.specs.declared.changes.AdvertisedGlobal.{AdvertisedGlobal}
 use Rattle.wl_recording.specs.declared.piece.Direction.{Direction}
 use Rattle.wl_check.specs.declared.frames.FramedMessage.{FramedMessage}
@@ -15,13 +16,15 @@ use Rattle.wl_check.specs.Places.{makes_id, deletes_id, destroys_id}
 use Rattle.wl_check.specs.Changes.{Call}
 use Rattle.wl_check.specs.Session.{ArePassed, Judged, ends_session}
 
--- The object that was made at a place, its birth, is held at a later one: no delete_id of its id
--- stands between.
+-- The object that was made at a place, its birth, is held at a later one: no delete_id that frees
+-- its id stands between; and where the id is of the server's range, nothing that makes it again.
 pub record StaysHeld (session : ℕ → MessageChanges) (place birth id : ℕ) : Type 0 where
   pub before : birth < place
   pub made : makes_id (session birth) id ≡ true
   pub kept : (between : ℕ) → birth < between → between < place
       → deletes_id (session between) id ≡ false
+  pub latest : is_of_server id ≡ true → (between : ℕ) → birth < between → between < place
+      → makes_id (session between) id ≡ false
 
 -- It is open where no message that destroys it stands between.
 abbrev pub StaysOpen : (ℕ → MessageChanges) → ℕ → ℕ → ℕ → Type 0

@@ -14,7 +14,7 @@ use Rattle.wl_check.specs.Session.{Session, Judged, messages, changes_at, ends_s
 -- the line of a message, by what is known at its place
 abbrev pub call_line : List Interface → KnownAtPlace → Call → List ℕ
 call_line tables k call =
-    line tables (side_of call.direction) (reader_by k call.direction).object call.received
+    line tables (side_of call.direction) (reader_by tables k call.direction).object call.received
     (k.taken call.direction)
 
 abbrev pub judged_line : List Interface → KnownAtPlace → Option Judged → List ℕ

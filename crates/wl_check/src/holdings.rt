@@ -1,22 +1,23 @@
 //! The objects that are held and the globals that were advertised.
 ghost use Rattle.std.specs.Prelude.{◌≡◌, ℕ, ◌+◌, ◌-◌, ◌<◌, ◌++◌, ◌∷◌, [], OnOk, OnErr, IfOk, cond};
-ghost use Rattle.std.specs.Prelude.{get_or, length, nat_eq, option_map, replicate, set, take};
+ghost use Rattle.std.specs.Prelude.{get_or, length, max, nat_eq, option_map, replicate, set, take};
 ghost use Rattle.std.specs.Prelude.{Some, None};
 ghost use Rattle.std.specs.BTreeMap.{is_at};
 ghost use Rattle.std.specs.Map.{set_value};
 ghost use Rattle.wl_object_map.specs.declared.object.State.TheVariants.{Live};
 ghost use Rattle.wl_check.specs.declared.overwritten.Overwritten.TheVariants.{Object};
-ghost use Rattle.wl_check.specs.Held.{pair_cmp, put_back, held_version, Held};
-ghost use Rattle.wl_check.specs.Held.{undone, undone_by};
+ghost use Rattle.wl_check.specs.Held.{held_object, pair_cmp, put_back, held_version, Held};
+ghost use Rattle.wl_check.specs.Held.{slots_in, undone, undone_by, AreReached, HasFewSlots};
+ghost use Rattle.wl_check.specs.Held.{HasSlotsOf};
 ghost use Rattle.wl_check.specs.Places.{as_zombie, made_entry, frees, is_id, is_made, new_of};
-ghost use Rattle.wl_check.specs.Places.{advertised_once};
+ghost use Rattle.wl_check.specs.Places.{server_used_by, used_by, advertised_once};
 
 use crate::changes::AdvertisedGlobal;
 use crate::overwritten::{Overwritten, UndoList};
 use std::alloc::{AllocError, Allocator, Global};
 use std::collections::BTreeMap;
 use std::marker::Model;
-use wl_object_map::DISPLAY_ID;
+use wl_object_map::{DISPLAY_ID, FIRST_SERVER_ID};
 use wl_objects::{Entry, NewObject, State};
 
 /// The objects that are held, where those that are ending are zombies, and the globals that were
@@ -24,9 +25,11 @@ use wl_objects::{Entry, NewObject, State};
 /// back, also where memory runs out in the midst of it.
 #[derive(Drop)]
 pub(crate) struct Holdings<A: Allocator = Global> {
-    /// What stands at each id. Ids are used in their order, so no more slots are kept than were
-    /// used.
+    /// What stands at each id of the client's range. Ids are used in their order, so behind slot 0 no
+    /// more are kept than were used.
     objects: Vec<Option<Entry>, A>,
+    /// What stands at each id of the server's range, from its first id on, as many as were used.
+    server_objects: Vec<Option<Entry>, A>,
     /// For each name and each interface of the tables, the greatest advertised version.
     globals: BTreeMap<(u32, u16), u32, A>,
 }
@@ -38,65 +41,70 @@ impl<A: Allocator> Model for Holdings<A> {
 
     ghost view = { λ h. record {
       objects = h.objects.items;
+      server_objects = h.server_objects.items;
       globals = h.globals.entries;
     } };
 }
 
-/// What stands at an id.
-fn slot_of(objects: &[Option<Entry>], id: u32) -> Option<Entry>
-    ensures { result ≡ get_or objects.now id None }
+/// What stands at a place of the slots.
+fn slot_of(slots: &[Option<Entry>], place: u32) -> Option<Entry>
+    ensures { result ≡ get_or slots.now place None }
 {
-    match objects.get(id as usize) {
+    match slots.get(place as usize) {
         Some(slot) => *slot,
         None => None,
     }
 }
 
-/// Makes slots up to an id, if they are not there.
+/// Makes slots up to a place, if they are not there.
 #[inline(always)]
-fn reach<A: Allocator>(objects: &mut Vec<Option<Entry>, A>, id: u32) -> Result<(), AllocError>
-    ensures items { OnOk result (objects.new.items
-        ≡ objects.old.items ++ replicate (id + 1 - length objects.old.items) None) }
-    ensures err { OnErr result (objects.new.items ≡ objects.old.items) }
-    ensures room { OnOk result (id < length objects.new.items) }
+fn reach<A: Allocator>(slots: &mut Vec<Option<Entry>, A>, place: u32) -> Result<(), AllocError>
+    ensures items { OnOk result (slots.new.items
+        ≡ slots.old.items ++ replicate (place + 1 - length slots.old.items) None) }
+    ensures err { OnErr result (slots.new.items ≡ slots.old.items) }
+    ensures room { OnOk result (place < length slots.new.items) }
+    ensures slots { OnOk result
+        (length slots.new.items ≡ max (length slots.old.items) (place + 1)) }
 {
-    let len = id as usize + 1;
-    if objects.len() < len {
-        objects.resize(len, None)?;
+    let len = place as usize + 1;
+    if slots.len() < len {
+        slots.resize(len, None)?;
     }
     Ok(())
 }
 
-/// Writes over what stands at an id, for which a slot is made if there is none.
+/// Writes over what stands at a place of the slots, for which a slot is made if there is none.
 #[inline(always)]
 fn write_slot<A: Allocator>(
-    objects: &mut Vec<Option<Entry>, A>,
-    id: u32,
+    slots: &mut Vec<Option<Entry>, A>,
+    place: u32,
     entry: Option<Entry>,
 ) -> Result<(), AllocError>
-    ensures entry { OnOk result ((other : ℕ) → get_or objects.new.items other None
-        ≡ cond (nat_eq id other) entry (get_or objects.old.items other None)) }
-    ensures back { take (length objects.old.items)
-        (set objects.new.items id (get_or objects.old.items id None)) ≡ objects.old.items }
+    ensures entry { OnOk result ((other : ℕ) → get_or slots.new.items other None
+        ≡ cond (nat_eq place other) entry (get_or slots.old.items other None)) }
+    ensures slots { OnOk result
+        (length slots.new.items ≡ max (length slots.old.items) (place + 1)) }
+    ensures back { take (length slots.old.items)
+        (set slots.new.items place (get_or slots.old.items place None)) ≡ slots.old.items }
 {
-    reach(objects, id)?;
-    objects[id as usize] = entry;
+    reach(slots, place)?;
+    slots[place as usize] = entry;
     Ok(())
 }
 
-/// Puts back what stood at an id, and of the slots the first so many.
+/// Puts back what stood at a place of the slots, and of these the first so many.
 fn put_back_slot<A: Allocator>(
-    objects: &mut Vec<Option<Entry>, A>,
-    id: u32,
+    slots: &mut Vec<Option<Entry>, A>,
+    place: u32,
     entry: Option<Entry>,
-    slots: usize,
+    len: usize,
 )
-    ensures { objects.new.items ≡ take slots (set objects.old.items id entry) }
+    ensures { slots.new.items ≡ take len (set slots.old.items place entry) }
 {
-    if (id as usize) < objects.len() {
-        objects[id as usize] = entry;
+    if (place as usize) < slots.len() {
+        slots[place as usize] = entry;
     }
-    objects.truncate(slots);
+    slots.truncate(len);
 }
 
 /// Writes the version of a global that is there.
@@ -116,6 +124,7 @@ impl<A: Allocator + Clone> Holdings<A> {
     /// wl_display alone, and no globals.
     pub(crate) fn new(alloc: &A, display: Entry) -> Result<Self, AllocError>
         ensures objects { IfOk result (λ h. h.objects ≡ None ∷ Some display ∷ []) }
+        ensures server_objects { IfOk result (λ h. h.server_objects ≡ []) }
         ensures globals { IfOk result (λ h. h.globals ≡ []) }
     {
         let mut objects = Vec::new(alloc.clone()?);
@@ -123,6 +132,7 @@ impl<A: Allocator + Clone> Holdings<A> {
         objects.push(Some(display))?;
         Ok(Holdings {
             objects,
+            server_objects: Vec::new(alloc.clone()?),
             globals: BTreeMap::new(alloc.clone()?),
         })
     }
@@ -136,6 +146,7 @@ impl<A: Allocator + Clone> Holdings<A> {
         ensures versions { OnOk result ((key : ℕ × ℕ) → held_version self.new key
             ≡ advertised_once global.now key.0 key.1 (held_version self.old key)) }
         ensures objects { self.new.objects ≡ self.old.objects }
+        ensures server_objects { self.new.server_objects ≡ self.old.server_objects }
         ensures undone { undone_by undo.new self.new ≡ undone_by undo.old self.old }
     {
         let key = (global.name, global.iface.0);
@@ -150,9 +161,24 @@ impl<A: Allocator + Clone> Holdings<A> {
 impl<A: Allocator> Holdings<A> {
     /// The object that is held with this id.
     pub(crate) fn object(&self, id: u32) -> Option<Entry>
-        ensures { result ≡ get_or self.now.objects id None }
+        ensures { result ≡ held_object self.now id }
     {
-        slot_of(self.objects.as_slice(), id)
+        if id >= FIRST_SERVER_ID {
+            slot_of(self.server_objects.as_slice(), id - FIRST_SERVER_ID)
+        } else {
+            slot_of(self.objects.as_slice(), id)
+        }
+    }
+
+    /// How many slots there are in the range of an id.
+    fn slots_in(&self, id: u32) -> usize
+        ensures { result ≡ slots_in self.now id }
+    {
+        if id >= FIRST_SERVER_ID {
+            self.server_objects.len()
+        } else {
+            self.objects.len()
+        }
     }
 
     /// The greatest version that an event advertised for a name and an interface, or 0.
@@ -162,23 +188,21 @@ impl<A: Allocator> Holdings<A> {
         self.globals.get(&key).copied().unwrap_or(0)
     }
 
-    /// How many slots there are.
-    fn slots(&self) -> usize
-        ensures { result ≡ length self.now.objects }
-    {
-        self.objects.len()
-    }
-
     /// Writes over what stands at an id, for which a slot is made if there is none.
     #[inline(always)]
     fn write(&mut self, id: u32, entry: Option<Entry>) -> Result<(), AllocError>
-        ensures entry { OnOk result ((other : ℕ) → get_or self.new.objects other None
-            ≡ cond (nat_eq id other) entry (get_or self.old.objects other None)) }
+        ensures entry { OnOk result ((other : ℕ) → held_object self.new other
+            ≡ cond (nat_eq id other) entry (held_object self.old other)) }
+        ensures slots { OnOk result (AreReached id self.old self.new) }
         ensures globals { self.new.globals ≡ self.old.globals }
-        ensures back { put_back (Object id (get_or self.old.objects id None)
-            (length self.old.objects)) self.new ≡ self.old }
+        ensures back { put_back (Object id (held_object self.old id) (slots_in self.old id)) self.new
+            ≡ self.old }
     {
-        write_slot(&mut self.objects, id, entry)
+        if id >= FIRST_SERVER_ID {
+            write_slot(&mut self.server_objects, id - FIRST_SERVER_ID, entry)
+        } else {
+            write_slot(&mut self.objects, id, entry)
+        }
     }
 
     /// Writes over what stands at an id, as `write` does, and writes down what stood there.
@@ -189,29 +213,33 @@ impl<A: Allocator> Holdings<A> {
         entry: Option<Entry>,
         undo: &mut UndoList<A>,
     ) -> Result<(), AllocError>
-        ensures entry { OnOk result ((other : ℕ) → get_or self.new.objects other None
-            ≡ cond (nat_eq id other) entry (get_or self.old.objects other None)) }
+        ensures entry { OnOk result ((other : ℕ) → held_object self.new other
+            ≡ cond (nat_eq id other) entry (held_object self.old other)) }
+        ensures slots { OnOk result (AreReached id self.old self.new) }
         ensures globals { self.new.globals ≡ self.old.globals }
         ensures undone { undone_by undo.new self.new ≡ undone_by undo.old self.old }
     {
         undo.write_down(Overwritten::Object {
             id,
             entry: self.object(id),
-            slots: self.slots(),
+            slots: self.slots_in(id),
         })?;
         self.write(id, entry)
     }
 
-    /// Frees an id, unless it is that of wl_display.
+    /// Frees an id, unless it is that of wl_display or of the server's range.
     #[inline(always)]
     pub(crate) fn free(&mut self, id: Option<u32>, undo: &mut UndoList<A>) -> Result<(), AllocError>
-        ensures freed { OnOk result ((other : ℕ) → get_or self.new.objects other None
-            ≡ cond (frees id other) None (get_or self.old.objects other None)) }
+        ensures freed { OnOk result ((other : ℕ) → held_object self.new other
+            ≡ cond (frees id other) None (held_object self.old other)) }
+        ensures slots { OnOk result (HasSlotsOf self.old self.new) }
         ensures globals { self.new.globals ≡ self.old.globals }
         ensures undone { undone_by undo.new self.new ≡ undone_by undo.old self.old }
     {
         match id {
-            Some(id) if id != DISPLAY_ID && self.object(id).is_some() => self.put(id, None, undo),
+            Some(id) if id != DISPLAY_ID && id < FIRST_SERVER_ID && self.object(id).is_some() => {
+                self.put(id, None, undo)
+            }
             _ => Ok(()),
         }
     }
@@ -223,9 +251,10 @@ impl<A: Allocator> Holdings<A> {
         id: Option<u32>,
         undo: &mut UndoList<A>,
     ) -> Result<(), AllocError>
-        ensures ending { OnOk result ((other : ℕ) → get_or self.new.objects other None
-            ≡ cond (is_id id other) (option_map as_zombie (get_or self.old.objects other None))
-            (get_or self.old.objects other None)) }
+        ensures ending { OnOk result ((other : ℕ) → held_object self.new other
+            ≡ cond (is_id id other) (option_map as_zombie (held_object self.old other))
+            (held_object self.old other)) }
+        ensures slots { OnOk result (HasSlotsOf self.old self.new) }
         ensures globals { self.new.globals ≡ self.old.globals }
         ensures undone { undone_by undo.new self.new ≡ undone_by undo.old self.old }
     {
@@ -250,9 +279,12 @@ impl<A: Allocator> Holdings<A> {
         made: Option<NewObject>,
         undo: &mut UndoList<A>,
     ) -> Result<(), AllocError>
-        ensures opened { OnOk result ((other : ℕ) → get_or self.new.objects other None
+        ensures opened { OnOk result ((other : ℕ) → held_object self.new other
             ≡ cond (is_made made other) (Some (made_entry place Live (new_of made)))
-            (get_or self.old.objects other None)) }
+            (held_object self.old other)) }
+        ensures slots { OnOk result ((used server_used : ℕ)
+            → HasFewSlots self.old used server_used
+            → HasFewSlots self.new (used_by made used) (server_used_by made server_used)) }
         ensures globals { self.new.globals ≡ self.old.globals }
         ensures undone { undone_by undo.new self.new ≡ undone_by undo.old self.old }
     {
@@ -273,6 +305,9 @@ impl<A: Allocator> Holdings<A> {
         ensures { self.new ≡ put_back before self.old }
     {
         match before {
+            Overwritten::Object { id, entry, slots } if id >= FIRST_SERVER_ID => {
+                put_back_slot(&mut self.server_objects, id - FIRST_SERVER_ID, entry, slots)
+            }
             Overwritten::Object { id, entry, slots } => {
                 put_back_slot(&mut self.objects, id, entry, slots)
             }
@@ -305,6 +340,7 @@ impl<A: Allocator> Holdings<A> {
             UndoList::On(list) => {
                 self.put_back_all(list);
                 self.objects.shrink_to_fit();
+                self.server_objects.shrink_to_fit();
             }
         }
     }

@@ -15,12 +15,12 @@ ghost use Rattle.wl_check.specs.Trace.{judged_line, wanted};
 use crate::changes::{AdvertisedGlobal, MessageChanges};
 use crate::frames::FramedMessage;
 use crate::known::{KnownState, ReaderLookup};
+use crate::making::object_made;
 use crate::session_state::Output;
 use std::alloc::{AllocError, Allocator};
 use wl_message::Limit;
 use wl_objects::{
-    Fault, NewObject, ParsedArgs, REGISTRY, Received, Values, is_bind, is_delete_id,
-    made_by_message, receive,
+    Fault, NewObject, ParsedArgs, REGISTRY, Received, Values, is_bind, is_delete_id, receive,
 };
 use wl_recording::Direction;
 use wl_sigs::event::wl_registry::GLOBAL;
@@ -103,42 +103,48 @@ fn judge_message<A: Allocator>(
 {
     let direction = frame.direction;
     let side = side_of(direction);
-    let lookup = ReaderLookup { known, direction };
-    let waiting = frame.tokens.saturating_sub(known.taken(direction));
-    let received = receive(args, tables, side, &lookup, header, body, count(waiting));
+    let lookup = ReaderLookup {
+        tables,
+        known,
+        direction,
+    };
+    let taken = known.taken(direction);
+    let waiting = count(frame.tokens.saturating_sub(taken));
+    let received = receive(args, tables, side, &lookup, header, body, waiting);
     let message = match received {
         Ok(message) => message,
         Err(fault) => return Ok(Err(fault)),
     };
-    if is_bad_bind(tables, known, side, header.opcode, &message) {
+    let changes = changes_of(tables, direction, side, header.opcode, &message);
+    if is_bad_bind(tables, known, side, header.opcode, &message, &changes) {
         return Ok(Err(Fault::BadBind));
     }
-    write(text, tables, known, direction, &message, output)?;
-    Ok(Ok(changes_of(tables, direction, header.opcode, &message)))
+    write(text, tables, side, &lookup, &message, taken, output)?;
+    Ok(Ok(changes))
 }
 
 /// Appends what is wanted of a message, before the message changes what is known.
 fn write<A: Allocator>(
     text: &mut Vec<u8, A>,
     tables: &Tables,
-    known: &KnownState<A>,
-    direction: Direction,
+    side: Side,
+    lookup: &ReaderLookup<'_, A>,
     message: &Received<'_, '_>,
+    taken: u128,
     output: Output,
 ) -> Result<(), AllocError>
-    requires { taken_of_direction known.now direction < 2 ^ 127 }
+    requires { taken < 2 ^ 127 }
     ensures { OnOk result (text.new.items ≡ text.old.items
-        ++ wanted output (line tables.now (side_of direction)
-        (reader_by (known_in known.now) direction).object (received_of message.now)
-        (taken_of_direction known.now direction))) }
+        ++ wanted output (line tables.now side
+        (reader_by lookup.now.tables.now (known_in lookup.now.known.now)
+        lookup.now.direction).object
+        (received_of message.now) taken)) }
 {
     match output {
         Output::Nothing => Ok(()),
         Output::Lines => {
             text.reserve(LINE_ROOM)?;
-            let lookup = ReaderLookup { known, direction };
-            let taken = known.taken(direction);
-            write_line(text, tables, side_of(direction), &lookup, message, taken)
+            write_line(text, tables, side, lookup, message, taken)
         }
     }
 }
@@ -150,24 +156,24 @@ fn count(tokens: u128) -> usize
     usize::try_from(tokens).unwrap_or(usize::MAX)
 }
 
-/// Whether a message is a bind that no `global` event allows.
+/// Whether a message that does this is a bind that no `global` event allows.
 fn is_bad_bind<A: Allocator>(
     tables: &Tables,
     known: &KnownState<A>,
     side: Side,
     opcode: u16,
-    received: &Received<'_, '_>,
+    message: &Received<'_, '_>,
+    done: &MessageChanges,
 ) -> bool
+    requires side { side ≡ side_of done.now.direction }
+    requires done { done.now ≡ changes tables.now (call_of done.now.direction opcode message.now) }
     ensures { result ≡ is_bad_bind tables.now (known_in known.now) side opcode
-        (received_of received.now) }
+        (received_of message.now) }
 {
-    if !is_bind(side, received.entry.iface, opcode) {
+    if !is_bind(side, message.entry.iface, opcode) {
         return false;
     }
-    let kinds = received.signature.kinds();
-    let values = received.values();
-    let new = made_by_message(tables, received.entry.version, kinds, &values);
-    !allows_bind(tables, known, first_number(&values), new)
+    !allows_bind(tables, known, first_number(&message.values()), done.made)
 }
 
 /// Whether a bind of this name may make this object.
@@ -233,30 +239,20 @@ fn advertised(tables: &Tables, values: &Values<'_>) -> Option<AdvertisedGlobal>
 fn changes_of(
     tables: &Tables,
     direction: Direction,
+    side: Side,
     opcode: u16,
     message: &Received<'_, '_>,
 ) -> MessageChanges
+    requires side { side ≡ side_of direction }
     requires tokens { message.now.tokens ≡ descriptors message.now.signature.now.kinds }
-    requires error { message.now.is_error
-        ≡ is_error (side_of direction) message.now.entry.iface opcode }
+    requires error { message.now.is_error ≡ is_error side message.now.entry.iface opcode }
     ensures { result ≡ changes tables.now (call_of direction opcode message.now) }
 {
-    let side = side_of(direction);
     let iface = message.entry.iface;
     let values = &message.values();
     MessageChanges {
         direction,
-        made: match direction {
-            Direction::ToServer => {
-                made_by_message(
-                    tables,
-                    message.entry.version,
-                    message.signature.kinds(),
-                    values,
-                )
-            }
-            Direction::ToClient => None,
-        },
+        made: object_made(tables, direction, message),
         deleted: if is_delete_id(side, iface, opcode) {
             first_number(values)
         } else {

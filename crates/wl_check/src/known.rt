@@ -1,27 +1,31 @@
 //! What is known at a place of a session.
 ghost use Rattle.std.specs.Prelude.{◌≡◌, ◌+◌, ◌^◌, ◌<◌, OnOk, IfOk};
 ghost use Rattle.wl_sigs.specs.Valid.{Valid};
-ghost use Rattle.wl_check.specs.Held.{undone_by};
-ghost use Rattle.wl_check.specs.Places.{used_after, IsFirst, IsKnownBehind};
-ghost use Rattle.wl_check.specs.Rules.{is_free_id, reader_by};
+ghost use Rattle.wl_check.specs.Held.{HasFewSlots, undone_by};
+ghost use Rattle.wl_check.specs.Places.{server_used_after, used_after};
+ghost use Rattle.wl_check.specs.Places.{IsFirst, IsKnownBehind};
+ghost use Rattle.wl_check.specs.Rules.{is_free_id, is_free_server_id, reader_by};
+ghost use Rattle.wl_check.specs.Rules.{waits_for_request};
 ghost use Rattle.wl_check.specs.Seen.{known_in, taken_of_direction};
 
 use crate::changes::MessageChanges;
 use crate::holdings::Holdings;
 use crate::overwritten::UndoList;
 use std::alloc::{AllocError, Allocator, Global};
-use wl_object_map::{DISPLAY_ID, MAX_IDS};
+use wl_object_map::{DISPLAY_ID, FIRST_SERVER_ID, MAX_IDS, MAX_SERVER_ID};
 use wl_objects::{DISPLAY, Entry, Lookup, NewId, State};
 use wl_recording::Direction;
 use wl_sigs::Tables;
 use wl_wire::Iface;
 
 /// What is known at a place: the objects that are held, where those that are ending are zombies;
-/// the greatest id that was used; the globals that were advertised; how many tokens were taken.
+/// the greatest id of the client's range that was used, and how many were of the server's; the
+/// globals that were advertised; how many tokens were taken.
 #[derive(Drop)]
 pub(crate) struct KnownState<A: Allocator = Global> {
     pub held: Holdings<A>,
     pub used: u32,
+    pub server_used: u32,
     pub taken_to_server: u128,
     pub taken_to_client: u128,
 }
@@ -31,6 +35,7 @@ impl<A: Allocator + Clone> KnownState<A> {
     pub(crate) fn new(alloc: &A, tables: &Tables) -> Result<Self, AllocError>
         ensures valid { OnOk result (Valid tables.now) }
         ensures known { IfOk result (λ k. IsFirst (known_in k)) }
+        ensures slots { IfOk result (λ k. HasFewSlots k.held k.used k.server_used) }
         ensures to_server { IfOk result (λ k. k.taken_to_server ≡ 0) }
         ensures to_client { IfOk result (λ k. k.taken_to_client ≡ 0) }
     {
@@ -43,6 +48,7 @@ impl<A: Allocator + Clone> KnownState<A> {
         Ok(KnownState {
             held: Holdings::new(alloc, display)?,
             used: DISPLAY_ID,
+            server_used: 0,
             taken_to_server: 0,
             taken_to_client: 0,
         })
@@ -61,6 +67,9 @@ impl<A: Allocator + Clone> KnownState<A> {
         requires to_client { self.old.taken_to_client + 2 ^ 64 < 2 ^ 128 }
         ensures known { OnOk result
             (IsKnownBehind place changes.now (known_in self.old) (known_in self.new)) }
+        ensures slots { OnOk result
+            (HasFewSlots self.old.held self.old.used self.old.server_used
+            → HasFewSlots self.new.held self.new.used self.new.server_used) }
         ensures few_to_server { OnOk result
             (self.new.taken_to_server < self.old.taken_to_server + 2 ^ 64) }
         ensures few_to_client { OnOk result
@@ -74,6 +83,7 @@ impl<A: Allocator + Clone> KnownState<A> {
             self.held.remember_global(global, undo)?;
         }
         self.used = used_after(self.used, changes);
+        self.server_used = server_used_after(self.server_used, changes);
         match changes.direction {
             Direction::ToServer => self.taken_to_server += changes.tokens as u128,
             Direction::ToClient => self.taken_to_client += changes.tokens as u128,
@@ -86,8 +96,31 @@ fn used_after(used: u32, changes: &MessageChanges) -> u32
     ensures { result ≡ used_after changes.now used }
 {
     match changes.made {
+        Some(new) if new.id >= FIRST_SERVER_ID => used,
         Some(new) => new.id.max(used),
         None => used,
+    }
+}
+
+fn server_used_after(used: u32, changes: &MessageChanges) -> u32
+    ensures { result ≡ server_used_after changes.now used }
+{
+    match changes.made {
+        Some(new) if new.id >= FIRST_SERVER_ID => (new.id - FIRST_SERVER_ID + 1).max(used),
+        Some(_) | None => used,
+    }
+}
+
+/// Whether this is an open object that a request can end.
+fn waits_for_request(tables: &Tables, entry: Option<Entry>) -> bool
+    ensures { result ≡ waits_for_request tables.now entry }
+{
+    let Some(entry) = entry else {
+        return false;
+    };
+    match entry.state {
+        State::Live => tables.ends_by_request(entry.iface, entry.version),
+        State::Zombie => false,
     }
 }
 
@@ -116,24 +149,36 @@ impl<A: Allocator> KnownState<A> {
         self.held.object(id)
     }
 
-    /// Whether an id can be that of a new object: it is not 0, no object holds it, and it was used
-    /// before or is the next one.
+    /// Whether an id can be that of a new object of the client: it is not 0, no object holds it, and
+    /// it was used before or is the next one.
     fn is_free(&self, id: u32) -> bool
         ensures { result ≡ is_free_id (known_in self.now) id }
     {
         id != 0 && self.object(id).is_none() && u64::from(id) <= u64::from(self.used) + 1
+    }
+
+    /// Whether an id can be that of a new object of the server: it is of the server's range, no open
+    /// object that a request can end holds it, and it was used before or is the next one.
+    fn is_free_at_server(&self, tables: &Tables, id: u32) -> bool
+        ensures { result ≡ is_free_server_id tables.now (known_in self.now) id }
+    {
+        id >= FIRST_SERVER_ID
+            && !waits_for_request(tables, self.object(id))
+            && u64::from(id) <= u64::from(FIRST_SERVER_ID) + u64::from(self.server_used)
     }
 }
 
 /// What the reader of a message knows: of a request, only the open objects.
 #[derive(Drop)]
 pub(crate) struct ReaderLookup<'a, A: Allocator = Global> {
+    pub tables: &'a Tables,
     pub known: &'a KnownState<A>,
     pub direction: Direction,
 }
 
 impl<'a, A: Allocator> Lookup for ReaderLookup<'a, A> {
-    ghost reader = { λ lookup. reader_by (known_in lookup.known.now) lookup.direction };
+    ghost reader = { λ lookup.
+        reader_by lookup.tables.now (known_in lookup.known.now) lookup.direction };
 
     fn object(&self, id: u32) -> Option<Entry> {
         let entry = self.known.object(id)?;
@@ -147,6 +192,16 @@ impl<'a, A: Allocator> Lookup for ReaderLookup<'a, A> {
         if !self.known.is_free(id) {
             NewId::Wrong
         } else if id > MAX_IDS {
+            NewId::TooMany
+        } else {
+            NewId::Free
+        }
+    }
+
+    fn new_server_id(&self, id: u32) -> NewId {
+        if !self.known.is_free_at_server(self.tables, id) {
+            NewId::Wrong
+        } else if id > MAX_SERVER_ID {
             NewId::TooMany
         } else {
             NewId::Free

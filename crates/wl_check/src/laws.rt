@@ -1,11 +1,13 @@
 //! Laws of sessions. Each is the contract of a function that does nothing: it says in words over
 //! places what the definitions compute.
-ghost use Rattle.std.specs.Prelude.{◌≡◌, ◌↔◌, ◌<◌, ◌≤◌, ◌++◌, ℕ, List, Some, false, length, drop};
-ghost use Rattle.std.specs.Prelude.{map};
+ghost use Rattle.std.specs.Prelude.{◌≡◌, ◌↔◌, ◌<◌, ◌≤◌, ◌+◌, ◌++◌, ℕ, List, Some, true, false};
+ghost use Rattle.std.specs.Prelude.{length, drop, map};
 ghost use Rattle.wl_sigs.specs.Tables.{Interface};
 ghost use Rattle.wl_message.specs.Cut.{messages_in_stream, rest_of};
+ghost use Rattle.wl_object_map.specs.Ranges.{first_server_id, is_of_server};
 ghost use Rattle.wl_check.specs.Merged.{cut, stream_of};
-ghost use Rattle.wl_check.specs.Places.{holder, is_ending, used, advertised_version};
+ghost use Rattle.wl_check.specs.Places.{holder, is_ending, used, server_used};
+ghost use Rattle.wl_check.specs.Places.{advertised_version};
 ghost use Rattle.wl_check.specs.Session.{IsVerdictOf, AreWithin, Session, changes_at, examined};
 ghost use Rattle.wl_check.specs.Session.{messages, session_of};
 ghost use Rattle.wl_check.specs.Inspected.{HasPassed, Inspected};
@@ -52,7 +54,8 @@ pub fn a_piece_brings_last_bytes()
         (drop (length (cut limit before).marks) (cut limit (before ++ piece)).marks) }
 {}
 
-/// An id names the object that was made with it, until its delete_id.
+/// An id names the object that was made with it: one of the client's range until its delete_id, one
+/// of the server's until an event makes it again.
 pub fn an_id_names_what_is_held()
     ensures { (tables : List Interface) (session : Session) (place birth id : ℕ)
         → (holder (changes_at tables (messages tables session)) place id ≡ Some birth)
@@ -66,10 +69,16 @@ pub fn an_object_is_open_until_destroyed()
         ↔ StaysOpen (changes_at tables (messages tables session)) place birth id }
 {}
 
-/// The ids used before a place are those from 1 to the greatest.
+/// The ids used before a place are, of the client's range, those from 1 to the greatest, and of the
+/// server's range the first so many.
 pub fn ids_are_used_in_order()
-    ensures { (tables : List Interface) (session : Session) (place id : ℕ)
+    ensures of_client { (tables : List Interface) (session : Session) (place id : ℕ)
+        → is_of_server id ≡ false
         → ((0 < id) × (id ≤ used (changes_at tables (messages tables session)) place))
+        ↔ WasUsed (changes_at tables (messages tables session)) place id }
+    ensures of_server { (tables : List Interface) (session : Session) (place id : ℕ)
+        → is_of_server id ≡ true
+        → (id < first_server_id + server_used (changes_at tables (messages tables session)) place)
         ↔ WasUsed (changes_at tables (messages tables session)) place id }
 {}
 

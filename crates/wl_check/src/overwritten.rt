@@ -8,7 +8,7 @@ use wl_objects::Entry;
 /// What was overwritten. Put back, the last first, it leaves all as it was.
 #[derive(Clone, Copy)]
 pub(crate) enum Overwritten {
-    /// What stood at an id, where there were so many slots.
+    /// What stood at an id, where there were so many slots of its range.
     Object {
         id: u32,
         entry: Option<Entry>,

@@ -52,6 +52,7 @@ pub(crate) struct SessionState<A: Allocator = Global> {
 #[derive(Clone, Copy)]
 pub(crate) struct Numbers {
     used: u32,
+    server_used: u32,
     taken_to_server: u128,
     taken_to_client: u128,
     to_server: Tally,
@@ -185,6 +186,7 @@ impl<A: Allocator> SessionState<A> {
         } = &self.progress;
         Numbers {
             used: known.used,
+            server_used: known.server_used,
             taken_to_server: known.taken_to_server,
             taken_to_client: known.taken_to_client,
             to_server: *to_server,
@@ -203,6 +205,7 @@ impl<A: Allocator> SessionState<A> {
         let known = &mut self.progress.known;
         known.held.undo(undo);
         known.used = numbers.used;
+        known.server_used = numbers.server_used;
         known.taken_to_server = numbers.taken_to_server;
         known.taken_to_client = numbers.taken_to_client;
         self.progress.to_server = numbers.to_server;

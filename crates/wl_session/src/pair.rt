@@ -64,8 +64,8 @@ impl<'t, T: Table> Model for Pair<'t, T> {
 }
 
 impl<'t, T: Table + Drop> Pair<'t, T> {
-    /// Both ends as they begin: wl_display at each, empty boxes of these sizes, no globals. Both go
-    /// by one limit. What a carry needs beside the recording is made here.
+    /// Both ends as they begin: wl_display at each, empty queues of these sizes, no globals. Both
+    /// go by one limit. What a carry needs beside the recording is made here.
     pub fn new(
         alloc: T::Alloc,
         tables: &'t Tables,
@@ -96,7 +96,7 @@ impl<'t, T: Table + Drop> Pair<'t, T> {
 }
 
 impl<'t, T: Table> Pair<'t, T> {
-    /// Whether nothing waits in any of the four boxes.
+    /// Whether nothing waits in any of the four queues.
     pub fn drained(&self) -> bool
         ensures { IsTrue result ↔ drained self.now }
     {

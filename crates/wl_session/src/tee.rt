@@ -1,7 +1,9 @@
 //! A reader that keeps a copy of what it reads.
-ghost use Rattle.std.specs.Prelude.{◌≡◌, ◌≤◌, ◌+◌, ◌++◌, [], length, IfOk, OnOk, OnErr, IsErr};
+ghost use Rattle.std.specs.Prelude.{◌≡◌, ◌≤◌, ◌+◌, ◌++◌, [], length, IfOk, IfErr, OnOk, OnErr};
+ghost use Rattle.std.specs.Prelude.{IsErr};
 ghost use Rattle.std.specs.Io.{ReadsAtMost};
 ghost use Rattle.std.specs.Io.KnownBytes.{ReadConsumes};
+ghost use Rattle.std.specs.IoError.{error_kind};
 ghost use types.Logic.{sem};
 ghost use denote.Follow.{follows};
 ghost use Rattle.wl_recording.specs.Piece.{passed};
@@ -133,7 +135,7 @@ impl<R: Read, A: Allocator> Read for Tee<R, A> {
     ghost remaining = { λ t. R.remaining t.reader };
 
     /// Asks the reader for at most as many bytes as there is room to copy. Where there is no such
-    /// room, this fails without reading.
+    /// room, this fails without reading, with `StorageFull`. Any other error is the reader's own.
     fn read(&mut self, buf: &mut [u8]) -> io::Result<usize>
         ensures bound { ReadsAtMost result buf.new }
         ensures bytes { ReadConsumes (R.remaining self.old.reader) (R.remaining self.new.reader)
@@ -141,6 +143,8 @@ impl<R: Read, A: Allocator> Read for Tee<R, A> {
         ensures copies { Copies self.old.copied result buf.new self.new.copied }
         ensures room { IfOk result (λ n. n ≤ room_left self.old.copied) }
         ensures full { room_left self.old.copied ≡ 0 → IsErr result × (self.new ≡ self.old) }
+        ensures kind { room_left self.old.copied ≡ 0
+            → IfErr result (λ e. error_kind e ≡ ErrorKind.StorageFull) }
     {
         let left = self.copied.left();
         if left == 0 {

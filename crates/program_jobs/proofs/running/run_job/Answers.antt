@@ -1,5 +1,5 @@
-use Rattle.std.proofs.Common.{ℕ, List, Option, None, IfOk, IfErr, rules, refl, sym, subst, inl, inr}
-use Rattle.std.specs.Prelude.{◌≡◌, IsSomeAnd, string_bytes}
+use Rattle.std.proofs.Common.{ℕ, List, Option, None, IfOk, IfErr, OnOk, arith, rules, refl, sym, subst, inl, inr}
+use Rattle.std.specs.Prelude.{◌≡◌, ◌⊎◌, IsErr, IsSomeAnd, Result, Ok, Err, string_bytes}
 use Rattle.std.proofs.lemmas.Result.{IfErr-weaker}
 use Rattle.program_arguments.specs.declared.job.Job.{Job}
 use Rattle.program_jobs.specs.declared.failure.Failure.{Failure}
@@ -23,6 +23,15 @@ socket_refused job known_tables known (BadLine n) binds is = absurd is
 socket_refused job known_tables known (BadTablesLine n) binds is = absurd is
 socket_refused job known_tables known (BreaksRule n rule) binds is = absurd is
 socket_refused job known_tables known CannotWrite binds is = absurd is
+
+-- no failure has the status 0
+removed_where_fine : {T X : Type 0} (result : Result T X) (status : ℕ) (removed other : Type 0) → OnOk result removed
+    → (IsErr result → ((status ≡ 3) ⊎ (status ≡ 4)) × other) → status ≡ 0 → removed
+removed_where_fine (Ok printed) status removed other is refused fine = is
+removed_where_fine (Err why) status removed other is refused fine = elim (refused refl).0 [
+  | inl three ↦ absurd (omega (arith, three, fine))
+  | inr four ↦ absurd (omega (arith, four, fine))
+]
 
 -- a demonstration reads nothing, and binds nothing
 pub returns-in-Demo : goal.returns-in-Demo
@@ -86,7 +95,9 @@ returns-in-Ok g c =
     job_is c.run_over_socket.ensures.shows in
     let refuses = IfErr-weaker c.run_over_socket.result _ _
     (λ why is. socket_refused c.args.job.now None None why binds is) c.run_over_socket.ensures.refused in
-    bound c.as_str.result.now c.in-Ok.bound None None names (search rules)
+    let removed = removed_where_fine c.run_over_socket.result c.finish.result _ _ c.run_over_socket.ensures.removed
+    c.finish.ensures.refused in
+    bound c.as_str.result.now c.in-Ok.bound None None names (search rules) removed
     (c.finish.ensures.acted c.args.job.now None None done refuses)
 
 pub returns : goal.returns

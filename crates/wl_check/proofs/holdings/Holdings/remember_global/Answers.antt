@@ -10,7 +10,7 @@ returns-in_err-insert-clause-undone g c =
     let found = c.copied-version.ensures ∙ c.get.ensures.value in
     let e = c.in_err-insert.ensures in
     c.in_ok-write_down.ensures.ok c.args.self.now _
-    (put_back_none key c.copied-version.result c.self.inside.objects.items
+    (put_back_none key c.copied-version.result c.self.inside.objects.items c.self.inside.server_objects.items
     c.self.inside.globals.entries c.insert.new.self.entries found e.absent e.err ∙ c.self.view_is)
 
 pub returns-clause-undone : goal.returns-clause-undone
@@ -19,7 +19,7 @@ returns-clause-undone g c =
     let found = c.copied-version.ensures ∙ c.get.ensures.value in
     let e = c.in_ok-insert.ensures in
     c.in_ok-write_down.ensures.ok c.args.self.now _
-    (put_back_global key c.copied-version.result _ c.self.inside.objects.items
+    (put_back_global key c.copied-version.result _ c.self.inside.objects.items c.self.inside.server_objects.items
     c.self.inside.globals.entries c.insert.new.self.entries found e.entries
     (λ some. e.keys_stay (subst (λ (o : Option ℕ). IsSome o) (found ∙ sym e.old) some)) ∙ c.self.view_is)
 
