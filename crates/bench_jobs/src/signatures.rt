@@ -23,6 +23,10 @@ fn add_kind(digest: &mut Digest, kind: Kind) {
         }
         Kind::Array => digest.number(9),
         Kind::Fd => digest.number(10),
+        Kind::NewByServer(iface) => {
+            digest.number(11);
+            add_place(digest, Some(iface));
+        }
     }
 }
 

@@ -15,7 +15,7 @@ type Client<'t> = wl::Client<'t, SlotTable>;
 
 type Server<'t> = wl::Server<'t, SlotTable>;
 
-/// Room for 65,536 bytes and 64 tokens in each box.
+/// Room for 65,536 bytes and 64 tokens in each queue.
 const SIZES: Sizes = Sizes {
     out_bytes: 65_536,
     out_tokens: 64,

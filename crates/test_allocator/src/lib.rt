@@ -1,8 +1,8 @@
 //! An allocator for tests, which refuses one chosen allocation and passes each other call on.
 //!
-//! A test keeps one handle, gives clones of it to the values that it tests, and says on its own
-//! handle which of the coming allocations is refused. So it can refuse each allocation of a call in
-//! turn, until the call is granted all that it asks for.
+//! A test keeps one handle, gives clones of it to the values that it tests, and says by its own
+//! handle which of the coming allocations to refuse. So it can refuse each allocation of a call in
+//! turn, until the call gets all that it asks for.
 #![tactic(auto)]
 
 use std::alloc::{AllocError, Allocator, Global};

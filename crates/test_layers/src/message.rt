@@ -1,4 +1,4 @@
-// What owns a box drops it at each way out, so a test does all else behind a `&mut`.
+// What owns a queue drops it at each way out, so a test does all else behind a `&mut`.
 ghost use Rattle.std.specs.Prelude.{◌≡◌, false};
 
 use std::alloc::{AllocError, Global};
@@ -390,17 +390,17 @@ fn outboxes_are_refused(memory: &RefusingAllocator) -> Result<bool, AllocError> 
     Ok(all)
 }
 
-/// Whether each of the five allocations of an inbox is.
+/// Whether each of the six allocations of an inbox is.
 fn inboxes_are_refused(memory: &RefusingAllocator) -> Result<bool, AllocError> {
     let mut all = true;
-    for number in 0u64..6 {
+    for number in 0u64..7 {
         let is_made = makes_an_inbox(memory, number)?;
-        all = is_made == (number == 5) && memory.has_refused() == (number < 5) && all;
+        all = is_made == (number == 6) && memory.has_refused() == (number < 6) && all;
     }
     Ok(all)
 }
 
-// Each allocation of both boxes is refused in turn.
+// Each allocation of both queues is refused in turn.
 #[test]
 fn boxes_without_memory_are_refused(rt: HostRuntime) -> Result<(), Fail> {
     let memory = RefusingAllocator::new(rt.alloc())?;

@@ -1,16 +1,16 @@
-// What goes through the rings of the boxes, with their seam at each place of a message. What owns a
-// box drops it at each way out, so a test does all else behind a `&mut`.
+// What goes through the rings of the queues, with their seam at each place of a message. What owns
+// a queue drops it at each way out, so a test does all else behind a `&mut`.
 
 use std::alloc::Global;
 use std::test::Fail;
 use wl_message::{Fed, Inbox, Limit, Outbox, Taken};
 
-/// How many messages go in at a box. Beside those that wait at the end, more come out than the
+/// How many messages go in at a queue. Beside those that wait at the end, more come out than the
 /// larger ring has places, 4163, so they begin at each place: neither 2 nor 3 divides the number of
 /// places.
 const ROUNDS: u16 = 4700;
 
-/// Messages that go through a box.
+/// Messages that go through a queue.
 #[derive(Clone, Copy)]
 struct Messages {
     /// How many bytes each has, with its header.

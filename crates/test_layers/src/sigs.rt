@@ -63,6 +63,7 @@ fn letter(kind: Kind) -> &'static str {
         Kind::Obj { null: true, .. } => " ?o",
         Kind::Obj { null: false, .. } => " o",
         Kind::New(_) => " n",
+        Kind::NewByServer(_) => " N",
     }
 }
 
@@ -86,6 +87,7 @@ fn put_kind<A: Allocator, B: Allocator>(
     match kind {
         Kind::Obj { iface, .. } => put_in_brackets(text, tables, iface, "any"),
         Kind::New(iface) => put_in_brackets(text, tables, iface, "no interface"),
+        Kind::NewByServer(iface) => put_in_brackets(text, tables, Some(iface), "none"),
         _ => Ok(()),
     }
 }

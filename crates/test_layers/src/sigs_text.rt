@@ -19,16 +19,16 @@ const VIEWPORTER_ROWS: [&str; 2] = [
 // Each kind and each ending, skipped lines, a carriage return, a name that stands further down, a
 // name of the core, and a last line without a line feed.
 const EVERY_FORM: &str =
-    "# every form\r\n\ninterface first 4294967295\nrequest all i u f s ?s a h o(wl_output) ?o(first) n(second)\nrequest later D @2\nevent plain o ?o @4294967295\r\ninterface second 007\nevent gone o(first) D\n#";
+    "# every form\r\n\ninterface first 4294967295\nrequest all i u f s ?s a h o(wl_output) ?o(first) n(second)\nrequest later D @2\nevent plain o ?o N(first) @4294967295\r\ninterface second 007\nevent gone o(first) D\n#";
 
 const EVERY_FORM_ROWS: [&str; 2] = [
-    "first 4294967295 | all i u f s ?s a h o(wl_output) ?o(first) n(second); later D @2 | plain o(any) ?o(any) @4294967295",
+    "first 4294967295 | all i u f s ?s a h o(wl_output) ?o(first) n(second); later D @2 | plain o(any) ?o(any) N(first) @4294967295",
     "second 7 | none | gone o(first) D",
 ];
 
 // Texts of which each line has a form, with the first line that breaks a rule, and the least rule
 // there.
-static BROKEN: [(&str, usize, u8); 24] = [
+static BROKEN: [(&str, usize, u8); 45] = [
     // V1: a name of the core, of the same text, and names with other bytes.
     ("interface wl_seat 9", 1, 1),
     ("interface wl_fixes 1", 1, 1),
@@ -46,6 +46,7 @@ static BROKEN: [(&str, usize, u8); 24] = [
     // V4
     ("interface x 1\nevent made n(x)", 2, 4),
     ("interface x 1\nrequest r n(x) n(x)", 2, 4),
+    ("interface x 1\nevent made N(x) n(x)", 2, 4),
     // V5
     ("interface a 1\nrequest r n", 2, 5),
     // V6
@@ -67,6 +68,38 @@ static BROKEN: [(&str, usize, u8); 24] = [
     // V9
     ("interface a 1\nrequest r o(b)", 2, 9),
     ("interface a 1\nevent e o(any)", 2, 9),
+    ("interface a 1\nevent e N(b)", 2, 9),
+    // V11: in a request, two in an event, of an interface that ends by an event, and of the four
+    // that are always the same.
+    ("interface a 1\nrequest r N(a)", 2, 11),
+    ("interface a 1\nevent e N(a) N(a)", 2, 11),
+    (
+        "interface a 1\nevent e N(b)\ninterface b 1\nevent gone D",
+        2,
+        11,
+    ),
+    ("interface a 1\nevent e N(wl_display)", 2, 11),
+    ("interface a 1\nevent e N(wl_registry)", 2, 11),
+    ("interface a 1\nevent e N(wl_callback)", 2, 11),
+    ("interface a 1\nevent e N(wl_fixes)", 2, 11),
+    // Of extensions: each of the four that are always the same (V2); a lower version (V8); no such
+    // interface above (V9); and messages that do not go with those that are there.
+    ("extend wl_display 2", 1, 2),
+    ("extend wl_registry 0", 1, 2),
+    ("extend wl_callback 1", 1, 2),
+    ("extend wl_fixes 2", 1, 2),
+    ("extend wl_seat 8", 1, 8),
+    ("interface a 2\nrequest r @2\nextend a 1", 3, 8),
+    ("extend a 2\ninterface a 1", 1, 9),
+    ("extend wl_seat 10\nrequest release D @10", 2, 1),
+    ("extend wl_seat 10\nevent gone D @10", 2, 7),
+    (
+        "interface a 1\nevent gone D\nextend a 2\nrequest r @2",
+        2,
+        7,
+    ),
+    ("extend wl_seat 10\nrequest r @11", 2, 8),
+    ("extend wl_seat 10\nrequest r o(b)", 2, 9),
     // The first line of several, and the least rule of one line.
     ("interface a 1\nevent e o(b)\nrequest r n n", 2, 9),
     ("interface a 1\nrequest r n o @2", 2, 5),
@@ -74,7 +107,7 @@ static BROKEN: [(&str, usize, u8); 24] = [
 
 // Texts with a line that has no form, before or behind a broken rule, with the number of the first
 // such line.
-static BAD_LINES: [(&str, usize); 10] = [
+static BAD_LINES: [(&str, usize); 14] = [
     ("request poke", 1),
     ("interface wl_seat 9\n\n#\nrequest  poke", 4),
     ("interface a 4294967296", 1),
@@ -84,8 +117,21 @@ static BAD_LINES: [(&str, usize); 10] = [
     ("interface a 1\nrequest r D D", 2),
     ("interface a 1\nrequest r ?n(a)", 2),
     ("interface a 1\nrequest r s(a)", 2),
+    ("interface a 1\nevent e N", 2),
+    ("interface a 1\nevent e ?N(a)", 2),
     ("interface a 1\r", 1),
+    ("extend wl_seat", 1),
+    ("extend wl_display 2\nextend wl_seat 10 ", 2),
 ];
+
+// wl_seat extended twice, an interface of the text once.
+const EXTENDING: &str =
+    "extend wl_seat 10\nrequest pad n(pad) @10\nevent mode u @10\ninterface pad 1\nrequest destroy D\nextend wl_seat 12\nrequest more @11\nextend pad 2\nevent told i @2\n";
+
+const SEAT_ROW: &str =
+    "wl_seat 12 | get_pointer n(wl_pointer); get_keyboard n(wl_keyboard); get_touch n(wl_touch); release D @5; pad n(pad) @10; more @11 | capabilities u; name s @2; mode u @10";
+
+const PAD_ROW: &str = "pad 2 | destroy D | told i @2";
 
 /// Whether a text declares these two interfaces behind the core tables, and no other.
 fn gives(alloc: Global, text: &[u8], rows: &[&str]) -> Result<bool, AllocError> {
@@ -110,6 +156,38 @@ fn a_text_adds_its_interfaces_in_order(rt: HostRuntime) -> Result<(), Fail> {
     Ok(())
 }
 
+// An extension leaves each interface at its place, and each message at its opcode.
+#[test]
+fn a_text_extends_interfaces(rt: HostRuntime) -> Result<(), Fail> {
+    let alloc = rt.alloc();
+    let core = Tables::core(alloc)?;
+    let more = core.read_more(EXTENDING.as_bytes());
+    let more = more.expect(&rt, "the text is read");
+    assert!(rt; has_row(alloc, &more, 9, SEAT_ROW));
+    assert!(rt; has_row(alloc, &more, 19, PAD_ROW));
+    assert!(rt; more.interface(b"wl_pointer") == Some(Iface(10)));
+    let again = more.read_more(b"extend pad 3\nrequest last @3");
+    let again = again.expect(&rt, "the text is read");
+    assert!(rt; has_row(alloc, &again, 19, "pad 3 | destroy D; last @3 | told i @2"));
+    Ok(())
+}
+
+// An added message that does not go with those of tables that are there.
+#[test]
+fn what_a_text_adds_goes_with_what_is_there(rt: HostRuntime) -> Result<(), Fail> {
+    let core = Tables::core(rt.alloc())?;
+    let more = core
+        .read_more(
+            b"interface a 1\nevent e N(b)\nrequest r ?o(d)\ninterface b 1\ninterface c 1\nevent gone D\ninterface d 1",
+        )
+        .expect(&rt, "the text is read");
+    let rule = |rule| TableFault::BadTable { line: 2, rule };
+    assert!(rt; is_refused_as(&more, "extend b 2\nevent gone D", rule(11)));
+    assert!(rt; is_refused_as(&more, "extend c 2\nrequest r", rule(7)));
+    assert!(rt; is_refused_as(&more, "extend d 2\nevent gone D", rule(7)));
+    Ok(())
+}
+
 // Names of an earlier text count as there already.
 #[test]
 fn texts_are_read_one_behind_the_other(rt: HostRuntime) -> Result<(), Fail> {
@@ -124,6 +202,21 @@ fn texts_are_read_one_behind_the_other(rt: HostRuntime) -> Result<(), Fail> {
     let most = more.read_more(b"").expect(&rt, "the text is read");
     assert!(rt; most.interface(b"a") == Some(Iface(19)) && most.version(Iface(20)).is_none());
     assert!(rt; most.opcode(Iface(19), Side::Event, b"gone") == Some(0));
+    Ok(())
+}
+
+// It is asked of the events of all tables, those that were there before too.
+#[test]
+fn tables_tell_whether_the_server_makes_objects(rt: HostRuntime) -> Result<(), Fail> {
+    let core = Tables::core(rt.alloc())?;
+    assert!(rt; !core.has_server_objects());
+    let plain = core.read_more(VIEWPORTER.as_bytes());
+    assert!(rt; !plain.expect(&rt, "the text is read").has_server_objects());
+    let more = core.read_more(EVERY_FORM.as_bytes());
+    let more = more.expect(&rt, "the text is read");
+    assert!(rt; more.has_server_objects());
+    let last = more.read_more(VIEWPORTER.as_bytes());
+    assert!(rt; last.expect(&rt, "the text is read").has_server_objects());
     Ok(())
 }
 
@@ -281,12 +374,12 @@ fn is_read_at_last(
     number: u64,
 ) -> bool {
     memory.refuse_nth(number);
-    match core.read_more(VIEWPORTER.as_bytes()) {
-        Ok(tables) => !memory.has_refused() && has_row(alloc, &tables, 20, VIEWPORTER_ROWS[1]),
+    match core.read_more(EXTENDING.as_bytes()) {
+        Ok(tables) => !memory.has_refused() && has_row(alloc, &tables, 19, PAD_ROW),
         Err(TableFault::Memory) => {
             let is_refused = memory.has_refused() && memory.asked() == number.wrapping_add(1);
             memory.refuse_none();
-            is_refused && core.read_more(VIEWPORTER.as_bytes()).is_ok()
+            is_refused && core.read_more(EXTENDING.as_bytes()).is_ok()
         }
         Err(_) => false,
     }

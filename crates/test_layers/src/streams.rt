@@ -1,4 +1,4 @@
-// What becomes of the boxes where a stream fails. What owns a box drops it at each way out, so a
+// What becomes of the queues where a stream fails. What owns a queue drops it at each way out, so a
 // test does all else behind a `&mut`.
 
 use std::alloc::Global;

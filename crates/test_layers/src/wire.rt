@@ -56,10 +56,12 @@ fn strings_and_arrays(rt: HostRuntime) {
 fn are_words(alloc: Global) -> bool {
     let one = ValueRef::Fixed(Fixed::from_raw(-256));
     let new = Kind::New(Some(Iface(2)));
+    let by_server = Kind::NewByServer(Iface(2));
     is_both(alloc, Kind::Int, b"\xff\xff\xff\xff", ValueRef::Int(-1))
         && is_both(alloc, Kind::Uint, b"\x02\x01\0\0", ValueRef::Uint(258))
         && is_both(alloc, Kind::Fixed, b"\0\xff\xff\xff", one)
         && is_both(alloc, new, b"\x04\0\0\0", ValueRef::New(4))
+        && is_both(alloc, by_server, b"\0\0\0\xff", ValueRef::New(0xff00_0000))
         && is_both(alloc, Kind::Fd, b"", ValueRef::Fd)
 }
 
@@ -94,7 +96,7 @@ fn tells_faults_of_strings(alloc: Global) -> bool {
     has_fault(alloc, text, b"\x04\0\0\0a\0b\0", ArgFault::InnerNul)
         && has_fault(alloc, text, b"\x05\0\0\0abc\0", ArgFault::Short)
         && has_fault(alloc, text, b"\x03\0\0\0abc\0", ArgFault::NoEndingNul)
-        && has_fault(alloc, text, b"\0\0\0\0\0\0\0\0", ArgFault::NullNotAllowed)
+        && has_fault(alloc, text, b"\0\0\0\0", ArgFault::NullNotAllowed)
 }
 
 /// Whether those of an object that is not null and of a word are.

@@ -1,12 +1,15 @@
 //! One end of a connection, played at.
 
+use crate::acting::Actor;
+use crate::bytes::{Chunk, read_chunk, read_chunks, write_chunk};
+use crate::playable::Playable;
+use crate::repeated::Repeated;
+use crate::replies::{OUT_OF_MEMORY, put_name, write_stop};
 use crate::stage::Stage;
+use crate::trouble::Trouble;
+use crate::words::Words;
 use std::alloc::{AllocError, Global};
 use std::fmt::Write;
-use test_scene::{
-    Actor, Chunk, OUT_OF_MEMORY, Playable, Repeated, Trouble, Words, put_name, read_chunk,
-    read_chunks, write_chunk, write_stop,
-};
 use wl_connection::{End, ReadAll, read_all};
 use wl_message::Piece;
 use wl_objects::{NextError, Object, State, Table};

@@ -1,14 +1,37 @@
-//! Plays scenes at a client, a server, a pair or a recording, and says which results differ from
-//! those that the scenes demand (crates/test_scenes/README.md).
+//! Scenes: calls of an end, a pair or a part of one, and what each of them must answer, as text.
+//!
+//! This crate reads the text of scenes and of their calls, plays them at a client, a server, a pair
+//! or a recording, and says which results differ from those that the scenes demand. The program
+//! `test_scenes` prints that. The form is in crates/test_scenes/README.md.
 #![tactic(auto)]
 
+mod acting;
+mod bytes;
 mod ends;
+mod lending;
+mod line;
+mod moves;
+mod names;
+mod own;
 mod pair;
 mod places;
+mod playable;
 mod playing;
 mod recording;
+mod repeated;
+mod replies;
+mod scene;
 mod stage;
 mod sweeping;
+mod trouble;
+mod words;
 
+pub use acting::Actor;
+pub use own::own_verdict;
+pub use playable::Playable;
+pub use replies::{OUT_OF_MEMORY, put_name, write_stop, write_verdict};
+pub use scene::read_scenes;
 pub use stage::Props;
 pub use sweeping::play_scene;
+pub use trouble::Trouble;
+pub use words::Words;

@@ -1,10 +1,14 @@
 //! Both ends of a connection, played at.
 
+use crate::acting::Actor;
 use crate::ends::yes_or_no;
+use crate::own::{own_verdict, verdict_on};
+use crate::replies::write_verdict;
 use crate::stage::Stage;
+use crate::trouble::Trouble;
+use crate::words::Words;
 use std::alloc::{AllocError, Allocator, Global};
 use std::fmt::Write;
-use test_scene::{Actor, Trouble, Words, own_verdict, verdict_on, write_verdict};
 use wl_message::Limit;
 use wl_objects::Table;
 use wl_recording::{Direction, Passed};

@@ -1,14 +1,19 @@
 //! Where a scene is played.
 ghost use Rattle.wl_message.specs.Arrived.{AreSizes};
 
+use crate::acting::Actor;
 use crate::ends::AtEnd;
+use crate::line::Line;
 use crate::pair::AtPair;
+use crate::playable::Playable;
 use crate::playing::{Refusal, SceneOutcome, play};
 use crate::recording::AtRecording;
+use crate::scene::{Row, Scene};
 use crate::stage::{Objects, Props};
+use crate::trouble::Trouble;
+use crate::words::Words;
 use std::alloc::AllocError;
 use test_allocator::RefusingAllocator;
-use test_scene::{Actor, Line, Playable, Row, Scene, Trouble, Words};
 use wl_client::Client;
 use wl_message::{Limit, Sizes};
 use wl_objects::Table;
@@ -16,7 +21,7 @@ use wl_recording::Recording;
 use wl_server::Server;
 use wl_session::Pair;
 
-/// The sizes of an end's boxes where a scene names none.
+/// The sizes of an end's queues where a scene names none.
 const USUAL: Sizes = Sizes {
     out_bytes: 65_536,
     out_tokens: 64,
@@ -25,22 +30,22 @@ const USUAL: Sizes = Sizes {
     limit: Limit::USUAL,
 };
 
-/// Sizes that boxes may have.
+/// Sizes that queues may have.
 #[derive(Clone, Copy)]
-struct Boxes {
+struct Queues {
     sizes: Sizes,
     ghost possible: { AreSizes sizes },
 }
 
-/// The usual boxes.
-fn usual() -> Boxes {
-    Boxes { sizes: USUAL }
+/// The usual queues.
+fn usual() -> Queues {
+    Queues { sizes: USUAL }
 }
 
-/// Boxes of these sizes; none where no boxes have them.
-fn boxes_of(sizes: Sizes) -> Result<Boxes, Trouble> {
+/// Queues of these sizes; none where no queues have them.
+fn queues_of(sizes: Sizes) -> Result<Queues, Trouble> {
     if sizes.is_allowed() {
-        Ok(Boxes { sizes })
+        Ok(Queues { sizes })
     } else {
         Err(Trouble::Unreadable)
     }
@@ -54,9 +59,9 @@ fn limit_of(words: &mut Words<'_>) -> Result<Limit, Trouble> {
     }
 }
 
-/// The boxes of some words: `out` and two numbers, `in` and two numbers, `limit` and a number, any
+/// The queues of some words: `out` and two numbers, `in` and two numbers, `limit` and a number, any
 /// of which may be missing.
-fn read_boxes(text: &str) -> Result<Boxes, Trouble> {
+fn read_queues(text: &str) -> Result<Queues, Trouble> {
     let mut sizes = USUAL;
     for part in text.split(',') {
         let mut words = Words::of(part);
@@ -73,7 +78,7 @@ fn read_boxes(text: &str) -> Result<Boxes, Trouble> {
             _ => {}
         }
     }
-    boxes_of(sizes)
+    queues_of(sizes)
 }
 
 /// Plays a scene at its place, with an allocation refused.
@@ -150,8 +155,8 @@ fn at_client(
     scene: &Scene<'_>,
     refusal: Option<Refusal>,
 ) -> Result<SceneOutcome, Trouble> {
-    let boxes = read_boxes(sizes)?;
-    let client = Client::<Objects>::new(props.memory.clone()?, props.tables, boxes.sizes)?;
+    let queues = read_queues(sizes)?;
+    let client = Client::<Objects>::new(props.memory.clone()?, props.tables, queues.sizes)?;
     Ok(at_end(props, client, scene, refusal)?)
 }
 
@@ -161,8 +166,8 @@ fn at_server(
     scene: &Scene<'_>,
     refusal: Option<Refusal>,
 ) -> Result<SceneOutcome, Trouble> {
-    let boxes = read_boxes(sizes)?;
-    let server = Server::<Objects>::new(props.memory.clone()?, props.tables, boxes.sizes)?;
+    let queues = read_queues(sizes)?;
+    let server = Server::<Objects>::new(props.memory.clone()?, props.tables, queues.sizes)?;
     Ok(at_end(props, server, scene, refusal)?)
 }
 
@@ -184,7 +189,7 @@ fn at_end<T: Table<Alloc = RefusingAllocator>, E: Playable<Table = T> + Drop>(
     play(props, &mut stage, &scene.rows, refusal)
 }
 
-/// Plays a scene at a pair: the boxes of the client, and behind a bar those of the server.
+/// Plays a scene at a pair: the queues of the client, and behind a bar those of the server.
 fn at_pair(
     props: Props<'_>,
     sizes: &str,
@@ -192,8 +197,8 @@ fn at_pair(
     refusal: Option<Refusal>,
 ) -> Result<SceneOutcome, Trouble> {
     let (client, server) = match sizes.split_once('|') {
-        Some((client, server)) => (read_boxes(client)?, read_boxes(server)?),
-        None => (read_boxes(sizes)?, read_boxes(sizes)?),
+        Some((client, server)) => (read_queues(client)?, read_queues(server)?),
+        None => (read_queues(sizes)?, read_queues(sizes)?),
     };
     if client.sizes.limit.bytes != server.sizes.limit.bytes {
         return Err(Trouble::Unreadable);

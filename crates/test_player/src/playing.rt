@@ -1,9 +1,12 @@
 //! Scenes, played.
 
+use crate::line::{Line, Memory};
+use crate::replies::OUT_OF_MEMORY;
+use crate::scene::{Row, is_told};
 use crate::stage::{Props, Stage};
+use crate::trouble::Trouble;
 use std::alloc::{AllocError, Global};
 use std::fmt::Write;
-use test_scene::{Line, Memory, OUT_OF_MEMORY, Row, Trouble, is_told};
 
 /// The allocation that is refused in one playing of a scene: of which row, and which of its
 /// allocations, counted from 0.

@@ -1,9 +1,12 @@
 //! A recording, played at.
 
+use crate::bytes::read_chunk;
+use crate::replies::{OUT_OF_MEMORY, put_name, write_verdict};
 use crate::stage::Stage;
+use crate::trouble::Trouble;
+use crate::words::Words;
 use std::alloc::{AllocError, Allocator, Global};
 use std::fmt::Write;
-use test_scene::{OUT_OF_MEMORY, Trouble, Words, put_name, read_chunk, write_verdict};
 use wl_message::Limit;
 use wl_recording::{Direction, Recording, RecordingError};
 use wl_session::{check, trace};

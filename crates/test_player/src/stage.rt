@@ -1,8 +1,8 @@
 //! What a scene is played at.
 
+use crate::trouble::Trouble;
 use std::alloc::{AllocError, Global};
 use test_allocator::RefusingAllocator;
-use test_scene::Trouble;
 use wl_objects::SlotTable;
 use wl_sigs::Tables;
 

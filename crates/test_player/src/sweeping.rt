@@ -1,10 +1,11 @@
 //! A scene, played once, or once for each allocation of a row that wants that.
 
+use crate::line::{Line, Memory};
 use crate::places::play_at;
 use crate::playing::{Refusal, SceneOutcome};
+use crate::scene::Scene;
 use crate::stage::Props;
 use std::alloc::AllocError;
-use test_scene::{Line, Memory, Scene};
 
 /// The most allocations of one row.
 const MOST_ALLOCATIONS: u64 = 10_000;

@@ -5,8 +5,7 @@
 use std::process::ExitCode;
 use std::{env, fs, io};
 use test_allocator::RefusingAllocator;
-use test_player::{Props, play_scene};
-use test_scene::read_scenes;
+use test_player::{Props, play_scene, read_scenes};
 use wl_sigs::Tables;
 
 /// Plays the scenes of a text, and prints how each went. Whether all went well.

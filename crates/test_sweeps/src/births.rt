@@ -3,7 +3,7 @@
 use crate::replay::Props;
 use crate::tally::Tally;
 use std::alloc::{AllocError, Global};
-use test_scene::Trouble;
+use test_player::Trouble;
 use wl_client::Client;
 use wl_connection::{End, Receiver, read_all};
 use wl_message::{Limit, Piece, Sizes};

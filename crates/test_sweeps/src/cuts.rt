@@ -5,7 +5,7 @@ use crate::sample::{Sample, stream_of};
 use crate::tally::Tally;
 use std::alloc::{AllocError, Global};
 use test_allocator::RefusingAllocator;
-use test_scene::Trouble;
+use test_player::Trouble;
 use wl_message::Limit;
 use wl_recording::{Direction, Recording};
 use wl_session::{Verdict, check};

@@ -28,7 +28,7 @@ use std::process::ExitCode;
 use std::{env, fs, io};
 use tally::Tally;
 use test_allocator::RefusingAllocator;
-use test_scene::Trouble;
+use test_player::Trouble;
 use wl_sigs::Tables;
 
 /// Prints how a sweep went. Whether all went well.

@@ -3,7 +3,7 @@
 use crate::replay::{Props, SIZES};
 use crate::tally::Tally;
 use std::alloc::{AllocError, Global};
-use test_scene::{Actor, OUT_OF_MEMORY, Trouble};
+use test_player::{Actor, OUT_OF_MEMORY, Trouble};
 use wl_objects::{MapTable, SlotTable, Table};
 use wl_session::Pair;
 

@@ -4,7 +4,7 @@ use crate::replay::Props;
 use crate::sample::Sample;
 use crate::tally::Tally;
 use std::alloc::AllocError;
-use test_scene::{Trouble, put_name, write_verdict};
+use test_player::{Trouble, put_name, write_verdict};
 use wl_message::Limit;
 use wl_recording::{Recording, RecordingError};
 use wl_session::{check, trace};

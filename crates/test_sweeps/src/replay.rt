@@ -8,7 +8,7 @@ use crate::tally::Tally;
 use std::alloc::{AllocError, Global};
 use std::fmt::Write;
 use test_allocator::RefusingAllocator;
-use test_scene::{Actor, Playable, Trouble, Words, write_stop};
+use test_player::{Actor, Playable, Trouble, Words, write_stop};
 use wl_client::Client;
 use wl_connection::{End, read_all};
 use wl_message::{Limit, Piece, Sizes};
@@ -17,7 +17,7 @@ use wl_recording::Direction;
 use wl_server::Server;
 use wl_sigs::Tables;
 
-/// The boxes of every end.
+/// The queues of every end.
 pub const SIZES: Sizes = Sizes {
     out_bytes: 4096,
     out_tokens: 64,

@@ -4,7 +4,7 @@ use crate::dice::Dice;
 use crate::replay::Props;
 use crate::tally::Tally;
 use std::alloc::{AllocError, Global};
-use test_scene::{Trouble, own_verdict};
+use test_player::{Trouble, own_verdict};
 use wl_message::{Limit, Sizes};
 use wl_objects::{Object, SlotTable};
 use wl_session::{Carried, Move, Pair, Reply, SendArg, Verdict};
@@ -20,7 +20,7 @@ const MOVES: usize = 600;
 /// How many it has after that.
 const LAST_MOVES: usize = 20;
 
-/// Boxes that are full now and then.
+/// Queues that are full now and then.
 const SIZES: Sizes = Sizes {
     out_bytes: 400,
     out_tokens: 6,
@@ -315,7 +315,7 @@ impl<'a> Run<'a> {
             Kind::Fixed => SendArg::Fixed(Fixed::from_raw(self.dice.below(1000) as i32)),
             Kind::Str { .. } => SendArg::Str(Some(self.text()?)),
             Kind::Obj { iface, .. } => SendArg::Obj(self.random_object_of(iface)),
-            Kind::New(_) => SendArg::New,
+            Kind::New(_) | Kind::NewByServer(_) => SendArg::New,
             Kind::Array => SendArg::Array(self.text()?),
             Kind::Fd => SendArg::Fd(self.dice.word()),
         })

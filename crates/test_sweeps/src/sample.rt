@@ -2,7 +2,7 @@
 
 use std::alloc::{AllocError, Global};
 use test_allocator::RefusingAllocator;
-use test_scene::Trouble;
+use test_player::Trouble;
 use wl_recording::{Direction, Recording, RecordingError};
 
 /// A recording whose memory can be refused, and its text.

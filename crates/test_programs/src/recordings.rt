@@ -35,4 +35,24 @@ const BAD_NEW_ID: &[u8] = b"> 0100000001000c0003000000
 > 0100000001000c0002000000
 ";
 
-pub const ALL: [&[u8]; 5] = [SURFACE, NO_TOKEN_LEFT, ENDED, BAD_SIZE, BAD_NEW_ID];
+/// The server makes objects, several in one piece, and some again with the ids of those that the
+/// client has destroyed. The last takes the id of one that is open.
+const MADE: &[u8] = b"> 0100000001000c0002000000
+< 020000000000180001000000040000006465760001000000
+> 0200000000001c000100000004000000646576000100000003000000
+< 0300000000000c00000000ff0300000000000c00010000ff
+> 000000ff00000800
+< 0300000000000c
+< 00000000ff0300000000000c00020000ff0300000000000c00030000ff
+> 010000ff00000800000000ff00000800
+< 0300000000000c00010000ff0300000000000c00000000ff0300000000000c00000000ff
+";
+
+/// The tables of the objects in it, as text.
+pub const DEVICES: &[u8] = b"interface dev 1
+event made N(off)
+interface off 1
+request destroy D
+";
+
+pub const ALL: [&[u8]; 6] = [SURFACE, NO_TOKEN_LEFT, ENDED, BAD_SIZE, BAD_NEW_ID, MADE];

@@ -1,8 +1,8 @@
 //! However the bytes are cut, an inspector says what the trace of their recording says.
 ghost use Rattle.std.specs.Prelude.{◌<◌};
 
-use crate::passing::inspect;
-use crate::recordings::ALL;
+use crate::inspecting::inspect;
+use crate::recordings::{ALL, DEVICES};
 use std::alloc::Global;
 use std::test::Fail;
 use wl_check::trace;
@@ -41,10 +41,12 @@ fn agreeing(alloc: Global, tables: &Tables, size: usize) -> u64
 
 #[test]
 fn says_what_the_trace_says(rt: HostRuntime) -> Result<(), Fail> {
-    let tables = Tables::core(rt.alloc())?;
-    assert_eq!(rt; agreeing(rt.alloc(), &tables, 1), 5);
-    assert_eq!(rt; agreeing(rt.alloc(), &tables, 5), 5);
-    assert_eq!(rt; agreeing(rt.alloc(), &tables, 12), 5);
-    assert_eq!(rt; agreeing(rt.alloc(), &tables, 4096), 5);
+    let tables = Tables::core(rt.alloc())?
+        .read_more(DEVICES)
+        .expect(&rt, "the text is read");
+    assert_eq!(rt; agreeing(rt.alloc(), &tables, 1), 6);
+    assert_eq!(rt; agreeing(rt.alloc(), &tables, 5), 6);
+    assert_eq!(rt; agreeing(rt.alloc(), &tables, 12), 6);
+    assert_eq!(rt; agreeing(rt.alloc(), &tables, 4096), 6);
     Ok(())
 }

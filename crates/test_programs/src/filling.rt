@@ -1,11 +1,29 @@
-// What a new server reads of a stream whose read fails in the middle of a message.
+//! Reading from a stream into an inbox that is almost full, and into a new server where a read fails
+//! in the middle of a message.
 use std::io::ErrorKind;
 use std::test::Fail;
 use wl_connection::End;
-use wl_message::{FillError, Limit, ScriptReader, Sizes, Step};
+use wl_message::{FillError, Inbox, Limit, ScriptReader, Sizes, Step, fill};
 use wl_objects::{GotRef, Object, SlotTable, Table};
 use wl_server::Server;
 use wl_sigs::{Tables, request};
+
+/// All but the last byte of an inbox of 4096 bytes.
+const WAITING: [u8; 4095] = [0; 4095];
+
+/// The last free byte is filled, a failure of the reader leaves it free, and no byte is read where
+/// none is free.
+#[test]
+fn fills_the_last_byte(rt: HostRuntime) -> Result<(), Fail> {
+    let mut inbox = Inbox::new(rt.alloc(), 4096, 20, Limit::USUAL)?;
+    let _fed = inbox.feed(&WAITING, &[]);
+    assert!(rt; inbox.room() == 1);
+    let mut reader = ScriptReader::new(&[7, 8], &[Step::Fail(ErrorKind::BrokenPipe)]);
+    assert!(rt; fill(&mut inbox, &mut reader) == Err(FillError::Io) && inbox.room() == 1);
+    assert!(rt; fill(&mut inbox, &mut reader) == Ok(1) && inbox.room() == 0);
+    assert!(rt; fill(&mut inbox, &mut reader) == Err(FillError::NoRoom));
+    Ok(())
+}
 
 /// wl_display.get_registry with new id 2.
 const GET_REGISTRY: [u8; 12] = [1, 0, 0, 0, 1, 0, 12, 0, 2, 0, 0, 0];

@@ -12,6 +12,16 @@ use wl_sigs::Tables;
 /// The number of no call.
 const NEVER: u32 = u32::MAX;
 
+/// The numbers of the reads, where as many bytes pass as are asked for: each turn is a write and a
+/// read.
+const READS: [u32; 6] = [1, 3, 5, 7, 9, 11];
+
+/// What a call does that fails.
+const FAILS: Step = Step::Fail(ErrorKind::Interrupted);
+
+/// What a read does that finds the end of the input, though more bytes come behind it.
+const ENDS: Step = Step::Pass(0);
+
 /// What the session prints.
 const SHOWN: &[u8] = b"-> wl_display@1.get_registry(new id wl_registry@2)
 <- wl_registry@2.global(1, \"wl_compositor\", 6)
@@ -31,26 +41,33 @@ agree: 4 objects
 /// The bytes on their way in one direction, which wait in memory.
 type Way = RefCell<Vec<u8>>;
 
-/// A connection in memory. One call of its two streams fails, and at each other call at most this
-/// number of bytes passes.
+/// A connection in memory. One call of its two streams does this step, and at each other call at
+/// most this number of bytes passes.
 #[derive(Drop)]
 struct Connection {
     to_server: Way,
     to_client: Way,
     alloc: Global,
     calls: Cell<u32>,
-    fails_at: u32,
+    at: u32,
+    step: Step,
     most: usize,
 }
 
 impl Connection {
-    fn new(alloc: Global, fails_at: u32, most: usize) -> Connection {
+    /// A connection of which the call of this number fails.
+    fn failing(alloc: Global, fails_at: u32, most: usize) -> Connection {
+        Connection::new(alloc, fails_at, FAILS, most)
+    }
+
+    fn new(alloc: Global, at: u32, step: Step, most: usize) -> Connection {
         Connection {
             to_server: RefCell::new(Vec::new(alloc)),
             to_client: RefCell::new(Vec::new(alloc)),
             alloc,
             calls: Cell::new(0),
-            fails_at,
+            at,
+            step,
             most,
         }
     }
@@ -59,8 +76,8 @@ impl Connection {
     fn next_step(&self) -> Step {
         let call = self.calls.get();
         self.calls.set(call.saturating_add(1));
-        if call == self.fails_at {
-            Step::Fail(ErrorKind::Interrupted)
+        if call == self.at {
+            self.step
         } else {
             Step::Pass(self.most)
         }
@@ -100,9 +117,12 @@ fn busy() -> io::Error {
 
 impl<'a> Read for Stream<'a> {
     fn read(&mut self, buf: &mut [u8]) -> io::Result<usize> {
-        let step = [self.connection.next_step()];
+        let step = self.connection.next_step();
+        if step == ENDS {
+            return Ok(0);
+        }
         let mut way = self.input.try_borrow_mut().map_err(|_| busy())?;
-        let n = ScriptReader::new(way.as_slice(), &step).read(buf)?;
+        let n = ScriptReader::new(way.as_slice(), &[step]).read(buf)?;
         drop(way.drain(..n));
         Ok(n)
     }
@@ -151,18 +171,27 @@ fn is_the_session(alloc: Global, tables: &Tables, played: &SessionOutcome<Global
     }
 }
 
+/// Whether this is that the session failed.
+fn has_failed<T>(answer: &Result<T, SocketError>) -> bool {
+    matches!(answer, Err(error) if *error == SocketError::Failed)
+}
+
 /// Whether the session comes to the same where the call of this number fails and is made again, and
-/// fails where it is not made again.
+/// fails where it is not made again, as it never is for what the program prints.
 fn overcomes(alloc: Global, tables: &Tables, fails_at: u32, most: usize) -> bool {
-    let overcome = match play(alloc, tables, &Connection::new(alloc, fails_at, most), 1) {
+    let overcome = match play(
+        alloc,
+        tables,
+        &Connection::failing(alloc, fails_at, most),
+        1,
+    ) {
         Ok(played) => is_the_session(alloc, tables, &played),
         Err(_) => false,
     };
-    let failed = match play(alloc, tables, &Connection::new(alloc, fails_at, most), 0) {
-        Ok(_) => false,
-        Err(error) => error == SocketError::Failed,
-    };
-    overcome && failed
+    let connection = Connection::failing(alloc, fails_at, most);
+    let failed = has_failed(&play(alloc, tables, &connection, 0));
+    let connection = Connection::failing(alloc, fails_at, most);
+    overcome && failed && has_failed(&printed(alloc, tables, &connection))
 }
 
 /// How many reads and writes the session makes where none fails, if it is the session.
@@ -176,7 +205,7 @@ fn count_calls(alloc: Global, tables: &Tables, connection: &Connection) -> Optio
 /// Whether the session overcomes a failure at each of its calls, of which there are at least this
 /// many.
 fn overcomes_each(alloc: Global, tables: &Tables, most: usize, at_least: u32) -> bool {
-    let Some(calls) = count_calls(alloc, tables, &Connection::new(alloc, NEVER, most)) else {
+    let Some(calls) = count_calls(alloc, tables, &Connection::failing(alloc, NEVER, most)) else {
         return false;
     };
     calls >= at_least && (0..calls).all(|call| overcomes(alloc, tables, call, most))
@@ -189,6 +218,22 @@ fn each_call_may_fail_once(rt: HostRuntime) -> Result<(), Fail> {
     assert!(rt; overcomes_each(rt.alloc(), &tables, usize::MAX, 12));
     // 34 of each, for at most seven bytes at a time.
     assert!(rt; overcomes_each(rt.alloc(), &tables, 7, 68));
+    Ok(())
+}
+
+/// Whether the session fails where the read of this number finds the end of the input, though a
+/// retry is left and a further read would give the rest.
+fn fails_at_an_end(alloc: Global, tables: &Tables, ends_at: u32) -> bool {
+    let connection = Connection::new(alloc, ends_at, ENDS, usize::MAX);
+    has_failed(&play(alloc, tables, &connection, 1))
+}
+
+#[test]
+fn reads_nothing_behind_an_end(rt: HostRuntime) -> Result<(), Fail> {
+    let tables = Tables::core(rt.alloc())?;
+    for ends_at in READS {
+        assert!(rt; fails_at_an_end(rt.alloc(), &tables, ends_at));
+    }
     Ok(())
 }
 
@@ -209,7 +254,11 @@ fn is_refused_or_whole(
     memory: RefusingAllocator,
     told: &RefusingAllocator,
 ) -> bool {
-    match printed(memory, tables, &Connection::new(alloc, NEVER, usize::MAX)) {
+    match printed(
+        memory,
+        tables,
+        &Connection::failing(alloc, NEVER, usize::MAX),
+    ) {
         Ok(text) => !told.has_refused() && text.as_slice() == SHOWN,
         Err(error) => told.has_refused() && error == SocketError::Memory,
     }

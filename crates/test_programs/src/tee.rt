@@ -1,9 +1,9 @@
-// A reader that keeps a copy, with each allocation refused.
-use std::alloc::AllocError;
-use std::io::Read;
+// A reader that keeps a copy: with each allocation refused, and where a read fails.
+use std::alloc::{AllocError, Global};
+use std::io::{self, ErrorKind, Read};
 use std::test::Fail;
 use test_allocator::RefusingAllocator;
-use wl_message::ScriptReader;
+use wl_message::{ScriptReader, Step};
 use wl_session::{Direction, Recording, Tee};
 
 /// What passes.
@@ -55,5 +55,38 @@ fn copies_at_last(memory: &RefusingAllocator) -> Result<bool, AllocError> {
 fn a_copy_is_refused_each_of_its_allocations(rt: HostRuntime) -> Result<(), Fail> {
     let memory = RefusingAllocator::new(rt.alloc())?;
     assert!(rt; copies_at_last(&memory)?);
+    Ok(())
+}
+
+/// Whether a read failed with an error of this kind.
+fn is_failure(read: io::Result<usize>, kind: ErrorKind) -> bool {
+    match read {
+        Ok(_) => false,
+        Err(error) => error.kind() == kind,
+    }
+}
+
+/// Whether a read that fails behind 4 bytes says why, and so does one behind all 6, when there is
+/// no room to copy more.
+fn says_why(tee: &mut Tee<ScriptReader<'_>>, kind: ErrorKind) -> bool {
+    let mut buf = [0; 6];
+    matches!(tee.read(&mut buf), Ok(4))
+        && is_failure(tee.read(&mut buf), kind)
+        && matches!(tee.read(&mut buf), Ok(2))
+        && is_failure(tee.read(&mut buf), ErrorKind::StorageFull)
+}
+
+/// Whether an error of this kind passes through a copying reader as it is.
+fn passes_on(alloc: Global, kind: ErrorKind) -> Result<bool, AllocError> {
+    let script = [Step::Pass(4), Step::Fail(kind)];
+    let mut tee = Tee::new(alloc, ScriptReader::new(BYTES, &script), 6)?;
+    Ok(says_why(&mut tee, kind))
+}
+
+#[test]
+fn an_error_of_the_reader_is_passed_on(rt: HostRuntime) -> Result<(), Fail> {
+    let alloc = rt.alloc();
+    assert!(rt; passes_on(alloc, ErrorKind::Interrupted)?);
+    assert!(rt; passes_on(alloc, ErrorKind::ConnectionReset)?);
     Ok(())
 }

@@ -3,7 +3,7 @@ use crate::demo::LINES;
 use crate::words::command_line;
 use program_jobs::{BoundSocket, run};
 use std::alloc::{AllocError, Global};
-use std::cell::RefCell;
+use std::cell::{Cell, RefCell};
 use std::io::{self, Error, ErrorKind, Read, Write};
 use std::test::Fail;
 
@@ -54,6 +54,7 @@ struct Ways {
 /// A socket in memory, with what is on its way over the one connection to it.
 struct Socket<'a> {
     ways: &'a Ways,
+    is_connected: Cell<bool>,
     is_stuck: bool,
 }
 
@@ -61,13 +62,18 @@ impl<'a> BoundSocket for Socket<'a> {
     type Stream = SocketEnd<'a>;
 
     fn connect(&self) -> io::Result<SocketEnd<'a>> {
+        self.is_connected.set(true);
         Ok(SocketEnd {
             input: &self.ways.to_client,
             output: &self.ways.to_server,
         })
     }
 
+    /// There is no other end before the socket is connected to, for which a real one would wait.
     fn accept(&self) -> io::Result<SocketEnd<'a>> {
+        if !self.is_connected.get() {
+            return Err(Error::from(ErrorKind::WouldBlock));
+        }
         Ok(SocketEnd {
             input: &self.ways.to_server,
             output: &self.ways.to_client,
@@ -77,6 +83,7 @@ impl<'a> BoundSocket for Socket<'a> {
     fn remove(self) -> io::Result<()> {
         let Socket {
             ways: _ways,
+            is_connected: _is_connected,
             is_stuck,
         } = self;
         if is_stuck {
@@ -102,6 +109,7 @@ fn writes(alloc: Global, is_stuck: bool, written: (&[u8], &[u8])) -> Result<bool
         |_path: &str| {
             Ok(Socket {
                 ways: &ways,
+                is_connected: Cell::new(false),
                 is_stuck,
             })
         },

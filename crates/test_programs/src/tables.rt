@@ -34,7 +34,7 @@ const LAWFUL: &[u8] = b"lawful: 2 requests, 1 events, 0 and 0 bytes left\n";
 const BROKEN: &[u8] = b"broken: > message 2 at byte 12: F9 bad bind\n";
 
 /// Texts that are not taken as tables, and what standard error says.
-const REFUSED: [(&[u8], &[u8]); 11] = [
+const REFUSED: [(&[u8], &[u8]); 13] = [
     (b"request poke", b"waywire: tables line 1: bad line\n"),
     // A bad line comes before a broken rule.
     (
@@ -72,6 +72,14 @@ const REFUSED: [(&[u8], &[u8]); 11] = [
     (
         b"interface a 1\nrequest r o(b)",
         b"waywire: tables line 2: breaks V9\n",
+    ),
+    (
+        b"interface a 1\nevent made N(b)\ninterface b 1\nevent gone D",
+        b"waywire: tables line 2: breaks V11\n",
+    ),
+    (
+        b"interface a 1\nevent made N",
+        b"waywire: tables line 2: bad line\n",
     ),
     // The first line that breaks a rule, and not the least rule of all lines.
     (

@@ -1,8 +1,8 @@
 //! Moves, made at an end or at a pair, and their replies as text.
 
-use crate::ends::Playable;
 use crate::moves::{arguments_of, lend, read_move};
 use crate::names::Names;
+use crate::playable::Playable;
 use crate::repeated::Repeated;
 use crate::replies::{OUT_OF_MEMORY, Teller};
 use crate::trouble::Trouble;

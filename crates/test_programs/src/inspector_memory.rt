@@ -1,0 +1,196 @@
+//! Where memory runs out, an inspector is as it was, and the same piece can be passed again.
+use crate::recordings::{ALL, DEVICES};
+use std::alloc::{AllocError, Allocator, Global};
+use std::test::Fail;
+use test_allocator::RefusingAllocator;
+use wl_check::{Inspector, trace};
+use wl_message::Limit;
+use wl_recording::{Passed, Recording};
+use wl_sigs::Tables;
+
+/// Passes a piece whose allocations are refused one by one, until it is granted all. Whether each
+/// refusal leaves the lines and the verdict of before.
+fn passes(
+    memory: &RefusingAllocator,
+    inspector: &mut Inspector<'_, RefusingAllocator>,
+    piece: &Passed,
+    before: &[u8],
+) -> bool {
+    let verdict = inspector.verdict();
+    let tokens = piece.tokens as usize;
+    for number in 0u64..1000 {
+        memory.refuse_nth(number);
+        if inspector
+            .pass(piece.direction, piece.bytes.as_slice(), tokens)
+            .is_ok()
+        {
+            let is_granted = !memory.has_refused();
+            memory.refuse_none();
+            return is_granted;
+        }
+        if !memory.has_refused() || inspector.lines() != before || inspector.verdict() != verdict {
+            return false;
+        }
+    }
+    false
+}
+
+/// Whether the pieces, each passed until it is granted all its allocations, give the lines and the
+/// verdict of the trace.
+fn agrees(
+    alloc: Global,
+    memory: &RefusingAllocator,
+    tables: &Tables,
+    text: &[u8],
+) -> Result<bool, AllocError> {
+    let Ok(recording) = Recording::parse(alloc, text) else {
+        return Ok(false);
+    };
+    let (lines, verdict) = trace(alloc, &recording, tables, Limit::USUAL)?;
+    let mut told = Vec::new(alloc);
+    let mut last = Vec::new(alloc);
+    memory.refuse_none();
+    let mut inspector = Inspector::new(memory.clone()?, tables, Limit::USUAL)?;
+    for piece in recording.pieces() {
+        if !passes(memory, &mut inspector, piece, last.as_slice()) {
+            return Ok(false);
+        }
+        last.clear();
+        last.extend_from_slice(inspector.lines())?;
+        told.extend_from_slice(inspector.lines())?;
+    }
+    Ok(told.as_slice() == lines.as_slice() && inspector.verdict() == verdict)
+}
+
+#[test]
+fn is_as_it_was_where_memory_runs_out(rt: HostRuntime) -> Result<(), Fail> {
+    let tables = Tables::core(rt.alloc())?
+        .read_more(DEVICES)
+        .expect(&rt, "the text is read");
+    let memory = RefusingAllocator::new(rt.alloc())?;
+    for text in ALL.iter() {
+        assert!(rt; agrees(rt.alloc(), &memory, &tables, text)?);
+    }
+    Ok(())
+}
+
+/// An inspector that some pieces have passed.
+fn after<'t, A: Allocator + Clone>(
+    alloc: A,
+    tables: &'t Tables,
+    pieces: &[Passed],
+) -> Result<Inspector<'t, A>, AllocError> {
+    let mut inspector = Inspector::new(alloc, tables, Limit::USUAL)?;
+    for piece in pieces {
+        inspector.pass(
+            piece.direction,
+            piece.bytes.as_slice(),
+            piece.tokens as usize,
+        )?;
+    }
+    Ok(inspector)
+}
+
+/// Whether two inspectors say the same of each of these pieces.
+fn agree(
+    one: &mut Inspector<'_, RefusingAllocator>,
+    other: &mut Inspector<'_>,
+    pieces: &[Passed],
+) -> Result<bool, AllocError> {
+    for piece in pieces {
+        let (bytes, tokens) = (piece.bytes.as_slice(), piece.tokens as usize);
+        one.pass(piece.direction, bytes, tokens)?;
+        other.pass(piece.direction, bytes, tokens)?;
+        if one.lines() != other.lines() || one.verdict() != other.verdict() {
+            return Ok(false);
+        }
+    }
+    Ok(true)
+}
+
+/// Refuses each allocation of a piece in turn, and goes on with other pieces each time. Whether
+/// each refused inspector says of these what one says that the piece was never passed to.
+fn forgets(
+    alloc: Global,
+    memory: &RefusingAllocator,
+    tables: &Tables,
+    before: &[Passed],
+    piece: &Passed,
+    others: &[Passed],
+) -> Result<bool, AllocError> {
+    let (bytes, tokens) = (piece.bytes.as_slice(), piece.tokens as usize);
+    for number in 0u64..1000 {
+        let mut refused = after(memory.clone()?, tables, before)?;
+        let mut other = after(alloc, tables, before)?;
+        memory.refuse_nth(number);
+        let is_granted = refused.pass(piece.direction, bytes, tokens).is_ok();
+        let has_refused = memory.has_refused();
+        memory.refuse_none();
+        if is_granted {
+            return Ok(!has_refused);
+        }
+        if !has_refused || !agree(&mut refused, &mut other, others)? {
+            return Ok(false);
+        }
+    }
+    Ok(false)
+}
+
+/// Whether a refused piece leaves nothing behind, for whatever piece comes next: the pieces behind
+/// it, and those from the first one on.
+fn leaves_nothing(
+    alloc: Global,
+    memory: &RefusingAllocator,
+    tables: &Tables,
+    text: &[u8],
+) -> Result<bool, AllocError> {
+    let Ok(recording) = Recording::parse(alloc, text) else {
+        return Ok(false);
+    };
+    let pieces = recording.pieces();
+    for (place, piece) in pieces.iter().enumerate() {
+        let (before, others) = pieces.split_at(place);
+        let behind = others.get(1..).unwrap_or(&[]);
+        if !forgets(alloc, memory, tables, before, piece, behind)?
+            || !forgets(alloc, memory, tables, before, piece, pieces)?
+        {
+            return Ok(false);
+        }
+    }
+    Ok(true)
+}
+
+#[test]
+fn leaves_nothing_of_a_refused_piece(rt: HostRuntime) -> Result<(), Fail> {
+    let tables = Tables::core(rt.alloc())?
+        .read_more(DEVICES)
+        .expect(&rt, "the text is read");
+    let memory = RefusingAllocator::new(rt.alloc())?;
+    for text in ALL.iter() {
+        assert!(rt; leaves_nothing(rt.alloc(), &memory, &tables, text)?);
+    }
+    Ok(())
+}
+
+/// Whether the making of an inspector is refused each of its allocations in turn.
+fn is_made_at_last(memory: &RefusingAllocator, tables: &Tables) -> Result<bool, AllocError> {
+    for number in 0u64..100 {
+        let own = memory.clone()?;
+        memory.refuse_nth(number);
+        if Inspector::new(own, tables, Limit::USUAL).is_ok() {
+            return Ok(!memory.has_refused());
+        }
+        if !memory.has_refused() {
+            return Ok(false);
+        }
+    }
+    Ok(false)
+}
+
+#[test]
+fn is_not_made_without_memory(rt: HostRuntime) -> Result<(), Fail> {
+    let tables = Tables::core(rt.alloc())?;
+    let memory = RefusingAllocator::new(rt.alloc())?;
+    assert!(rt; is_made_at_last(&memory, &tables)?);
+    Ok(())
+}

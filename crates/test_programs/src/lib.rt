@@ -1,0 +1,43 @@
+//! The tests of the command's crates over their public calls, `program_jobs` and `program_socket`
+//! above all, and of what these stand on: the inspector of `wl_check`, lines that are no piece, and
+//! streams.
+#![tactic(auto)]
+
+#[cfg(test)]
+mod acting;
+#[cfg(test)]
+mod bad_lines;
+#[cfg(test)]
+mod commands;
+#[cfg(test)]
+mod demo;
+#[cfg(test)]
+mod failure;
+#[cfg(test)]
+mod filling;
+#[cfg(test)]
+mod inspecting;
+#[cfg(test)]
+mod inspector_cuts;
+#[cfg(test)]
+mod inspector_long;
+#[cfg(test)]
+mod inspector_memory;
+#[cfg(test)]
+mod job;
+#[cfg(test)]
+mod recordings;
+#[cfg(test)]
+mod socket;
+#[cfg(test)]
+mod socket_failing;
+#[cfg(test)]
+mod tables;
+#[cfg(test)]
+mod tee;
+#[cfg(test)]
+mod verdict;
+#[cfg(test)]
+mod words;
+#[cfg(test)]
+mod writing;
