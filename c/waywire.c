@@ -2,36 +2,20 @@
  *
  * An export relies on its types and tests nothing: a slice is a pointer that is not null and a length of
  * at most PTRDIFF_MAX, and an out-parameter is never null. So each call here tests what C may pass
- * wrongly. An export takes the address of a handle, which tables and ends begin with here. */
-#include "waywire.h"
-
-#include <stdlib.h>
-
-/* A pointer to the tables, the end or the inspector that an export made. */
-struct handle {
-	void *at;
-};
-
-uint32_t waywire_c_tables_core(void **tables);
-uint32_t waywire_c_tables_read(const struct handle *, const void *text, size_t length, void **more,
-	size_t *line, uint32_t *rule);
-uint32_t waywire_c_tables_interface(const struct handle *, const void *name, size_t length,
-	uint16_t *interface);
-uint32_t waywire_c_tables_name(const struct handle *, uint16_t interface, const void **name,
-	size_t *length);
-uint32_t waywire_c_tables_version(const struct handle *, uint16_t interface, uint32_t *version);
-uint32_t waywire_c_tables_message(const struct handle *, uint16_t interface, uint32_t sender,
-	uint16_t opcode, waywire_message *message, const void **name, size_t *length);
-uint32_t waywire_c_tables_kind(const struct handle *, uint16_t interface, uint32_t sender,
-	uint16_t opcode, size_t place, waywire_kind *kind);
+ * wrongly. An export takes the address of a handle, which ends begin with here; that of tables, which any calls
+ * have at one time, it takes as it is. */
+#include "calls.h"
 
 #define EXPORTS_OF_BOTH(end) \
-	uint32_t waywire_c_##end##_new(const struct handle *tables, const waywire_sizes *, void **made); \
+	uint32_t waywire_c_##end##_new(struct handle tables, const waywire_sizes *, void **made); \
 	void waywire_c_##end##_free(struct handle); \
 	void waywire_c_##end##_display(const struct handle *, waywire_object *display); \
 	uint32_t waywire_c_##end##_live(const struct handle *, waywire_object, uint16_t *interface, \
 		uint32_t *version); \
 	uint32_t waywire_c_##end##_object_count(const struct handle *); \
+	uint32_t waywire_c_##end##_ids_used(const struct handle *); \
+	uint32_t waywire_c_##end##_look(const struct handle *, uint32_t id, uint64_t *birth); \
+	bool waywire_c_##end##_has_failed(const struct handle *); \
 	void waywire_c_##end##_in_room(const struct handle *, waywire_amounts *room); \
 	bool waywire_c_##end##_is_drained(const struct handle *); \
 	void waywire_c_##end##_feed(struct handle *, const void *bytes, size_t length, \
@@ -66,16 +50,7 @@ uint32_t waywire_c_server_add_global(struct handle *, uint16_t interface, uint32
 uint32_t waywire_c_server_withdraw(struct handle *, uint32_t name);
 uint32_t waywire_c_server_announce(struct handle *, size_t *count);
 
-uint32_t waywire_c_inspector_new(const struct handle *tables, uint32_t limit, void **made);
-void waywire_c_inspector_free(struct handle);
-uint32_t waywire_c_inspector_pass(struct handle *, uint32_t sender, const void *bytes, size_t length,
-	size_t token_count);
-void waywire_c_inspector_lines(const struct handle *, const void **lines, size_t *length);
-uint32_t waywire_c_inspector_verdict(struct handle *, const void **line, size_t *length, bool *broken);
-
 /* ---- layouts, which the exports have too */
-
-#define SAME(name, it) typedef char same_##name[(it) ? 1 : -1]
 
 SAME(object, sizeof(waywire_object) == 16 && offsetof(waywire_object, id) == 8);
 SAME(amounts, sizeof(waywire_amounts) == 16 && offsetof(waywire_amounts, tokens) == 8);
@@ -83,10 +58,6 @@ SAME(part, sizeof(waywire_part) == 16 && offsetof(waywire_part, length) == 8);
 SAME(sizes, sizeof(waywire_sizes) == 40 && offsetof(waywire_sizes, out_tokens) == 8
 	&& offsetof(waywire_sizes, in_bytes) == 16 && offsetof(waywire_sizes, in_tokens) == 24
 	&& offsetof(waywire_sizes, limit) == 32);
-SAME(message, sizeof(waywire_message) == 24 && offsetof(waywire_message, destroys) == 4
-	&& offsetof(waywire_message, destroyed) == 8 && offsetof(waywire_message, arg_count) == 16);
-SAME(kind, sizeof(waywire_kind) == 8 && offsetof(waywire_kind, nullable) == 4
-	&& offsetof(waywire_kind, interface) == 6);
 SAME(arg, sizeof(waywire_arg) == 48 && offsetof(waywire_arg, i) == 4 && offsetof(waywire_arg, u) == 8);
 SAME(arg_parts, offsetof(waywire_arg, object) == 16 && offsetof(waywire_arg, bytes) == 32
 	&& offsetof(waywire_arg, length) == 40);
@@ -107,11 +78,9 @@ SAME(report_parts, offsetof(waywire_report, text) == 64 && offsetof(waywire_repo
 /* One more than a message can have, so that the export refuses a call with too many. */
 #define MAX_GIVEN (WAYWIRE_MAX_ARGS + 1)
 
-/* Memory that stands for an empty slice that is null. */
-static uint32_t nowhere[1];
+uint32_t nowhere[1];
 
-/* Tests a slice, and gives an empty one that is null an address. */
-static waywire_status slice(const void **bytes, size_t length, size_t size)
+waywire_status slice(const void **bytes, size_t length, size_t size)
 {
 	if (length > (size_t)PTRDIFF_MAX / size)
 		return WAYWIRE_TOO_LARGE;
@@ -143,246 +112,26 @@ static waywire_status copy_args(const waywire_arg *args, size_t *count, waywire_
 	return WAYWIRE_OK;
 }
 
-/* Gives the empty strings of a report an address. */
-static void finish(waywire_report *report)
+void name_empty(waywire_arg *arg)
+{
+	if (!arg->bytes && (arg->kind == WAYWIRE_STRING || arg->kind == WAYWIRE_BOUND))
+		arg->bytes = nowhere;
+}
+
+/* Gives the empty strings of a report an address, and lists the tokens of its arguments. */
+static void finish(waywire_report *report, uint32_t tokens[WAYWIRE_MAX_ARGS])
 {
 	if (!report->text)
 		report->text = (const char *)nowhere;
-	for (size_t place = 0; place < report->arg_count; place++)
-		if (!report->args[place].bytes && (report->args[place].kind == WAYWIRE_STRING
-				|| report->args[place].kind == WAYWIRE_BOUND))
-			report->args[place].bytes = nowhere;
-}
-
-/* ---- the memory of tables
- *
- * The exports give up what they allocate for tables, since ends lend them for good. So each tables have
- * memory of their own: a list of what was allocated while they were made, which is freed as a whole once
- * neither the caller nor an end or an inspector uses them, or where they could not be made. */
-
-struct block {
-	struct block *before, *after;
-};
-
-SAME(block, sizeof(struct block) == 16); /* what follows is aligned as `malloc` aligns */
-
-struct waywire_tables {
-	struct handle handle;
-	struct block blocks; /* the head of the list, which is a ring */
-	size_t users;        /* the caller, each end and each inspector */
-	char is_taken;       /* a call has the handle */
-};
-
-/* The blocks of the tables that this thread makes; null where it makes none. */
-static __thread struct block *making;
-
-/* The least that this thread asks for at a time: while a piece passes, so much that its lines grow in few
- * steps, and that what they were comes back to the C library in blocks of few sizes; else 0. */
-static __thread size_t least;
-
-enum { LEAST_OF_PIECE = 256 };
-
-static size_t at_least(size_t size)
-{
-	return size < least ? least : size;
-}
-
-static void *linked(struct block *block, struct block *before)
-{
-	block->before = before;
-	block->after = before->after;
-	block->before->after = block;
-	block->after->before = block;
-	return block + 1;
-}
-
-static struct block *unlinked(void *at)
-{
-	struct block *block = (struct block *)at - 1;
-	block->before->after = block->after;
-	block->after->before = block->before;
-	return block;
-}
-
-/* `malloc`, `realloc` and `free` as the exports call them, never of null: `make` gives them these
- * names. */
-
-void *memory_malloc(size_t size)
-{
-	if (!making)
-		return malloc(at_least(size));
-	struct block *block = malloc(sizeof *block + size);
-	return block ? linked(block, making) : NULL;
-}
-
-void *memory_realloc(void *at, size_t size)
-{
-	if (!making)
-		return realloc(at, at_least(size));
-	struct block *block = unlinked(at), *before = block->before;
-	struct block *moved = realloc(block, sizeof *block + size);
-	void *kept = linked(moved ? moved : block, before);
-	return moved ? kept : NULL;
-}
-
-void memory_free(void *at)
-{
-	free(making ? unlinked(at) : at);
-}
-
-static void free_tables(waywire_tables *tables)
-{
-	while (tables->blocks.after != &tables->blocks)
-		free(unlinked(tables->blocks.after + 1));
-	free(tables);
-}
-
-/* Tables without anything in them, for one caller. */
-static waywire_tables *empty_tables(void)
-{
-	waywire_tables *tables = malloc(sizeof *tables);
-	if (tables) {
-		tables->handle.at = NULL;
-		tables->blocks.before = tables->blocks.after = &tables->blocks;
-		tables->users = 1;
-		tables->is_taken = 0;
+	for (size_t place = 0; place < report->arg_count; place++) {
+		waywire_arg *arg = &report->args[place];
+		if (arg->kind == WAYWIRE_FD) {
+			tokens[report->token_count++] = arg->u;
+			report->tokens = tokens;
+		} else {
+			name_empty(arg);
+		}
 	}
-	return tables;
-}
-
-/* Hands out tables that were made, or frees what there is of them. */
-static waywire_status made_tables(waywire_status status, waywire_tables *made, waywire_tables **tables)
-{
-	if (status)
-		free_tables(made);
-	else
-		*tables = made;
-	return status;
-}
-
-/* An export has the handle of its tables for itself, so one call at a time has it: for as long as a search
- * takes, the making of an end, or the reading of a text. */
-static struct handle take_handle(const waywire_tables *tables)
-{
-	while (__atomic_exchange_n((char *)&tables->is_taken, 1, __ATOMIC_SEQ_CST))
-		__builtin_ia32_pause();
-	return tables->handle;
-}
-
-static void give_handle(const waywire_tables *tables)
-{
-	__atomic_exchange_n((char *)&tables->is_taken, 0, __ATOMIC_SEQ_CST);
-}
-
-static void add_user(const waywire_tables *tables)
-{
-	__atomic_add_fetch((size_t *)&tables->users, 1, __ATOMIC_SEQ_CST);
-}
-
-void waywire_tables_free(waywire_tables *tables)
-{
-	if (tables && !__atomic_sub_fetch(&tables->users, 1, __ATOMIC_SEQ_CST))
-		free_tables(tables);
-}
-
-/* ---- tables */
-
-waywire_status waywire_tables_core(waywire_tables **tables)
-{
-	if (!tables)
-		return WAYWIRE_NULL;
-	waywire_tables *made = empty_tables();
-	if (!made)
-		return WAYWIRE_NO_MEMORY;
-	making = &made->blocks;
-	waywire_status status = waywire_c_tables_core(&made->handle.at);
-	making = NULL;
-	return made_tables(status, made, tables);
-}
-
-waywire_status waywire_tables_read(const waywire_tables *tables, const void *text, size_t length,
-	waywire_tables **more, size_t *line, uint32_t *rule)
-{
-	if (!tables || !more)
-		return WAYWIRE_NULL;
-	size_t no_line;
-	uint32_t no_rule;
-	waywire_status status = slice(&text, length, 1);
-	if (status)
-		return status;
-	waywire_tables *made = empty_tables();
-	if (!made)
-		return WAYWIRE_NO_MEMORY;
-	struct handle handle = take_handle(tables);
-	making = &made->blocks;
-	status = waywire_c_tables_read(&handle, text, length, &made->handle.at, line ? line : &no_line,
-		rule ? rule : &no_rule);
-	making = NULL;
-	give_handle(tables);
-	return made_tables(status, made, more);
-}
-
-waywire_status waywire_tables_interface(const waywire_tables *tables, const char *name,
-	uint16_t *interface)
-{
-	if (!tables || !name || !interface)
-		return WAYWIRE_NULL;
-	struct handle handle = take_handle(tables);
-	waywire_status status = waywire_c_tables_interface(&handle, name, strlen(name), interface);
-	give_handle(tables);
-	return status;
-}
-
-waywire_status waywire_tables_name(const waywire_tables *tables, uint16_t interface,
-	const char **name, size_t *length)
-{
-	if (!tables || !name || !length)
-		return WAYWIRE_NULL;
-	const void *found = NULL;
-	struct handle handle = take_handle(tables);
-	waywire_status status = waywire_c_tables_name(&handle, interface, &found, length);
-	give_handle(tables);
-	if (!status)
-		*name = found;
-	return status;
-}
-
-waywire_status waywire_tables_version(const waywire_tables *tables, uint16_t interface,
-	uint32_t *version)
-{
-	if (!tables || !version)
-		return WAYWIRE_NULL;
-	struct handle handle = take_handle(tables);
-	waywire_status status = waywire_c_tables_version(&handle, interface, version);
-	give_handle(tables);
-	return status;
-}
-
-waywire_status waywire_tables_message(const waywire_tables *tables, uint16_t interface,
-	waywire_sender sender, uint16_t opcode, waywire_message *message, const char **name, size_t *length)
-{
-	if (!tables || !message)
-		return WAYWIRE_NULL;
-	const void *found = NULL;
-	size_t no_length;
-	struct handle handle = take_handle(tables);
-	waywire_status status = waywire_c_tables_message(&handle, interface, sender, opcode, message, &found,
-		length ? length : &no_length);
-	give_handle(tables);
-	if (!status && name)
-		*name = found;
-	return status;
-}
-
-waywire_status waywire_tables_kind(const waywire_tables *tables, uint16_t interface,
-	waywire_sender sender, uint16_t opcode, size_t place, waywire_kind *kind)
-{
-	if (!tables || !kind)
-		return WAYWIRE_NULL;
-	struct handle handle = take_handle(tables);
-	waywire_status status = waywire_c_tables_kind(&handle, interface, sender, opcode, place, kind);
-	give_handle(tables);
-	return status;
 }
 
 /* ---- pointers of the caller's
@@ -435,11 +184,12 @@ static waywire_status set_user(struct users *users, waywire_object object, void 
 /* ---- what both ends have */
 
 #define CALLS_OF_BOTH(end) \
-	/* An end, the tables that it lends, and the pointers of its objects. */ \
+	/* An end, the tables that it lends, the pointers of its objects, and the tokens of its last report. */ \
 	struct waywire_##end { \
 		struct handle handle; \
-		const waywire_tables *tables; \
+		waywire_tables *tables; \
 		struct users users; \
+		uint32_t tokens[WAYWIRE_MAX_ARGS]; \
 	}; \
 \
 	waywire_status waywire_##end##_new(const waywire_tables *tables, const waywire_sizes *sizes, \
@@ -450,15 +200,12 @@ static waywire_status set_user(struct users *users, waywire_object object, void 
 		waywire_##end *it = malloc(sizeof *it); \
 		if (!it) \
 			return WAYWIRE_NO_MEMORY; \
-		struct handle handle = take_handle(tables); \
-		waywire_status status = waywire_c_##end##_new(&handle, sizes, &it->handle.at); \
-		give_handle(tables); \
+		waywire_status status = waywire_c_##end##_new(tables->handle, sizes, &it->handle.at); \
 		if (status) { \
 			free(it); \
 			return status; \
 		} \
-		add_user(tables); \
-		it->tables = tables; \
+		it->tables = used(tables); \
 		it->users.at = NULL; \
 		it->users.count = 0; \
 		*made = it; \
@@ -470,21 +217,9 @@ static waywire_status set_user(struct users *users, waywire_object object, void 
 		if (!it) \
 			return; \
 		waywire_c_##end##_free(it->handle); \
-		waywire_tables_free((waywire_tables *)it->tables); \
+		waywire_tables_free(it->tables); \
 		free(it->users.at); \
 		free(it); \
-	} \
-\
-	/* Whether an end has failed: it then says so of each message, before it looks at it. No interface \
-	 * has this one, so it is refused anyway, and the end stays as it is. */ \
-	static bool end##_has_failed(struct handle *handle) \
-	{ \
-		waywire_arg no_arg; \
-		waywire_object display, no_object; \
-		size_t no_place; \
-		waywire_c_##end##_display(handle, &display); \
-		return waywire_c_##end##_send(handle, display, UINT16_MAX, &no_arg, 0, &no_object, \
-			&no_place) == WAYWIRE_FAILED; \
 	} \
 \
 	waywire_status waywire_##end##_display(const waywire_##end *it, waywire_object *display) \
@@ -527,6 +262,31 @@ static waywire_status set_user(struct users *users, waywire_object object, void 
 		return WAYWIRE_OK; \
 	} \
 \
+	waywire_status waywire_##end##_object_after(const waywire_##end *it, uint32_t id, \
+		waywire_object *object) \
+	{ \
+		uint64_t birth; \
+		if (!it || !object) \
+			return WAYWIRE_NULL; \
+		uint32_t last = waywire_c_##end##_ids_used(&it->handle); \
+		while (id < last) { \
+			if (waywire_c_##end##_look(&it->handle, ++id, &birth)) \
+				continue; \
+			object->birth = birth; \
+			object->id = id; \
+			return WAYWIRE_OK; \
+		} \
+		return WAYWIRE_NOT_FOUND; \
+	} \
+\
+	waywire_status waywire_##end##_has_failed(const waywire_##end *it, bool *failed) \
+	{ \
+		if (!it || !failed) \
+			return WAYWIRE_NULL; \
+		*failed = waywire_c_##end##_has_failed(&it->handle); \
+		return WAYWIRE_OK; \
+	} \
+\
 	waywire_status waywire_##end##_in_room(const waywire_##end *it, waywire_amounts *room) \
 	{ \
 		if (!it || !room) \
@@ -555,9 +315,7 @@ static waywire_status set_user(struct users *users, waywire_object object, void 
 		if (status) \
 			return status; \
 		waywire_c_##end##_feed(&it->handle, bytes, length, from, token_count, fed); \
-		if (fed->bytes || fed->tokens || !end##_has_failed(&it->handle)) \
-			return WAYWIRE_OK; \
-		return WAYWIRE_FAILED; \
+		return waywire_c_##end##_has_failed(&it->handle) ? WAYWIRE_FAILED : WAYWIRE_OK; \
 	} \
 \
 	waywire_status waywire_##end##_goes(const waywire_##end *it, size_t bytes, size_t tokens, \
@@ -587,8 +345,12 @@ static waywire_status set_user(struct users *users, waywire_object object, void 
 	waywire_status waywire_##end##_peek(const waywire_##end *it, waywire_part parts[2], \
 		uint32_t *tokens, size_t room, size_t *token_count) \
 	{ \
-		if (!it || !parts || !token_count || (room && !tokens)) \
+		const void *to = tokens; \
+		if (!it || !parts || !token_count) \
 			return WAYWIRE_NULL; \
+		waywire_status status = slice(&to, room, sizeof *tokens); \
+		if (status) \
+			return status; \
 		waywire_c_##end##_peek(&it->handle, parts, token_count); \
 		for (size_t place = 0; place < *token_count && place < room; place++) \
 			waywire_c_##end##_token_to_go(&it->handle, place, &tokens[place]); \
@@ -622,8 +384,7 @@ static waywire_status set_user(struct users *users, waywire_object object, void 
 		if (status) \
 			return status; \
 		waywire_c_##end##_received(&it->handle, bytes, from, token_count, fed); \
-		return fed->bytes || fed->tokens || !end##_has_failed(&it->handle) \
-			? WAYWIRE_OK : WAYWIRE_FAILED; \
+		return waywire_c_##end##_has_failed(&it->handle) ? WAYWIRE_FAILED : WAYWIRE_OK; \
 	} \
 \
 	waywire_status waywire_##end##_take_waiting_tokens(waywire_##end *it, uint32_t *tokens, \
@@ -660,7 +421,7 @@ static waywire_status set_user(struct users *users, waywire_object object, void 
 			return WAYWIRE_NULL; \
 		waywire_status status = waywire_c_##end##_next(&it->handle, report, report->args, \
 			WAYWIRE_MAX_ARGS); \
-		finish(report); \
+		finish(report, it->tokens); \
 		report->user = user_of(&it->users, report->target); \
 		return status; \
 	}
@@ -723,86 +484,6 @@ waywire_status waywire_server_announce(waywire_server *server, size_t *count)
 {
 	size_t no_count;
 	return server ? waywire_c_server_announce(&server->handle, count ? count : &no_count) : WAYWIRE_NULL;
-}
-
-/* ---- an inspector */
-
-/* An inspector, and the tables that it lends. */
-struct waywire_inspector {
-	struct handle handle;
-	const waywire_tables *tables;
-};
-
-waywire_status waywire_inspector_new(const waywire_tables *tables, uint32_t limit,
-	waywire_inspector **inspector)
-{
-	if (!tables || !inspector)
-		return WAYWIRE_NULL;
-	waywire_inspector *made = malloc(sizeof *made);
-	if (!made)
-		return WAYWIRE_NO_MEMORY;
-	struct handle handle = take_handle(tables);
-	waywire_status status = waywire_c_inspector_new(&handle, limit, &made->handle.at);
-	give_handle(tables);
-	if (status) {
-		free(made);
-		return status;
-	}
-	add_user(tables);
-	made->tables = tables;
-	*inspector = made;
-	return WAYWIRE_OK;
-}
-
-void waywire_inspector_free(waywire_inspector *inspector)
-{
-	if (!inspector)
-		return;
-	waywire_c_inspector_free(inspector->handle);
-	waywire_tables_free((waywire_tables *)inspector->tables);
-	free(inspector);
-}
-
-waywire_status waywire_inspector_pass(waywire_inspector *inspector, waywire_sender sender,
-	const void *bytes, size_t length, size_t token_count)
-{
-	if (!inspector)
-		return WAYWIRE_NULL;
-	waywire_status status = slice(&bytes, length, 1);
-	if (status)
-		return status;
-	least = LEAST_OF_PIECE;
-	status = waywire_c_inspector_pass(&inspector->handle, sender, bytes, length, token_count);
-	least = 0;
-	return status;
-}
-
-waywire_status waywire_inspector_lines(const waywire_inspector *inspector, const char **lines,
-	size_t *length)
-{
-	const void *found;
-	if (!inspector || !lines || !length)
-		return WAYWIRE_NULL;
-	waywire_c_inspector_lines(&inspector->handle, &found, length);
-	*lines = found ? found : (const char *)nowhere;
-	return WAYWIRE_OK;
-}
-
-waywire_status waywire_inspector_verdict(waywire_inspector *inspector, const char **line,
-	size_t *length, int *broken)
-{
-	const void *found;
-	bool is_broken;
-	if (!inspector || !line || !length)
-		return WAYWIRE_NULL;
-	waywire_status status = waywire_c_inspector_verdict(&inspector->handle, &found, length,
-		&is_broken);
-	if (status)
-		return status;
-	*line = found;
-	if (broken)
-		*broken = is_broken;
-	return WAYWIRE_OK;
 }
 
 /* ---- texts */

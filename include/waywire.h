@@ -6,42 +6,42 @@
  *
  *  1. Send.   waywire_client_send and waywire_client_bind write requests; waywire_server_send,
  *             _announce, _drop_object and _post_error write events. They wait in the end's outbox.
- *  2. Take.   `take` moves what waits into the caller's memory: write it to the socket. Or write what
- *             `peek` lends, and say by `sent` how much of it went.
- *  3. Feed.   `feed` moves what came from the socket into the end's inbox, in any cut. Or read into what
- *             `space` lends, and say by `received` how much came.
- *  4. Next.   `next` reads one message and lends its report. Repeat it until the report says
- *             WAYWIRE_NOTHING.
+ *  2. Take.   `take` moves what waits into the caller's memory: write it to the socket. Or write from
+ *             where `peek` points, and tell `sent` how much of it went.
+ *  3. Feed.   `feed` moves what came from the socket into the end's inbox, cut anywhere. Or read to where
+ *             `space` points, and tell `received` how much came.
+ *  4. Next.   `next` reads one message and writes its report, which is valid until the end's next call.
+ *             Repeat it until the report says WAYWIRE_NOTHING.
  *
  * Tokens.  File descriptors are not among the bytes. A token is a number of the caller's choice
  * that stands for one, say the descriptor itself. `take` returns it with the first byte of its
  * message, and the caller passes the descriptor along with these bytes; for each descriptor that came
  * with some bytes the caller feeds a token with them. No descriptor is ever closed here: the caller closes
- * those of each report, and those that `take_waiting_tokens` gives back where a connection ends.
+ * those of each report, and those that `take_waiting_tokens` gives back when a connection ends.
  *
- * Inspectors.  A tool that stands between two ends has no end of its own. It passes what it sees to an
- * inspector, which gives each message a line, and says whether the session breaks a rule.
+ * Inspectors.  A tool between two ends has no end of its own. It passes what it sees to an
+ * inspector, which writes a line for each message, and says whether the session breaks a rule.
  *
- * Objects.  Births count from 0 at each end. So an object of one connection may equal one of another, which no
- * call can tell: keep an object with its end.
+ * Objects.  Births count from 0 at each end. So an object of one connection may equal one of another, and no
+ * call can tell them apart: keep an object with its end.
  *
  * Memory.  Tables, a client, a server and an inspector belong to the caller, who frees each once. Tables may
  * be freed before the ends and inspectors made with them, which keep them as long as they need them. The
  * library calls `malloc`, `realloc` and `free`, and nothing else of the system. After `new` an end allocates
- * only where an object opens (`send`, `bind`, `next` of a server) and in `add_global`; an inspector in `pass`
- * and `verdict`. Where an allocation fails, nothing is lost.
+ * only when it opens an object (`send`, `bind`, `next` of a server), in `set_user` and in `add_global`; an
+ * inspector allocates in `pass` and `verdict`. If an allocation fails, nothing is lost.
  *
  * Threads.  Nothing is bound to the thread that made it. Tables never change: any threads may use them at
- * once, and make and free ends and inspectors over them. An end is used by one call at a time, of whatever
- * thread: the caller orders these calls, as by a lock, or by joining the thread that made the last one. What
- * an end lent is lent to all threads, until its next call. Different ends may be used at once. All of this
- * holds of an inspector as of an end. No call may be made from a signal handler, nor from the child of a
- * `fork` in a process with threads.
+ * once, and make and free ends and inspectors over them. Only one call at a time may use an end, on any
+ * thread: the caller orders these calls, as by a lock, or by joining the thread that made the last one. Any
+ * thread may read where an end's pointers point, until the end's next call. Different ends may be used at
+ * once. All of this holds for an inspector as for an end. No call may be made from a signal handler, nor from
+ * the child of a `fork` in a process with threads.
  *
  * Statuses.  Each call that can refuse returns a waywire_status. Unless its own text says otherwise,
  * with a status other than WAYWIRE_OK nothing has changed and nothing was written to what the caller
  * passed. A null pointer where one is needed is WAYWIRE_NULL, and a length above PTRDIFF_MAX is
- * WAYWIRE_TOO_LARGE. To pass a pointer to memory that is not there, or an end or an inspector that was
+ * WAYWIRE_TOO_LARGE. Passing a pointer to memory that is not there, or an end or an inspector that was
  * freed, is undefined behaviour.
  *
  * Processors.  The library is for x86-64, little-endian, with the instructions of x86-64-v2 (SSE4.2, from
@@ -69,8 +69,9 @@ extern "C" {
 typedef enum waywire_status {
 	WAYWIRE_OK = 0,
 
-	/* Why a message is not written, in the order in which they are tested, but for the last: it is
-	 * tested before WAYWIRE_FULL. */
+	/* Why a message is not written, in the order in which they are tested, except WAYWIRE_NOT_DROPPABLE,
+	 * which is tested before WAYWIRE_FULL. The numbers are those of the refusals S1 to S12 in
+	 * docs/FORMATS.md; further down they are 20 more than G1 to G5, and 30 more than F1 to F10. */
 	WAYWIRE_FAILED = 1,          /* the end has failed, and reads and writes nothing more */
 	WAYWIRE_STALE = 2,           /* the target, or the object, is not live */
 	WAYWIRE_NO_SUCH_MESSAGE = 3, /* its interface has no such message, or another call writes it */
@@ -117,13 +118,13 @@ typedef enum waywire_status {
 	WAYWIRE_BAD_TABLE = 72       /* a line breaks a rule of tables */
 } waywire_status;
 
-/* Whether a status says that a message that came was at fault. */
+/* Whether a status says that a message which came was at fault. */
 static inline bool waywire_is_fault(waywire_status status)
 {
 	return status >= WAYWIRE_FAULT_BAD_SIZE && status <= WAYWIRE_FAULT_TOO_MANY_OBJECTS;
 }
 
-/* What a status means, in English: a static string, also for a number that is no status. */
+/* What a status means, in English: a static string, even for an unknown number. */
 const char *waywire_strerror(waywire_status status);
 
 /* How an argument is malformed, in English: a static string for the `spelling` of a report, 1 to 4. */
@@ -159,8 +160,9 @@ typedef enum waywire_arg_kind {
 	WAYWIRE_ARRAY = 9,       /* bytes, length */
 	WAYWIRE_FD = 10,         /* u: the token that stands for a file descriptor */
 	WAYWIRE_DEAD_OBJECT = 11, /* in reports: object, which this end has destroyed already */
-	WAYWIRE_BOUND = 12       /* in reports of wl_registry.bind: object, bytes and length (its interface),
+	WAYWIRE_BOUND = 12,      /* in reports of wl_registry.bind: object, bytes and length (its interface),
 	                          * u (its version) */
+	WAYWIRE_NEW_BY_SERVER = 13 /* in what tables say: a new object that the server makes */
 } waywire_arg_kind;
 
 /* One argument, of a call or of a report. Fields that its kind does not use are ignored in a call, and
@@ -194,8 +196,8 @@ static inline waywire_arg waywire_fixed(int32_t parts)
 	return arg;
 }
 
-/* The 256ths of a number, to the nearest; of one that they cannot hold, the end that is nearer. 0 for a
- * number that is none. */
+/* A number in 256ths, rounded to the nearest. A number that is too large or too small becomes the largest or
+ * the smallest that fits, and NaN becomes 0. */
 static inline int32_t waywire_fixed_from_double(double number)
 {
 	double parts = number * 256.0;
@@ -208,7 +210,7 @@ static inline int32_t waywire_fixed_from_double(double number)
 	return (int32_t)(parts < 0 ? parts - 0.5 : parts + 0.5);
 }
 
-/* The number that so many 256ths are, exactly. */
+/* The number that so many 256ths make, exactly. */
 static inline double waywire_fixed_to_double(int32_t parts)
 {
 	return parts / 256.0;
@@ -265,23 +267,23 @@ typedef struct waywire_amounts {
 	size_t tokens;
 } waywire_amounts;
 
-/* One of two parts in which bytes lie, one after the other. A length may be 0. Where <sys/uio.h> has struct iovec
- * with the pointer first, as on Linux, it is of that layout. */
+/* One of two parts in which bytes lie, the first before the second. A length may be 0. On systems whose struct
+ * iovec (<sys/uio.h>) has the pointer first, as on Linux, it has that layout. */
 typedef struct waywire_part {
 	void *bytes;
 	size_t length;
 } waywire_part;
 
-/* The limit where the two ends have not agreed on another, in bytes. */
+/* The limit in bytes, unless the two ends have agreed on another. */
 #define WAYWIRE_USUAL_LIMIT 4096
 
-/* How large the outbox and the inbox of an end are, which never grow. An outbox has at most 16,777,216
+/* How large the outbox and the inbox of an end are; they never grow. An outbox has at most 16,777,216
  * bytes and 65,536 tokens; an inbox has `limit` to 16,777,216 bytes and 20 to 65,536 tokens. libwayland sends
  * up to 28 descriptors at once, and those of a message may come before its bytes are whole: an inbox of 64
  * tokens has room for both.
  * `limit` is the most bytes that a message may have, its header counted: a multiple of 4 from 4,096 to 65,532,
- * or 0 for WAYWIRE_USUAL_LIMIT. Both ends of a connection have to have the same, since none is told on the
- * wire; libwayland has the usual one. */
+ * or 0 for WAYWIRE_USUAL_LIMIT. Both ends of a connection need the same limit, since the wire does not
+ * say it; libwayland has the usual one. */
 typedef struct waywire_sizes {
 	size_t out_bytes;
 	size_t out_tokens;
@@ -301,9 +303,8 @@ typedef struct waywire_sizes {
 /* The kinds of reports, and the fields that each uses; the others are 0. */
 typedef enum waywire_report_kind {
 	WAYWIRE_NOTHING = 0,   /* no whole message waits */
-	WAYWIRE_MESSAGE = 1,   /* a request or an event: target, opcode, args, forgotten */
-	WAYWIRE_DISCARDED = 2, /* an event for an object that the client has destroyed: target, opcode,
-	                        * and its tokens, so that the caller can close what they stand for */
+	WAYWIRE_MESSAGE = 1,   /* a request or an event: target, opcode, args, tokens, forgotten */
+	WAYWIRE_DISCARDED = 2, /* an event for an object that the client has destroyed: target, opcode, tokens */
 	WAYWIRE_DELETED = 3,   /* wl_display.delete_id of an object: target. Its id is free again */
 	WAYWIRE_STRAY = 4,     /* wl_display.delete_id of an id that names no object: id. Nothing changed */
 	WAYWIRE_ERROR = 5,     /* wl_display.error: id, code, text, and `named`: WAYWIRE_OBJECT or
@@ -313,9 +314,11 @@ typedef enum waywire_report_kind {
 	                        * stream at which the message begins. The end has failed */
 } waywire_report_kind;
 
-/* What `next` read. It points into the end, and is lent until the end's next call of any kind; that call may
- * be given what was lent, as the interface of a `global` to `bind`. Strings end with a NUL that their length
- * does not count. What lies behind the first `arg_count` of `args` is not written. */
+/* What `next` read. It points into the end, and is valid until the end's next call of any kind. That call
+ * itself may be given its pointers, as the interface of a `global` to `bind`. Strings end with a NUL that their
+ * length does not count. Only the first `arg_count` of `args` are written. `tokens` has the tokens of all
+ * descriptors of the message, whatever the report's kind, in their order: the caller closes or keeps what they
+ * stand for. Those of WAYWIRE_MESSAGE are the ones in its `args`, so close each once. */
 typedef struct waywire_report {
 	uint32_t kind; /* a waywire_report_kind */
 	uint32_t opcode;
@@ -331,12 +334,12 @@ typedef struct waywire_report {
 	size_t text_length;
 	size_t place;
 	uint64_t offset;
-	/* Of the target, its place in the tables, and its version: as they were before the message, also where it
-	 * ended the target; version 0 where there is no target. */
+	/* The place of the target's interface in the tables, and below the target's version: as they were before
+	 * the message, even if it ended the target; version 0 if there is no target. */
 	uint16_t interface;
 	bool forgotten; /* whether it is wl_registry.global, and the client does not remember the global */
 	uint32_t version;
-	void *user; /* what the caller has set of the target, as by waywire_client_set_user; else null */
+	void *user; /* what the caller has set for the target, as by waywire_client_set_user; else null */
 	waywire_arg args[WAYWIRE_MAX_ARGS];
 } waywire_report;
 
@@ -350,15 +353,15 @@ typedef struct waywire_tables waywire_tables;
 waywire_status waywire_tables_core(waywire_tables **tables);
 
 /* Frees tables: their memory is freed now, or with the last of the ends made with them. The caller may not
- * use them afterwards, and what waywire_tables_name lent may be gone. Null is allowed. */
+ * use them afterwards, nor the names that they gave. Null is allowed. */
 void waywire_tables_free(waywire_tables *tables);
 
 /* Makes new tables: these, and the interfaces that a text declares. FORMATS.md, installed in
- * share/doc/waywire, has its grammar; waywire-tables-from-xml writes such texts, and some stand in
+ * share/doc/waywire, has its grammar; waywire-tables-from-xml writes such texts, and some are in
  * share/waywire/tables. The caller frees the new ones; the first stay as they are, and may be freed.
- * WAYWIRE_BAD_LINE where a line has no form; else WAYWIRE_BAD_TABLE where a line breaks a rule. Both write
+ * WAYWIRE_BAD_LINE if a line has none of the forms; else WAYWIRE_BAD_TABLE if a line breaks a rule. Both write
  * the first such line to `line`, counted from 1; the second writes the least rule that it breaks to `rule`,
- * 1 to 9. WAYWIRE_NO_MEMORY. `line` and `rule` may be null. */
+ * 1 to 9 or 11. WAYWIRE_NO_MEMORY. `line` and `rule` may be null. */
 waywire_status waywire_tables_read(const waywire_tables *tables, const void *text, size_t length,
 	waywire_tables **more, size_t *line, uint32_t *rule);
 
@@ -366,7 +369,7 @@ waywire_status waywire_tables_read(const waywire_tables *tables, const void *tex
 waywire_status waywire_tables_interface(const waywire_tables *tables, const char *name,
 	uint16_t *interface);
 
-/* The name of the interface at a place, lent until the tables are freed. It does not end with a NUL.
+/* The name of the interface at a place, valid until the tables are freed. It does not end with a NUL.
  * WAYWIRE_NOT_FOUND past the tables. */
 waywire_status waywire_tables_name(const waywire_tables *tables, uint16_t interface,
 	const char **name, size_t *length);
@@ -388,7 +391,7 @@ typedef enum waywire_destroys {
 	WAYWIRE_DESTROYS_ARG = 2 /* the object that its argument at `destroyed` names */
 } waywire_destroys;
 
-/* What tables say of a message. */
+/* What tables say about a message. */
 typedef struct waywire_message {
 	uint32_t since;    /* the first version of its interface that has it */
 	uint32_t destroys; /* a waywire_destroys */
@@ -396,20 +399,21 @@ typedef struct waywire_message {
 	size_t arg_count;
 } waywire_message;
 
-/* What an object argument asks for where any interface will do, or only the bytes say which. */
+/* The interface of an object argument that takes any interface, or whose interface is in the bytes alone. */
 #define WAYWIRE_ANY_INTERFACE 65535
 
-/* What tables say of an argument. `kind` is WAYWIRE_INT, _UINT, _FIXED, _STRING, _OBJECT, _NEW, _ARRAY or
- * _FD. A new object whose interface only the bytes say is that of wl_registry.bind. */
+/* What tables say about an argument. `kind` is WAYWIRE_INT, _UINT, _FIXED, _STRING, _OBJECT, _NEW, _ARRAY, _FD
+ * or _NEW_BY_SERVER. wl_registry.bind makes the only new object whose interface is in the bytes alone. No end
+ * writes or reads an event that makes an object: it is WAYWIRE_WRONG_ARGS and WAYWIRE_FAULT_BAD_NEW_ID. */
 typedef struct waywire_kind {
 	uint32_t kind; /* a waywire_arg_kind */
 	bool nullable; /* whether the null string or the null object is allowed */
-	uint16_t interface; /* the place of that of an object, or WAYWIRE_ANY_INTERFACE */
+	uint16_t interface; /* of an object: the place of its interface, or WAYWIRE_ANY_INTERFACE */
 } waywire_kind;
 
-/* The message of an interface with this opcode: a request, or an event, as the sender is. Its name is written
- * to `name` and `length`, as waywire_tables_name does; both may be null. WAYWIRE_NOT_FOUND past the tables, past
- * the interface's messages, or where `sender` is none. */
+/* The message of an interface with this opcode: a request or an event, depending on the sender. Its name is
+ * written to `name` and `length`, as by waywire_tables_name; both may be null. WAYWIRE_NOT_FOUND past the tables,
+ * past the interface's messages, or if `sender` is no waywire_sender. */
 waywire_status waywire_tables_message(const waywire_tables *tables, uint16_t interface,
 	waywire_sender sender, uint16_t opcode, waywire_message *message, const char **name, size_t *length);
 
@@ -418,19 +422,85 @@ waywire_status waywire_tables_message(const waywire_tables *tables, uint16_t int
 waywire_status waywire_tables_kind(const waywire_tables *tables, uint16_t interface,
 	waywire_sender sender, uint16_t opcode, size_t place, waywire_kind *kind);
 
+/* One message, taken apart by its signature. */
+typedef struct waywire_decoded {
+	uint32_t target; /* the id of the object that the message is for */
+	uint16_t opcode;
+	uint16_t size;     /* the bytes of the whole message, its header counted, as the header says */
+	const char *name;  /* the message's name, which does not end with a NUL, valid until the tables are freed */
+	size_t name_length;
+	size_t arg_count;  /* how many arguments stand in `args`: all, or those before the one at fault */
+	size_t place;      /* of WAYWIRE_FAULT_BAD_ARGUMENT: the argument at fault, counted from 0 */
+	uint32_t spelling; /* of the same: how it is malformed, as in a report */
+	/* For each argument that is an object or a new one, the place of its interface, as the signature has it; of
+	 * wl_registry.bind's the place of the interface of that name. WAYWIRE_ANY_INTERFACE if the signature names
+	 * none or the tables have none, and for every other argument. */
+	uint16_t interfaces[WAYWIRE_MAX_ARGS];
+	waywire_arg args[WAYWIRE_MAX_ARGS];
+} waywire_decoded;
+
+/* Takes apart the message that stands at the front of `length` bytes, in the wire's byte order (little-endian), by
+ * what the tables say of the messages of one interface: the requests or the events, depending on the sender, of
+ * an object of this version; UINT32_MAX takes messages of every version. What stands behind the message is not
+ * looked at. Nothing is judged: no object is looked up, and a message that breaks a rule of its session is taken
+ * apart as any other. The call allocates nothing.
+ * In `args` an object has its id, and 0 for a birth: WAYWIRE_OBJECT, or WAYWIRE_NULL_OBJECT if the id is 0. A new
+ * object is WAYWIRE_NEW, or WAYWIRE_NEW_BY_SERVER if the server makes it, or WAYWIRE_BOUND if its interface stands
+ * in the bytes. A descriptor is WAYWIRE_FD with `u` 0, since its token is not among the bytes. Strings and arrays
+ * point into `bytes`; a string ends with a NUL that its length does not count. Only the first `arg_count` of
+ * `args` and `interfaces` are written.
+ * Statuses, in the order in which they are tested: WAYWIRE_BAD_VALUE if `sender` is no waywire_sender;
+ * WAYWIRE_NOT_FOUND past the tables; WAYWIRE_FAULT_BAD_SIZE if there are fewer than 8 bytes, or the header's size
+ * is below 8, no multiple of 4 or above `length`; WAYWIRE_FAULT_UNKNOWN_MESSAGE if the interface has no such
+ * message, or it is newer than the version; WAYWIRE_FAULT_BAD_ARGUMENT for the first argument that the bytes do
+ * not spell; WAYWIRE_FAULT_TRAILING_BYTES if bytes are left behind the last. With these four `decoded` is written
+ * as far as it is known, and is 0 else: target, opcode and size if there are 8 bytes, the name if there is such a
+ * message, and the arguments before the one at fault. */
+waywire_status waywire_tables_decode(const waywire_tables *tables, uint16_t interface, uint32_t version,
+	waywire_sender sender, const void *bytes, size_t length, waywire_decoded *decoded);
+
 /* Writes the line of a report as `waywire trace` prints its message, with a NUL behind it and no line feed, such
- * as `<- wl_surface@4.enter(wl_output@7)`. `sender` is WAYWIRE_FROM_SERVER of what a client read. Returns the
- * length of the whole line, of which as much is written as `room` bytes hold, as snprintf does; 0 where the
- * report has no message. It knows less than a trace: an object whose interface the signature leaves open is
- * `unknown@id`, a descriptor its token, and the arguments of WAYWIRE_DISCARDED two dots. */
+ * as `<- wl_surface@4.enter(wl_output@7)`. `sender` is WAYWIRE_FROM_SERVER for what a client read. Returns the
+ * length of the whole line, and writes as much of it as `room` bytes hold, as snprintf does; 0 if the report
+ * has no message. It knows less than a trace: it writes `unknown@id` for an object whose interface the
+ * signature leaves open, its token for a descriptor, and two dots for the arguments of WAYWIRE_DISCARDED. */
 size_t waywire_report_line(const waywire_tables *tables, waywire_sender sender,
 	const waywire_report *report, char *line, size_t room);
 
+/* What is called for the messages of one interface: a `.._event_dispatcher` or `.._request_dispatcher` of
+ * waywire-core.h or of a header that waywire-stubs-from-xml wrote, and its callbacks. */
+typedef struct waywire_listener {
+	const char *interface; /* its name, such as WAYWIRE_WL_SURFACE_NAME */
+	bool (*dispatch)(const void *calls, void *data, const waywire_report *report);
+	const void *calls;
+} waywire_listener;
+
+/* Calls the callback for a report, of whatever protocol: by the first listener for the interface of the target, and
+ * for WAYWIRE_DELETED, _STRAY and _ERROR by that for wl_display. Returns whether there was a callback: if not, the
+ * caller still has the report's tokens to close. It compares names one after the other, so list first what comes
+ * often. */
+static inline bool waywire_dispatch(const waywire_tables *tables, const waywire_listener *listeners, size_t count,
+	void *data, const waywire_report *report)
+{
+	const char *name = "wl_display";
+	size_t length = strlen(name);
+	if (report->kind == WAYWIRE_MESSAGE) {
+		if (waywire_tables_name(tables, report->interface, &name, &length))
+			return false;
+	} else if (report->kind < WAYWIRE_DELETED || report->kind > WAYWIRE_ERROR) {
+		return false;
+	}
+	for (size_t it = 0; it < count; it++)
+		if (strlen(listeners[it].interface) == length && !memcmp(listeners[it].interface, name, length))
+			return listeners[it].dispatch(listeners[it].calls, data, report);
+	return false;
+}
+
 /* ---- a client */
 
-/* The client's end of a connection: its objects, its inbox and outbox, the globals that it was told of. It
- * remembers 1,024 globals at a time. One that it is told of beyond these, or whose interface is not in the
- * tables, is not remembered, as its report says (`forgotten`), and cannot be bound. */
+/* The client's end of a connection: its objects, its inbox and outbox, and the globals that were announced to
+ * it. It remembers 1,024 globals at a time. A global beyond these, or one whose interface is not in the tables,
+ * is not remembered, as its report says (`forgotten`), and cannot be bound. */
 typedef struct waywire_client waywire_client;
 
 /* Makes a client with wl_display alone, an empty inbox and an empty outbox. The caller frees it.
@@ -438,31 +508,46 @@ typedef struct waywire_client waywire_client;
 waywire_status waywire_client_new(const waywire_tables *tables, const waywire_sizes *sizes,
 	waywire_client **client);
 
-/* Frees a client, and what it lent. Null is allowed. */
+/* Frees a client. What it pointed to is gone with it. Null is allowed. */
 void waywire_client_free(waywire_client *client);
 
 /* wl_display, which every connection has: id 1, birth 0. */
 waywire_status waywire_client_display(const waywire_client *client, waywire_object *display);
 
 /* The interface and version of an object that is live, also at a failed client. WAYWIRE_NOT_FOUND
- * where it is not live. `interface` and `version` may be null. */
+ * if it is not live. `interface` and `version` may be null. */
 waywire_status waywire_client_live(const waywire_client *client, waywire_object object,
 	uint16_t *interface, uint32_t *version);
 
-/* Sets the caller's own pointer of an object that is live, null for none, in place of what was set before. The
- * reports of the client give it back with the object as target, also the last one, by which the object ends
- * (WAYWIRE_DELETED), or which the object had sent before it did (WAYWIRE_DISCARDED). The library never follows
- * it: what it points to is freed by the caller, at the object's last report, and for the objects that are left
- * before the client is freed. WAYWIRE_STALE where the object is not live, WAYWIRE_NO_MEMORY. */
+/* Sets the caller's own pointer for an object that is live, in place of the one set before; null is none. Each
+ * report whose target is the object has it, also after the client has destroyed the object (WAYWIRE_DISCARDED)
+ * and when the object ends (WAYWIRE_DELETED). The library never follows it. The caller frees what it points to:
+ * at the object's last report, and for the objects that are left (`object_after`) before the client is freed. The
+ * call may allocate: 16 bytes for each id up to the object's. WAYWIRE_STALE if the object is not live,
+ * WAYWIRE_NO_MEMORY. */
 waywire_status waywire_client_set_user(waywire_client *client, waywire_object object, void *user);
 
-/* The pointer that was set of an object, also once it has ended, as long as none was set of a later object with
- * its id; else null. */
+/* The pointer that was set for an object, also once it has ended, as long as none was set for a later object
+ * with its id; else null. */
 void *waywire_client_user(const waywire_client *client, waywire_object object);
 
 /* How many objects the client has, without going through them: wl_display, those that are live, and those that
  * it destroyed and that WAYWIRE_DELETED has not ended yet. A server has none of the last. */
 waywire_status waywire_client_object_count(const waywire_client *client, size_t *count);
+
+/* The object with the least id above `id`, of those that `object_count` counts, also at a failed client. From 0 on
+ * this goes through all of them, even if objects are made and destroyed on the way:
+ *     for (waywire_object it = { 0, 0 }; !waywire_client_object_after(client, it.id, &it);)
+ *             free(waywire_client_user(client, it));
+ * All of it takes time linear in the greatest id that was ever used. WAYWIRE_NOT_FOUND if there is none. */
+waywire_status waywire_client_object_after(const waywire_client *client, uint32_t id,
+	waywire_object *object);
+
+/* Whether the client has failed. It fails for good when `next` reads a message at fault or wl_display.error, and
+ * by `take_waiting_tokens`; a refused call never makes it fail. It then reads and writes nothing more, and what
+ * waits in its outbox can still be taken. This call can be made at any time, refuses only a null pointer, and
+ * changes nothing. */
+waywire_status waywire_client_has_failed(const waywire_client *client, bool *failed);
 
 /* The free bytes and tokens of the inbox; zeros at a failed client. */
 waywire_status waywire_client_in_room(const waywire_client *client, waywire_amounts *room);
@@ -474,25 +559,27 @@ waywire_status waywire_client_is_drained(const waywire_client *client, bool *dra
  * written to `made`; else `made` gets id 0. An object that the request destroys is dead afterwards:
  * events for it may still come (WAYWIRE_DISCARDED), until WAYWIRE_DELETED ends it.
  * wl_registry.bind is WAYWIRE_NO_SUCH_MESSAGE: waywire_client_bind writes it.
- * Statuses 1 to 6 and 8 to 11, and WAYWIRE_BAD_VALUE before these. `made` and `place` may be null;
- * `place` is written with WAYWIRE_WRONG_ARGS and WAYWIRE_BAD_OBJECT, counted from 0. */
+ * Statuses, in the order in which they are tested: WAYWIRE_BAD_VALUE, WAYWIRE_FAILED, WAYWIRE_STALE,
+ * WAYWIRE_NO_SUCH_MESSAGE, WAYWIRE_TOO_OLD, WAYWIRE_WRONG_ARGS, WAYWIRE_BAD_OBJECT, WAYWIRE_TOO_LONG,
+ * WAYWIRE_FULL, WAYWIRE_NO_IDS, WAYWIRE_NO_MEMORY. `made` and `place` may be null; `place` is written with
+ * WAYWIRE_WRONG_ARGS and WAYWIRE_BAD_OBJECT, counted from 0. */
 waywire_status waywire_client_send(waywire_client *client, waywire_object target, uint16_t opcode,
 	const waywire_arg *args, size_t arg_count, waywire_object *made, size_t *place);
 
 /* Binds a global that was announced to the client, of this name and interface (which ends with a NUL), and
  * writes the new object to `bound`, which may be null. WAYWIRE_FAILED, WAYWIRE_STALE,
- * WAYWIRE_NO_SUCH_MESSAGE where `registry` is no wl_registry, WAYWIRE_BAD_BIND, WAYWIRE_FULL,
+ * WAYWIRE_NO_SUCH_MESSAGE if `registry` is no wl_registry, WAYWIRE_BAD_BIND, WAYWIRE_FULL,
  * WAYWIRE_NO_IDS, WAYWIRE_NO_MEMORY. */
 waywire_status waywire_client_bind(waywire_client *client, waywire_object registry, uint32_t name,
 	const char *interface, uint32_t version, waywire_object *bound);
 
 /* Copies what came into the inbox: as many tokens as fit, and if these are all, as many bytes as fit.
- * `fed` says how much that was; feed the rest again later, after `next`. A failed client takes nothing in:
- * WAYWIRE_FAILED, and `fed` gets zeros. `bytes` and `tokens` may be null where their length is 0. */
+ * `fed` says how much that was; feed the rest later, after `next`. A failed client takes nothing in:
+ * WAYWIRE_FAILED, and `fed` gets zeros. `bytes` and `tokens` may be null if their length is 0. */
 waywire_status waywire_client_feed(waywire_client *client, const void *bytes, size_t length,
 	const uint32_t *tokens, size_t token_count, waywire_amounts *fed);
 
-/* How much `take` into memory of these lengths would take. */
+/* How much a `take` into memory of these lengths would take. */
 waywire_status waywire_client_goes(const waywire_client *client, size_t bytes, size_t tokens,
 	waywire_amounts *amounts);
 
@@ -502,42 +589,45 @@ waywire_status waywire_client_goes(const waywire_client *client, size_t bytes, s
 waywire_status waywire_client_take(waywire_client *client, void *bytes, size_t length,
 	uint32_t *tokens, size_t token_count, waywire_amounts *taken);
 
-/* Writes to `parts` where the bytes lie that can go at one time, to be written with sendmsg, and to `tokens`
- * the first `room` of the tokens that go with the first of them; `token_count` gets how many these are, at most
- * WAYWIRE_MAX_ARGS. Nothing is taken out: after a sendmsg of n bytes call `sent` with n, or of none not at all.
- * No message begins behind the first byte that has tokens, so those that went are gone however few bytes
- * went. The parts are lent until the client's next call of any kind. */
+/* Writes to `parts` where the bytes lie that can go at one time, for sendmsg. Writes to `tokens` the first
+ * `room` of the tokens that go with the first of these bytes, and to `token_count` how many go with it, at most
+ * WAYWIRE_MAX_ARGS. Nothing is taken out: after a sendmsg of n bytes call `sent` with n, and after one of none
+ * do not call it. No message that has tokens begins behind the first byte, so all these tokens have gone however
+ * few bytes went. The parts are valid until the client's next call of any kind. */
 waywire_status waywire_client_peek(const waywire_client *client, waywire_part parts[2], uint32_t *tokens,
 	size_t room, size_t *token_count);
 
-/* Takes the first bytes out of the outbox, so many or all that wait, with the tokens of the messages that they
- * begin, as `take` does. `taken` says how much that was, and may be null. */
+/* Takes this many bytes out of the outbox, or all that wait if they are fewer, with the tokens of the messages
+ * that begin in them, as `take` does. `taken` says how much that was, and may be null. */
 waywire_status waywire_client_sent(waywire_client *client, size_t bytes, waywire_amounts *taken);
 
-/* Writes to `parts` where the free bytes of the inbox lie, to be read into with recvmsg; none at a failed
- * client. The parts are the caller's to write to until the client's next call of any kind. */
+/* Writes to `parts` where the free bytes of the inbox lie, for recvmsg; none at a failed client. The caller may
+ * write to the parts until the client's next call of any kind. The second may be empty. */
 waywire_status waywire_client_space(waywire_client *client, waywire_part parts[2]);
 
-/* Takes in tokens, and the first of the bytes that were written where `space` said, so many of them, as `feed`
- * does and with its statuses. Where not all tokens fit no byte is taken in: call `next` until they do, and this
- * again with the same number of bytes and the other tokens. */
+/* Takes in tokens, and this many of the bytes that were written where `space` said, as `feed` does and with its
+ * statuses. If not all tokens fit, no byte is taken in, and what was written stays there: call `next` until the
+ * other tokens fit, and then this again with these and the same number of bytes. Once bytes were taken in, what
+ * was written behind them is lost: call `space` again. */
 waywire_status waywire_client_received(waywire_client *client, size_t bytes, const uint32_t *tokens,
 	size_t token_count, waywire_amounts *fed);
 
 /* Gives the client up, as at the end of its connection, and moves the tokens that wait in its inbox and its
- * outbox into the caller's memory, so that their descriptors can be closed: each token that was fed is in one
- * report, or is taken so, and each that was sent is taken by `take`, or so. First come those of the inbox, a
- * message at fault first, then those of the outbox, all of a message at once. `taken` gets their number: repeat
- * the call until that is 0, with room for WAYWIRE_MAX_ARGS tokens at least. The client has failed afterwards,
- * and what waited in its outbox is dropped with its tokens: `take` first what is still to be sent. */
+ * outbox into the caller's memory, so that their descriptors can be closed. Each token that was fed comes out
+ * either in a report or by this call, and each that was sent either by `take` or by this call. The tokens of the
+ * inbox come first, of these a message at fault's, then those of the outbox, all of a message at once. `taken`
+ * gets their number: repeat the call until that is 0, with room for at least WAYWIRE_MAX_ARGS tokens. The client
+ * has failed afterwards, and what waited in its outbox is dropped with its tokens: `take` before what is still
+ * to be sent. Send nothing after: each call drops bytes from the front of the outbox, so what a `take` gives
+ * between two of them does not follow on what was taken before, and the stream would have a hole. */
 waywire_status waywire_client_take_waiting_tokens(waywire_client *client, uint32_t *tokens,
 	size_t token_count, size_t *taken);
 
-/* Reads the next message once it is whole; `report` says WAYWIRE_NOTHING before. Its report is lent
- * until the client's next call of any kind. It allocates nothing.
+/* Reads the next message once it is whole; `report` says WAYWIRE_NOTHING before. The report is valid
+ * until the client's next call of any kind. This call allocates nothing.
  * With a status of WAYWIRE_FAULT_.. the report is written too (kind WAYWIRE_FAULT) and the client has
  * failed for good, as it has after a report WAYWIRE_ERROR. It writes nothing to the server about that; what
- * waited in the outbox can still be taken. WAYWIRE_FAILED where it had failed before; the report then says
+ * waited in the outbox can still be taken. WAYWIRE_FAILED if it had failed before; the report then says
  * WAYWIRE_NOTHING. */
 waywire_status waywire_client_next(waywire_client *client, waywire_report *report);
 
@@ -546,7 +636,8 @@ waywire_status waywire_client_next(waywire_client *client, waywire_report *repor
 /* The server's end of one connection: its objects, its inbox and outbox, and the globals it advertises. */
 typedef struct waywire_server waywire_server;
 
-/* As for a client. A new server has no globals. */
+/* As for a client. A new server has no globals. A server fails when `next` reads a message at fault, and by
+ * `post_error` and `take_waiting_tokens`; the wl_display.error that it writes is the last that can be taken. */
 waywire_status waywire_server_new(const waywire_tables *tables, const waywire_sizes *sizes,
 	waywire_server **server);
 void waywire_server_free(waywire_server *server);
@@ -556,6 +647,9 @@ waywire_status waywire_server_live(const waywire_server *server, waywire_object 
 waywire_status waywire_server_set_user(waywire_server *server, waywire_object object, void *user);
 void *waywire_server_user(const waywire_server *server, waywire_object object);
 waywire_status waywire_server_object_count(const waywire_server *server, size_t *count);
+waywire_status waywire_server_object_after(const waywire_server *server, uint32_t id,
+	waywire_object *object);
+waywire_status waywire_server_has_failed(const waywire_server *server, bool *failed);
 waywire_status waywire_server_in_room(const waywire_server *server, waywire_amounts *room);
 waywire_status waywire_server_is_drained(const waywire_server *server, bool *drained);
 waywire_status waywire_server_feed(waywire_server *server, const void *bytes, size_t length,
@@ -579,14 +673,19 @@ waywire_status waywire_server_take_waiting_tokens(waywire_server *server, uint32
 waywire_status waywire_server_add_global(waywire_server *server, uint16_t interface,
 	uint32_t version, uint32_t *name);
 
-/* Withdraws a global. It can still be bound; waywire_server_announce tells the registries that were
- * told of it. WAYWIRE_FAILED, WAYWIRE_NO_SUCH_GLOBAL. */
+/* Withdraws a global. It can still be bound; waywire_server_announce tells the registries to which it was
+ * announced. WAYWIRE_FAILED, WAYWIRE_NO_SUCH_GLOBAL. */
 waywire_status waywire_server_withdraw(waywire_server *server, uint32_t name);
 
-/* Writes to the open registries what they have not been told yet, by wl_registry.global and global_remove,
- * as far as it fits. `count`, which may be null, gets the number of these events. Call it after a request has
- * made a registry, after a change of the globals, and after a `take` where not all had fitted.
- * WAYWIRE_FAILED. */
+/* Writes to each open registry which globals were added and withdrawn that it has not been told of yet
+ * (wl_registry.global, global_remove), as far as that fits. `count`, which may be null, gets the number of these
+ * events. Call it after a request has made a registry, after a change of the globals, and after a `take` if not
+ * all had fitted. If events do not fit, the next call goes on at the registry where this one stopped.
+ * It passes over the registries that are known to be owed nothing, and takes constant time if these are all. The
+ * others are those made since it last wrote everything, and after a change of the globals all of them. With
+ * such, its time is linear in the events that it writes, in the globals that were ever added, and in these
+ * registries. At each of these it looks at the globals 64 at a time, and one by one if the registry is owed one
+ * of the 64. WAYWIRE_FAILED. */
 waywire_status waywire_server_announce(waywire_server *server, size_t *count);
 
 /* Writes an event. One that destroys its object is followed by its delete_id: both are written, or
@@ -595,7 +694,8 @@ waywire_status waywire_server_announce(waywire_server *server, size_t *count);
 waywire_status waywire_server_send(waywire_server *server, waywire_object target, uint16_t opcode,
 	const waywire_arg *args, size_t arg_count, waywire_object *made, size_t *place);
 
-/* Ends an object without its event, as a callback that nobody waits for, and writes its delete_id.
+/* Ends an object without the event that would destroy it, as a callback that nobody waits for, and writes its
+ * delete_id.
  * WAYWIRE_FAILED, WAYWIRE_STALE, WAYWIRE_NOT_DROPPABLE, WAYWIRE_FULL. */
 waywire_status waywire_server_drop_object(waywire_server *server, waywire_object object);
 
@@ -606,22 +706,22 @@ waywire_status waywire_server_drop_object(waywire_server *server, waywire_object
 waywire_status waywire_server_post_error(waywire_server *server, waywire_object object, uint32_t code,
 	const char *text);
 
-/* Reads the next request once it is whole; `report` says WAYWIRE_NOTHING before. Its report is lent
+/* Reads the next request once it is whole; `report` says WAYWIRE_NOTHING before. The report is valid
  * until the server's next call of any kind. A request that destroys an object closes it and writes
  * its delete_id at once.
- * WAYWIRE_OUT_FULL where there is no room for that, and WAYWIRE_NO_MEMORY where there is none for the
- * object that the request opens: the request stays, and can be read again. With a status of
+ * WAYWIRE_OUT_FULL if the outbox has no room for that, and WAYWIRE_NO_MEMORY if there is no memory for
+ * the object that the request opens: the request stays, and can be read again. With a status of
  * WAYWIRE_FAULT_.. the report is written too (kind WAYWIRE_FAULT), wl_display.error is the last that
- * waits to be taken, and the server has failed for good. WAYWIRE_FAILED where it had failed before.
+ * waits to be taken, and the server has failed for good. WAYWIRE_FAILED if it had failed before.
  * With any other status than WAYWIRE_OK and WAYWIRE_FAULT_.. the report says WAYWIRE_NOTHING. */
 waywire_status waywire_server_next(waywire_server *server, waywire_report *report);
 
 /* ---- an inspector */
 
-/* Judges a session that others hold, while it goes on: all that passes between a client and a server, piece by
- * piece. It says of the pieces so far what the commands `waywire trace` and `waywire check` say of a recording
- * of them. Its memory grows with the objects that are open and the bytes of messages that are not whole yet,
- * and not with the length of the session. */
+/* Judges a session of others while it goes on: all that passes between a client and a server, piece by piece.
+ * It says about the pieces so far what the commands `waywire trace` and `waywire check` say about a recording of
+ * them. Its memory grows with the objects that are open and the bytes of messages that are not whole yet, and
+ * not with the length of the session. */
 typedef struct waywire_inspector waywire_inspector;
 
 /* Makes an inspector that has seen nothing. `limit` is the most bytes that a message may have, its header
@@ -629,27 +729,48 @@ typedef struct waywire_inspector waywire_inspector;
 waywire_status waywire_inspector_new(const waywire_tables *tables, uint32_t limit,
 	waywire_inspector **inspector);
 
-/* Frees an inspector, and what it lent. Null is allowed. */
+/* Frees an inspector. What it pointed to is gone with it. Null is allowed. */
 void waywire_inspector_free(waywire_inspector *inspector);
 
 /* Judges the messages that a piece completes: bytes as they came from a sender, cut anywhere, and the number
- * of descriptors that came with them. `bytes` may be null where their length is 0. Behind a message that
- * breaks a rule, and behind a wl_display.error, nothing more is judged and no line is printed.
- * WAYWIRE_BAD_VALUE where `sender` is none. WAYWIRE_NO_MEMORY: the piece can be passed again. */
+ * of descriptors that came with them. `bytes` may be null if their length is 0. After a message that breaks a
+ * rule, and after a wl_display.error, nothing more is judged and no line is written.
+ * WAYWIRE_BAD_VALUE if `sender` is no waywire_sender. WAYWIRE_NO_MEMORY: the piece can be passed again. */
 waywire_status waywire_inspector_pass(waywire_inspector *inspector, waywire_sender sender,
 	const void *bytes, size_t length, size_t token_count);
 
 /* The lines of the messages that the last piece completed, each ended by a line feed; none before the first
- * piece. A message that breaks a rule has no line. They do not end with a NUL, and are lent until the
+ * piece. A message that breaks a rule has no line. They do not end with a NUL, and are valid until the
  * inspector's next `pass` or `verdict`. */
 waywire_status waywire_inspector_lines(const waywire_inspector *inspector, const char **lines,
 	size_t *length);
 
 /* The verdict on all pieces so far, as the line that `waywire check` prints, ended by a line feed and not by a
- * NUL. It is lent until the inspector's next `pass` or `verdict`. `broken`, which may be null, gets 1 where a
- * message breaks a rule, which the line names, and else 0. WAYWIRE_NO_MEMORY: what was lent before is gone. */
+ * NUL. It is valid until the inspector's next `pass` or `verdict`. `broken`, which may be null, gets whether a
+ * message breaks a rule, which the line then names. WAYWIRE_NO_MEMORY: what was valid before is gone. */
 waywire_status waywire_inspector_verdict(waywire_inspector *inspector, const char **line,
-	size_t *length, int *broken);
+	size_t *length, bool *broken);
+
+/* ---- a recording */
+
+/* A piece of a recording, the text of docs/FORMATS.md. */
+typedef struct waywire_piece {
+	uint32_t sender;    /* a waywire_sender */
+	uint32_t token_count;
+	size_t length;      /* of its bytes */
+	size_t begin;       /* where its line begins in the text; before it stand comments and empty lines alone */
+	size_t behind;      /* where the text goes on behind its line */
+	size_t line;        /* the number of its line, counted from 1 */
+} waywire_piece;
+
+/* Reads the next piece of a text from `from` on, a place where a line begins, before which `line` lines stand, and
+ * writes its bytes to `bytes`, which holds `room`; half of what is left of the text is always room enough. It
+ * allocates what the piece has.
+ * WAYWIRE_NOT_FOUND if no piece is left. WAYWIRE_BAD_LINE if the first line that is neither skipped nor a piece
+ * comes before the next piece: `line` of `piece` is written. WAYWIRE_FULL if `room` is less than the piece has.
+ * WAYWIRE_NO_MEMORY. WAYWIRE_BAD_VALUE if `from` is past the text, or `line` is above PTRDIFF_MAX. */
+waywire_status waywire_recording_next(const void *text, size_t length, size_t from, size_t line, void *bytes,
+	size_t room, waywire_piece *piece);
 
 #ifdef __cplusplus
 }

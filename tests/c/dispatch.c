@@ -119,10 +119,40 @@ static void failed(void)
 	close_pair();
 }
 
+/* One dispatch over several interfaces, by that of the target. */
+static void by_interface(void)
+{
+	static const waywire_listener listeners[] = {
+		{ WAYWIRE_WL_REGISTRY_NAME, waywire_wl_registry_event_dispatcher, &registry_events },
+		{ WAYWIRE_WL_DISPLAY_NAME, waywire_wl_display_event_dispatcher, &display_events },
+	};
+	static const unsigned char delete_9[] = { 1, 0, 0, 0, 1, 0, 12, 0, 9, 0, 0, 0 };
+	static const waywire_report nothing = { 0 };
+	waywire_amounts fed;
+	uint16_t place;
+	open_pair();
+	target = registry;
+	MUST(!waywire_tables_interface(tables, WAYWIRE_WL_COMPOSITOR_NAME, &place));
+	MUST(!waywire_server_add_global(server, place, 6, NULL));
+	MUST(!waywire_server_announce(server, NULL));
+	carry_and_read_at_client();
+	MUST(waywire_dispatch(tables, listeners, 2, &mark, &report));
+	MUST(calls_that_came == 1 && !strcmp(heard, "wl_compositor"));
+	MUST(!waywire_dispatch(tables, listeners + 1, 1, &mark, &report)); /* no listener for wl_registry */
+	MUST(!waywire_dispatch(tables, NULL, 0, &mark, &report));
+	MUST(!waywire_client_feed(client, delete_9, sizeof delete_9, NULL, 0, &fed));
+	MUST(!waywire_client_next(client, &report) && report.kind == WAYWIRE_STRAY);
+	MUST(waywire_dispatch(tables, listeners, 2, &mark, &report));
+	MUST(calls_that_came == 2 && number == 9);
+	MUST(!waywire_dispatch(tables, listeners, 2, &mark, &nothing));
+	close_pair();
+}
+
 int main(void)
 {
 	read_tables(NULL);
 	globals();
+	by_interface();
 	deleted();
 	stray();
 	failed();

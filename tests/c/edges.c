@@ -301,10 +301,31 @@ static bool has_verdict(waywire_inspector *inspector, const char *wanted)
 {
 	const char *line = NULL;
 	size_t length = 7;
-	int broken = 7;
+	bool is_broken = *wanted == 'b', broken = !is_broken;
 	MUST(!waywire_inspector_verdict(inspector, &line, &length, &broken));
-	MUST(broken == (*wanted == 'b'));
+	MUST(broken == is_broken);
 	return length == strlen(wanted) && !memcmp(line, wanted, length);
+}
+
+/* An inspector goes by the limit that it was made with: wl_display.error of 4,116 bytes is within one, and breaks
+ * a rule by a smaller one. */
+static void at_limit(uint32_t limit, const char *verdict)
+{
+	static uint32_t words[4116 / 4] = { 1, 4116 << 16 | WAYWIRE_WL_DISPLAY_EVENT_ERROR, 1, 0, 4096 };
+	waywire_inspector *it;
+	memset(words + 5, 'a', 4095);
+	MUST(!waywire_inspector_new(tables, limit, &it));
+	MUST(!waywire_inspector_pass(it, WAYWIRE_FROM_SERVER, words, sizeof words, 0));
+	MUST(has_verdict(it, verdict) && has_lines(it, "") == (*verdict == 'b'));
+	waywire_inspector_free(it);
+}
+
+static void long_message(void)
+{
+	at_limit(WAYWIRE_USUAL_LIMIT, "broken: < message 1 at byte 0: F1 bad message size\n");
+	at_limit(4112, "broken: < message 1 at byte 0: F1 bad message size\n");
+	at_limit(4116, "lawful: 0 requests, 1 events, 0 and 0 bytes left\n");
+	at_limit(65532, "lawful: 0 requests, 1 events, 0 and 0 bytes left\n");
 }
 
 /* What is no piece changes nothing, the lines are those of the last one, and the verdict is that of all. */
@@ -416,6 +437,7 @@ int main(void)
 	errors();
 	greatest();
 	limits();
+	long_message();
 	inspected();
 	lines();
 	numbers();

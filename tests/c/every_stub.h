@@ -44,26 +44,69 @@ static inline void read_tables(const char *path)
 	tables = more;
 }
 
+/* What was carried last. */
+static unsigned char bytes[4096];
+static size_t carried;
+
 static inline void carry_to_server(void)
 {
-	unsigned char bytes[4096];
 	uint32_t tokens[28];
 	waywire_amounts taken, fed;
 	MUST(!waywire_client_take(client, bytes, sizeof bytes, tokens, 28, &taken));
 	MUST(!waywire_server_feed(server, bytes, taken.bytes, tokens, taken.tokens, &fed));
 	MUST(fed.bytes == taken.bytes && fed.tokens == taken.tokens);
 	MUST(!waywire_inspector_pass(inspector, WAYWIRE_FROM_CLIENT, bytes, taken.bytes, taken.tokens));
+	carried = taken.bytes;
 }
 
 static inline void carry_to_client(void)
 {
-	unsigned char bytes[4096];
 	uint32_t tokens[28];
 	waywire_amounts taken, fed;
 	MUST(!waywire_server_take(server, bytes, sizeof bytes, tokens, 28, &taken));
 	MUST(!waywire_client_feed(client, bytes, taken.bytes, tokens, taken.tokens, &fed));
 	MUST(fed.bytes == taken.bytes && fed.tokens == taken.tokens);
 	MUST(!waywire_inspector_pass(inspector, WAYWIRE_FROM_SERVER, bytes, taken.bytes, taken.tokens));
+	carried = taken.bytes;
+}
+
+/* An argument that was taken apart is the one of the report. */
+static inline void must_be_apart(waywire_sender sender, size_t place, const waywire_decoded *decoded)
+{
+	const waywire_arg *it = &decoded->args[place], *read = &report.args[place];
+	waywire_kind kind;
+	MUST(!waywire_tables_kind(tables, report.interface, sender, decoded->opcode, place, &kind));
+	if (it->kind == WAYWIRE_BOUND)
+		MUST(!waywire_tables_interface(tables, (const char *)it->bytes, &kind.interface));
+	MUST(decoded->interfaces[place] == kind.interface);
+	MUST(it->kind == (read->kind == WAYWIRE_DEAD_OBJECT ? (uint32_t)WAYWIRE_OBJECT : read->kind));
+	MUST(it->i == read->i && it->u == (it->kind == WAYWIRE_FD ? 0 : read->u));
+	MUST(it->object.id == read->object.id && !it->object.birth && it->length == read->length);
+	MUST(!it->length || !memcmp(it->bytes, read->bytes, it->length));
+	MUST(it->kind != WAYWIRE_STRING || !((const char *)it->bytes)[it->length]);
+}
+
+/* The message that was read is taken apart to the same, and its report lists its tokens. */
+static inline void must_come_apart(waywire_sender sender)
+{
+	waywire_decoded decoded;
+	waywire_message message;
+	const char *name;
+	size_t length, count = 0;
+	if (report.kind != WAYWIRE_MESSAGE || !carried)
+		return;
+	MUST(!waywire_tables_decode(tables, report.interface, report.version, sender, bytes, carried, &decoded));
+	if (decoded.target != report.target.id || decoded.opcode != report.opcode)
+		return; /* another message stands in front */
+	MUST(!waywire_tables_message(tables, report.interface, sender, decoded.opcode, &message, &name, &length));
+	MUST(decoded.name == name && decoded.name_length == length && decoded.arg_count == report.arg_count);
+	MUST(decoded.size <= carried && !decoded.place && !decoded.spelling);
+	for (size_t place = 0; place < decoded.arg_count; place++) {
+		must_be_apart(sender, place, &decoded);
+		if (report.args[place].kind == WAYWIRE_FD)
+			MUST(count < report.token_count && report.tokens[count++] == report.args[place].u);
+	}
+	MUST(count == report.token_count);
 }
 
 /* The message that passed last has this name in the tables. */
@@ -81,12 +124,14 @@ static inline void carry_and_read_at_server(void)
 {
 	carry_to_server();
 	MUST(!waywire_server_next(server, &report));
+	must_come_apart(WAYWIRE_FROM_CLIENT);
 }
 
 static inline void carry_and_read_at_client(void)
 {
 	carry_to_client();
 	MUST(!waywire_client_next(client, &report));
+	must_come_apart(WAYWIRE_FROM_SERVER);
 }
 
 static inline void open_pair(void)
@@ -94,6 +139,7 @@ static inline void open_pair(void)
 	waywire_sizes sizes = { .out_bytes = 65536, .out_tokens = 64, .in_bytes = 65536, .in_tokens = 64 };
 	waywire_arg args[1];
 	waywire_object display;
+	status = WAYWIRE_OK;
 	MUST(!waywire_client_new(tables, &sizes, &client));
 	MUST(!waywire_server_new(tables, &sizes, &server));
 	MUST(!waywire_inspector_new(tables, WAYWIRE_USUAL_LIMIT, &inspector));

@@ -388,13 +388,9 @@ static void is_told(int reader, const struct message *message, const waywire_rep
 	MUST(waywire_object_equal(report->target, it) && report->user == (message->target == 1 ? NULL : target->user));
 	MUST(!report->id && !report->code && !report->named && !report->spelling && !report->text_length
 		&& !report->place && !report->offset);
-	if (live) {
-		MUST(report->arg_count == message->arg_count && !report->token_count);
-		for (size_t place = 0; place < message->arg_count; place++)
-			MUST(is_reported(reader, &message->args[place], &report->args[place]));
-		return;
-	}
-	MUST(!report->arg_count && report->token_count == tokens_in(message));
+	MUST(report->arg_count == (live ? message->arg_count : 0) && report->token_count == tokens_in(message));
+	for (size_t place = 0; place < report->arg_count; place++)
+		MUST(is_reported(reader, &message->args[place], &report->args[place]));
 	for (size_t place = 0, each = 0; place < message->arg_count; place++)
 		if (message->args[place].kind == WAYWIRE_FD)
 			MUST(report->tokens[each++] == message->args[place].u);
@@ -666,7 +662,7 @@ static void judges(unsigned long before)
 {
 	const char *line;
 	size_t length;
-	int broken;
+	bool broken;
 	unsigned long requests_read, events_read;
 	char copy[200] = { 0 };
 	MUST(!waywire_inspector_verdict(inspector, &line, &length, &broken) && !broken && length < sizeof copy);

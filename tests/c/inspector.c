@@ -76,7 +76,7 @@ int main(int count, char **words)
 	waywire_tables *tables = tables_of(count > 2 ? words[2] : NULL);
 	waywire_inspector *inspector;
 	const char *verdict;
-	int broken = 7;
+	bool broken;
 	MUST(!waywire_inspector_new(tables, WAYWIRE_USUAL_LIMIT, &inspector));
 	waywire_tables_free(tables); /* the inspector still has them */
 	char *text = contents(words[1], &length);

@@ -48,7 +48,7 @@ static bool is_lawful(waywire_inspector *inspector)
 {
 	const char *line;
 	size_t length;
-	int broken;
+	bool broken;
 	MUST(!waywire_inspector_verdict(inspector, &line, &length, &broken));
 	if (broken)
 		fprintf(stderr, "%.*s", (int)length, line);

@@ -1,5 +1,5 @@
 /* Messages and descriptors through a socket whose buffer is small, so that it takes a part of what it is given:
- * what is in the boxes is written and read where it lies, and all of it arrives once, in order. */
+ * what is in the queues is written and read where it lies, and all of it arrives once, in order. */
 #define _GNU_SOURCE
 #include "must.h"
 #include "transport.h"

@@ -132,10 +132,10 @@ static waywire_status judges(void)
 {
 	const char *text = line;
 	size_t length = 7;
-	int broken = 7;
+	bool broken = true;
 	waywire_status status = waywire_inspector_verdict(passing, &text, &length, &broken);
 	if (status)
-		MUST(text == line && length == 7 && broken == 7);
+		MUST(text == line && length == 7 && broken);
 	else
 		MUST(!broken && length == strlen(lawful) && !memcmp(text, lawful, length));
 	MUST(has_lines(line));

@@ -4,7 +4,7 @@
 
 #include <pthread.h>
 
-#define THREADS 4
+#define THREADS 8
 #define ROUNDS 20
 
 static const waywire_sizes sizes = { 4096, 64, 4096, 64 };
@@ -52,6 +52,10 @@ static void closes(struct pair *pair)
 
 static void searches(const waywire_tables *tables)
 {
+	static const unsigned char destroy[] = { 3, 0, 0, 0, 0, 0, 8, 0 };
+	waywire_message message;
+	waywire_kind kind;
+	waywire_decoded decoded;
 	uint16_t place;
 	uint32_t version;
 	const char *name;
@@ -60,6 +64,11 @@ static void searches(const waywire_tables *tables)
 	MUST(!waywire_tables_version(tables, place, &version) && version >= 6);
 	MUST(!waywire_tables_name(tables, place, &name, &length));
 	MUST(length == 10 && !memcmp(name, "wl_surface", length));
+	MUST(!waywire_tables_message(tables, place, WAYWIRE_FROM_CLIENT, 0, &message, &name, &length));
+	MUST(message.destroys == WAYWIRE_DESTROYS_TARGET && length == 7 && !memcmp(name, "destroy", length));
+	MUST(!waywire_tables_kind(tables, place, WAYWIRE_FROM_CLIENT, 1, 0, &kind) && kind.nullable);
+	MUST(!waywire_tables_decode(tables, place, version, WAYWIRE_FROM_CLIENT, destroy, sizeof destroy, &decoded));
+	MUST(decoded.target == 3 && decoded.name == name && !decoded.arg_count);
 }
 
 static void *works(void *given)

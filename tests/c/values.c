@@ -7,12 +7,27 @@ static waywire_client *client;
 static waywire_server *server;
 static waywire_object display = { 0, 1 };
 
+static bool client_failed(const waywire_client *it)
+{
+	bool failed;
+	MUST(!waywire_client_has_failed(it, &failed));
+	return failed;
+}
+
+static bool server_failed(const waywire_server *it)
+{
+	bool failed;
+	MUST(!waywire_server_has_failed(it, &failed));
+	return failed;
+}
+
 static void nulls(void)
 {
 	waywire_amounts amounts;
 	waywire_report report;
 	uint16_t interface;
 	size_t count = 7;
+	bool failed = true;
 	MUST(waywire_tables_core(NULL) == WAYWIRE_NULL);
 	MUST(waywire_tables_interface(NULL, "wl_seat", &interface) == WAYWIRE_NULL);
 	MUST(waywire_tables_interface(tables, NULL, &interface) == WAYWIRE_NULL);
@@ -31,6 +46,8 @@ static void nulls(void)
 	MUST(waywire_client_bind(client, display, 1, NULL, 1, NULL) == WAYWIRE_NULL);
 	MUST(waywire_client_object_count(NULL, &count) == WAYWIRE_NULL && count == 7);
 	MUST(waywire_server_object_count(server, NULL) == WAYWIRE_NULL);
+	MUST(waywire_server_has_failed(NULL, &failed) == WAYWIRE_NULL && failed);
+	MUST(waywire_client_has_failed(client, NULL) == WAYWIRE_NULL);
 	MUST(waywire_server_post_error(server, display, 0, NULL) == WAYWIRE_NULL);
 	waywire_tables_free(NULL);
 	waywire_client_free(NULL);
@@ -39,6 +56,8 @@ static void nulls(void)
 
 static void lengths(void)
 {
+	waywire_part parts[2];
+	size_t count = 7;
 	waywire_amounts amounts;
 	char byte = 0;
 	uint32_t token = 0;
@@ -47,6 +66,9 @@ static void lengths(void)
 	MUST(waywire_client_feed(client, &byte, SIZE_MAX, NULL, 0, &amounts) == WAYWIRE_TOO_LARGE);
 	MUST(waywire_client_feed(client, &byte, 0, &token, SIZE_MAX / 4, &amounts)
 		== WAYWIRE_TOO_LARGE);
+	MUST(waywire_client_peek(client, parts, &token, SIZE_MAX / 4, &count) == WAYWIRE_TOO_LARGE);
+	MUST(waywire_client_peek(client, parts, NULL, 1, &count) == WAYWIRE_NULL && count == 7);
+	MUST(!waywire_client_peek(client, parts, NULL, 0, &count) && !count);
 	args[0] = waywire_array(&byte, (size_t)PTRDIFF_MAX + 1);
 	MUST(waywire_client_send(client, display, 0, args, 1, NULL, NULL) == WAYWIRE_TOO_LARGE);
 	args[0] = waywire_array(NULL, 1);
@@ -111,7 +133,8 @@ static void faults(void)
 	waywire_report report;
 	waywire_amounts amounts;
 	MUST(!waywire_server_feed(server, bad_new_id, sizeof bad_new_id, NULL, 0, &amounts));
-	MUST(waywire_server_next(server, &report) == WAYWIRE_FAULT_BAD_NEW_ID);
+	MUST(!server_failed(server));
+	MUST(waywire_server_next(server, &report) == WAYWIRE_FAULT_BAD_NEW_ID && server_failed(server));
 	MUST(report.kind == WAYWIRE_FAULT && report.place == 0 && report.offset == 0);
 	MUST(waywire_server_next(server, &report) == WAYWIRE_FAILED);
 	MUST(waywire_server_post_error(server, display, 1, "x") == WAYWIRE_FAILED);
@@ -121,7 +144,7 @@ static void faults(void)
 	MUST(!waywire_server_take(server, bytes, sizeof bytes, NULL, 0, &amounts));
 	MUST(amounts.bytes == 32); /* what was asked of it since left nothing there */
 	MUST(!waywire_client_feed(client, bytes, amounts.bytes, NULL, 0, &amounts));
-	MUST(!waywire_client_next(client, &report));
+	MUST(!client_failed(client) && !waywire_client_next(client, &report) && client_failed(client));
 	MUST(report.kind == WAYWIRE_ERROR && report.id == 1 && report.code == 1);
 	MUST(report.named == WAYWIRE_OBJECT && waywire_object_equal(report.target, display));
 	MUST(!strcmp(report.text, "bad new id") && report.text_length == 10);
@@ -141,7 +164,27 @@ static void full(void)
 	MUST(!waywire_server_feed(other, bytes, sizeof bytes, tokens, 20, &amounts));
 	MUST(amounts.bytes == 4096 && amounts.tokens == 20);
 	MUST(!waywire_server_feed(other, bytes, 1, tokens, 1, &amounts));
-	MUST(amounts.bytes == 0 && amounts.tokens == 0);
+	MUST(amounts.bytes == 0 && amounts.tokens == 0 && !server_failed(other));
+	waywire_server_free(other);
+}
+
+/* An end fails where an error is posted, and where it is given up; not by a call that is refused. */
+static void failing(void)
+{
+	waywire_object stale = { 7, 1 };
+	waywire_client *one;
+	waywire_server *other;
+	waywire_amounts amounts;
+	unsigned char bytes[64];
+	size_t count;
+	MUST(!waywire_client_new(tables, &sizes, &one) && !waywire_server_new(tables, &sizes, &other));
+	MUST(waywire_server_post_error(other, stale, 1, "x") == WAYWIRE_STALE && !server_failed(other));
+	MUST(!waywire_server_post_error(other, display, 1, "x") && server_failed(other));
+	MUST(!waywire_server_take(other, bytes, sizeof bytes, NULL, 0, &amounts) && amounts.bytes > 0);
+	MUST(server_failed(other));
+	MUST(waywire_client_send(one, stale, 0, NULL, 0, NULL, NULL) == WAYWIRE_STALE && !client_failed(one));
+	MUST(!waywire_client_take_waiting_tokens(one, NULL, 0, &count) && count == 0 && client_failed(one));
+	waywire_client_free(one);
 	waywire_server_free(other);
 }
 
@@ -227,6 +270,22 @@ static void messages(void)
 	MUST(waywire_tables_kind(tables, 0, WAYWIRE_FROM_CLIENT, 0, 0, NULL) == WAYWIRE_NULL);
 }
 
+/* A new object of the server is of a kind of its own, which only tables tell. */
+static void server_objects(void)
+{
+	static const char text[] = "interface wp_maker 1\nevent made N(wp_maker)\nrequest make n(wp_maker)";
+	waywire_tables *more;
+	waywire_kind kind = { 9, true, 9 };
+	uint16_t maker;
+	MUST(!waywire_tables_read(tables, text, strlen(text), &more, NULL, NULL));
+	MUST(!waywire_tables_interface(more, "wp_maker", &maker));
+	MUST(!waywire_tables_kind(more, maker, WAYWIRE_FROM_SERVER, 0, 0, &kind));
+	MUST(kind.kind == WAYWIRE_NEW_BY_SERVER && !kind.nullable && kind.interface == maker);
+	MUST(!waywire_tables_kind(more, maker, WAYWIRE_FROM_CLIENT, 0, 0, &kind));
+	MUST(kind.kind == WAYWIRE_NEW && !kind.nullable && kind.interface == maker);
+	waywire_tables_free(more);
+}
+
 /* All that one end wrote is fed to the other, which reads a message. */
 static void carry(waywire_client *one, waywire_server *other, bool to_server, waywire_report *report)
 {
@@ -242,6 +301,46 @@ static void carry(waywire_client *one, waywire_server *other, bool to_server, wa
 		MUST(!waywire_client_next(one, report));
 	}
 	MUST(report->kind == WAYWIRE_MESSAGE);
+}
+
+/* Both ends speak a wl_seat that a text extends: what it adds stands behind what was there. */
+static void newer_seat(void)
+{
+	static const char text[] = "extend wl_seat 10\nrequest pad n(pad) @10\nevent mode u @10\ninterface pad 1\n";
+	static const char lower[] = "extend wl_seat 10\nextend wl_seat 8\n";
+	waywire_sizes wide = { 65536, 64, 65536, 64, 4096 };
+	waywire_tables *more;
+	waywire_client *one;
+	waywire_server *other;
+	waywire_object registry, seat, pad;
+	waywire_report report;
+	waywire_arg arg = waywire_new();
+	uint16_t interface;
+	uint32_t name, version, rule;
+	size_t line;
+	MUST(waywire_tables_read(tables, lower, strlen(lower), &more, &line, &rule) == WAYWIRE_BAD_TABLE);
+	MUST(line == 2 && rule == 8);
+	MUST(!waywire_tables_read(tables, text, strlen(text), &more, NULL, NULL));
+	MUST(!waywire_tables_interface(more, "wl_seat", &interface) && interface == 9);
+	MUST(!waywire_tables_version(more, interface, &version) && version == 10);
+	MUST(!waywire_client_new(more, &wide, &one) && !waywire_server_new(more, &wide, &other));
+	MUST(!waywire_server_add_global(other, interface, 10, &name));
+	MUST(!waywire_client_send(one, display, WAYWIRE_WL_DISPLAY_REQUEST_GET_REGISTRY, &arg, 1, &registry, NULL));
+	carry(one, other, true, &report);
+	MUST(!waywire_server_announce(other, NULL));
+	carry(one, other, false, &report);
+	MUST(!waywire_client_bind(one, registry, name, "wl_seat", 10, &seat));
+	carry(one, other, true, &report);
+	MUST(!waywire_client_send(one, seat, 4, &arg, 1, &pad, NULL));
+	carry(one, other, true, &report);
+	MUST(report.opcode == 4 && report.arg_count == 1);
+	arg = waywire_uint(7);
+	MUST(!waywire_server_send(other, report.target, 2, &arg, 1, NULL, NULL));
+	carry(one, other, false, &report);
+	MUST(report.opcode == 2 && report.arg_count == 1 && report.args[0].u == 7);
+	waywire_client_free(one);
+	waywire_server_free(other);
+	waywire_tables_free(more);
 }
 
 /* A message of 60,012 bytes is too long for ends of the usual limit, and passes those of a greater one. */
@@ -392,6 +491,31 @@ static void texts(void)
 	MUST(!strcmp(waywire_version(), WAYWIRE_VERSION));
 }
 
+/* The pieces of a recording's text, and what is wrong with one. */
+static void recordings(void)
+{
+	static const char text[] = "# head\n\n> 0A0b +2\r\n# 0.5\n< - +1\n< ff";
+	size_t length = sizeof text - 1;
+	unsigned char bytes[sizeof text];
+	waywire_piece piece = { 9, 9, 9, 9, 9, 9 };
+	MUST(!waywire_recording_next(text, length, 0, 0, bytes, sizeof bytes, &piece));
+	MUST(piece.sender == WAYWIRE_FROM_CLIENT && piece.token_count == 2 && piece.length == 2);
+	MUST(bytes[0] == 10 && bytes[1] == 11 && piece.begin == 8 && piece.behind == 19 && piece.line == 3);
+	MUST(waywire_recording_next(text, length, 0, 0, bytes, 1, &piece) == WAYWIRE_FULL);
+	MUST(!waywire_recording_next(text, length, piece.behind, piece.line, NULL, 0, &piece));
+	MUST(piece.sender == WAYWIRE_FROM_SERVER && piece.token_count == 1 && !piece.length && piece.begin == 25);
+	MUST(!waywire_recording_next(text, length, piece.behind, piece.line, bytes, 1, &piece));
+	MUST(bytes[0] == 255 && piece.behind == length && piece.line == 6);
+	MUST(waywire_recording_next(text, length, length, 6, bytes, 1, &piece) == WAYWIRE_NOT_FOUND);
+	MUST(waywire_recording_next("# 1\n> 0a0\n", 10, 0, 0, bytes, 1, &piece) == WAYWIRE_BAD_LINE && piece.line == 2);
+	MUST(waywire_recording_next(text, length, length + 1, 0, bytes, 1, &piece) == WAYWIRE_BAD_VALUE);
+	MUST(waywire_recording_next(text, length, 0, SIZE_MAX, bytes, 1, &piece) == WAYWIRE_BAD_VALUE);
+	MUST(waywire_recording_next(NULL, 1, 0, 0, bytes, 1, &piece) == WAYWIRE_NULL);
+	MUST(waywire_recording_next(text, SIZE_MAX, 0, 0, bytes, 1, &piece) == WAYWIRE_TOO_LARGE);
+	MUST(waywire_recording_next(text, length, 0, 0, bytes, 1, NULL) == WAYWIRE_NULL);
+	MUST(waywire_recording_next(NULL, 0, 0, 0, NULL, 0, &piece) == WAYWIRE_NOT_FOUND);
+}
+
 int main(void)
 {
 	MUST(!waywire_tables_core(&tables));
@@ -403,13 +527,17 @@ int main(void)
 	calls();
 	faults();
 	full();
+	failing();
 	misspelled();
 	more_tables();
 	messages();
+	server_objects();
+	newer_seat();
 	limits();
 	users();
 	globals();
 	texts();
+	recordings();
 	waywire_client_free(client);
 	waywire_server_free(server);
 	waywire_tables_free(tables);

@@ -1,5 +1,4 @@
 -- A handle and its parts own what a box at the same types owns.
-pub mod Tables
 pub mod Client
 pub mod Server
 pub mod Inspector

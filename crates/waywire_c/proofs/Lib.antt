@@ -1,3 +1,5 @@
 pub mod AsBox
+mod BadLines
 mod GivenArguments
 mod ToldArguments
+mod SpelledArguments

@@ -1,8 +1,5 @@
 -- What a handle leads to is lent, and the handle then leads to what was left there.
 use Rattle.std.specs.Borrow.{Lends, MutBor, Fml}
-use Rattle.waywire_c.specs.declared.tables_handle.TablesHandle.{TablesHandle}
-use Rattle.waywire_c.specs.contracts.tables_handle.TablesHandle.{the_row as tables_handle}
-use Rattle.waywire_c.specs.contracts.held.HeldTables.{the_row as held_tables}
 use Rattle.waywire_c.specs.declared.client_handle.ClientHandle.{ClientHandle}
 use Rattle.waywire_c.specs.contracts.client_handle.ClientHandle.{the_row as client_handle}
 use Rattle.waywire_c.specs.contracts.held.HeldClient.{the_row as held_client}
@@ -12,12 +9,6 @@ use Rattle.waywire_c.specs.contracts.held.HeldServer.{the_row as held_server}
 use Rattle.waywire_c.specs.declared.inspector_handle.InspectorHandle.{InspectorHandle}
 use Rattle.waywire_c.specs.contracts.inspector_handle.InspectorHandle.{the_row as inspector_handle}
 use Rattle.waywire_c.specs.contracts.held.HeldInspector.{the_row as held_inspector}
-
-abbrev pub with_tables : TablesHandle → held_tables.Denot → TablesHandle
-with_tables h w = record { ptr = h.ptr; alloc = h.alloc; held = w }
-
-abbrev pub LendsTables : MutBor TablesHandle → MutBor held_tables.Denot → Fml
-LendsTables h r = Lends tables_handle held_tables h r (with_tables h.now)
 
 abbrev pub holding_client : ClientHandle → held_client.Denot → ClientHandle
 holding_client h w = record { ptr = h.ptr; alloc = h.alloc; held = w }

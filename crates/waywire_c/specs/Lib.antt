@@ -7,3 +7,5 @@ pub mod Calls
 pub mod Reports
 pub mod Sizes
 pub mod Messages
+pub mod Decoding
+pub mod Recordings

@@ -59,6 +59,7 @@ kind_number kinds.Fixed = 3
 kind_number (kinds.Str null) = 4
 kind_number (kinds.Obj null iface) = 6
 kind_number (kinds.New iface) = 8
+kind_number (kinds.NewByServer iface) = 13
 kind_number kinds.Array = 9
 kind_number kinds.Fd = 10
 
@@ -70,6 +71,7 @@ may_be_null _ = false
 abbrev pub asked_of : Kind → Option Iface
 asked_of (kinds.Obj null iface) = iface
 asked_of (kinds.New iface) = iface
+asked_of (kinds.NewByServer iface) = Some iface
 asked_of _ = None
 
 -- the place of an interface, and 65,535, at which none stands, of any

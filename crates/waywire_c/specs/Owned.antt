@@ -1,7 +1,8 @@
--- What a handle owns: the block of a box.
+-- What a handle owns: the block of a box, but for tables, which are only read.
 use base.Fml.{Fml}
 use base.Stored.{Coded}
 use denote.RawPtr.{Ptr}
+use Rattle.core.specs.Ptr.{static_ref_at}
 use Rattle.std.specs.Box.Ownership.{box_owns}
 use Rattle.std.specs.Global.{Global}
 use Rattle.std_heap.specs.contracts.GlobalAllocator.TheImpl.{ghosts}
@@ -10,8 +11,9 @@ use Rattle.waywire_c.specs.contracts.held.HeldClient as client
 use Rattle.waywire_c.specs.contracts.held.HeldServer as server
 use Rattle.waywire_c.specs.contracts.held.HeldInspector as inspector
 
-abbrev pub owns_tables : Global → Ptr → tables.the_row.Denot → Fml
-owns_tables alloc = box_owns (ghosts.dealloc_token alloc) tables.the_row
+-- a handle of tables holds what a `&'static` to them does, so it can be copied
+abbrev pub lends_tables : Ptr → tables.the_row.Denot → Fml
+lends_tables = static_ref_at tables.the_row
 
 abbrev pub held_tables_coded : Coded tables.the_row.Denot
 held_tables_coded = tables.the_row.coded

@@ -25,3 +25,11 @@ pub record AreSizesOf (of : CSizes) (sizes : Sizes) : Type 0 where
   pub in_bytes : sizes.in_bytes ≡ of.in_bytes
   pub in_tokens : sizes.in_tokens ≡ of.in_tokens
   pub limit : sizes.limit.bytes ≡ limit_in_c of
+
+-- An end is in the state of a new one with the sizes of C: `new` gives that state for the sizes that
+-- an end has.
+pub record IsNewBy {State : Type 0} (new : Sizes → State) (of : CSizes) (state : State) : Type 0
+  where
+    pub sizes : Sizes
+    pub sizes_are : AreSizesOf of sizes
+    pub state_is : state ≡ new sizes

@@ -86,6 +86,11 @@ abbrev pub name_outcome : Result ℕ GlobalError → ℕ
 name_outcome (Ok name) = 0
 name_outcome (Err why) = global_status why
 
+-- the status of a call that makes something, or why it does not
+abbrev pub making_outcome : {X : Type 0} → Result X ℕ → ℕ
+making_outcome (Ok made) = 0
+making_outcome (Err status) = status
+
 -- the status of a call that refuses nothing but a failed end
 abbrev pub failed_outcome : Bool → ℕ
 failed_outcome true = 1

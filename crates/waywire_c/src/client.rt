@@ -3,6 +3,7 @@ ghost use Rattle.std.specs.Prelude.{◌≡◌, ◌≢◌, ◌↔◌, ◌+◌, �
 ghost use Rattle.std.specs.Prelude.{min, slice_get, IfSome, MatchOption};
 ghost use Rattle.std.specs.FinMap.{len as row_count};
 ghost use Rattle.wl_sigs.specs.declared.signature.Side.TheVariants.{Request as request_side};
+ghost use Rattle.wl_object_map.specs.View.{look};
 ghost use Rattle.wl_message.specs.Outgoing.{goes, Peeks, waiting_bytes, waiting_tokens};
 ghost use Rattle.wl_connection.specs.Core.{in_room, is_drained, live, display_object, feeds};
 ghost use Rattle.wl_connection.specs.Core.{feeds_len, with_arrived};
@@ -27,34 +28,30 @@ use crate::parts::address;
 use crate::reading::read_event;
 use crate::reports::Report;
 use crate::sending::tell_made;
-use crate::statuses::{BAD_SIZES, BAD_VALUE, NO_MEMORY, NOT_FOUND, OK, send_status};
+use crate::statuses::{BAD_VALUE, NOT_FOUND, OK, send_status};
 use crate::tables_handle::TablesHandle;
 use crate::values::{CAmounts, CObject, CParts, CSizes, CallArg, MAX_GIVEN, ReportArg, put_args};
 use std::alloc::Global;
 use wl_connection::End;
 use wl_objects::{Arg, Table};
 
-/// Makes a client with wl_display alone and empty boxes, and writes where it is to `client`.
+/// Makes a client with wl_display alone and empty queues, and writes where it is to `client`.
 #[unsafe(no_mangle)]
 pub extern "C" fn waywire_c_client_new(
     alloc: Global,
-    tables: &mut TablesHandle,
+    tables: TablesHandle,
     sizes: &CSizes,
     client: &mut *mut u8,
 ) -> u32
     ensures sizes { (result ≢ 63) ↔ AreAllowed sizes.now }
     ensures tried { result ≢ 63 → IsTried result }
-    ensures unchanged { tables.new.held ≡ tables.old.held }
 {
-    let Some(sizes) = sizes.sizes() else {
-        return BAD_SIZES;
-    };
-    match making::client(alloc, tables.get_mut().tables, sizes) {
+    match making::client_by(alloc, tables.get().tables, sizes) {
         Ok(boxed) => {
             *client = address(boxed);
             OK
         }
-        Err(_) => NO_MEMORY,
+        Err(status) => status,
     }
 }
 
@@ -107,6 +104,41 @@ pub extern "C" fn waywire_c_client_object_count(client: &mut ClientHandle) -> u3
     client.get_mut().client.table().len()
 }
 
+/// How many ids were ever used. No object has a greater one.
+#[unsafe(no_mangle)]
+pub extern "C" fn waywire_c_client_ids_used(client: &mut ClientHandle) -> u32
+    ensures answer { result ≡ client.old.held.client.core.view.used }
+    ensures unchanged { client.new.held ≡ client.old.held }
+{
+    client.get_mut().client.table().used()
+}
+
+/// Writes the birth of the object that has this id to `birth`, also of one that the client has destroyed.
+#[unsafe(no_mangle)]
+pub extern "C" fn waywire_c_client_look(client: &mut ClientHandle, id: u32, birth: &mut u64) -> u32
+    ensures answer { result ≡ find_outcome (look client.old.held.client.core.view id) }
+    ensures birth { MatchOption (look client.old.held.client.core.view id) (birth.new ≡ birth.old)
+        (λ entry. birth.new ≡ entry.birth) }
+    ensures unchanged { client.new.held ≡ client.old.held }
+{
+    match client.get_mut().client.table().look(id) {
+        Some(entry) => {
+            *birth = entry.birth;
+            OK
+        }
+        None => NOT_FOUND,
+    }
+}
+
+/// Whether the client has failed.
+#[unsafe(no_mangle)]
+pub extern "C" fn waywire_c_client_has_failed(client: &mut ClientHandle) -> bool
+    ensures answer { result ≡ client.old.held.client.core.failed }
+    ensures unchanged { client.new.held ≡ client.old.held }
+{
+    client.get_mut().client.has_failed()
+}
+
 /// Writes the free bytes and tokens of the inbox to `room`; zeros at a failed client.
 #[unsafe(no_mangle)]
 pub extern "C" fn waywire_c_client_in_room(client: &mut ClientHandle, room: &mut CAmounts)
@@ -116,7 +148,7 @@ pub extern "C" fn waywire_c_client_in_room(client: &mut ClientHandle, room: &mut
     *room = CAmounts::of(client.get_mut().client.in_room());
 }
 
-/// Whether nothing waits in either box.
+/// Whether nothing waits in either queue.
 #[unsafe(no_mangle)]
 pub extern "C" fn waywire_c_client_is_drained(client: &mut ClientHandle) -> bool
     ensures answer { result ≡ is_drained client.old.held.client.core }
@@ -192,7 +224,7 @@ pub extern "C" fn waywire_c_client_peek(
     ensures unchanged { client.new.held ≡ client.old.held }
 {
     let peek = client.get_mut().client.peek();
-    *parts = CParts::of(peek.front, peek.back);
+    *parts = CParts::of_peek(&peek);
     *tokens = peek.tokens;
 }
 
@@ -244,8 +276,7 @@ pub extern "C" fn waywire_c_client_space(client: &mut ClientHandle, parts: &mut 
         ≡ (in_room client.old.held.client.core).bytes }
     ensures unchanged { client.new.held ≡ client.old.held }
 {
-    let (front, back) = client.get_mut().client.space();
-    *parts = CParts::of(front, back);
+    *parts = CParts::of_space(client.get_mut().client.space());
 }
 
 /// Takes in what was written there, and writes how much of it to `fed`.
@@ -265,8 +296,8 @@ pub extern "C" fn waywire_c_client_received(
     *fed = CAmounts::of(client.get_mut().client.received(bytes, tokens));
 }
 
-/// Gives a client up: moves the tokens that wait in its boxes into the caller's memory, and writes how
-/// many these were to `taken`.
+/// Gives a client up: moves the tokens that wait in its queues into the caller's memory, and writes
+/// how many these were to `taken`.
 #[unsafe(no_mangle)]
 pub extern "C" fn waywire_c_client_take_waiting_tokens(
     client: &mut ClientHandle,

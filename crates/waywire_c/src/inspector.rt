@@ -12,12 +12,11 @@ ghost use Rattle.waywire_c.specs.Inspecting.{TellsVerdict};
 use crate::inspector_handle::InspectorHandle;
 use crate::making;
 use crate::parts::address;
-use crate::statuses::{BAD_SIZES, BAD_VALUE, NO_MEMORY, OK};
+use crate::statuses::{BAD_VALUE, NO_MEMORY, OK};
 use crate::tables_handle::TablesHandle;
-use crate::values::start_of;
+use crate::values::extent;
 use std::alloc::Global;
 use wl_check::Verdict;
-use wl_message::Limit;
 use wl_recording::Direction;
 use wl_verdict::write_verdict;
 
@@ -25,21 +24,19 @@ use wl_verdict::write_verdict;
 #[unsafe(no_mangle)]
 pub extern "C" fn waywire_c_inspector_new(
     alloc: Global,
-    tables: &mut TablesHandle,
+    tables: TablesHandle,
     limit: u32,
     inspector: &mut *mut u8,
 ) -> u32
     ensures limit { result ≢ 63 ↔ IsLimit limit }
+    ensures tried { result ≢ 63 → IsTried result }
 {
-    let Some(limit) = Limit::new(limit) else {
-        return BAD_SIZES;
-    };
-    match making::inspector(alloc, tables.get_mut().tables, limit) {
+    match making::inspector_by(alloc, tables.get().tables, limit) {
         Ok(boxed) => {
             *inspector = address(boxed);
             OK
         }
-        Err(_) => NO_MEMORY,
+        Err(status) => status,
     }
 }
 
@@ -94,9 +91,7 @@ pub extern "C" fn waywire_c_inspector_lines(
     ensures length { length.new ≡ len (printed inspector.old.held.inspector) }
     ensures unchanged { inspector.new.held ≡ inspector.old.held }
 {
-    let text = inspector.get_mut().inspector.lines();
-    *lines = start_of(text);
-    *length = text.len();
+    (*lines, *length) = extent(inspector.get_mut().inspector.lines());
 }
 
 /// Writes where the line of the verdict on all pieces so far begins to `line`, its length to
@@ -120,9 +115,7 @@ pub extern "C" fn waywire_c_inspector_verdict(
     held.line.clear();
     match write_verdict(&mut held.line, &verdict) {
         Ok(()) => {
-            let text = held.line.as_slice();
-            *line = start_of(text);
-            *length = text.len();
+            (*line, *length) = extent(held.line.as_slice());
             *broken = is_broken(&verdict);
             OK
         }

@@ -1,13 +1,20 @@
 //! What handles lead to is made.
-ghost use Rattle.std.specs.Prelude.{◌≡◌, ◌⊎◌, Ok, Err, IfOk, MatchResult};
+ghost use Rattle.std.specs.Prelude.{◌≡◌, ◌≢◌, ◌⊎◌, ◌↔◌, [], Ok, Err, IfOk, MatchResult};
 ghost use Rattle.wl_message.specs.Arrived.{AreSizes};
+ghost use Rattle.wl_message.specs.Cut.{IsLimit};
 ghost use Rattle.wl_sigs.specs.Core.{core_tables};
 ghost use Rattle.wl_sigs.specs.Outcome.{outcome};
 ghost use Rattle.wl_interface_text.specs.declared.fault.TableFault.TheVariants.{Memory};
 ghost use Rattle.wl_client.specs.State.{new_state as new_client};
 ghost use Rattle.wl_server.specs.State.{new_state as new_server};
+ghost use Rattle.wl_check.specs.Inspected.{printed, HasPassed};
+ghost use Rattle.waywire_c.specs.Inspecting.{IsTried};
+ghost use Rattle.waywire_c.specs.Sizes.{AreAllowed, IsNewBy};
+ghost use Rattle.waywire_c.specs.Statuses.{making_outcome};
 
 use crate::held::{HeldClient, HeldInspector, HeldServer, HeldTables};
+use crate::statuses::{BAD_SIZES, NO_MEMORY};
+use crate::values::CSizes;
 use std::alloc::{AllocError, Global};
 use wl_check::Inspector;
 use wl_client::Client;
@@ -74,6 +81,27 @@ pub fn client(
     boxed(alloc, HeldClient { client })
 }
 
+/// A client over these tables with the sizes of C. Otherwise a status: `BAD_SIZES` where no end can
+/// have them, else `NO_MEMORY`.
+pub fn client_by(
+    alloc: Global,
+    tables: &'static Tables,
+    sizes: &CSizes,
+) -> Result<Box<HeldClient>, u32>
+    ensures made { IfOk result (λ made.
+        IsNewBy (new_client tables.now) sizes.now made.value.client) }
+    ensures sizes { making_outcome result ≢ 63 ↔ AreAllowed sizes.now }
+    ensures tried { making_outcome result ≢ 63 → IsTried (making_outcome result) }
+{
+    let Some(sizes) = sizes.sizes() else {
+        return Err(BAD_SIZES);
+    };
+    match client(alloc, tables, sizes) {
+        Ok(boxed) => Ok(boxed),
+        Err(_) => Err(NO_MEMORY),
+    }
+}
+
 /// A server over these tables.
 pub fn server(
     alloc: Global,
@@ -87,12 +115,36 @@ pub fn server(
     boxed(alloc, HeldServer { server })
 }
 
-/// An inspector by these tables and this limit.
+/// A server over these tables with the sizes of C, or a status, as for a client.
+pub fn server_by(
+    alloc: Global,
+    tables: &'static Tables,
+    sizes: &CSizes,
+) -> Result<Box<HeldServer>, u32>
+    ensures made { IfOk result (λ made.
+        IsNewBy (new_server tables.now) sizes.now made.value.server) }
+    ensures sizes { making_outcome result ≢ 63 ↔ AreAllowed sizes.now }
+    ensures tried { making_outcome result ≢ 63 → IsTried (making_outcome result) }
+{
+    let Some(sizes) = sizes.sizes() else {
+        return Err(BAD_SIZES);
+    };
+    match server(alloc, tables, sizes) {
+        Ok(boxed) => Ok(boxed),
+        Err(_) => Err(NO_MEMORY),
+    }
+}
+
+/// An inspector by these tables and this limit, which nothing has passed yet.
 pub fn inspector(
     alloc: Global,
     tables: &'static Tables,
     limit: Limit,
-) -> Result<Box<HeldInspector>, AllocError> {
+) -> Result<Box<HeldInspector>, AllocError>
+    ensures passed { IfOk result (λ made.
+        HasPassed limit.bytes tables.now [] made.value.inspector) }
+    ensures lines { IfOk result (λ made. printed made.value.inspector ≡ []) }
+{
     let inspector = Inspector::new(alloc, tables, limit)?;
     boxed(
         alloc,
@@ -101,4 +153,25 @@ pub fn inspector(
             line: Vec::new(alloc),
         },
     )
+}
+
+/// An inspector by these tables with a limit of C, which nothing has passed yet. Otherwise a
+/// status: `BAD_SIZES` where no message has the limit, else `NO_MEMORY`.
+pub fn inspector_by(
+    alloc: Global,
+    tables: &'static Tables,
+    limit: u32,
+) -> Result<Box<HeldInspector>, u32>
+    ensures passed { IfOk result (λ made. HasPassed limit tables.now [] made.value.inspector) }
+    ensures lines { IfOk result (λ made. printed made.value.inspector ≡ []) }
+    ensures limit { making_outcome result ≢ 63 ↔ IsLimit limit }
+    ensures tried { making_outcome result ≢ 63 → IsTried (making_outcome result) }
+{
+    let Some(limit) = Limit::new(limit) else {
+        return Err(BAD_SIZES);
+    };
+    match inspector(alloc, tables, limit) {
+        Ok(boxed) => Ok(boxed),
+        Err(_) => Err(NO_MEMORY),
+    }
 }

@@ -7,7 +7,7 @@ ghost use Rattle.waywire_c.specs.Statuses.{find_outcome};
 
 use crate::statuses::{NOT_FOUND, OK};
 use crate::tables_handle::TablesHandle;
-use crate::values::{ARRAY, FD, FIXED, INT, NEW, OBJECT, STRING, UINT, start_of};
+use crate::values::{ARRAY, FD, FIXED, INT, NEW, NEW_BY_SERVER, OBJECT, STRING, UINT, start_of};
 use wl_sigs::{Destroys, Side};
 use wl_wire::{Iface, Kind};
 
@@ -37,7 +37,7 @@ pub struct CKind {
     pub interface: u16,
 }
 
-fn side_of(sender: u32) -> Option<Side>
+pub fn side_of(sender: u32) -> Option<Side>
     ensures { result ≡ side_of_sender sender }
 {
     match sender {
@@ -91,6 +91,7 @@ fn kind_told(kind: Kind) -> CKind
         Kind::Str { null } => told(STRING, null, None),
         Kind::Obj { null, iface } => told(OBJECT, null, iface),
         Kind::New(iface) => told(NEW, false, iface),
+        Kind::NewByServer(iface) => told(NEW_BY_SERVER, false, Some(iface)),
         Kind::Array => told(ARRAY, false, None),
         Kind::Fd => told(FD, false, None),
     }
@@ -100,7 +101,7 @@ fn kind_told(kind: Kind) -> CKind
 /// length to `length`.
 #[unsafe(no_mangle)]
 pub extern "C" fn waywire_c_tables_message(
-    tables: &mut TablesHandle,
+    tables: TablesHandle,
     interface: u16,
     sender: u32,
     opcode: u16,
@@ -109,20 +110,16 @@ pub extern "C" fn waywire_c_tables_message(
     length: &mut usize,
 ) -> u32
     ensures answer { result
-        ≡ find_outcome (message_at tables.old.held.tables.now interface sender opcode) }
-    ensures told { MatchOption (message_at tables.old.held.tables.now interface sender opcode)
+        ≡ find_outcome (message_at tables.held.tables.now interface sender opcode) }
+    ensures told { MatchOption (message_at tables.held.tables.now interface sender opcode)
         ((message.new ≡ message.old) × (name.new ≡ name.old) × (length.new ≡ length.old))
         (λ found. TellsMessage found message.new length.new) }
-    ensures unchanged { tables.new.held ≡ tables.old.held }
 {
+    let tables = tables.get().tables;
     let Some(side) = side_of(sender) else {
         return NOT_FOUND;
     };
-    match tables
-        .get_mut()
-        .tables
-        .message(Iface(interface), side, opcode)
-    {
+    match tables.message(Iface(interface), side, opcode) {
         Some(found) => {
             *message = CMessage {
                 since: found.since(),
@@ -141,7 +138,7 @@ pub extern "C" fn waywire_c_tables_message(
 /// Writes what the tables say of the argument at a place of a message to `kind`.
 #[unsafe(no_mangle)]
 pub extern "C" fn waywire_c_tables_kind(
-    tables: &mut TablesHandle,
+    tables: TablesHandle,
     interface: u16,
     sender: u32,
     opcode: u16,
@@ -149,20 +146,16 @@ pub extern "C" fn waywire_c_tables_kind(
     kind: &mut CKind,
 ) -> u32
     ensures answer { result
-        ≡ find_outcome (kind_of_argument tables.old.held.tables.now interface sender opcode place) }
-    ensures told { MatchOption (kind_of_argument tables.old.held.tables.now interface sender opcode
+        ≡ find_outcome (kind_of_argument tables.held.tables.now interface sender opcode place) }
+    ensures told { MatchOption (kind_of_argument tables.held.tables.now interface sender opcode
         place)
         (kind.new ≡ kind.old) (λ found. TellsKind found kind.new) }
-    ensures unchanged { tables.new.held ≡ tables.old.held }
 {
+    let tables = tables.get().tables;
     let Some(side) = side_of(sender) else {
         return NOT_FOUND;
     };
-    let Some(message) = tables
-        .get_mut()
-        .tables
-        .message(Iface(interface), side, opcode)
-    else {
+    let Some(message) = tables.message(Iface(interface), side, opcode) else {
         return NOT_FOUND;
     };
     match message.kinds().get(place) {

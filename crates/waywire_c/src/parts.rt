@@ -4,6 +4,7 @@ ghost use Rattle.std.specs.Box.Ownership.{box_owns};
 
 use std::alloc::Allocator;
 use std::marker::Model;
+use std::ptr;
 
 /// What a box consists of.
 pub struct Parts<T, A: Allocator> {
@@ -29,4 +30,10 @@ impl<T, A: Allocator> Parts<T, A> {
 /// The address of a box, which is not freed.
 pub fn address<T: Drop>(boxed: Box<T>) -> *mut u8 {
     Box::into_raw(boxed).cast::<u8>()
+}
+
+/// The address of what a box holds, which is lent for good.
+pub fn lent_address<T: Drop>(boxed: Box<T>) -> *const u8 {
+    let lent: &T = Box::leak(boxed);
+    ptr::from_ref(lent).cast::<u8>()
 }

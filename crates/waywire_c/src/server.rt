@@ -3,6 +3,7 @@ ghost use Rattle.std.specs.Prelude.{◌≡◌, ◌≢◌, ◌↔◌, ◌+◌, �
 ghost use Rattle.std.specs.Prelude.{min, slice_get, MatchOption, None};
 ghost use Rattle.std.specs.FinMap.{len as row_count};
 ghost use Rattle.wl_sigs.specs.declared.signature.Side.TheVariants.{Event as event_side};
+ghost use Rattle.wl_object_map.specs.View.{look};
 ghost use Rattle.wl_message.specs.Outgoing.{goes, Peeks, waiting_bytes, waiting_tokens};
 ghost use Rattle.wl_connection.specs.Core.{in_room, is_drained, live, display_object, feeds};
 ghost use Rattle.wl_connection.specs.Core.{feeds_len, with_arrived};
@@ -30,7 +31,7 @@ use crate::reading::read_request;
 use crate::reports::Report;
 use crate::sending::tell_made;
 use crate::server_handle::ServerHandle;
-use crate::statuses::{BAD_SIZES, BAD_VALUE, NO_MEMORY, NOT_FOUND, OK, global_status, send_status};
+use crate::statuses::{BAD_VALUE, NOT_FOUND, OK, global_status, send_status};
 use crate::tables_handle::TablesHandle;
 use crate::values::{CAmounts, CObject, CParts, CSizes, CallArg, MAX_GIVEN, ReportArg, put_args};
 use std::alloc::Global;
@@ -38,27 +39,23 @@ use wl_connection::End;
 use wl_objects::{Arg, Table};
 use wl_wire::Iface;
 
-/// Makes a server with wl_display alone and empty boxes, and writes where it is to `server`.
+/// Makes a server with wl_display alone and empty queues, and writes where it is to `server`.
 #[unsafe(no_mangle)]
 pub extern "C" fn waywire_c_server_new(
     alloc: Global,
-    tables: &mut TablesHandle,
+    tables: TablesHandle,
     sizes: &CSizes,
     server: &mut *mut u8,
 ) -> u32
     ensures sizes { (result ≢ 63) ↔ AreAllowed sizes.now }
     ensures tried { result ≢ 63 → IsTried result }
-    ensures unchanged { tables.new.held ≡ tables.old.held }
 {
-    let Some(sizes) = sizes.sizes() else {
-        return BAD_SIZES;
-    };
-    match making::server(alloc, tables.get_mut().tables, sizes) {
+    match making::server_by(alloc, tables.get().tables, sizes) {
         Ok(boxed) => {
             *server = address(boxed);
             OK
         }
-        Err(_) => NO_MEMORY,
+        Err(status) => status,
     }
 }
 
@@ -111,6 +108,41 @@ pub extern "C" fn waywire_c_server_object_count(server: &mut ServerHandle) -> u3
     server.get_mut().server.table().len()
 }
 
+/// How many ids were ever used. No object has a greater one.
+#[unsafe(no_mangle)]
+pub extern "C" fn waywire_c_server_ids_used(server: &mut ServerHandle) -> u32
+    ensures answer { result ≡ server.old.held.server.core.view.used }
+    ensures unchanged { server.new.held ≡ server.old.held }
+{
+    server.get_mut().server.table().used()
+}
+
+/// Writes the birth of the object that has this id to `birth`.
+#[unsafe(no_mangle)]
+pub extern "C" fn waywire_c_server_look(server: &mut ServerHandle, id: u32, birth: &mut u64) -> u32
+    ensures answer { result ≡ find_outcome (look server.old.held.server.core.view id) }
+    ensures birth { MatchOption (look server.old.held.server.core.view id) (birth.new ≡ birth.old)
+        (λ entry. birth.new ≡ entry.birth) }
+    ensures unchanged { server.new.held ≡ server.old.held }
+{
+    match server.get_mut().server.table().look(id) {
+        Some(entry) => {
+            *birth = entry.birth;
+            OK
+        }
+        None => NOT_FOUND,
+    }
+}
+
+/// Whether the server has failed.
+#[unsafe(no_mangle)]
+pub extern "C" fn waywire_c_server_has_failed(server: &mut ServerHandle) -> bool
+    ensures answer { result ≡ server.old.held.server.core.failed }
+    ensures unchanged { server.new.held ≡ server.old.held }
+{
+    server.get_mut().server.has_failed()
+}
+
 /// Writes the free bytes and tokens of the inbox to `room`; zeros at a failed server.
 #[unsafe(no_mangle)]
 pub extern "C" fn waywire_c_server_in_room(server: &mut ServerHandle, room: &mut CAmounts)
@@ -120,7 +152,7 @@ pub extern "C" fn waywire_c_server_in_room(server: &mut ServerHandle, room: &mut
     *room = CAmounts::of(server.get_mut().server.in_room());
 }
 
-/// Whether nothing waits in either box.
+/// Whether nothing waits in either queue.
 #[unsafe(no_mangle)]
 pub extern "C" fn waywire_c_server_is_drained(server: &mut ServerHandle) -> bool
     ensures answer { result ≡ is_drained server.old.held.server.core }
@@ -196,7 +228,7 @@ pub extern "C" fn waywire_c_server_peek(
     ensures unchanged { server.new.held ≡ server.old.held }
 {
     let peek = server.get_mut().server.peek();
-    *parts = CParts::of(peek.front, peek.back);
+    *parts = CParts::of_peek(&peek);
     *tokens = peek.tokens;
 }
 
@@ -248,8 +280,7 @@ pub extern "C" fn waywire_c_server_space(server: &mut ServerHandle, parts: &mut 
         ≡ (in_room server.old.held.server.core).bytes }
     ensures unchanged { server.new.held ≡ server.old.held }
 {
-    let (front, back) = server.get_mut().server.space();
-    *parts = CParts::of(front, back);
+    *parts = CParts::of_space(server.get_mut().server.space());
 }
 
 /// Takes in what was written there, and writes how much of it to `fed`.
@@ -269,8 +300,8 @@ pub extern "C" fn waywire_c_server_received(
     *fed = CAmounts::of(server.get_mut().server.received(bytes, tokens));
 }
 
-/// Gives a server up: moves the tokens that wait in its boxes into the caller's memory, and writes how
-/// many these were to `taken`.
+/// Gives a server up: moves the tokens that wait in its queues into the caller's memory, and writes
+/// how many these were to `taken`.
 #[unsafe(no_mangle)]
 pub extern "C" fn waywire_c_server_take_waiting_tokens(
     server: &mut ServerHandle,

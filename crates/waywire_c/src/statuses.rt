@@ -15,6 +15,9 @@ pub const OK: u32 = 0;
 /// S1, G1.
 pub const FAILED: u32 = 1;
 
+/// S9, or no room for what is read.
+pub const FULL: u32 = 9;
+
 /// S11, G4.
 pub const NO_MEMORY: u32 = 11;
 
@@ -80,7 +83,7 @@ pub fn global_status(error: GlobalError) -> u32
 }
 
 /// The status of a fault.
-fn fault_status(fault: Fault) -> u32
+pub fn fault_status(fault: Fault) -> u32
     ensures { result ≡ fault_status fault }
 {
     match fault {

@@ -11,7 +11,7 @@ ghost use Rattle.waywire_c.specs.Statuses.{find_outcome, table_outcome};
 ghost use Rattle.waywire_c.specs.Values.{iface_at};
 
 use crate::making::{core_tables, more_tables};
-use crate::parts::address;
+use crate::parts::lent_address;
 use crate::statuses::{BAD_LINE, BAD_TABLE, NO_MEMORY, NOT_FOUND, OK};
 use crate::tables_handle::TablesHandle;
 use crate::values::start_of;
@@ -21,12 +21,12 @@ use wl_wire::Iface;
 
 /// Makes the core tables, and writes where they are to `tables`.
 #[unsafe(no_mangle)]
-pub extern "C" fn waywire_c_tables_core(alloc: Global, tables: &mut *mut u8) -> u32
+pub extern "C" fn waywire_c_tables_core(alloc: Global, tables: &mut *const u8) -> u32
     ensures { IsTried result }
 {
     match core_tables(alloc) {
         Ok(boxed) => {
-            *tables = address(boxed);
+            *tables = lent_address(boxed);
             OK
         }
         Err(_) => NO_MEMORY,
@@ -38,25 +38,24 @@ pub extern "C" fn waywire_c_tables_core(alloc: Global, tables: &mut *mut u8) -> 
 #[unsafe(no_mangle)]
 pub extern "C" fn waywire_c_tables_read(
     alloc: Global,
-    tables: &mut TablesHandle,
+    tables: TablesHandle,
     text: &[u8],
-    more: &mut *mut u8,
+    more: &mut *const u8,
     line: &mut usize,
     rule: &mut u32,
 ) -> u32
-    ensures answer { (result ≡ table_outcome (outcome tables.old.held.tables.now text.now))
+    ensures answer { (result ≡ table_outcome (outcome tables.held.tables.now text.now))
         ⊎ (result ≡ 11) }
     ensures bad_line { result ≡ 71
-        → outcome tables.old.held.tables.now text.now ≡ Err (bad_line line.new) }
+        → outcome tables.held.tables.now text.now ≡ Err (bad_line line.new) }
     ensures bad_table { result ≡ 72
-        → outcome tables.old.held.tables.now text.now ≡ Err (bad_table line.new rule.new) }
+        → outcome tables.held.tables.now text.now ≡ Err (bad_table line.new rule.new) }
     ensures line { result ≢ 71 → result ≢ 72 → line.new ≡ line.old }
     ensures rule { result ≢ 72 → rule.new ≡ rule.old }
-    ensures unchanged { tables.new.held ≡ tables.old.held }
 {
-    match more_tables(alloc, tables.get_mut().tables, text) {
+    match more_tables(alloc, tables.get().tables, text) {
         Ok(boxed) => {
-            *more = address(boxed);
+            *more = lent_address(boxed);
             OK
         }
         Err(TableFault::BadLine { line: bad }) => {
@@ -80,16 +79,15 @@ pub extern "C" fn waywire_c_tables_read(
 /// Writes the place of the interface of this name to `interface`.
 #[unsafe(no_mangle)]
 pub extern "C" fn waywire_c_tables_interface(
-    tables: &mut TablesHandle,
+    tables: TablesHandle,
     name: &[u8],
     interface: &mut u16,
 ) -> u32
-    ensures answer { result ≡ find_outcome (place_of tables.old.held.tables.now name.now) }
-    ensures found { MatchOption (place_of tables.old.held.tables.now name.now)
+    ensures answer { result ≡ find_outcome (place_of tables.held.tables.now name.now) }
+    ensures found { MatchOption (place_of tables.held.tables.now name.now)
         (interface.new ≡ interface.old) (λ iface. iface ≡ iface_at interface.new) }
-    ensures unchanged { tables.new.held ≡ tables.old.held }
 {
-    match tables.get_mut().tables.interface(name) {
+    match tables.get().tables.interface(name) {
         Some(iface) => {
             *interface = iface.0;
             OK
@@ -101,17 +99,16 @@ pub extern "C" fn waywire_c_tables_interface(
 /// Writes where the name of the interface at a place begins to `name`, and its length to `length`.
 #[unsafe(no_mangle)]
 pub extern "C" fn waywire_c_tables_name(
-    tables: &mut TablesHandle,
+    tables: TablesHandle,
     interface: u16,
     name: &mut *const u8,
     length: &mut usize,
 ) -> u32
-    ensures answer { result ≡ find_outcome (interface_at tables.old.held.tables.now interface) }
-    ensures length { MatchOption (interface_at tables.old.held.tables.now interface)
+    ensures answer { result ≡ find_outcome (interface_at tables.held.tables.now interface) }
+    ensures length { MatchOption (interface_at tables.held.tables.now interface)
         ((length.new ≡ length.old) × (name.new ≡ name.old)) (λ i. length.new ≡ len i.name) }
-    ensures unchanged { tables.new.held ≡ tables.old.held }
 {
-    match tables.get_mut().tables.name(Iface(interface)) {
+    match tables.get().tables.name(Iface(interface)) {
         Some(text) => {
             *name = start_of(text);
             *length = text.len();
@@ -124,16 +121,15 @@ pub extern "C" fn waywire_c_tables_name(
 /// Writes the newest version of the interface at a place to `version`.
 #[unsafe(no_mangle)]
 pub extern "C" fn waywire_c_tables_version(
-    tables: &mut TablesHandle,
+    tables: TablesHandle,
     interface: u16,
     version: &mut u32,
 ) -> u32
-    ensures answer { result ≡ find_outcome (interface_at tables.old.held.tables.now interface) }
-    ensures version { MatchOption (interface_at tables.old.held.tables.now interface)
+    ensures answer { result ≡ find_outcome (interface_at tables.held.tables.now interface) }
+    ensures version { MatchOption (interface_at tables.held.tables.now interface)
         (version.new ≡ version.old) (λ i. version.new ≡ i.version) }
-    ensures unchanged { tables.new.held ≡ tables.old.held }
 {
-    match tables.get_mut().tables.version(Iface(interface)) {
+    match tables.get().tables.version(Iface(interface)) {
         Some(found) => {
             *version = found;
             OK

@@ -8,7 +8,7 @@ ghost use Rattle.waywire_c.specs.Values.{all_given, given_by, object_from_c};
 ghost use Rattle.waywire_c.specs.Reports.{arg_named, arg_of_kind, arg_told, arg_told_by};
 
 use std::ptr;
-use wl_message::{Amounts, Limit, Sizes};
+use wl_message::{Amounts, Limit, Peek, Sizes};
 use wl_objects::{Arg, GotRef, Named, Object};
 use wl_wire::Fixed;
 
@@ -16,8 +16,9 @@ use wl_wire::Fixed;
 /// with too many is refused as such.
 pub const MAX_GIVEN: usize = 21;
 
-/// What an argument is. A call takes those up to `FD`; the others stand in reports alone, which
-/// have no `NEW` without an object. 0 is none of them.
+/// What an argument is. A call takes those up to `FD`; `DEAD_OBJECT` and `BOUND` stand in reports
+/// alone, which have no `NEW` without an object, and `NEW_BY_SERVER` in what tables say. 0 is none
+/// of them.
 pub const INT: u32 = 1;
 
 pub const UINT: u32 = 2;
@@ -41,6 +42,8 @@ pub const FD: u32 = 10;
 pub const DEAD_OBJECT: u32 = 11;
 
 pub const BOUND: u32 = 12;
+
+pub const NEW_BY_SERVER: u32 = 13;
 
 /// An object: its id, and its birth, which tells it from every other object of that id.
 #[repr(C)]
@@ -78,7 +81,7 @@ pub struct ReportArg {
     pub length: usize,
 }
 
-/// How large the boxes of an end are, and the limit of its messages: 0 is the usual one.
+/// How large the queues of an end are, and the limit of its messages: 0 is the usual one.
 #[repr(C)]
 #[derive(Clone, Copy)]
 pub struct CSizes {
@@ -112,12 +115,31 @@ impl CParts {
         ensures front { result.front_length ≡ length front.now }
         ensures back { result.back_length ≡ length back.now }
     {
+        let (front, front_length) = extent(front);
+        let (back, back_length) = extent(back);
         CParts {
-            front: start_of(front),
-            front_length: front.len(),
-            back: start_of(back),
-            back_length: back.len(),
+            front,
+            front_length,
+            back,
+            back_length,
         }
+    }
+
+    /// What can go at one time, as an end lends it.
+    pub fn of_peek(peek: &Peek<'_>) -> CParts
+        ensures front { result.front_length ≡ length peek.now.front.now }
+        ensures back { result.back_length ≡ length peek.now.back.now }
+    {
+        CParts::of(peek.front, peek.back)
+    }
+
+    /// Free bytes, as an end lends them.
+    pub fn of_space(space: (&[u8], &[u8])) -> CParts
+        ensures front { result.front_length ≡ length space.entry.0.now }
+        ensures back { result.back_length ≡ length space.entry.1.now }
+    {
+        let (front, back) = space;
+        CParts::of(front, back)
     }
 }
 
@@ -209,6 +231,14 @@ pub fn start_of(bytes: &[u8]) -> *const u8 {
     }
 }
 
+/// Where a slice begins, as `start_of` has it, and its length.
+#[inline(always)]
+pub fn extent(bytes: &[u8]) -> (*const u8, usize)
+    ensures { result.1 ≡ length bytes.now }
+{
+    (start_of(bytes), bytes.len())
+}
+
 /// Where a slice of tokens begins; null where it is empty.
 pub fn start_of_tokens(tokens: &[u32]) -> *const u32 {
     match tokens.first() {
@@ -273,9 +303,10 @@ fn plain(kind: u32) -> ReportArg
 fn with_bytes(kind: u32, bytes: &[u8]) -> ReportArg
     ensures { arg_told_by result ≡ record (arg_of_kind kind) { length = length bytes.now } }
 {
+    let (bytes, length) = extent(bytes);
     ReportArg {
-        bytes: start_of(bytes),
-        length: bytes.len(),
+        bytes,
+        length,
         ..plain(kind)
     }
 }

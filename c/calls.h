@@ -1,0 +1,50 @@
+/* What the files of the library for C share: handles, and tests of what C may pass. `make` makes local what is global
+ * here: only the calls of include/waywire.h are for others to see. */
+#ifndef WAYWIRE_CALLS_H
+#define WAYWIRE_CALLS_H
+
+#include "waywire.h"
+
+#include <stdlib.h>
+
+/* A pointer to the tables, the end or the inspector that an export made. */
+struct handle {
+	void *at;
+};
+
+/* What is allocated while tables are made, in a list. */
+struct block {
+	struct block *before, *after;
+};
+
+struct waywire_tables {
+	struct handle handle;
+	struct block blocks; /* the head of the list, which is a ring */
+	size_t users;        /* the caller, each end and each inspector */
+	waywire_tables *own; /* these, for whoever joins or leaves their users */
+};
+
+/* A layout that the exports have too. */
+#define SAME(name, it) typedef char same_##name[(it) ? 1 : -1]
+
+/* So the compiler may put a function into its callers, although the code can be moved in memory. */
+#define HIDDEN __attribute__((visibility("hidden")))
+
+/* Memory that stands for an empty slice that is null. */
+extern HIDDEN uint32_t nowhere[1];
+
+/* Tests a slice, and gives an empty one that is null an address. */
+HIDDEN waywire_status slice(const void **bytes, size_t length, size_t size);
+
+/* Gives an empty string an address. */
+HIDDEN void name_empty(waywire_arg *arg);
+
+/* The least that this thread asks for at a time: while a piece passes, so much that its lines grow in few steps; else
+ * 0. */
+extern __thread size_t least_asked HIDDEN;
+
+/* Joins the users of tables. Nothing else of tables changes once they are made, so any calls read them at one
+ * time. */
+HIDDEN waywire_tables *used(const waywire_tables *tables);
+
+#endif

@@ -1,0 +1,140 @@
+/* An inspector of what passes, and recordings, which it can be given. */
+#include "calls.h"
+
+uint32_t waywire_c_inspector_new(struct handle tables, uint32_t limit, void **made);
+void waywire_c_inspector_free(struct handle);
+uint32_t waywire_c_inspector_pass(struct handle *, uint32_t sender, const void *bytes, size_t length,
+	size_t token_count);
+void waywire_c_inspector_lines(const struct handle *, const void **lines, size_t *length);
+uint32_t waywire_c_inspector_verdict(struct handle *, const void **line, size_t *length, bool *broken);
+
+/* What an export tells of a piece beside its bytes. */
+struct told_piece {
+	uint32_t sender;
+	uint32_t token_count;
+	size_t length;
+	size_t left; /* of the text, behind the piece's line */
+	size_t line;
+};
+
+uint32_t waywire_c_recording_next(const void *text, size_t length, size_t line, void *bytes, size_t room,
+	struct told_piece *);
+
+/* ---- an inspector */
+
+/* An inspector, and the tables that it lends. */
+struct waywire_inspector {
+	struct handle handle;
+	waywire_tables *tables;
+};
+
+waywire_status waywire_inspector_new(const waywire_tables *tables, uint32_t limit,
+	waywire_inspector **inspector)
+{
+	if (!tables || !inspector)
+		return WAYWIRE_NULL;
+	waywire_inspector *made = malloc(sizeof *made);
+	if (!made)
+		return WAYWIRE_NO_MEMORY;
+	waywire_status status = waywire_c_inspector_new(tables->handle, limit, &made->handle.at);
+	if (status) {
+		free(made);
+		return status;
+	}
+	made->tables = used(tables);
+	*inspector = made;
+	return WAYWIRE_OK;
+}
+
+void waywire_inspector_free(waywire_inspector *inspector)
+{
+	if (!inspector)
+		return;
+	waywire_c_inspector_free(inspector->handle);
+	waywire_tables_free(inspector->tables);
+	free(inspector);
+}
+
+enum { LEAST_OF_PIECE = 256 };
+
+waywire_status waywire_inspector_pass(waywire_inspector *inspector, waywire_sender sender,
+	const void *bytes, size_t length, size_t token_count)
+{
+	if (!inspector)
+		return WAYWIRE_NULL;
+	waywire_status status = slice(&bytes, length, 1);
+	if (status)
+		return status;
+	least_asked = LEAST_OF_PIECE;
+	status = waywire_c_inspector_pass(&inspector->handle, sender, bytes, length, token_count);
+	least_asked = 0;
+	return status;
+}
+
+waywire_status waywire_inspector_lines(const waywire_inspector *inspector, const char **lines,
+	size_t *length)
+{
+	const void *found;
+	if (!inspector || !lines || !length)
+		return WAYWIRE_NULL;
+	waywire_c_inspector_lines(&inspector->handle, &found, length);
+	*lines = found ? found : (const char *)nowhere;
+	return WAYWIRE_OK;
+}
+
+waywire_status waywire_inspector_verdict(waywire_inspector *inspector, const char **line,
+	size_t *length, bool *broken)
+{
+	const void *found;
+	bool is_broken;
+	if (!inspector || !line || !length)
+		return WAYWIRE_NULL;
+	waywire_status status = waywire_c_inspector_verdict(&inspector->handle, &found, length,
+		&is_broken);
+	if (status)
+		return status;
+	*line = found;
+	if (broken)
+		*broken = is_broken;
+	return WAYWIRE_OK;
+}
+
+/* ---- a recording */
+
+/* Where the last line of a part of a text begins. */
+static size_t last_line(const char *text, size_t from, size_t behind)
+{
+	size_t at = behind - 1;
+	while (at > from && text[at - 1] != '\n')
+		at--;
+	return at;
+}
+
+waywire_status waywire_recording_next(const void *text, size_t length, size_t from, size_t line, void *bytes,
+	size_t room, waywire_piece *piece)
+{
+	const void *to = bytes;
+	struct told_piece told = { 0, 0, 0, 0, 0 };
+	if (!piece)
+		return WAYWIRE_NULL;
+	waywire_status status = slice(&text, length, 1);
+	if (!status)
+		status = slice(&to, room, 1);
+	if (status)
+		return status;
+	if (from > length || line > PTRDIFF_MAX)
+		return WAYWIRE_BAD_VALUE;
+	status = waywire_c_recording_next((const char *)text + from, length - from, line, (void *)to, room, &told);
+	if (status == WAYWIRE_BAD_LINE)
+		piece->line = told.line;
+	if (status)
+		return status;
+	size_t behind = length - told.left;
+	piece->sender = told.sender;
+	piece->token_count = told.token_count;
+	piece->length = told.length;
+	piece->begin = last_line(text, from, behind);
+	piece->behind = behind;
+	piece->line = told.line;
+	return status;
+}

@@ -1,0 +1,251 @@
+/* Tables, and messages that are taken apart by them. An export takes a handle of tables as it is, since any calls have
+ * it at one time. */
+#include "calls.h"
+
+uint32_t waywire_c_tables_core(void **tables);
+uint32_t waywire_c_tables_read(struct handle, const void *text, size_t length, void **more,
+	size_t *line, uint32_t *rule);
+uint32_t waywire_c_tables_interface(struct handle, const void *name, size_t length,
+	uint16_t *interface);
+uint32_t waywire_c_tables_name(struct handle, uint16_t interface, const void **name,
+	size_t *length);
+uint32_t waywire_c_tables_version(struct handle, uint16_t interface, uint32_t *version);
+uint32_t waywire_c_tables_message(struct handle, uint16_t interface, uint32_t sender,
+	uint16_t opcode, waywire_message *message, const void **name, size_t *length);
+uint32_t waywire_c_tables_kind(struct handle, uint16_t interface, uint32_t sender,
+	uint16_t opcode, size_t place, waywire_kind *kind);
+uint32_t waywire_c_tables_decode(struct handle, uint16_t interface, uint32_t version,
+	uint32_t sender, const void *bytes, size_t length, waywire_decoded *, waywire_arg *args,
+	size_t arg_count);
+
+SAME(message, sizeof(waywire_message) == 24 && offsetof(waywire_message, destroys) == 4
+	&& offsetof(waywire_message, destroyed) == 8 && offsetof(waywire_message, arg_count) == 16);
+SAME(kind, sizeof(waywire_kind) == 8 && offsetof(waywire_kind, nullable) == 4
+	&& offsetof(waywire_kind, interface) == 6);
+SAME(decoded, offsetof(waywire_decoded, opcode) == 4 && offsetof(waywire_decoded, size) == 6
+	&& offsetof(waywire_decoded, name) == 8 && offsetof(waywire_decoded, name_length) == 16
+	&& offsetof(waywire_decoded, arg_count) == 24 && offsetof(waywire_decoded, place) == 32
+	&& offsetof(waywire_decoded, spelling) == 40
+	&& offsetof(waywire_decoded, interfaces) == 44); /* an export writes 48 bytes, before `interfaces` are */
+
+/* ---- the memory of tables
+ *
+ * The exports give up what they allocate for tables, since ends lend them for good. So each tables have
+ * memory of their own: a list of what was allocated while they were made, which is freed as a whole once
+ * neither the caller nor an end or an inspector uses them, or where they could not be made. */
+
+SAME(block, sizeof(struct block) == 16); /* what follows is aligned as `malloc` aligns */
+
+/* The blocks of the tables that this thread makes; null where it makes none. */
+static __thread struct block *making;
+
+__thread size_t least_asked;
+
+static size_t at_least(size_t size)
+{
+	return size < least_asked ? least_asked : size;
+}
+
+static void *linked(struct block *block, struct block *before)
+{
+	block->before = before;
+	block->after = before->after;
+	block->before->after = block;
+	block->after->before = block;
+	return block + 1;
+}
+
+static struct block *unlinked(void *at)
+{
+	struct block *block = (struct block *)at - 1;
+	block->before->after = block->after;
+	block->after->before = block->before;
+	return block;
+}
+
+/* `malloc`, `realloc` and `free` as the exports call them, never of null: `make` gives them these
+ * names. */
+
+void *memory_malloc(size_t size)
+{
+	if (!making)
+		return malloc(at_least(size));
+	struct block *block = malloc(sizeof *block + size);
+	return block ? linked(block, making) : NULL;
+}
+
+void *memory_realloc(void *at, size_t size)
+{
+	if (!making)
+		return realloc(at, at_least(size));
+	struct block *block = unlinked(at), *before = block->before;
+	struct block *moved = realloc(block, sizeof *block + size);
+	void *kept = linked(moved ? moved : block, before);
+	return moved ? kept : NULL;
+}
+
+void memory_free(void *at)
+{
+	free(making ? unlinked(at) : at);
+}
+
+static void free_tables(waywire_tables *tables)
+{
+	while (tables->blocks.after != &tables->blocks)
+		free(unlinked(tables->blocks.after + 1));
+	free(tables);
+}
+
+/* Tables without anything in them, for one caller. */
+static waywire_tables *empty_tables(void)
+{
+	waywire_tables *tables = malloc(sizeof *tables);
+	if (tables) {
+		tables->handle.at = NULL;
+		tables->blocks.before = tables->blocks.after = &tables->blocks;
+		tables->users = 1;
+		tables->own = tables;
+	}
+	return tables;
+}
+
+/* Hands out tables that were made, or frees what there is of them. */
+static waywire_status made_tables(waywire_status status, waywire_tables *made, waywire_tables **tables)
+{
+	if (status)
+		free_tables(made);
+	else
+		*tables = made;
+	return status;
+}
+
+waywire_tables *used(const waywire_tables *tables)
+{
+	__atomic_add_fetch(&tables->own->users, 1, __ATOMIC_SEQ_CST);
+	return tables->own;
+}
+
+void waywire_tables_free(waywire_tables *tables)
+{
+	if (tables && !__atomic_sub_fetch(&tables->users, 1, __ATOMIC_SEQ_CST))
+		free_tables(tables);
+}
+
+/* ---- tables */
+
+waywire_status waywire_tables_core(waywire_tables **tables)
+{
+	if (!tables)
+		return WAYWIRE_NULL;
+	waywire_tables *made = empty_tables();
+	if (!made)
+		return WAYWIRE_NO_MEMORY;
+	making = &made->blocks;
+	waywire_status status = waywire_c_tables_core(&made->handle.at);
+	making = NULL;
+	return made_tables(status, made, tables);
+}
+
+waywire_status waywire_tables_read(const waywire_tables *tables, const void *text, size_t length,
+	waywire_tables **more, size_t *line, uint32_t *rule)
+{
+	if (!tables || !more)
+		return WAYWIRE_NULL;
+	size_t no_line;
+	uint32_t no_rule;
+	waywire_status status = slice(&text, length, 1);
+	if (status)
+		return status;
+	waywire_tables *made = empty_tables();
+	if (!made)
+		return WAYWIRE_NO_MEMORY;
+	making = &made->blocks;
+	status = waywire_c_tables_read(tables->handle, text, length, &made->handle.at, line ? line : &no_line,
+		rule ? rule : &no_rule);
+	making = NULL;
+	return made_tables(status, made, more);
+}
+
+waywire_status waywire_tables_interface(const waywire_tables *tables, const char *name,
+	uint16_t *interface)
+{
+	if (!tables || !name || !interface)
+		return WAYWIRE_NULL;
+	return waywire_c_tables_interface(tables->handle, name, strlen(name), interface);
+}
+
+waywire_status waywire_tables_name(const waywire_tables *tables, uint16_t interface,
+	const char **name, size_t *length)
+{
+	if (!tables || !name || !length)
+		return WAYWIRE_NULL;
+	const void *found = NULL;
+	waywire_status status = waywire_c_tables_name(tables->handle, interface, &found, length);
+	if (!status)
+		*name = found;
+	return status;
+}
+
+waywire_status waywire_tables_version(const waywire_tables *tables, uint16_t interface,
+	uint32_t *version)
+{
+	if (!tables || !version)
+		return WAYWIRE_NULL;
+	return waywire_c_tables_version(tables->handle, interface, version);
+}
+
+waywire_status waywire_tables_message(const waywire_tables *tables, uint16_t interface,
+	waywire_sender sender, uint16_t opcode, waywire_message *message, const char **name, size_t *length)
+{
+	if (!tables || !message)
+		return WAYWIRE_NULL;
+	const void *found = NULL;
+	size_t no_length;
+	waywire_status status = waywire_c_tables_message(tables->handle, interface, sender, opcode, message,
+		&found, length ? length : &no_length);
+	if (!status && name)
+		*name = found;
+	return status;
+}
+
+waywire_status waywire_tables_kind(const waywire_tables *tables, uint16_t interface,
+	waywire_sender sender, uint16_t opcode, size_t place, waywire_kind *kind)
+{
+	if (!tables || !kind)
+		return WAYWIRE_NULL;
+	return waywire_c_tables_kind(tables->handle, interface, sender, opcode, place, kind);
+}
+
+/* The interface of an argument that was taken apart, and who makes it if it is new. */
+static uint16_t decoded_interface(const waywire_tables *tables, const waywire_kind *kind, waywire_arg *arg)
+{
+	uint16_t bound;
+	if (kind->kind == WAYWIRE_NEW_BY_SERVER)
+		arg->kind = WAYWIRE_NEW_BY_SERVER;
+	if (arg->kind == WAYWIRE_BOUND
+			&& !waywire_c_tables_interface(tables->handle, arg->bytes, arg->length, &bound))
+		return bound;
+	return kind->interface;
+}
+
+waywire_status waywire_tables_decode(const waywire_tables *tables, uint16_t interface, uint32_t version,
+	waywire_sender sender, const void *bytes, size_t length, waywire_decoded *decoded)
+{
+	if (!tables || !decoded)
+		return WAYWIRE_NULL;
+	waywire_status status = slice(&bytes, length, 1);
+	if (status)
+		return status;
+	status = waywire_c_tables_decode(tables->handle, interface, version, sender, bytes, length, decoded,
+		decoded->args, WAYWIRE_MAX_ARGS);
+	if (status == WAYWIRE_BAD_VALUE || status == WAYWIRE_NOT_FOUND)
+		return status;
+	for (size_t place = 0; place < decoded->arg_count; place++) {
+		waywire_arg *arg = &decoded->args[place];
+		waywire_kind kind;
+		waywire_c_tables_kind(tables->handle, interface, sender, decoded->opcode, place, &kind);
+		name_empty(arg);
+		decoded->interfaces[place] = decoded_interface(tables, &kind, arg);
+	}
+	return status;
+}

@@ -1,0 +1,110 @@
+//! What C calls to read a recording.
+ghost use Rattle.std.specs.Prelude.{◌≡◌, ◌≢◌, ℕ, ◌⊎◌, ◌∷◌, ◌++◌, List, [], length as len, take, Some};
+ghost use Rattle.wl_recording.specs.declared.recording.RecordingError.TheVariants.{BadLine as bad_line};
+ghost use Rattle.wl_recording.specs.Piece.{Piece, recorded_piece};
+ghost use Rattle.wl_recording.specs.Text.{IsFirstBad, IsReadUpTo, TextRecords};
+ghost use Rattle.waywire_c.specs.Inspecting.{direction_of};
+ghost use Rattle.waywire_c.specs.Recordings.{TellsPiece};
+
+use crate::statuses::{BAD_LINE, BAD_VALUE, FULL, NO_MEMORY, NOT_FOUND, OK};
+use std::alloc::Global;
+use wl_recording::{Direction, Passed, PieceReader, RecordingError};
+
+/// A piece but for its bytes, and how far the text was read.
+#[repr(C)]
+#[derive(Clone, Copy)]
+pub struct CPiece {
+    /// Who sent it: 0 is the client, and 1 the server.
+    pub sender: u32,
+    pub tokens: u32,
+    /// How many bytes it has.
+    pub length: usize,
+    /// How many bytes of the text are left behind the piece's line.
+    pub left: usize,
+    /// How many lines were read, the piece's the last.
+    pub number: usize,
+}
+
+/// Reads on to the next piece of a text, of which this is left behind as many lines as `number`
+/// says. Its bytes are written to the front of `bytes`, if they have room there.
+#[unsafe(no_mangle)]
+pub extern "C" fn waywire_c_recording_next(
+    alloc: Global,
+    text: &[u8],
+    number: usize,
+    bytes: &mut [u8],
+    piece: &mut CPiece,
+) -> u32
+    ensures read { result ≡ 0 → (whole : List ℕ) (pieces : List Piece)
+        → IsReadUpTo whole text.now number pieces
+        → (next : Piece) × (rest : List ℕ)
+        × IsReadUpTo whole rest piece.new.number (pieces ++ next ∷ [])
+        × TellsPiece next (len rest) piece.new.number (take piece.new.length bytes.new) piece.new }
+    ensures ended { result ≡ 64 → (whole : List ℕ) (pieces : List Piece)
+        → IsReadUpTo whole text.now number pieces → TextRecords whole pieces }
+    ensures bad { result ≡ 71 → (whole : List ℕ) (pieces : List Piece)
+        → IsReadUpTo whole text.now number pieces → IsFirstBad whole piece.new.number }
+    ensures unwritten { result ≢ 0 → bytes.new ≡ bytes.old }
+{
+    if number.checked_add(text.len()).is_none() {
+        return BAD_VALUE;
+    }
+    let mut reader = PieceReader { rest: text, number };
+    match reader.next_piece(&alloc) {
+        Ok(Some(passed)) => tell_piece(&passed, reader.rest.len(), reader.number, bytes, piece),
+        Ok(None) => NOT_FOUND,
+        Err(error) => tell_error(error, piece),
+    }
+}
+
+/// The status of an error, whose line is told.
+fn tell_error(error: RecordingError, piece: &mut CPiece) -> u32
+    ensures bad { result ≡ 71 → error ≡ bad_line piece.new.number }
+    ensures status { (result ≡ 71) ⊎ (result ≡ 11) }
+{
+    match error {
+        RecordingError::BadLine { line } => {
+            piece.number = line;
+            BAD_LINE
+        }
+        RecordingError::Memory => NO_MEMORY,
+    }
+}
+
+/// Tells of a piece, and writes its bytes, if there is room for them.
+fn tell_piece(
+    passed: &Passed,
+    left: usize,
+    number: usize,
+    bytes: &mut [u8],
+    piece: &mut CPiece,
+) -> u32
+    ensures told { result ≡ 0 → TellsPiece (recorded_piece passed.now) left number
+        (take piece.new.length bytes.new) piece.new }
+    ensures status { (result ≡ 0) ⊎ (result ≡ 9) }
+    ensures unwritten { result ≢ 0 → bytes.new ≡ bytes.old }
+{
+    let its = passed.bytes.as_slice();
+    if its.len() > bytes.len() {
+        return FULL;
+    }
+    bytes[..its.len()].copy_from_slice(its);
+    *piece = CPiece {
+        sender: sender_of(passed.direction),
+        tokens: passed.tokens,
+        length: its.len(),
+        left,
+        number,
+    };
+    OK
+}
+
+/// Who sends what goes this way.
+fn sender_of(direction: Direction) -> u32
+    ensures { direction_of result ≡ Some direction }
+{
+    match direction {
+        Direction::ToServer => 0,
+        Direction::ToClient => 1,
+    }
+}
