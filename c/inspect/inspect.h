@@ -1,11 +1,13 @@
 /* waywire-inspect: stands between Wayland clients and their compositor, hands on all that passes,
  * and prints and judges each message.
  *
- * A session is one client's connection (session.c). It has two ways, one for each direction
- * (way.c), and an inspector of the library, which is told each piece after it was handed on. run.c
- * waits for all sessions. */
+ * A session is one client's connection (session.c). It has two ways, one for each direction (way.c), and a
+ * judging (judge.h), which is told each piece after it was handed on. run.c waits for all sessions. The pieces
+ * of a recording pass a judging likewise (read.c). */
 #ifndef INSPECT_H
 #define INSPECT_H
+
+#include "judge.h"
 
 #include <poll.h>
 #include <signal.h>
@@ -16,19 +18,28 @@
 #define PIECE_BYTES 65536
 /* The kernel hands over at most this number of descriptors at once. */
 #define PIECE_DESCRIPTORS 253
+/* Where the tools in Python are, from the folder of the tool itself; the Makefile says it. */
+#ifndef WAYWIRE_TOOLS
+#define WAYWIRE_TOOLS "../share/waywire/tools"
+#endif
 /* The exit status where nothing could be inspected. */
 #define NOTHING_INSPECTED 125
 
-/* The places of a session's two sockets, and of the way that begins at each. */
-enum { CLIENT = WAYWIRE_FROM_CLIENT, COMPOSITOR = WAYWIRE_FROM_SERVER };
+/* What stands in front of a line. */
+enum front { TIME_NONE, TIME_SINCE, TIME_DELTA };
 
 struct options {
-	char **tables; /* the files of --tables; none where the installed ones are wanted */
+	char **tables; /* the files of --tables */
 	size_t table_count;
+	bool no_tables; /* the installed ones are not read */
 	uint32_t limit;
-	const char *record; /* null where nothing is recorded */
-	const char *only;   /* names with commas between them; null where all are wanted */
-	bool time, colour, stop_when_broken, verbose;
+	const char *record;  /* null where nothing is recorded */
+	const char *read;    /* the recording that is read; null where there is none */
+	const char *output;  /* null where it is standard output */
+	const char *picture; /* null where none is made */
+	struct filter only, except;
+	enum front time;
+	bool json, stats, colour, stop_when_broken, verbose;
 	char **command; /* ends with a null; null where there is none */
 };
 
@@ -40,24 +51,19 @@ void say(const char *format, ...) __attribute__((format(printf, 1, 2)));
 /* Writes a line to standard error and ends with the status of nothing inspected. */
 void fail(const char *format, ...) __attribute__((format(printf, 1, 2), noreturn));
 
-/* What stands in front of a line: the time, and the client's number, 0 where there is one alone. */
-struct front {
-	double seconds;
-	unsigned number;
-};
+/* What is printed goes to a file from now on. Ends the tool where that fails. */
+void print_to(const char *path);
 
-/* Prints the lines of messages that --only asks for. */
-void print_lines(const struct options *options, const struct front *front, const char *lines,
-	size_t length);
+/* Whether it goes to a terminal. */
+bool prints_to_terminal(void);
 
-/* Prints the line of a verdict, whose line feed is not counted. */
-void print_verdict(const struct options *options, const struct front *front, const char *line,
-	size_t length, bool is_broken);
+/* Prints bytes. */
+void print(const char *text, size_t length);
 
-/* Prints the name that a client is to be started with. */
-void print_name(const char *display);
+/* Prints the name that a client is to be started with, on standard output, or aside on standard error. */
+void print_name(const char *display, bool is_aside);
 
-/* Hands what was printed to standard output. */
+/* Hands on what was printed. */
 void print_now(void);
 
 /* The signals that are blocked while standard output takes nothing. After one that is not, it is
@@ -67,11 +73,60 @@ void print_waits_with(const sigset_t *signals);
 /* From now on standard output is waited for a second at most. */
 void print_briefly(void);
 
-/* ---- the tables (tables.c) */
+/* ---- the tables (tables.c, texts.c) */
 
-/* The tables of the core and of the files, or of all that are installed, to be freed. Ends the tool
- * where it fails. */
-waywire_tables *read_tables(const struct options *options);
+/* The tables of the core and of all texts that were read. */
+struct known {
+	waywire_tables *tables;
+	struct text joined; /* the texts, each behind a comment that names it */
+	struct text names;  /* of the texts, with spaces between, the core first */
+};
+
+/* Reads the texts. Ends the tool where it fails. */
+void known_read(struct known *known, const struct options *options);
+
+void known_free(struct known *known);
+
+/* A text of tables. */
+struct source {
+	char *path;
+	char *bytes; /* ends with a line feed, where it is not empty; null where it is left out */
+	size_t length, lines;
+	bool is_given; /* by --tables */
+};
+
+/* Reads a file of at most 16,777,216 bytes. Ends the tool where it fails. */
+void read_file(const char *path, struct text *text);
+
+/* Reads a text; an XML is handed to waywire-tables-from-xml. */
+void source_read(struct source *source);
+
+/* The paths of the installed texts, in the order of their names, to be freed. */
+char **installed_texts(size_t *count);
+
+/* Takes out of a text the interfaces that another declares, and what is added to them. */
+void source_without(struct source *source, const struct source *other);
+
+/* Whether a file is a protocol's XML, by its name. */
+bool is_xml(const char *path);
+
+/* Reads the names of arguments: of the core, and of the XML of --tables (names.c). */
+void names_read(const struct options *options);
+
+/* Names the arguments of a message, where its interface came from an XML that was read. */
+void name_arguments(struct message *message);
+
+void names_free(void);
+
+/* The path of the tool. */
+void find_own(char *path, size_t size);
+
+/* The path of a file or folder from that of the tool. */
+void find_beside(char *path, size_t size, const char *from_tool);
+
+/* Runs a program to its end. Its standard output is added to `output`, where that is not null. Returns its exit
+ * status, 127 where it cannot be run. */
+int run_to_end(char *const *words, struct text *output);
 
 /* ---- a recording (recording.c) */
 
@@ -82,15 +137,52 @@ struct recording {
 	off_t length;
 };
 
-/* Begins the recording of a client: the file of --record, with `.2` behind it for the second, and
- * so on. False, with a line said, where that fails. */
-bool recording_begin(struct recording *recording, const struct options *options, unsigned number);
+/* Whose session is recorded. */
+struct client {
+	unsigned number;
+	pid_t process; /* 0 where it is not known */
+	char name[64]; /* of its program; empty where it is not known */
+};
 
-/* Adds a piece. Where the file does not take it, that is said, and the recording ends before it. */
+/* The process at a socket, and its name. */
+struct client client_at(int socket, unsigned number);
+
+/* The moment, as `2026-11-26T20:40:00Z`; `size` is at least 32. */
+void write_moment(char *text, size_t size);
+
+/* Whether a file can be written, which is left as it is; said where it cannot. */
+bool can_write(const char *path);
+
+/* Begins the recording of a client: the file of --record, with `.2` behind it for the second, and so on. Beside
+ * the first it writes the tables. Where that fails it is said, and nothing is recorded. */
+void recording_begin(struct recording *recording, const struct options *options, const struct known *known,
+	const struct client *client);
+
+/* Adds a piece, with its time. Where the file does not take it, or would be longer than a recording may be, that
+ * is said, and the recording ends before it. */
 void recording_add(struct recording *recording, int from, const unsigned char *bytes, size_t length,
-	size_t descriptor_count);
+	size_t descriptor_count, double seconds);
 
 void recording_end(struct recording *recording);
+
+/* The file of --record for a client, to be freed; null where memory runs out. */
+char *numbered(const char *path, unsigned number);
+
+/* ---- a recording that is read (read.c) */
+
+/* Takes the tables that stand beside the recording, where --tables names none: their path, to be freed. */
+char *tables_beside(struct options *options);
+
+/* Reads the recording of --read. Returns the exit status. */
+int read_recording(const struct options *options, const struct known *known);
+
+/* ---- a picture (picture.c) */
+
+/* Prepares --picture: a recording is made in a folder of its own, where --record does not name one. */
+void picture_begin(struct options *options);
+
+/* Makes the pages of so many clients' recordings. */
+void picture_end(const struct options *options, unsigned client_count);
 
 /* ---- sockets (sockets.c) */
 
@@ -145,30 +237,28 @@ void way_close_descriptors(struct way *way);
 
 struct session {
 	struct session *next;
-	unsigned number;
-	pid_t process; /* the client's; 0 where it is not known */
+	struct client client;
 	bool is_over;
-	bool is_broken;
 	int sockets[2];
 	struct way ways[2];
-	waywire_inspector *inspector; /* null where the client is not judged any more */
+	double connected; /* in seconds behind the first client */
+	struct judging judging;
 	struct recording recording;
 };
 
 /* What all sessions share. */
 struct shared {
 	const struct options *options;
-	const waywire_tables *tables;
-	struct timespec start;
+	const struct known *known;
+	struct timespec start;  /* when the first client connected */
 	sigset_t while_waiting; /* the signals that are blocked while nothing is done */
 	pid_t command;          /* the process of the command; 0 where there is none */
 	unsigned session_count; /* that were begun */
-	bool is_stopping, any_is_broken;
+	bool is_stopping, any_is_bad;
 };
 
 /* Begins the session of a client, whose sockets it takes over; null where there is no memory. */
-struct session *session_new(struct shared *shared, int client, int compositor,
-	const struct recording *recording);
+struct session *session_new(struct shared *shared, int client, int compositor);
 
 /* What a session waits for, at its two sockets. True where it is to be stepped soon in any case. */
 bool session_wants(const struct session *session, struct pollfd *polled);
@@ -182,6 +272,38 @@ void session_end(struct session *session, struct shared *shared);
 /* ---- the whole (run.c) */
 
 /* Inspects until the command and all sessions have ended. Returns the exit status. */
-int run(const struct options *options, const waywire_tables *tables);
+int run(const struct options *options, const struct known *known);
+
+/* ---- the command and its signals (command.c) */
+
+/* The signals that came since they were last looked at. */
+extern volatile sig_atomic_t stopped_by, was_typed, child_ended;
+
+/* Blocks the signals that are waited for, and sets what they do. `before` gets those that were blocked. */
+void take_signals(sigset_t *before);
+
+/* Starts the command with the tool's socket as its WAYLAND_DISPLAY. Returns what posix_spawnp does. */
+int start_command(char **command, const char *display, const sigset_t *before, pid_t *process);
+
+/* How the command and what it started are doing. */
+struct children {
+	pid_t command;
+	bool is_running;    /* the command */
+	bool has_others;    /* that it left behind */
+	int status;         /* of the command, once it has ended */
+	int ended_by;       /* the signal that ended it, 0 where none did */
+};
+
+/* Notes which have ended. */
+void reap(struct children *children);
+
+/* Ends the tool where the system allows fewer open descriptors than a client may need. */
+void check_descriptors(void);
+
+/* Allows as many open descriptors as the system does. */
+void allow_descriptors(void);
+
+/* Whether enough numbers are left behind that of a descriptor for those that pass; said where not. */
+bool has_room_behind(int descriptor);
 
 #endif

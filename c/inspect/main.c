@@ -13,38 +13,68 @@ static const char help[] =
 	"Prints and judges what passes between Wayland clients and their compositor\n"
 	"\n"
 	"Usage: waywire-inspect [OPTION].. [COMMAND [WORD]..]\n"
+	"       waywire-inspect --read FILE [OPTION]..\n"
 	"\n"
 	"COMMAND is run with a socket of the tool as its WAYLAND_DISPLAY. Without one the\n"
 	"name of the socket is printed, for clients that are started by hand.\n"
 	"\n"
-	"Options:\n"
-	"  --tables FILE          Knows the core's interfaces and those of FILE, which may be\n"
-	"                         given several times, in place of all that are installed\n"
+	"What is read and written:\n"
+	"  --tables FILE          Knows the interfaces of FILE too, a text of tables or a\n"
+	"                         protocol's XML, in place of installed ones of the same\n"
+	"                         names; may be given several times\n"
+	"  --no-tables            Does not read the installed tables\n"
 	"  --limit N              The most bytes of a message [default: 4096]\n"
-	"  --record FILE          Writes what passes to FILE, of further clients to FILE.2, ..\n"
-	"  --only INTERFACE[,..]  Prints the messages of objects of these interfaces alone\n"
-	"  --time                 Prints the seconds since the start in front of each line\n"
-	"  --color WHEN           Prints what is broken in red: auto, always or never\n"
-	"                         [default: auto]\n"
-	"  --stop-when-broken     Closes a client's connection where a message breaks a rule\n"
-	"  --verbose              Says which tables are left out, and who connects\n"
-	"  --help                 Prints this\n"
-	"  --version              Prints the version\n";
+	"  --record FILE          Writes what passes to FILE, of further clients to FILE.2, ..,\n"
+	"                         and the tables to FILE.tables\n"
+	"  --read FILE            Prints and judges a recording, by FILE.tables if it is there\n"
+	"  --output FILE          Prints to FILE\n"
+	"  --picture FILE.html    Makes a page of the session at its end\n"
+	"\n"
+	"What is printed:\n"
+	"  --only NAME[,..]       Messages of this INTERFACE, or that make or name an object\n"
+	"                         of it, or this INTERFACE.MESSAGE, and no others\n"
+	"  --except NAME[,..]     All but the messages of this INTERFACE, or this\n"
+	"                         INTERFACE.MESSAGE\n"
+	"  --time[=delta]         In front of each line the seconds since the first client\n"
+	"                         connected, or since the line before\n"
+	"  --json                 A JSON object in each line\n"
+	"  --stats                At the end of each session what it consisted of\n"
+	"  --color WHEN           Colours: auto, always or never [default: auto]\n"
+	"  --verbose              Says who connects\n"
+	"  --help, --version      This; the version\n"
+	"\n"
+	"What is done:\n"
+	"  --stop-when-broken     Closes a client's connection where a message breaks a rule\n";
 
-enum { TABLES = 1, LIMIT, RECORD, ONLY, TIME, COLOUR, STOP, VERBOSE, HELP, VERSION };
+enum { TABLES = 1, NO_TABLES, LIMIT, RECORD, READ, OUTPUT, PICTURE, ONLY, EXCEPT, TIME, JSON, STATS, COLOUR, STOP,
+	VERBOSE, HELP, VERSION };
 
-static const struct option known[] = {
+static const struct option known_options[] = {
 	{ "tables", required_argument, NULL, TABLES },
+	{ "no-tables", no_argument, NULL, NO_TABLES },
 	{ "limit", required_argument, NULL, LIMIT },
 	{ "record", required_argument, NULL, RECORD },
+	{ "read", required_argument, NULL, READ },
+	{ "output", required_argument, NULL, OUTPUT },
+	{ "picture", required_argument, NULL, PICTURE },
 	{ "only", required_argument, NULL, ONLY },
-	{ "time", no_argument, NULL, TIME },
+	{ "except", required_argument, NULL, EXCEPT },
+	{ "time", optional_argument, NULL, TIME },
+	{ "json", no_argument, NULL, JSON },
+	{ "stats", no_argument, NULL, STATS },
 	{ "color", required_argument, NULL, COLOUR },
 	{ "stop-when-broken", no_argument, NULL, STOP },
 	{ "verbose", no_argument, NULL, VERBOSE },
 	{ "help", no_argument, NULL, HELP },
 	{ "version", no_argument, NULL, VERSION },
 	{ NULL, 0, NULL, 0 },
+};
+
+/* The words of options that need the tables first. */
+struct later {
+	char **only, **except;
+	size_t only_count, except_count;
+	const char *colour;
 };
 
 /* Prints a text in place of all else. */
@@ -72,18 +102,32 @@ static bool colour_of(const char *when)
 		return *when == 'a';
 	if (strcmp(when, "auto"))
 		fail("--color %s: not auto, always or never", when);
-	return isatty(STDOUT_FILENO) && !getenv("NO_COLOR") && terminal && strcmp(terminal, "dumb");
+	return prints_to_terminal() && !getenv("NO_COLOR") && terminal && strcmp(terminal, "dumb");
 }
 
-static void take_option(struct options *options, int option, char *word)
+static enum front time_of(const char *how)
+{
+	if (how && strcmp(how, "delta"))
+		fail("--time=%s: not delta", how);
+	return how ? TIME_DELTA : TIME_SINCE;
+}
+
+static void take_option(struct options *options, struct later *later, int option, char *word)
 {
 	switch (option) {
 	case TABLES: options->tables[options->table_count++] = word; break;
+	case NO_TABLES: options->no_tables = true; break;
 	case LIMIT: options->limit = limit_of(word); break;
 	case RECORD: options->record = word; break;
-	case ONLY: options->only = word; break;
-	case TIME: options->time = true; break;
-	case COLOUR: options->colour = colour_of(word); break;
+	case READ: options->read = word; break;
+	case OUTPUT: options->output = word; break;
+	case PICTURE: options->picture = word; break;
+	case ONLY: later->only[later->only_count++] = word; break;
+	case EXCEPT: later->except[later->except_count++] = word; break;
+	case TIME: options->time = time_of(word); break;
+	case JSON: options->json = true; break;
+	case STATS: options->stats = true; break;
+	case COLOUR: later->colour = word; break;
 	case STOP: options->stop_when_broken = true; break;
 	case VERBOSE: options->verbose = true; break;
 	case HELP: print_alone(help); break;
@@ -103,22 +147,70 @@ static void open_standard_files(void)
 		close(opened);
 }
 
+/* Memory for as many words as the command line has. */
+static char **words_of(int count)
+{
+	char **made = calloc((size_t)count + 1, sizeof *made);
+	if (!made)
+		fail("out of memory");
+	return made;
+}
+
+/* What is against the options that were given. */
+static void check_options(const struct options *options)
+{
+	if (options->read && (options->command || options->record || options->picture))
+		fail("--read stands without COMMAND, --record and --picture");
+	if (options->output && options->record && !strcmp(options->output, options->record))
+		fail("--output and --record name the same file");
+}
+
+static void read_options(struct options *options, struct later *later, int count, char **words)
+{
+	int option;
+	options->tables = words_of(count + 1);
+	later->only = words_of(count);
+	later->except = words_of(count);
+	later->colour = "auto";
+	while ((option = getopt_long(count, words, "+", known_options, NULL)) >= 0)
+		take_option(options, later, option, optarg);
+	if (optind < count)
+		options->command = words + optind;
+	check_options(options);
+}
+
+static void apply_later(struct options *options, const struct later *later, const struct known *known)
+{
+	for (size_t each = 0; each < later->only_count; each++)
+		filter_read(&options->only, known->tables, "only", later->only[each]);
+	for (size_t each = 0; each < later->except_count; each++)
+		filter_read(&options->except, known->tables, "except", later->except[each]);
+	if (options->output)
+		print_to(options->output);
+	options->colour = colour_of(later->colour) && !options->json;
+}
+
 int main(int count, char **words)
 {
 	struct options options = { .limit = 4096 };
-	int option;
+	struct later later = { 0 };
+	struct known known;
 	open_standard_files();
-	options.tables = calloc((size_t)count, sizeof *options.tables);
-	if (!options.tables)
-		fail("out of memory");
-	options.colour = colour_of("auto");
-	while ((option = getopt_long(count, words, "+", known, NULL)) >= 0)
-		take_option(&options, option, optarg);
-	if (optind < count)
-		options.command = words + optind;
-	waywire_tables *tables = read_tables(&options);
-	int status = run(&options, tables);
-	waywire_tables_free(tables);
+	read_options(&options, &later, count, words);
+	char *beside = options.read ? tables_beside(&options) : NULL;
+	known_read(&known, &options);
+	apply_later(&options, &later, &known);
+	if (options.json)
+		names_read(&options);
+	picture_begin(&options);
+	int status = options.read ? read_recording(&options, &known) : run(&options, &known);
+	known_free(&known);
+	names_free();
 	free(options.tables);
+	free(options.only.asked);
+	free(options.except.asked);
+	free(later.only);
+	free(later.except);
+	free(beside);
 	return status;
 }

@@ -1,8 +1,9 @@
-/* What the tool prints: messages and verdicts on standard output, all else on standard error. */
+/* What the tool prints: messages and verdicts on standard output or to a file, all else on standard error. */
 #define _GNU_SOURCE
 #include "inspect.h"
 
 #include <errno.h>
+#include <fcntl.h>
 #include <signal.h>
 #include <stdarg.h>
 #include <stdio.h>
@@ -12,12 +13,12 @@
 /* A pipe that takes anything takes this much at once. */
 #define MOST_AT_ONCE 4096
 #define SECOND 1000
-/* The arrow of a line and the space behind it. */
-#define ARROW 3
 
 static char waiting[MOST_AT_ONCE];
 static size_t waiting_length;
 static bool is_closed, is_brief;
+static int output = STDOUT_FILENO;
+static const char *output_name = "standard output";
 static sigset_t signals_while_waiting;
 
 static void say_with(const char *format, va_list words)
@@ -48,10 +49,10 @@ void fail(const char *format, ...)
 	exit(NOTHING_INSPECTED);
 }
 
-/* Waits until standard output takes something, and where the tool is told to stop, a second. */
+/* Waits until the output takes something, and where the tool is told to stop, a second. */
 static bool wait_for_output(void)
 {
-	struct pollfd polled = { STDOUT_FILENO, POLLOUT, 0 };
+	struct pollfd polled = { output, POLLOUT, 0 };
 	int ready = is_brief ? 0 : ppoll(&polled, 1, NULL, &signals_while_waiting);
 	if (ready < 1)
 		ready = poll(&polled, 1, SECOND);
@@ -63,10 +64,10 @@ static void write_waiting(void)
 {
 	const char *from = waiting;
 	while (waiting_length && !is_closed) {
-		ssize_t written = wait_for_output() ? write(STDOUT_FILENO, from, waiting_length) : -1;
+		ssize_t written = wait_for_output() ? write(output, from, waiting_length) : -1;
 		if (written < 0 && errno != EINTR && errno != EAGAIN) {
 			is_closed = true;
-			say("cannot write to standard output: %s; messages are judged and not printed",
+			say("cannot write to %s: %s; messages are judged and not printed", output_name,
 				strerror(errno));
 		} else if (written > 0) {
 			from += written;
@@ -76,7 +77,20 @@ static void write_waiting(void)
 	waiting_length = 0;
 }
 
-static void print(const char *text, size_t length)
+void print_to(const char *path)
+{
+	output = open(path, O_WRONLY | O_CREAT | O_TRUNC | O_CLOEXEC, 0666);
+	output_name = path;
+	if (output < 0)
+		fail("cannot write %s: %s", path, strerror(errno));
+}
+
+bool prints_to_terminal(void)
+{
+	return isatty(output);
+}
+
+void print(const char *text, size_t length)
 {
 	while (length && !is_closed) {
 		size_t most = sizeof waiting - waiting_length;
@@ -105,70 +119,14 @@ void print_briefly(void)
 	is_brief = true;
 }
 
-void print_name(const char *display)
+void print_name(const char *display, bool is_aside)
 {
-	static const char before[] = "WAYLAND_DISPLAY=";
-	print(before, sizeof before - 1);
-	print(display, strlen(display));
-	print("\n", 1);
+	char line[128];
+	int length = snprintf(line, sizeof line, "WAYLAND_DISPLAY=%s\n", display);
+	int file = is_aside ? STDERR_FILENO : STDOUT_FILENO;
+	if (file == output)
+		print(line, (size_t)length);
+	else if (write(file, line, (size_t)length) < 0)
+		errno = 0; /* nobody is left to be told */
 	print_now();
-}
-
-static void print_front(const struct options *options, const struct front *front)
-{
-	char text[64];
-	if (options->time)
-		print(text, (size_t)snprintf(text, sizeof text, "%11.6f ", front->seconds));
-	if (front->number)
-		print(text, (size_t)snprintf(text, sizeof text, "#%u ", front->number));
-}
-
-/* Whether a name is one of those with commas between them. */
-static bool is_among(const char *names, const char *name, size_t length)
-{
-	while (*names) {
-		size_t each = strcspn(names, ",");
-		if (each == length && !memcmp(names, name, length))
-			return true;
-		names += each + (names[each] == ',');
-	}
-	return false;
-}
-
-/* Whether a line is asked for by the interface of the object that its message is for. */
-static bool is_wanted(const char *only, const char *line, size_t length)
-{
-	if (!only)
-		return true;
-	const char *end = memchr(line, '@', length);
-	return end && end - line > ARROW && is_among(only, line + ARROW, (size_t)(end - line - ARROW));
-}
-
-void print_lines(const struct options *options, const struct front *front, const char *lines,
-	size_t length)
-{
-	while (length && !is_closed) {
-		const char *end = memchr(lines, '\n', length);
-		size_t line = end ? (size_t)(end - lines) + 1 : length;
-		if (is_wanted(options->only, lines, line)) {
-			print_front(options, front);
-			print(lines, line);
-		}
-		lines += line;
-		length -= line;
-	}
-}
-
-void print_verdict(const struct options *options, const struct front *front, const char *line,
-	size_t length, bool is_broken)
-{
-	static const char red[] = "\033[31m", plain[] = "\033[0m";
-	bool is_red = is_broken && options->colour;
-	print_front(options, front);
-	if (is_red)
-		print(red, sizeof red - 1);
-	print(line, length);
-	if (is_red)
-		print(plain, sizeof plain - 1);
-	print("\n", 1);
 }

@@ -4,20 +4,15 @@
 
 #include <errno.h>
 #include <signal.h>
-#include <spawn.h>
 #include <stdio.h>
 #include <stdlib.h>
-#include <sys/resource.h>
 #include <sys/socket.h>
-#include <sys/wait.h>
 #include <unistd.h>
 
 /* How long the command may take to end after each signal, in milliseconds. */
 #define GRACE 2000
 /* When a way that the kernel had no room for is tried again, in milliseconds. */
 #define SOON 20
-/* So many numbers of descriptors are kept free for those that pass. */
-#define KEPT_FREE (2 * PIECE_DESCRIPTORS)
 
 struct run {
 	struct shared shared;
@@ -26,54 +21,14 @@ struct run {
 	size_t session_count, room;
 	int listener;
 	int connected;      /* to the compositor, for the first client; -1 once it is used */
-	struct recording first;
-	bool has_command, is_running;
+	struct children children;
+	bool has_command;
 	bool is_full;       /* no client could be accepted: to be tried again soon */
 	bool was_full;      /* that was so before, and said */
 	bool is_later;      /* what waits is to be tried again soon, though nothing is ready */
-	int status;         /* of the command, once it has ended */
 	int stops;          /* how often it was told to stop */
 	struct timespec stop_again;
 };
-
-static volatile sig_atomic_t stopped_by, was_typed, child_ended;
-
-/* ---- signals */
-
-static void on_stop(int number, siginfo_t *info, void *context)
-{
-	(void)context;
-	stopped_by = number;
-	was_typed = info->si_code == SI_KERNEL; /* the terminal has told the command too */
-}
-
-static void on_child(int number)
-{
-	(void)number;
-	child_ended = 1;
-}
-
-/* Blocks the signals that are waited for, and sets what they do. `before` gets those that were
- * blocked. */
-static void take_signals(sigset_t *before)
-{
-	static const int stopping[] = { SIGINT, SIGTERM, SIGHUP };
-	struct sigaction action = { .sa_flags = SA_SIGINFO };
-	sigset_t blocked;
-	sigemptyset(&blocked);
-	sigaddset(&blocked, SIGCHLD);
-	action.sa_sigaction = on_stop;
-	for (size_t each = 0; each < sizeof stopping / sizeof *stopping; each++) {
-		sigaction(stopping[each], &action, NULL);
-		sigaddset(&blocked, stopping[each]);
-	}
-	sigprocmask(SIG_BLOCK, &blocked, before);
-	sigset_t while_printing = *before;
-	sigaddset(&while_printing, SIGCHLD);
-	print_waits_with(&while_printing);
-	signal(SIGCHLD, on_child);
-	signal(SIGPIPE, SIG_IGN);
-}
 
 static struct timespec later(long milliseconds)
 {
@@ -92,61 +47,7 @@ static int left_until(const struct timespec *time)
 	return left > 0 ? (int)left : 0;
 }
 
-/* ---- the command */
-
-/* Starts the command, with the tool's socket as its WAYLAND_DISPLAY. Returns what posix_spawnp
- * does. */
-static int start(struct run *run, char **command, const char *display, const sigset_t *before)
-{
-	posix_spawnattr_t attributes;
-	sigset_t usual;
-	sigemptyset(&usual);
-	sigaddset(&usual, SIGPIPE);
-	setenv("WAYLAND_DISPLAY", display, 1);
-	unsetenv("WAYLAND_SOCKET");
-	posix_spawnattr_init(&attributes);
-	posix_spawnattr_setflags(&attributes, POSIX_SPAWN_SETSIGDEF | POSIX_SPAWN_SETSIGMASK);
-	posix_spawnattr_setsigdefault(&attributes, &usual);
-	posix_spawnattr_setsigmask(&attributes, before);
-	int error = posix_spawnp(&run->shared.command, command[0], NULL, &attributes, command, environ);
-	posix_spawnattr_destroy(&attributes);
-	run->is_running = !error;
-	return error;
-}
-
-/* Notes the end of the command, where it has ended. */
-static void reap(struct run *run)
-{
-	int status;
-	child_ended = 0;
-	if (!run->is_running || waitpid(run->shared.command, &status, WNOHANG) <= 0)
-		return;
-	run->is_running = false;
-	run->status = WIFSIGNALED(status) ? 128 + WTERMSIG(status) : WEXITSTATUS(status);
-	if (WIFSIGNALED(status) && !run->stops)
-		say("%s was ended by signal %d (%s)", run->shared.options->command[0], WTERMSIG(status),
-			strsignal(WTERMSIG(status)));
-}
-
 /* ---- sessions */
-
-/* As many descriptors as the system allows, since those that pass are open here for a moment. */
-static void allow_descriptors(void)
-{
-	struct rlimit limit;
-	if (getrlimit(RLIMIT_NOFILE, &limit))
-		return;
-	limit.rlim_cur = limit.rlim_max;
-	setrlimit(RLIMIT_NOFILE, &limit);
-}
-
-/* Whether enough numbers are left behind that of a descriptor for those that pass. */
-static bool has_room_behind(int descriptor)
-{
-	struct rlimit limit;
-	return getrlimit(RLIMIT_NOFILE, &limit) || limit.rlim_cur == RLIM_INFINITY
-		|| (rlim_t)descriptor + KEPT_FREE < limit.rlim_cur;
-}
 
 /* Makes room for the polling of a further session. */
 static bool make_room(struct run *run)
@@ -177,23 +78,16 @@ static int connected(struct run *run)
 /* Begins the session of a client that was accepted. */
 static void begin(struct run *run, int client)
 {
-	struct recording recording = run->first;
-	unsigned number = run->shared.session_count + 1;
 	int compositor = connected(run);
 	if (compositor < 0) {
 		close(client);
 		return;
 	}
-	if (number > 1)
-		recording_begin(&recording, run->shared.options, number);
-	struct session *made = make_room(run)
-		? session_new(&run->shared, client, compositor, &recording) : NULL;
+	struct session *made = make_room(run) ? session_new(&run->shared, client, compositor) : NULL;
 	if (!made) {
 		say("a client is refused: out of memory");
 		close(client);
 		close(compositor);
-		if (number > 1)
-			recording_end(&recording);
 		return;
 	}
 	struct session **last = &run->sessions;
@@ -209,7 +103,6 @@ static void accept_client(struct run *run)
 	if (client >= 0 && has_room_behind(client)) {
 		begin(run, client);
 	} else if (client >= 0) {
-		say("a client is refused: too many descriptors are open");
 		close(client);
 	} else if (errno != EAGAIN && errno != EINTR && errno != ECONNABORTED) {
 		if (!run->was_full)
@@ -244,7 +137,7 @@ static void stop(struct run *run, int number)
 	print_briefly();
 	run->stops++;
 	run->stop_again = later(GRACE);
-	if (run->is_running && (run->stops > 1 || !was_typed))
+	if (run->children.is_running && (run->stops > 1 || !was_typed))
 		kill(run->shared.command, run->stops > 2 ? SIGKILL : run->stops > 1 ? SIGTERM : number);
 	if (run->stops > 1)
 		end_sessions(run, true);
@@ -253,13 +146,19 @@ static void stop(struct run *run, int number)
 /* Whether the sessions go on for no longer than something comes at once. */
 static bool is_ending(const struct run *run)
 {
-	return run->stops && !run->is_running;
+	return run->stops && !run->children.is_running;
+}
+
+/* Whether a process that the command has started and left behind may still connect as the first. */
+static bool may_connect(const struct run *run)
+{
+	return !run->shared.session_count && !run->stops && run->children.has_others && !run->children.status;
 }
 
 /* Whether nothing can come any more but a client that waits to be accepted. */
 static bool is_done(const struct run *run)
 {
-	return !run->sessions && !run->is_running && (run->has_command || run->stops);
+	return !run->sessions && !run->children.is_running && !may_connect(run) && (run->has_command || run->stops);
 }
 
 /* How long to wait, in milliseconds; -1 where no limit is. */
@@ -301,6 +200,17 @@ static void step(struct run *run)
 		accept_client(run);
 }
 
+/* Notes which processes have ended, and says where a signal ended the command. */
+static void note_ended(struct run *run)
+{
+	bool was_running = run->children.is_running;
+	child_ended = 0;
+	reap(&run->children);
+	if (was_running && !run->children.is_running && run->children.ended_by && !run->stops)
+		say("%s was ended by signal %d (%s)", run->shared.options->command[0], run->children.ended_by,
+			strsignal(run->children.ended_by));
+}
+
 static void inspect(struct run *run)
 {
 	for (;;) {
@@ -309,7 +219,7 @@ static void inspect(struct run *run)
 		if (ready > 0 || (!ready && run->is_later))
 			step(run);
 		if (child_ended)
-			reap(run);
+			note_ended(run);
 		if (stopped_by || (run->stops && !left_until(&run->stop_again)))
 			stop(run, stopped_by);
 		stopped_by = 0;
@@ -330,33 +240,58 @@ static int ended(struct run *run)
 		say("no client has connected");
 	if (!run->shared.session_count)
 		return NOTHING_INSPECTED;
-	return run->status ? run->status : run->shared.any_is_broken;
+	return run->children.status ? run->children.status : run->shared.any_is_bad;
 }
 
-int run(const struct options *options, const waywire_tables *tables)
+/* The line of JSON that stands first. */
+static void print_head(const struct run *run)
+{
+	char moment[32];
+	write_moment(moment, sizeof moment);
+	const struct options *options = run->shared.options;
+	struct head head = { options->record, moment, options->command, run->shared.known->names.bytes, true };
+	if (options->json)
+		json_head(&head);
+}
+
+/* Starts the command, or prints the name for clients that are started by hand. False where that fails. */
+static bool begin_clients(struct run *run, const char *display)
+{
+	char **command = run->shared.options->command;
+	print_head(run);
+	if (!command) {
+		print_name(display, run->shared.options->json && !run->shared.options->output);
+		return true;
+	}
+	int error = start_command(command, display, &run->shared.while_waiting, &run->shared.command);
+	if (error)
+		say("%s: %s", command[0], strerror(error));
+	run->children = (struct children){ run->shared.command, !error, false, 0, 0 };
+	return !error;
+}
+
+int run(const struct options *options, const struct known *known)
 {
 	char display[64];
-	struct run run = { .shared = { .options = options, .tables = tables }, .connected = -1 };
+	struct run run = { .shared = { .options = options, .known = known }, .connected = -1 };
 	find_compositor();
 	run.connected = connect_to_compositor();
-	if (run.connected < 0 || !recording_begin(&run.first, options, 1) || !make_room(&run))
+	if (run.connected < 0 || (options->record && !can_write(options->record)) || !make_room(&run))
 		return NOTHING_INSPECTED;
+	check_descriptors();
 	take_signals(&run.shared.while_waiting);
 	run.listener = listen_in_runtime_folder(display, sizeof display);
-	clock_gettime(CLOCK_MONOTONIC, &run.shared.start);
 	run.has_command = options->command;
-	int error = run.has_command
-		? start(&run, options->command, display, &run.shared.while_waiting) : 0;
-	if (error) {
-		say("%s: %s", options->command[0], strerror(error));
-		stop_listening(run.listener);
-		return NOTHING_INSPECTED;
+	bool is_begun = begin_clients(&run, display);
+	if (is_begun) {
+		allow_descriptors();
+		inspect(&run);
 	}
-	if (!run.has_command)
-		print_name(display);
-	allow_descriptors();
-	inspect(&run);
+	print_now();
 	stop_listening(run.listener);
 	free(run.polled);
+	if (!is_begun)
+		return NOTHING_INSPECTED;
+	picture_end(options, run.shared.session_count);
 	return ended(&run);
 }

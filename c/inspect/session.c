@@ -6,63 +6,18 @@
 #include <sys/socket.h>
 #include <unistd.h>
 
-static struct front front_of(const struct session *session, const struct shared *shared)
+/* Seconds since the first client connected. */
+static double seconds_since(const struct shared *shared)
 {
 	struct timespec now;
 	clock_gettime(CLOCK_MONOTONIC, &now);
-	double seconds = (double)(now.tv_sec - shared->start.tv_sec)
-		+ (double)(now.tv_nsec - shared->start.tv_nsec) / 1e9;
-	return (struct front){ seconds, shared->session_count > 1 ? session->number : 0 };
+	return (double)(now.tv_sec - shared->start.tv_sec) + (double)(now.tv_nsec - shared->start.tv_nsec) / 1e9;
 }
 
-/* ---- judging */
-
-/* Says once that the client is not judged any more. */
-static void stop_judging(struct session *session, waywire_status status)
+/* Lines say the client's number where a second one has come, or may come at any time. */
+static void number_lines(struct session *session, const struct shared *shared)
 {
-	say("client %u is handed on unjudged from here: %s", session->number, waywire_strerror(status));
-	waywire_inspector_free(session->inspector);
-	session->inspector = NULL;
-}
-
-/* Prints the verdict of all that has passed. Returns what the library says. */
-static waywire_status print_verdict_of(struct session *session, struct shared *shared,
-	bool if_broken)
-{
-	const char *line;
-	size_t length;
-	int is_broken;
-	waywire_status status = waywire_inspector_verdict(session->inspector, &line, &length,
-		&is_broken);
-	if (status || (if_broken && !is_broken))
-		return status;
-	struct front front = front_of(session, shared);
-	print_verdict(shared->options, &front, line, length - 1, is_broken);
-	session->is_broken = is_broken;
-	shared->any_is_broken |= session->is_broken;
-	return status;
-}
-
-/* Tells the inspector of a piece, and prints the messages that it completes. */
-static void judge(struct session *session, struct shared *shared, int from, size_t length,
-	size_t descriptor_count)
-{
-	const char *lines;
-	size_t lines_length;
-	if (!session->inspector || session->is_broken)
-		return;
-	waywire_status status = waywire_inspector_pass(session->inspector, (waywire_sender)from,
-		session->ways[from].bytes, length, descriptor_count);
-	if (!status)
-		status = waywire_inspector_lines(session->inspector, &lines, &lines_length);
-	if (!status) {
-		struct front front = front_of(session, shared);
-		print_lines(shared->options, &front, lines, lines_length);
-		status = print_verdict_of(session, shared, true);
-	}
-	if (status)
-		stop_judging(session, status);
-	print_now();
+	session->judging.shown.is_numbered = shared->session_count > 1 || !shared->options->command;
 }
 
 /* ---- handing on */
@@ -74,10 +29,10 @@ static void source_ended(struct session *session, const struct shared *shared, i
 	way->is_open = false;
 	way->is_ended = true;
 	if (from == COMPOSITOR && !session->ways[CLIENT].is_ended && !shared->is_stopping)
-		say("the compositor has closed the connection of client %u", session->number);
-	if (from == CLIENT && session->process != shared->command && !shared->is_stopping)
-		say("client %u (process %ld) has closed its connection", session->number,
-			(long)session->process);
+		say("the compositor has closed the connection of client %u", session->client.number);
+	if (from == CLIENT && session->client.process != shared->command && !shared->is_stopping)
+		say("client %u (process %ld) has closed its connection", session->client.number,
+			(long)session->client.process);
 	if (is_hung_up(way->source) || shutdown(way->target, SHUT_WR))
 		session->is_over = true;
 }
@@ -93,19 +48,23 @@ static void pass_piece(struct session *session, struct shared *shared, int from)
 		source_ended(session, shared, from);
 		return;
 	case CAME_TOO_MANY:
-		say("client %u is closed: no numbers are left for its descriptors", session->number);
+		say("client %u is closed: no numbers are left for its descriptors", session->client.number);
 		session->is_over = true;
 		return;
 	case CAME_PIECE:
 		break;
 	}
+	double seconds = seconds_since(shared) - session->connected;
 	length = way->to;
 	descriptor_count = way->descriptor_count;
 	way_write(way);
-	recording_add(&session->recording, from, way->bytes, length, descriptor_count);
-	judge(session, shared, from, length, descriptor_count);
-	if (session->is_broken && shared->options->stop_when_broken) {
-		say("client %u is closed: a message broke a rule", session->number);
+	recording_add(&session->recording, from, way->bytes, length, descriptor_count, seconds);
+	number_lines(session, shared);
+	judge_piece(&session->judging, from, way->bytes, length, descriptor_count, seconds);
+	print_now();
+	shared->any_is_bad |= is_bad(&session->judging);
+	if (session->judging.standing == BROKEN && shared->options->stop_when_broken) {
+		say("client %u is closed: a message broke a rule", session->client.number);
 		session->is_over = true;
 	}
 }
@@ -151,25 +110,17 @@ void session_step(struct session *session, struct shared *shared, const struct p
 
 /* ---- its life */
 
-static pid_t process_at(int client)
-{
-	struct ucred of;
-	socklen_t size = sizeof of;
-	return getsockopt(client, SOL_SOCKET, SO_PEERCRED, &of, &size) ? 0 : of.pid;
-}
-
-struct session *session_new(struct shared *shared, int client, int compositor,
-	const struct recording *recording)
+struct session *session_new(struct shared *shared, int client, int compositor)
 {
 	struct session *made = malloc(sizeof *made);
 	if (!made)
 		return NULL;
+	if (!shared->session_count)
+		clock_gettime(CLOCK_MONOTONIC, &shared->start);
 	made->next = NULL;
-	made->number = ++shared->session_count;
-	made->process = process_at(client);
-	made->is_over = made->is_broken = false;
-	made->inspector = NULL;
-	made->recording = *recording;
+	made->client = client_at(client, ++shared->session_count);
+	made->is_over = false;
+	made->connected = seconds_since(shared);
 	made->sockets[CLIENT] = client;
 	made->sockets[COMPOSITOR] = compositor;
 	for (int from = CLIENT; from <= COMPOSITOR; from++) {
@@ -180,33 +131,27 @@ struct session *session_new(struct shared *shared, int client, int compositor,
 		way->is_ended = way->is_later = false;
 		way->from = way->to = way->descriptor_count = 0;
 	}
-	waywire_status status = waywire_inspector_new(shared->tables, shared->options->limit,
-		&made->inspector);
-	if (status)
-		stop_judging(made, status);
+	recording_begin(&made->recording, shared->options, shared->known, &made->client);
+	judge_begin(&made->judging, shared->options, shared->known->tables, made->client.number);
+	made->judging.shown.start = made->connected;
+	if (shared->options->json)
+		json_client(made->client.number, *made->client.name ? made->client.name : NULL,
+			(long)made->client.process);
 	if (shared->options->verbose)
-		say("client %u is process %ld", made->number, (long)made->process);
+		say("client %u is process %ld", made->client.number, (long)made->client.process);
 	return made;
 }
 
 void session_end(struct session *session, struct shared *shared)
 {
-	static const char unjudged[] = "unjudged: out of memory";
 	for (int from = CLIENT; from <= COMPOSITOR; from++) {
 		way_close_descriptors(&session->ways[from]);
 		close(session->sockets[from]);
 	}
 	recording_end(&session->recording);
-	if (session->inspector) {
-		waywire_status status = print_verdict_of(session, shared, false);
-		if (status)
-			stop_judging(session, status);
-	}
-	if (!session->inspector) {
-		struct front front = front_of(session, shared);
-		print_verdict(shared->options, &front, unjudged, sizeof unjudged - 1, false);
-	}
+	number_lines(session, shared);
+	judge_end(&session->judging, seconds_since(shared) - session->connected);
 	print_now();
-	waywire_inspector_free(session->inspector);
+	judge_free(&session->judging);
 	free(session);
 }

@@ -1,95 +1,83 @@
-/* The tables of the interfaces: the core's, and those of some texts, which are joined. */
+/* The tables of the interfaces: the core's, those of the files of --tables, and the installed ones. */
 #define _GNU_SOURCE
 #include "inspect.h"
 
-#include <dirent.h>
-#include <errno.h>
 #include <limits.h>
 #include <stdio.h>
-#include <stdlib.h>
-#include <unistd.h>
 
-/* Where the installed texts are, from the folder of the tool itself; the Makefile says it. */
-#ifndef WAYWIRE_TABLES
-#define WAYWIRE_TABLES "../share/waywire/tables"
-#endif
-/* As much as `waywire` reads of a file. */
-#define LONGEST 16777216
-
-struct text {
-	const char *path;
-	char *bytes; /* ends with a line feed, where it is not empty; null where it is left out */
-	size_t length, lines;
+/* The texts that are joined: the installed ones, and behind them those that are given. */
+struct sources {
+	struct source *of;
+	size_t count;
 };
 
-static void *allocated(size_t count, size_t size)
+/* Joins the texts into new tables over the core's. At a fault `line` is the line of the joined text, and `rule` may
+ * be its rule. */
+static waywire_status read_joined(const waywire_tables *core, const struct sources *sources,
+	waywire_tables **tables, size_t *line, uint32_t *rule)
 {
-	void *made = calloc(count ? count : 1, size);
-	if (!made)
-		fail("out of memory");
-	return made;
-}
-
-static void read_text(struct text *text)
-{
-	FILE *file = fopen(text->path, "rbe");
-	text->bytes = allocated(LONGEST + 2, 1);
-	if (file)
-		text->length = fread(text->bytes, 1, LONGEST + 1, file);
-	if (!file || ferror(file))
-		fail("cannot read %s: %s", text->path, strerror(errno));
-	fclose(file);
-	if (text->length > LONGEST)
-		fail("%s: file too long", text->path);
-	if (text->length && text->bytes[text->length - 1] != '\n')
-		text->bytes[text->length++] = '\n';
-	for (size_t each = 0; each < text->length; each++)
-		text->lines += text->bytes[each] == '\n';
-	char *less = realloc(text->bytes, text->length + 1);
-	text->bytes = less ? less : text->bytes;
-}
-
-/* Reads the texts, joined, into new tables over the core's. At a fault `line` is the line of the
- * joined text, and `rule` may be its rule. */
-static waywire_status read_joined(const waywire_tables *core, const struct text *texts,
-	size_t count, waywire_tables **tables, size_t *line, uint32_t *rule)
-{
-	size_t length = 0;
-	for (size_t each = 0; each < count; each++)
-		length += texts[each].bytes ? texts[each].length : 0;
-	char *joined = allocated(length, 1), *at = joined;
-	for (size_t each = 0; each < count; each++)
-		if (texts[each].bytes) {
-			memcpy(at, texts[each].bytes, texts[each].length);
-			at += texts[each].length;
-		}
-	waywire_status status = waywire_tables_read(core, joined, length, tables, line, rule);
-	free(joined);
+	struct text joined = { NULL, 0, 0 };
+	for (size_t each = 0; each < sources->count; each++)
+		if (sources->of[each].bytes)
+			text_put(&joined, sources->of[each].bytes, sources->of[each].length);
+	waywire_status status = waywire_tables_read(core, joined.bytes ? joined.bytes : "", joined.length, tables,
+		line, rule);
+	text_free(&joined);
 	return status;
 }
 
 /* The text that has a line of all that were joined; the line becomes that of the text. */
-static struct text *text_of(struct text *texts, size_t *line)
+static struct source *source_at(struct sources *sources, size_t *line)
 {
-	for (struct text *text = texts;; text++) {
-		if (text->bytes && *line <= text->lines)
-			return text;
-		*line -= text->bytes ? text->lines : 0;
+	for (struct source *source = sources->of;; source++) {
+		if (source->bytes && *line <= source->lines)
+			return source;
+		*line -= source->bytes ? source->lines : 0;
 	}
 }
 
-/* Writes what is wrong with a line. */
-static void describe(char *said, size_t size, waywire_status status, const struct text *text,
-	size_t line, uint32_t rule)
+static void leave_out(struct source *source, const char *why)
 {
-	if (status == WAYWIRE_BAD_TABLE)
-		snprintf(said, size, "%s line %zu: breaks V%u", text->path, line, rule);
-	else
-		snprintf(said, size, "%s line %zu: bad line", text->path, line);
+	say("left out: %s", why);
+	free(source->bytes);
+	source->bytes = NULL;
 }
 
-/* Reads the texts, joined. A text with a fault is left out where it need not be there. */
-static waywire_tables *read_texts(struct text *texts, size_t count, const struct options *options)
+/* Leaves out the first installed text without which the tables are valid. False where there is none. */
+static bool leave_out_another(const waywire_tables *core, struct sources *sources, const char *why)
+{
+	for (size_t each = 0; each < sources->count; each++) {
+		struct source *source = &sources->of[each];
+		char *bytes = source->bytes;
+		waywire_tables *tables;
+		if (source->is_given || !bytes)
+			continue;
+		source->bytes = NULL;
+		waywire_status status = read_joined(core, sources, &tables, NULL, NULL);
+		source->bytes = bytes;
+		if (status)
+			continue;
+		waywire_tables_free(tables);
+		char said[2 * PATH_MAX];
+		snprintf(said, sizeof said, "%s: beside it %s", source->path, why);
+		leave_out(source, said);
+		return true;
+	}
+	return false;
+}
+
+/* What is wrong with a line, in words. */
+static void describe(char *said, size_t size, waywire_status status, const struct source *source, size_t line,
+	uint32_t rule)
+{
+	if (status == WAYWIRE_BAD_TABLE)
+		snprintf(said, size, "%s line %zu: breaks V%u", source->path, line, rule);
+	else
+		snprintf(said, size, "%s line %zu: bad line", source->path, line);
+}
+
+/* Reads the texts, joined. An installed text with a fault is left out. */
+static waywire_tables *read_sources(struct sources *sources)
 {
 	waywire_tables *core, *tables;
 	if (waywire_tables_core(&core))
@@ -98,85 +86,81 @@ static waywire_tables *read_texts(struct text *texts, size_t count, const struct
 		char said[PATH_MAX + 64];
 		size_t line = 0;
 		uint32_t rule = 0;
-		waywire_status status = read_joined(core, texts, count, &tables, &line, &rule);
-		if (!status) {
-			waywire_tables_free(core);
-			return tables;
-		}
+		waywire_status status = read_joined(core, sources, &tables, &line, &rule);
+		if (!status)
+			break;
 		if (status != WAYWIRE_BAD_LINE && status != WAYWIRE_BAD_TABLE)
 			fail("the tables are not read: %s", waywire_strerror(status));
-		struct text *text = text_of(texts, &line);
-		describe(said, sizeof said, status, text, line, rule);
-		if (options->table_count)
+		struct source *source = source_at(sources, &line);
+		describe(said, sizeof said, status, source, line, rule);
+		if (!source->is_given)
+			leave_out(source, said);
+		else if (!leave_out_another(core, sources, said))
 			fail("%s", said);
-		if (options->verbose)
-			say("left out: %s", said);
-		free(text->bytes);
-		text->bytes = NULL;
 	}
-}
-
-/* The folder of the installed texts: its path from that of the tool. */
-static void find_folder(char *folder, size_t size)
-{
-	ssize_t length = readlink("/proc/self/exe", folder, size - 1);
-	if (length < 0)
-		fail("/proc/self/exe cannot be read: %s", strerror(errno));
-	folder[length] = 0;
-	char *name = strrchr(folder, '/') + 1;
-	size_t left = size - (size_t)(name - folder);
-	if ((size_t)snprintf(name, left, "%s", WAYWIRE_TABLES) >= left)
-		fail("the path of the installed tables is too long");
-}
-
-static int is_tables(const struct dirent *entry)
-{
-	const char *end = strrchr(entry->d_name, '.');
-	return end && end != entry->d_name && !strcmp(end, ".tables");
-}
-
-static int by_name(const struct dirent **one, const struct dirent **other)
-{
-	return strcmp((*one)->d_name, (*other)->d_name);
-}
-
-/* The paths of the installed texts, in the order of their names. */
-static char **installed(size_t *count)
-{
-	static char folder[PATH_MAX];
-	struct dirent **found = NULL;
-	find_folder(folder, sizeof folder);
-	int entries = scandir(folder, &found, is_tables, by_name);
-	if (entries < 0)
-		say("cannot read %s: %s; the core's interfaces alone are known", folder, strerror(errno));
-	*count = entries < 0 ? 0 : (size_t)entries;
-	char **paths = allocated(*count, sizeof *paths);
-	for (size_t each = 0; each < *count; each++) {
-		if (asprintf(&paths[each], "%s/%s", folder, found[each]->d_name) < 0)
-			fail("out of memory");
-		free(found[each]);
-	}
-	free(found);
-	return paths;
-}
-
-waywire_tables *read_tables(const struct options *options)
-{
-	size_t count = options->table_count;
-	char **paths = count ? options->tables : installed(&count);
-	struct text *texts = allocated(count, sizeof *texts);
-	for (size_t each = 0; each < count; each++) {
-		texts[each].path = paths[each];
-		read_text(&texts[each]);
-	}
-	waywire_tables *tables = read_texts(texts, count, options);
-	for (size_t each = 0; each < count; each++) {
-		free(texts[each].bytes);
-		if (paths != options->tables)
-			free(paths[each]);
-	}
-	if (paths != options->tables)
-		free(paths);
-	free(texts);
+	waywire_tables_free(core);
 	return tables;
+}
+
+/* Notes a text that was read: its name, and its bytes behind a comment. */
+static void note(struct known *known, const struct source *source)
+{
+	const char *name = strrchr(source->path, '/') ? strrchr(source->path, '/') + 1 : source->path;
+	const char *end = strrchr(name, '.');
+	size_t length = end && end > name ? (size_t)(end - name) : strlen(name);
+	if (!source->bytes || !source->length)
+		return;
+	text_add(&known->names, " ");
+	for (size_t each = 0; each < length; each++)
+		text_add(&known->names, (unsigned char)name[each] <= ' ' ? "_" : (char[]){ name[each], 0 });
+	text_format(&known->joined, "# From ");
+	text_put_quoted(&known->joined, source->path, strlen(source->path));
+	text_add(&known->joined, ".\n");
+	text_put(&known->joined, source->bytes, source->length);
+}
+
+/* Reads the installed texts, but for the interfaces that others declare. */
+static void add_installed(struct sources *sources, char **paths, size_t count, size_t given)
+{
+	for (size_t each = 0; each < count; each++) {
+		struct source *source = &sources->of[sources->count++];
+		source->path = paths[each];
+		source_read(source);
+		for (size_t other = 0; other < given; other++)
+			source_without(source, &sources->of[count + other]);
+	}
+}
+
+void known_read(struct known *known, const struct options *options)
+{
+	size_t count = 0, given = options->table_count;
+	char **paths = options->no_tables ? NULL : installed_texts(&count);
+	struct sources sources = { calloc(count + given + 1, sizeof *sources.of), 0 };
+	if (!sources.of)
+		fail("out of memory");
+	for (size_t each = 0; each < given; each++) {
+		struct source *source = &sources.of[count + each];
+		*source = (struct source){ .path = options->tables[each], .is_given = true };
+		source_read(source);
+	}
+	add_installed(&sources, paths, count, given);
+	sources.count += given;
+	*known = (struct known){ read_sources(&sources), { NULL, 0, 0 }, { NULL, 0, 0 } };
+	text_add(&known->names, "core");
+	text_add(&known->joined, "# The texts of tables that waywire-inspect read, joined.\n");
+	for (size_t each = 0; each < sources.count; each++)
+		note(known, &sources.of[each]);
+	for (size_t each = 0; each < sources.count; each++)
+		free(sources.of[each].bytes);
+	for (size_t each = 0; each < count; each++)
+		free(paths[each]);
+	free(paths);
+	free(sources.of);
+}
+
+void known_free(struct known *known)
+{
+	waywire_tables_free(known->tables);
+	text_free(&known->joined);
+	text_free(&known->names);
 }

@@ -4,8 +4,9 @@
     tests/c/inspecting.py [CLASS[.TEST]]..
 
 INSPECT in the environment is the tool, out/c/waywire-inspect where nothing is said; WAYWIRE is a
-built `waywire`, which judges what was recorded, and may be missing. tools/check-c runs them."""
+built `waywire`, which judges what was recorded, and may be missing. tests/check-c runs them."""
 import contextlib
+import glob
 import os
 import random
 import re
@@ -26,6 +27,11 @@ WAYWIRE = os.environ.get("WAYWIRE")
 # How long anything may take that ends, in seconds.
 LONG = 60
 SYNC = "-> wl_display@1.sync(new id wl_callback@{})\n"
+# What is printed of a message for an object that never was, behind a sync.
+BROKEN = """-> unknown@9: opcode 0, 8 bytes, bytes 0900000000000800
+F2: no object has had the id 9
+broken: > message 2 at byte 12: F2 unknown object
+"""
 GONE = "waywire-inspect: the compositor has closed the connection of client 1\n"
 
 
@@ -70,7 +76,8 @@ class Inspected(unittest.TestCase):
         self.tool = subprocess.Popen([*INSPECT, *words], **self.how(kept))
         self.addCleanup(self.end)
         if not kept and sys.executable not in words:
-            name = self.tool.stdout.readline().rstrip("\n").removeprefix("WAYLAND_DISPLAY=")
+            its = self.tool.stderr if "--json" in words else self.tool.stdout
+            name = its.readline().rstrip("\n").removeprefix("WAYLAND_DISPLAY=")
             self.path = f"{self.folder}/{name}"
 
     def how(self, kept):
@@ -108,16 +115,36 @@ class Inspected(unittest.TestCase):
         """Stops the tool by a signal, and returns what it said."""
         if number:
             self.tool.send_signal(number)
-        said = self.tool.communicate(timeout=LONG)
+        said, error = self.tool.communicate(timeout=LONG)
         if status is not None:
-            self.assertEqual(self.tool.returncode, status, said)
-        return said
+            self.assertEqual(self.tool.returncode, status, (said, error))
+        return self.of_one(said), error
+
+    def of_one(self, said):
+        """What was said of a client that is the only one, without its number."""
+        is_one = said is not None and not re.search(r"^(?: *[\d.]+ )?#2 ", said, re.M)
+        return re.sub(r"^( *[\d.]+ )?#1 ", r"\1", said, flags=re.M) if is_one else said
+
+    def pieces(self, path):
+        """The pieces of a recording, each a line, without the comments."""
+        with open(path, encoding="utf-8") as file:
+            return "".join(it for it in file if not it.startswith("#"))
 
     def ran(self, *words, status=0, **kept):
         """Runs the tool to its end, and returns what it said."""
         it = subprocess.run([*INSPECT, *words], timeout=LONG, **self.how(kept))
-        self.assertEqual(it.returncode, status, (it.stdout, it.stderr))
+        if status is not None:
+            self.assertEqual(it.returncode, status, (it.stdout, it.stderr))
         return it.stdout, it.stderr
+
+    def all_tables(self):
+        """The installed texts, joined: the path of a file."""
+        path = f"{self.folder}/all.tables"
+        with open(path, "wb") as file:
+            for name in sorted(glob.glob(f"{ROOT}/examples/tables/*.tables")):
+                with open(name, "rb") as one:
+                    file.write(one.read())
+        return path
 
     def checked(self, path, lines, *words):
         """What the program prints of a recording is what the tool printed, the verdict last."""
@@ -126,8 +153,13 @@ class Inspected(unittest.TestCase):
                    for job in ("trace", "check")]
             is_broken = lines[-1].startswith("broken: ")
             self.assertEqual([it.returncode for it in ran], [is_broken] * 2)
+            lines = [self.escaped(it) for it in lines]
             self.assertEqual(ran[0].stdout.splitlines(), lines[:-1] + lines[-1:] * is_broken)
             self.assertEqual(ran[1].stdout.splitlines(), lines[-1:])
+
+    def escaped(self, line):
+        """A line as the program prints it, which knows no characters but those of ASCII."""
+        return "".join(it if it.isascii() else "".join(f"\\x{byte:02x}" for byte in it.encode()) for it in line)
 
     def answering(self, *answers):
         """A compositor that reads once before each answer, and then until its client has gone."""
@@ -187,8 +219,8 @@ class Passing(Inspected):
         self.assertEqual(compositor.recv(100), b"")
         self.finish(status=1)
         request, event = b"request".hex(), b"event".hex()
-        with open(self.recorded, encoding="ascii") as file:
-            self.assertEqual(file.read(), f"> {request} +2\n< 78\n< {event} +2\n> 78\n")
+        wanted = f"> {request} +2\n< 78\n< {event} +2\n> 78\n"
+        self.assertEqual(self.pieces(self.recorded), wanted)
 
     def test_descriptors_are_not_kept(self):
         self.start()
@@ -231,8 +263,7 @@ class Passing(Inspected):
         writer.join(LONG)
         self.assertEqual((bytes(got) == data, numbers), (True, [0]))
         self.finish(status=1)
-        with open(self.recorded, encoding="ascii") as file:
-            words = [it.split() for it in file]
+        words = [it.split() for it in self.pieces(self.recorded).splitlines()]
         self.assertEqual("".join(it[1] for it in words), data.hex())
         self.assertEqual([it[2:] for it in words if it[2:]], [["+1"]])
 
@@ -364,7 +395,7 @@ class Passing(Inspected):
         self.tool.send_signal(signal.SIGTERM)
         self.assertEqual(self.tool.wait(LONG), 0)
         reader.join(LONG)
-        lines = self.lines.splitlines()
+        lines = self.of_one(self.lines).splitlines()
         self.assertEqual(sum(it.startswith("-> wl_display@1.sync(") for it in lines), count)
         verdict = f"lawful: {count} requests, {2 * count} events, 0 and 0 bytes left"
         self.assertEqual(lines[-1], verdict)
@@ -383,21 +414,18 @@ class Judging(Inspected):
         lines = SYNC.format(2) + "<- wl_callback@2.done(7)\n<- wl_display@1.delete_id(2)\n"
         verdict = "lawful: 1 requests, 2 events, 0 and 0 bytes left"
         self.assertEqual(said, (lines + verdict + "\n", ""))
-        with open(self.recorded, encoding="ascii") as file:
-            self.assertEqual(file.read(), f"> {sync(2).hex()}\n< {done(2).hex()}\n")
+        self.assertEqual(self.pieces(self.recorded), f"> {sync(2).hex()}\n< {done(2).hex()}\n")
         self.checked(self.recorded, said[0].splitlines())
-        self.assertEqual(sorted(os.listdir(self.folder)), ["a.rec", "display"])
+        self.assertEqual(sorted(os.listdir(self.folder)), ["a.rec", "a.rec.tables", "display"])
 
     def test_a_broken_message(self):
         """It is named at its place; what comes behind it is passed, and not printed."""
         self.answering(done(2))
         data = sync(2) + message(9, 0) + sync(3)
         said, error = self.ran("--record", self.recorded, *client(data, 24, 0), status=1)
-        verdict = "broken: > message 2 at byte 12: F2 unknown object"
-        self.assertEqual((said, error), (SYNC.format(2) + verdict + "\n" + verdict + "\n", ""))
-        self.checked(self.recorded, said.splitlines()[:-1])
-        with open(self.recorded, encoding="ascii") as file:
-            self.assertEqual(file.read(), f"> {data.hex()}\n< {done(2).hex()}\n")
+        self.assertEqual((said, error), (SYNC.format(2) + BROKEN, ""))
+        self.checked(self.recorded, [said.splitlines()[0], said.splitlines()[-1]])
+        self.assertEqual(self.pieces(self.recorded), f"> {data.hex()}\n< {done(2).hex()}\n")
 
     def test_a_broken_message_and_a_status(self):
         self.answering(b"x")
@@ -406,8 +434,11 @@ class Judging(Inspected):
     def test_what_is_broken_is_red(self):
         self.answering(done(2))
         said, _ = self.ran("--color=always", *client(sync(2) + message(9, 0), 24, 0), status=1)
-        red = "\x1b[31mbroken: > message 2 at byte 12: F2 unknown object\x1b[0m\n"
-        self.assertEqual(said, SYNC.format(2) + 2 * red)
+        lines = said.splitlines()
+        self.assertEqual(lines[1:], [f"\x1b[31m{it}\x1b[0m" for it in BROKEN.splitlines()])
+        # The arrow and the interface have colours, and no other word.
+        coloured = r"\x1b\[32m-> \x1b\[\d\dmwl_display\x1b\[0m@1\.sync\(new id wl_callback@2\)"
+        self.assertRegex(lines[0], rf"\A{coloured}\Z")
 
     def test_stop_when_broken(self):
         self.start("--stop-when-broken")
@@ -421,8 +452,8 @@ class Judging(Inspected):
                 pass
         self.passes(other, other_compositor, sync(2))
         said, error = self.finish(status=1)
-        verdict = "#1 broken: > message 2 at byte 12: F2 unknown object\n"
-        self.assertEqual(said, "#1 " + SYNC.format(2) + 2 * verdict + "#2 " + SYNC.format(2)
+        broken = "".join(f"#1 {it}\n" for it in BROKEN.splitlines())
+        self.assertEqual(said, "#1 " + SYNC.format(2) + broken + "#2 " + SYNC.format(2)
                          + "#2 lawful: 1 requests, 0 events, 0 and 0 bytes left\n")
         self.assertEqual(error, "waywire-inspect: client 1 is closed: a message broke a rule\n")
 
@@ -435,10 +466,9 @@ class Judging(Inspected):
         self.passes(two, at_two, message(9, 0))
         self.passes(at_one, one, done(2))
         said, error = self.finish(signal.SIGINT, status=1)
-        verdict = "broken: > message 2 at byte 12: F2 unknown object"
         lawful = "lawful: 1 requests, 2 events, 0 and 0 bytes left"
         lines = [SYNC.format(2).strip(), "<- wl_callback@2.done(7)", "<- wl_display@1.delete_id(2)"]
-        wanted = {1: [*lines, lawful], 2: [*lines, verdict, verdict]}
+        wanted = {1: [*lines, lawful], 2: [*lines, *BROKEN.splitlines()]}
         for number, its_lines in wanted.items():
             its = [it for it in said.splitlines() if it.startswith(f"#{number} ")]
             self.assertEqual(its, [f"#{number} {it}" for it in its_lines])
@@ -446,8 +476,9 @@ class Judging(Inspected):
         for it in (one, at_one, two, at_two):
             self.assertEqual(it.recv(100), b"")
         self.checked(self.recorded, wanted[1])
-        self.checked(self.recorded + ".2", wanted[2][:-1])
-        self.assertEqual(sorted(os.listdir(self.folder)), ["a.rec", "a.rec.2", "display"])
+        self.checked(self.recorded + ".2", [*lines, wanted[2][-1]])
+        self.assertEqual(sorted(os.listdir(self.folder)),
+                         ["a.rec", "a.rec.2", "a.rec.tables", "display"])
 
     def test_only_and_time(self):
         self.start("--only", "wl_callback,wl_registry", "--time")
@@ -455,8 +486,11 @@ class Judging(Inspected):
         self.passes(client, compositor, message(1, 1, 2) + sync(3))
         self.passes(compositor, client, done(3))
         said, _ = self.finish()
-        self.assertRegex(said, r"\A *\d+\.\d{6} <- wl_callback@3\.done\(7\)\n"
-                               r" *\d+\.\d{6} lawful: 2 requests, 2 events, 0 and 0 bytes left\n\Z")
+        lines = ["-> wl_display@1.get_registry(new id wl_registry@2)",
+                 "-> wl_display@1.sync(new id wl_callback@3)", "<- wl_callback@3.done(7)",
+                 "lawful: 2 requests, 2 events, 0 and 0 bytes left"]
+        time_and = r" *\d+\.\d{6} "
+        self.assertRegex(said, "".join(rf"(?m:^){time_and}{re.escape(it)}\n" for it in lines))
 
     def test_the_installed_tables(self):
         """All are known where none is named."""
@@ -464,10 +498,13 @@ class Judging(Inspected):
         bind = message(2, 0, 1, 12, *struct.unpack("<3I", b"xdg_wm_base\0"), 1, 3)
         for words, verdict, status in (
             ([], "lawful: 2 requests, 1 events, 0 and 0 bytes left", 0),
-            (["--tables", f"{ROOT}/examples/tables/viewporter.tables"],
-             "broken: > message 2 at byte 12: F9 bad bind", 1),
-            (["--tables", f"{ROOT}/examples/tables/layer-shell.tables", "--tables",
+            (["--no-tables", "--tables", f"{ROOT}/examples/tables/viewporter.tables"],
+             "not judged from request 2 on: xdg_wm_base is not in the tables; lawful until then; "
+             "2 requests, 1 events", 0),
+            (["--no-tables", "--tables", f"{ROOT}/examples/tables/layer-shell.tables", "--tables",
               f"{ROOT}/examples/tables/xdg-shell.tables"],
+             "lawful: 2 requests, 1 events, 0 and 0 bytes left", 0),
+            (["--tables", f"{ROOT}/examples/tables/xdg-shell.tables"],
              "lawful: 2 requests, 1 events, 0 and 0 bytes left", 0),
         ):
             with self.subTest(words):
@@ -489,6 +526,13 @@ class Judging(Inspected):
             (["--limit", "7", "true"], "--limit 7: not a multiple of 4 from 4096 to 65532"),
             (["--limit", "0", "true"], "--limit 0: not a multiple of 4 from 4096 to 65532"),
             (["--color=red", "true"], "--color red: not auto, always or never"),
+            (["--time=ago", "true"], "--time=ago: not delta"),
+            (["--only", "wl_nothing", "true"], "--only wl_nothing: no tables have that interface"),
+            (["--except", "wl_display,", "true"], "--except : no tables have that interface"),
+            (["--only", "wl_surface.draw", "true"],
+             "--only wl_surface.draw: wl_surface has no such message"),
+            (["--read", "a", "--record", "b"],
+             "--read stands without COMMAND, --record and --picture"),
             (["--tables", bad, "true"], f"{bad} line 3: bad line"),
             (["--tables", self.folder, "true"], f"cannot read {self.folder}: Is a directory"),
             (["--record", f"{self.folder}/none/a", "true"],
@@ -530,16 +574,15 @@ class Failing(Inspected):
     def test_a_file_that_may_not_grow(self):
         """The recording ends with a whole line."""
         def small():
-            resource.setrlimit(resource.RLIMIT_FSIZE, (100, 100))
+            resource.setrlimit(resource.RLIMIT_FSIZE, (200, 200))
             signal.signal(signal.SIGXFSZ, signal.SIG_IGN)
-        self.start("--record", self.recorded, preexec_fn=small)
+        self.start("--no-tables", "--record", self.recorded, preexec_fn=small)
         name = self.tool.stdout.readline().rstrip("\n").removeprefix("WAYLAND_DISPLAY=")
         self.path = f"{self.folder}/{name}"
         self.passes_on()
         _, error = self.finish()
         self.assertEqual(error.count("\n"), 1)
-        with open(self.recorded, encoding="ascii") as file:
-            self.assertEqual(file.read(), f"> {sync(2).hex()}\n< {done(2).hex()}\n")
+        self.assertEqual(self.pieces(self.recorded), f"> {sync(2).hex()}\n< {done(2).hex()}\n")
 
     def test_a_closed_output(self):
         for how in ("full", "reader", "closed"):
@@ -680,7 +723,16 @@ while True: signal.pause()
         self.assertEqual(made[-1].recv(10), b"")
         self.passes(made[0], peer, sync(3))
         _, error = self.finish()
-        self.assertIn("a client is refused: too many descriptors are open\n", error)
+        self.assertRegex(error, r"a client is refused: \d+ descriptors are open, at most 600 may be "
+                                r"\(ulimit -Hn\), and 506 are kept free\n")
+
+    def test_too_few_numbers_for_any_client(self):
+        """A low limit is told as what it is, before anything is started."""
+        def few():
+            resource.setrlimit(resource.RLIMIT_NOFILE, (256, 256))
+        said = self.ran("true", status=125, preexec_fn=few)
+        self.assertEqual(said, ("", "waywire-inspect: at most 256 descriptors may be open here "
+                                    "(ulimit -Hn), and a client may need 522\n"))
 
 
 if __name__ == "__main__":

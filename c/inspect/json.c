@@ -1,0 +1,302 @@
+/* What --json prints: an object in a line for each message, and for what else is told. */
+#define _GNU_SOURCE
+#include "inspect.h"
+
+#include <inttypes.h>
+
+static void print_line(struct text *line)
+{
+	text_add(line, "}\n");
+	print(line->bytes, line->length);
+	text_free(line);
+}
+
+/* Puts a string; a byte that is no UTF-8 becomes U+FFFD. Returns whether all were. */
+static bool put_string(struct text *text, const char *bytes, size_t length)
+{
+	const unsigned char *at = (const unsigned char *)bytes;
+	bool is_all = true;
+	text_add(text, "\"");
+	while (length) {
+		uint32_t character;
+		size_t size = character_length(at, length, &character);
+		if (!size)
+			text_add(text, "\xef\xbf\xbd");
+		else if (character < ' ' || character == 0x7f || character == '"' || character == '\\')
+			text_format(text, "\\u%04x", character);
+		else
+			text_put(text, at, size);
+		is_all &= size != 0;
+		at += size ? size : 1;
+		length -= size ? size : 1;
+	}
+	text_add(text, "\"");
+	return is_all;
+}
+
+/* Puts a string, or null. */
+static void put_name(struct text *text, const char *name, size_t length)
+{
+	if (name)
+		put_string(text, name, length);
+	else
+		text_add(text, "null");
+}
+
+static void put_words(struct text *text, const char *words)
+{
+	put_name(text, words, words ? strlen(words) : 0);
+}
+
+/* Puts the three parts that name an object, without braces. */
+static void put_parts(struct text *text, const struct object *object)
+{
+	text_add(text, "\"interface\":");
+	put_name(text, object->name, object->name_length);
+	text_format(text, ",\"id\":%" PRIu32 ",\"birth\":%" PRIu32, object->id, object->birth);
+}
+
+static void put_objects(struct text *text, const char *key, const struct object *object)
+{
+	text_format(text, ",\"%s\":[", key);
+	if (object->id) {
+		text_add(text, "{");
+		put_parts(text, object);
+		text_add(text, "}");
+	}
+	text_add(text, "]");
+}
+
+static const char *state_of(const struct object *object)
+{
+	return object->state == LIVE ? "live" : object->state == ENDING ? "ending" : "unknown";
+}
+
+/* ---- arguments */
+
+/* Puts the kind and the name of an argument. */
+static void begin_argument(struct text *text, const char *kind, const struct argument *argument)
+{
+	text_format(text, "{\"kind\":\"%s\",\"name\":", kind);
+	put_name(text, argument->name, argument->name_length);
+}
+
+static void put_text(struct text *text, const struct argument *argument)
+{
+	const waywire_arg *value = &argument->value;
+	begin_argument(text, "string", argument);
+	text_add(text, ",\"value\":");
+	if (value->kind == WAYWIRE_NULL_STRING)
+		text_add(text, "null");
+	else if (!put_string(text, value->bytes, value->length)) {
+		text_add(text, ",\"bytes\":\"");
+		text_hex(text, value->bytes, value->length);
+		text_add(text, "\"");
+	}
+}
+
+static void put_object_argument(struct text *text, const struct argument *argument)
+{
+	begin_argument(text, "object", argument);
+	text_add(text, ",");
+	if (argument->value.kind == WAYWIRE_NULL_OBJECT) {
+		text_add(text, "\"id\":0");
+		return;
+	}
+	put_parts(text, &argument->object);
+	text_format(text, ",\"state\":\"%s\"", state_of(&argument->object));
+}
+
+static void put_number(struct text *text, const struct argument *argument)
+{
+	const waywire_arg *value = &argument->value;
+	if (value->kind == WAYWIRE_FIXED) {
+		begin_argument(text, "fixed", argument);
+		text_format(text, ",\"value\":%.17g", waywire_fixed_to_double(value->i));
+	} else if (value->kind == WAYWIRE_INT) {
+		begin_argument(text, "int", argument);
+		text_format(text, ",\"value\":%" PRId32, value->i);
+	} else {
+		begin_argument(text, "uint", argument);
+		text_format(text, ",\"value\":%" PRIu32, value->u);
+	}
+}
+
+static void put_argument(struct text *text, const struct argument *argument, uint64_t descriptor)
+{
+	const waywire_arg *value = &argument->value;
+	switch (value->kind) {
+	case WAYWIRE_STRING:
+	case WAYWIRE_NULL_STRING: put_text(text, argument); break;
+	case WAYWIRE_OBJECT:
+	case WAYWIRE_NULL_OBJECT: put_object_argument(text, argument); break;
+	case WAYWIRE_NEW:
+	case WAYWIRE_BOUND:
+		begin_argument(text, "new", argument);
+		text_add(text, ",");
+		put_parts(text, &argument->object);
+		text_format(text, ",\"version\":%" PRIu32, argument->object.version);
+		break;
+	case WAYWIRE_ARRAY:
+		begin_argument(text, "array", argument);
+		text_format(text, ",\"size\":%zu,\"value\":\"", value->length);
+		text_hex(text, value->bytes, value->length);
+		text_add(text, "\"");
+		break;
+	case WAYWIRE_FD:
+		begin_argument(text, "fd", argument);
+		if (descriptor)
+			text_format(text, ",\"number\":%" PRIu64, descriptor);
+		else
+			text_add(text, ",\"number\":null");
+		break;
+	default: put_number(text, argument);
+	}
+	text_add(text, "}");
+}
+
+static void put_arguments(struct text *text, const struct message *message)
+{
+	uint64_t descriptor = message->first_descriptor;
+	text_add(text, ",\"arguments\":[");
+	for (size_t place = 0; place < message->arg_count; place++) {
+		text_add(text, place ? "," : "");
+		put_argument(text, &message->args[place], descriptor);
+		descriptor += descriptor && message->args[place].value.kind == WAYWIRE_FD;
+	}
+	text_add(text, "]");
+}
+
+/* ---- lines */
+
+/* Puts all of a message but the opening brace of its object and the closing one. */
+static void put_message_parts(struct text *text, const struct shown *shown, const struct message *message,
+	const struct text *line)
+{
+	text_format(text, "\"type\":\"message\",\"client\":%u,\"number\":%" PRIu64, shown->number, message->number);
+	if (message->seconds >= 0)
+		text_format(text, ",\"time\":%.6f", message->seconds);
+	else
+		text_add(text, ",\"time\":null");
+	text_format(text, ",\"direction\":\"%s\",\"index\":%" PRIu64 ",\"piece\":%" PRIu64 ",\"offset\":%" PRIu64
+		",\"size\":%zu,\"object\":{", message->from == CLIENT ? "request" : "event", message->index,
+		message->piece, message->offset, message->size);
+	put_parts(text, &message->target);
+	text_format(text, "},\"opcode\":%u,\"message\":", message->opcode);
+	put_name(text, message->name, message->name_length);
+	text_format(text, ",\"state\":\"%s\"", state_of(&message->target));
+	put_arguments(text, message);
+	put_objects(text, "made", &message->made);
+	put_objects(text, "destroyed", &message->destroyed);
+	put_objects(text, "freed", &message->freed);
+	text_add(text, ",\"text\":");
+	put_name(text, line->bytes, line->length);
+}
+
+/* What a wl_display.error says, in a line of its own. */
+static void print_error(const struct shown *shown, const struct message *message)
+{
+	struct text line = { NULL, 0, 0 };
+	if (!is_error(message) || message->status || message->arg_count != 3)
+		return;
+	const struct argument *args = message->args;
+	text_format(&line, "{\"type\":\"error\",\"client\":%u,\"number\":%" PRIu64 ",\"object\":{", shown->number,
+		message->number);
+	put_parts(&line, &args[0].object);
+	text_format(&line, "},\"code\":%" PRIu32 ",\"text\":", args[1].value.u);
+	put_name(&line, args[2].value.bytes, args[2].value.length);
+	print_line(&line);
+}
+
+void json_message(const struct shown *shown, const struct message *message, const struct text *line,
+	const struct beside *beside)
+{
+	struct text json = { NULL, 0, 0 };
+	text_add(&json, "{");
+	put_message_parts(&json, shown, message, line);
+	text_format(&json, ",\"judged\":%s", message->is_judged ? "true" : "false");
+	if (beside->note) {
+		text_add(&json, ",\"note\":");
+		put_words(&json, beside->note);
+	}
+	print_line(&json);
+	print_error(shown, message);
+}
+
+void json_broken(const struct shown *shown, const struct breaking *breaking)
+{
+	const struct message *message = breaking->message;
+	struct text line = { NULL, 0, 0 };
+	text_format(&line, "{\"type\":\"broken\",\"client\":%u,\"number\":%" PRIu64 ",\"fault\":\"F%u\",\"words\":",
+		shown->number, message->number, breaking->fault.number);
+	put_name(&line, breaking->words->bytes, breaking->words->length);
+	text_format(&line, ",\"direction\":\"%s\",\"offset\":%" PRIu64 ",\"size\":%zu,\"bytes\":\"",
+		message->from == CLIENT ? "request" : "event", message->offset, message->size);
+	text_hex(&line, message->bytes, message->length);
+	text_add(&line, "\",\"message\":");
+	if (!message->name)
+		text_add(&line, "null");
+	else {
+		text_add(&line, "{");
+		put_message_parts(&line, shown, message, breaking->line);
+		text_add(&line, ",\"judged\":true}");
+	}
+	print_line(&line);
+}
+
+void json_verdict(const struct shown *shown, const struct ending *ending)
+{
+	struct text line = { NULL, 0, 0 };
+	text_format(&line, "{\"type\":\"verdict\",\"client\":%u,\"verdict\":\"%s\",\"words\":", shown->number,
+		ending->verdict);
+	put_name(&line, ending->words->bytes, ending->words->length);
+	text_format(&line, ",\"messages\":%" PRIu64 ",\"requests\":%" PRIu64 ",\"events\":%" PRIu64,
+		ending->requests + ending->events, ending->requests, ending->events);
+	print_line(&line);
+}
+
+void json_head(const struct head *head)
+{
+	struct text line = { NULL, 0, 0 };
+	text_add(&line, "{\"type\":\"head\",\"recording\":");
+	put_words(&line, head->recording);
+	text_add(&line, ",\"command\":");
+	text_add(&line, head->command ? "[" : "null");
+	for (char **word = head->command; word && *word; word++) {
+		text_add(&line, word == head->command ? "" : ",");
+		put_words(&line, *word);
+	}
+	text_add(&line, head->command ? "]" : "");
+	text_add(&line, ",\"started\":");
+	put_words(&line, head->started);
+	text_add(&line, ",\"tables\":[");
+	for (const char *name = head->tables; *name;) {
+		size_t length = strcspn(name, " ");
+		text_add(&line, name == head->tables ? "" : ",");
+		put_name(&line, name, length);
+		name += length + (name[length] == ' ');
+	}
+	text_format(&line, "],\"timed\":%s", head->is_timed ? "true" : "false");
+	print_line(&line);
+}
+
+void json_client(unsigned number, const char *name, long process)
+{
+	struct text line = { NULL, 0, 0 };
+	text_format(&line, "{\"type\":\"client\",\"client\":%u,\"name\":", number);
+	put_words(&line, name);
+	text_add(&line, ",\"pid\":");
+	if (process > 0)
+		text_format(&line, "%ld", process);
+	else
+		text_add(&line, "null");
+	print_line(&line);
+}
+
+void json_bad_line(size_t at, const char *words)
+{
+	struct text line = { NULL, 0, 0 };
+	text_format(&line, "{\"type\":\"bad_line\",\"line\":%zu,\"words\":", at);
+	put_words(&line, words);
+	print_line(&line);
+}

@@ -1,0 +1,45 @@
+/* What the messages of a client are, as its pieces pass: lawful, broken or not judged (judge.c). */
+#ifndef INSPECT_JUDGE_H
+#define INSPECT_JUDGE_H
+
+#include "show.h"
+
+enum standing {
+	JUDGED,   /* the library's inspector judges it */
+	UNJUDGED, /* what is not in the tables was bound: followed and printed, not judged */
+	BROKEN,   /* a message broke a rule: nothing but wl_display.error is looked for */
+	LOST      /* memory ran out */
+};
+
+struct judging {
+	struct shown shown;
+	enum standing standing;
+	bool has_error;               /* wl_display.error has come: nothing behind it is looked at */
+	bool is_cut;                  /* a recording could not be read to its end */
+	bool is_lost[2];              /* a direction cannot be cut into messages any more */
+	struct follower follower;
+	waywire_inspector *inspector;
+	struct text reason;           /* where it is not judged: what is not in the tables */
+	struct text verdict;          /* where it is broken */
+	uint64_t unjudged_from;       /* the number of that request, among requests */
+	uint64_t counts[2];           /* of messages that were printed */
+	struct stats stats;
+};
+
+/* Begins with a client. Where memory runs out it is lost, which is said. */
+void judge_begin(struct judging *judging, const struct options *options, const waywire_tables *tables,
+	unsigned number);
+
+/* Prints the messages that a piece completes. */
+void judge_piece(struct judging *judging, int from, const unsigned char *bytes, size_t length,
+	size_t descriptor_count, double seconds);
+
+/* Prints the verdict. */
+void judge_end(struct judging *judging, double seconds);
+
+void judge_free(struct judging *judging);
+
+/* Whether a message broke a rule, or wl_display.error came. */
+bool is_bad(const struct judging *judging);
+
+#endif

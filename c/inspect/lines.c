@@ -1,0 +1,75 @@
+/* The line of a message, by what the tool knows of its objects. */
+#define _GNU_SOURCE
+#include "show.h"
+
+#include <inttypes.h>
+
+void put_object(struct text *text, const struct object *object)
+{
+	if (object->name)
+		text_put(text, object->name, object->name_length);
+	else
+		text_add(text, "unknown");
+	text_format(text, "@%" PRIu32, object->id);
+}
+
+static void put_fixed(struct text *text, int32_t parts)
+{
+	uint32_t size = parts < 0 ? 0 - (uint32_t)parts : (uint32_t)parts;
+	text_format(text, "%s%" PRIu32 ".%08" PRIu32, parts < 0 ? "-" : "", size / 256, size % 256 * 390625);
+}
+
+static void put_bound(struct text *text, const struct argument *argument)
+{
+	text_put_quoted(text, argument->value.bytes, argument->value.length);
+	text_format(text, ", %" PRIu32 ", new id ", argument->value.u);
+	put_object(text, &argument->object);
+}
+
+/* Puts an argument; `descriptor` is the number of the next one, 0 where it is not known. */
+static void put_argument(struct text *text, const struct argument *argument, uint64_t descriptor)
+{
+	const waywire_arg *value = &argument->value;
+	switch (value->kind) {
+	case WAYWIRE_INT: text_format(text, "%" PRId32, value->i); break;
+	case WAYWIRE_UINT: text_format(text, "%" PRIu32, value->u); break;
+	case WAYWIRE_FIXED: put_fixed(text, value->i); break;
+	case WAYWIRE_STRING: text_put_quoted(text, value->bytes, value->length); break;
+	case WAYWIRE_OBJECT: put_object(text, &argument->object); break;
+	case WAYWIRE_NEW:
+		text_add(text, "new id ");
+		put_object(text, &argument->object);
+		break;
+	case WAYWIRE_BOUND: put_bound(text, argument); break;
+	case WAYWIRE_ARRAY: text_format(text, "array[%zu]", value->length); break;
+	case WAYWIRE_FD:
+		text_add(text, "fd");
+		if (descriptor)
+			text_format(text, " %" PRIu64, descriptor);
+		break;
+	default: text_add(text, "nil");
+	}
+}
+
+void put_message(struct text *text, const struct message *message)
+{
+	uint64_t descriptor = message->first_descriptor;
+	text_add(text, message->from == CLIENT ? "-> " : "<- ");
+	put_object(text, &message->target);
+	if (!message->name || message->status == WAYWIRE_FAULT_UNKNOWN_MESSAGE
+		|| message->status == WAYWIRE_FAULT_BAD_SIZE) {
+		text_format(text, ": opcode %u, %zu bytes", message->opcode, message->size);
+		return;
+	}
+	text_add(text, ".");
+	text_put(text, message->name, message->name_length);
+	text_add(text, "(");
+	for (size_t place = 0; place < message->arg_count; place++) {
+		text_add(text, place ? ", " : "");
+		put_argument(text, &message->args[place], descriptor);
+		descriptor += descriptor && message->args[place].value.kind == WAYWIRE_FD;
+	}
+	if (message->status)
+		text_add(text, message->arg_count ? ", .." : "..");
+	text_add(text, ")");
+}

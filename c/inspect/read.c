@@ -1,0 +1,155 @@
+/* A recording that is read: its pieces pass a judging as those of a live session do. */
+#define _GNU_SOURCE
+#include "inspect.h"
+
+#include <stdio.h>
+#include <unistd.h>
+
+/* The length of a path without a number behind a point, as further clients' recordings have one. */
+static size_t without_number(const char *path)
+{
+	size_t length = strlen(path), digits = 0;
+	while (digits < length && path[length - digits - 1] >= '0' && path[length - digits - 1] <= '9')
+		digits++;
+	return digits && digits < length && path[length - digits - 1] == '.' ? length - digits - 1 : length;
+}
+
+char *tables_beside(struct options *options)
+{
+	size_t lengths[] = { strlen(options->read), without_number(options->read) };
+	if (options->table_count || options->no_tables)
+		return NULL;
+	for (size_t each = 0; each < 2; each++) {
+		char *path;
+		if (asprintf(&path, "%.*s.tables", (int)lengths[each], options->read) < 0)
+			fail("out of memory");
+		if (!access(path, R_OK)) {
+			options->tables[options->table_count++] = path;
+			options->no_tables = true;
+			return path;
+		}
+		free(path);
+	}
+	return NULL;
+}
+
+/* What the comments of a recording say. */
+struct comments {
+	struct client client;
+	char started[32]; /* empty where it is not said */
+	double seconds;   /* of the next piece; -1 where it is not said */
+	bool is_timed;
+};
+
+/* Notes a comment, from behind its `#`. */
+static void note_comment(struct comments *comments, const char *comment, size_t length)
+{
+	char words[128], end;
+	double seconds;
+	snprintf(words, sizeof words, "%.*s", (int)(length < sizeof words ? length : sizeof words - 1), comment);
+	if (sscanf(words, " %lf %c", &seconds, &end) == 1 && seconds >= 0) {
+		comments->seconds = seconds;
+		comments->is_timed = true;
+	} else if (!strncmp(words, " started ", 9))
+		snprintf(comments->started, sizeof comments->started, "%.31s", words + 9);
+	else if (!strncmp(words, " client ", 8)) {
+		char *process = strrchr(words, ' ');
+		comments->client.process = (pid_t)strtol(process, NULL, 10);
+		*process = 0;
+		if (process > words + 8)
+			snprintf(comments->client.name, sizeof comments->client.name, "%.63s", words + 8);
+	}
+}
+
+/* Notes the comments in a part of the text in which nothing else stands. */
+static void note_comments(struct comments *comments, const char *text, size_t length)
+{
+	while (length) {
+		const char *end = memchr(text, '\n', length);
+		size_t line = end ? (size_t)(end - text) : length, over = line + (end != NULL);
+		size_t shown = line && text[line - 1] == '\r' ? line - 1 : line;
+		if (shown && *text == '#')
+			note_comment(comments, text + 1, shown - 1);
+		text += over;
+		length -= over;
+	}
+}
+
+/* The recording, and how far it was read. */
+struct reading {
+	struct text text;
+	size_t from, line;
+	unsigned char *bytes; /* of a piece, with room for the longest */
+	struct comments comments;
+	waywire_piece piece;
+};
+
+static waywire_status next_piece(struct reading *reading)
+{
+	waywire_status status = waywire_recording_next(reading->text.bytes, reading->text.length, reading->from,
+		reading->line, reading->bytes, reading->text.length, &reading->piece);
+	if (status)
+		return status;
+	reading->comments.seconds = -1;
+	note_comments(&reading->comments, reading->text.bytes + reading->from,
+		reading->piece.begin - reading->from);
+	reading->from = reading->piece.behind;
+	reading->line = reading->piece.line;
+	return status;
+}
+
+/* Prints what stands in front of the first message. */
+static void print_head(const struct options *options, const struct known *known, const struct comments *comments)
+{
+	struct head head = { options->read, *comments->started ? comments->started : NULL, NULL, known->names.bytes,
+		comments->is_timed };
+	if (!options->json)
+		return;
+	json_head(&head);
+	json_client(1, *comments->client.name ? comments->client.name : NULL, (long)comments->client.process);
+}
+
+/* Says why the recording ends before its end. */
+static void say_end(const struct options *options, const struct reading *reading, waywire_status status)
+{
+	char words[64];
+	snprintf(words, sizeof words, "line %zu: bad line", reading->piece.line);
+	if (status == WAYWIRE_BAD_LINE && options->json)
+		json_bad_line(reading->piece.line, words);
+	print_now();
+	say("%s", status == WAYWIRE_BAD_LINE ? words : waywire_strerror(status));
+}
+
+/* Passes all pieces, of which the first was read. Returns why it ends. */
+static waywire_status pass_pieces(struct reading *reading, struct judging *judging, waywire_status status)
+{
+	for (; !status; status = next_piece(reading))
+		judge_piece(judging, (int)reading->piece.sender, reading->bytes, reading->piece.length,
+			reading->piece.token_count, reading->comments.seconds);
+	return status;
+}
+
+int read_recording(const struct options *options, const struct known *known)
+{
+	struct reading reading = { .comments = { .seconds = -1 } };
+	struct judging judging;
+	read_file(options->read, &reading.text);
+	reading.bytes = malloc(reading.text.length + 1);
+	if (!reading.bytes)
+		fail("out of memory");
+	waywire_status status = next_piece(&reading);
+	print_head(options, known, &reading.comments);
+	judge_begin(&judging, options, known->tables, 1);
+	status = pass_pieces(&reading, &judging, status);
+	bool is_whole = status == WAYWIRE_NOT_FOUND;
+	if (!is_whole)
+		say_end(options, &reading, status);
+	judging.is_cut = !is_whole;
+	judge_end(&judging, reading.comments.seconds);
+	print_now();
+	int result = is_whole ? is_bad(&judging) : NOTHING_INSPECTED;
+	judge_free(&judging);
+	text_free(&reading.text);
+	free(reading.bytes);
+	return result;
+}

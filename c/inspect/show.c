@@ -1,0 +1,128 @@
+/* What is printed of a client, in lines. */
+#define _GNU_SOURCE
+#include "inspect.h"
+
+#define RED "\033[31m"
+#define PLAIN "\033[0m"
+/* The arrow of a line and the space behind it. */
+#define ARROW 3
+
+/* When the last line was printed. */
+static double last_line;
+
+static void put_front(struct text *text, const struct shown *shown, double seconds)
+{
+	double since = seconds < 0 ? seconds : seconds + shown->start;
+	if (shown->options->time == TIME_DELTA) {
+		double delta = since - last_line;
+		last_line = since;
+		since = since < 0 ? since : delta > 0 ? delta : 0;
+	}
+	if (shown->options->time && since < 0)
+		text_format(text, "%11s ", "-");
+	else if (shown->options->time)
+		text_format(text, "%11.6f ", since);
+	if (shown->is_numbered)
+		text_format(text, "#%u ", shown->number);
+}
+
+static void put_red(struct text *text, const struct shown *shown, const struct text *words, bool is_red)
+{
+	bool is_coloured = is_red && shown->options->colour;
+	text_add(text, is_coloured ? RED : "");
+	text_put(text, words->bytes, words->length);
+	text_add(text, is_coloured ? PLAIN "\n" : "\n");
+}
+
+/* The colour of an interface, by its name. */
+static const char *colour_of(const struct object *object)
+{
+	static const char *const colours[] = { "\033[33m", "\033[35m", "\033[36m", "\033[93m", "\033[95m", "\033[96m" };
+	unsigned sum = 0;
+	for (size_t each = 0; each < object->name_length; each++)
+		sum = sum * 31 + (unsigned char)object->name[each];
+	return colours[sum % (sizeof colours / sizeof *colours)];
+}
+
+/* Puts a line with its arrow and its interface in colours. */
+static void put_coloured(struct text *text, const struct message *message, const struct text *line)
+{
+	size_t name = ARROW + message->target.name_length;
+	if (!message->target.name || line->length < name) {
+		text_put(text, line->bytes, line->length);
+		return;
+	}
+	text_add(text, message->from == CLIENT ? "\033[32m" : "\033[34m");
+	text_put(text, line->bytes, ARROW);
+	text_add(text, colour_of(&message->target));
+	text_put(text, line->bytes + ARROW, name - ARROW);
+	text_add(text, PLAIN);
+	text_put(text, line->bytes + name, line->length - name);
+}
+
+static void print_and_free(struct text *text)
+{
+	print(text->bytes, text->length);
+	text_free(text);
+}
+
+void show_words(const struct shown *shown, double seconds, const struct text *words, bool is_red)
+{
+	struct text text = { NULL, 0, 0 };
+	if (shown->options->json)
+		return;
+	put_front(&text, shown, seconds);
+	put_red(&text, shown, words, is_red);
+	print_and_free(&text);
+}
+
+/* The notice behind a message from which on nothing is judged. */
+static void show_note(const struct shown *shown, const struct message *message, const char *note)
+{
+	struct text words = { NULL, 0, 0 };
+	text_add(&words, note);
+	show_words(shown, message->seconds, &words, false);
+	text_free(&words);
+}
+
+void show_message(const struct shown *shown, const struct message *message, const struct text *line,
+	const struct beside *beside)
+{
+	struct text text = { NULL, 0, 0 };
+	bool is_asked = beside->is_red || beside->note || is_shown(shown->options, message);
+	if (is_asked && shown->options->json) {
+		json_message(shown, message, line, beside);
+	} else if (is_asked) {
+		put_front(&text, shown, message->seconds);
+		text_add(&text, beside->is_marked ? "? " : "");
+		if (beside->is_red || !shown->options->colour)
+			put_red(&text, shown, line, beside->is_red);
+		else {
+			put_coloured(&text, message, line);
+			text_add(&text, "\n");
+		}
+		print_and_free(&text);
+		if (beside->note)
+			show_note(shown, message, beside->note);
+	}
+}
+
+void show_broken(const struct shown *shown, const struct breaking *breaking)
+{
+	double seconds = breaking->message->seconds;
+	if (shown->options->json) {
+		json_broken(shown, breaking);
+		return;
+	}
+	show_words(shown, seconds, breaking->line, true);
+	show_words(shown, seconds, breaking->words, true);
+	show_words(shown, seconds, breaking->verdict, true);
+}
+
+void show_verdict(const struct shown *shown, const struct ending *ending)
+{
+	if (shown->options->json)
+		json_verdict(shown, ending);
+	else if (!ending->is_said)
+		show_words(shown, ending->seconds, ending->words, ending->is_red);
+}

@@ -1,0 +1,134 @@
+/* What is printed of a client's messages: lines (lines.c, show.c) or JSON (json.c), those that are asked for
+ * (filter.c), and counts at the end (stats.c). */
+#ifndef INSPECT_SHOW_H
+#define INSPECT_SHOW_H
+
+#include "follow.h"
+#include "text.h"
+
+struct options;
+
+/* ---- which messages (filter.c) */
+
+/* An interface, or one of its messages by the opcodes of its request and its event of that name. */
+struct asked {
+	uint16_t interface;
+	int opcodes[2]; /* -1 where there is none */
+	bool is_message;
+};
+
+struct filter {
+	struct asked *asked;
+	size_t count;
+};
+
+/* Adds what an option names, with commas between. Ends the tool where the tables have no such name. */
+void filter_read(struct filter *filter, const waywire_tables *tables, const char *option, const char *names);
+
+/* Whether --only and --except let a message be shown. */
+bool is_shown(const struct options *options, const struct message *message);
+
+/* ---- words (lines.c) */
+
+/* Puts the line of a message as far as it could be taken apart, as a trace has it. */
+void put_message(struct text *text, const struct message *message);
+
+/* Puts an object by its interface and id. */
+void put_object(struct text *text, const struct object *object);
+
+/* Which rule a message breaks: F1 is 1. */
+struct fault {
+	unsigned number;
+	size_t place;      /* of an argument */
+	uint32_t spelling;
+};
+
+/* Puts what is wrong with a message, in words (words.c). */
+void put_fault(struct text *text, const struct follower *follower, const struct message *message,
+	const struct fault *fault);
+
+/* ---- counts (stats.c) */
+
+struct counted {
+	const char *interface, *message; /* null where the tables lack it */
+	size_t interface_length, message_length;
+	int from;
+	uint64_t count, bytes, descriptors;
+};
+
+struct stats {
+	struct counted *counted;
+	size_t count;
+	struct trip *trips; /* that are under way */
+	size_t trip_count;
+	uint64_t trips_done;
+	double all_trips, longest_trip; /* in seconds */
+};
+
+/* Counts a message. Where memory runs out it is left out. */
+void stats_note(struct stats *stats, const struct message *message);
+
+/* Puts the counts, and what was left open. */
+void stats_put(struct text *text, const struct stats *stats, const struct objects *objects);
+
+void stats_free(struct stats *stats);
+
+/* ---- a client (show.c, json.c) */
+
+/* The client that lines are of. */
+struct shown {
+	const struct options *options;
+	unsigned number;   /* the client's */
+	bool is_numbered;  /* whether lines say so */
+	double start;      /* when it connected, in seconds behind the first client */
+};
+
+/* What is said of a message beside its line. */
+struct beside {
+	const char *note;  /* null where there is none; what an unjudged message is not in */
+	bool is_marked;    /* it is not judged */
+	bool is_red;
+};
+
+/* Prints a message; `line` is its line. */
+void show_message(const struct shown *shown, const struct message *message, const struct text *line,
+	const struct beside *beside);
+
+/* Prints the message that breaks a rule, what is wrong in words, and the verdict. */
+struct breaking {
+	const struct message *message;
+	const struct text *line, *words, *verdict;
+	struct fault fault;
+};
+void show_broken(const struct shown *shown, const struct breaking *breaking);
+
+/* Prints a sentence. */
+void show_words(const struct shown *shown, double seconds, const struct text *words, bool is_red);
+
+/* The verdict at the end. */
+struct ending {
+	const char *verdict; /* a word */
+	const struct text *words;
+	double seconds;
+	uint64_t requests, events;
+	bool is_red;
+	bool is_said;        /* in words, already */
+};
+void show_verdict(const struct shown *shown, const struct ending *ending);
+
+/* JSON (json.c): each prints one line. */
+struct head {
+	const char *recording, *started; /* null where there is none */
+	char **command;
+	const char *tables;  /* names with spaces between */
+	bool is_timed;
+};
+void json_head(const struct head *head);
+void json_client(unsigned number, const char *name, long process);
+void json_message(const struct shown *shown, const struct message *message, const struct text *line,
+	const struct beside *beside);
+void json_broken(const struct shown *shown, const struct breaking *breaking);
+void json_verdict(const struct shown *shown, const struct ending *ending);
+void json_bad_line(size_t line, const char *words);
+
+#endif

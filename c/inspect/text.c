@@ -1,0 +1,154 @@
+/* A text that grows, and strings in it. */
+#define _GNU_SOURCE
+#include "text.h"
+
+#include <stdarg.h>
+#include <stdio.h>
+#include <stdlib.h>
+#include <string.h>
+
+/* The length of `\xNN`. */
+#define ESCAPE 4
+#define LONGEST_CHARACTER 4
+
+static bool make_room(struct text *text, size_t length)
+{
+	if (text->room - text->length > length)
+		return true;
+	size_t room = 2 * (text->length + length) + 64;
+	char *bytes = realloc(text->bytes, room);
+	if (!bytes)
+		return false;
+	text->bytes = bytes;
+	text->room = room;
+	return true;
+}
+
+void text_put(struct text *text, const void *bytes, size_t length)
+{
+	if (!length || !make_room(text, length))
+		return;
+	memcpy(text->bytes + text->length, bytes, length);
+	text->length += length;
+	text->bytes[text->length] = 0;
+}
+
+void text_add(struct text *text, const char *words)
+{
+	text_put(text, words, strlen(words));
+}
+
+void text_format(struct text *text, const char *format, ...)
+{
+	va_list words;
+	va_start(words, format);
+	int length = vsnprintf(NULL, 0, format, words);
+	va_end(words);
+	if (length <= 0 || !make_room(text, (size_t)length + 1))
+		return;
+	va_start(words, format);
+	vsnprintf(text->bytes + text->length, (size_t)length + 1, format, words);
+	va_end(words);
+	text->length += (size_t)length;
+}
+
+void text_hex(struct text *text, const unsigned char *bytes, size_t length)
+{
+	static const char digits[] = "0123456789abcdef";
+	for (size_t each = 0; each < length; each++) {
+		char both[] = { digits[bytes[each] >> 4], digits[bytes[each] & 15] };
+		text_put(text, both, sizeof both);
+	}
+}
+
+void text_free(struct text *text)
+{
+	free(text->bytes);
+	*text = (struct text){ NULL, 0, 0 };
+}
+
+/* ---- UTF-8 */
+
+size_t character_length(const unsigned char *bytes, size_t length, uint32_t *character)
+{
+	static const uint32_t least[] = { 0, 0, 0x80, 0x800, 0x10000 };
+	if (!length)
+		return 0;
+	unsigned char first = *bytes;
+	size_t size = first < 0x80 ? 1 : first >> 5 == 6 ? 2 : first >> 4 == 14 ? 3 : first >> 3 == 30 ? 4 : 0;
+	if (!size || size > length)
+		return 0;
+	uint32_t read = size == 1 ? first : first & (0x7fu >> size);
+	for (size_t each = 1; each < size; each++) {
+		if (bytes[each] >> 6 != 2)
+			return 0;
+		read = read << 6 | (bytes[each] & 0x3f);
+	}
+	if (read < least[size] || read > 0x10ffff || (read >= 0xd800 && read < 0xe000))
+		return 0;
+	*character = read;
+	return size;
+}
+
+size_t shown_character(const unsigned char *bytes, size_t length)
+{
+	uint32_t it;
+	size_t size = character_length(bytes, length, &it);
+	bool is_control = size && (it < ' ' || (it > '~' && it < 0xa0));
+	bool is_turning = size && ((it >= 0x2028 && it <= 0x202e) || (it >= 0x2066 && it <= 0x2069)
+		|| it == 0x200e || it == 0x200f || it == 0xfeff);
+	return is_control || is_turning ? 0 : size;
+}
+
+static int digit(char it)
+{
+	return it >= '0' && it <= '9' ? it - '0' : it >= 'a' && it <= 'f' ? it - 'a' + 10 : -1;
+}
+
+/* The bytes that stand escaped at the front of a line, as many as a character has. */
+static size_t escaped(const char *line, size_t length, unsigned char *bytes)
+{
+	size_t count = 0;
+	for (; count < LONGEST_CHARACTER && length >= ESCAPE; line += ESCAPE, length -= ESCAPE) {
+		if (line[0] != '\\' || line[1] != 'x' || digit(line[2]) < 0 || digit(line[3]) < 0)
+			break;
+		bytes[count++] = (unsigned char)(digit(line[2]) * 16 + digit(line[3]));
+	}
+	return count;
+}
+
+void text_put_line(struct text *text, const char *line, size_t length)
+{
+	unsigned char bytes[LONGEST_CHARACTER];
+	while (length) {
+		const char *next = memchr(line, '\\', length);
+		size_t plain = next ? (size_t)(next - line) : length;
+		text_put(text, line, plain);
+		line += plain;
+		length -= plain;
+		size_t size = shown_character(bytes, escaped(line, length, bytes));
+		if (size > 1)
+			text_put(text, bytes, size);
+		else if (length)
+			text_put(text, line, 1);
+		size_t over = size > 1 ? ESCAPE * size : length ? 1 : 0;
+		line += over;
+		length -= over;
+	}
+}
+
+void text_put_quoted(struct text *text, const char *bytes, size_t length)
+{
+	const unsigned char *at = (const unsigned char *)bytes;
+	text_add(text, "\"");
+	while (length) {
+		size_t size = *at == '"' || *at == '\\' ? 0 : shown_character(at, length);
+		if (size)
+			text_put(text, at, size);
+		else
+			text_format(text, "\\x%02x", *at);
+		at += size ? size : 1;
+		length -= size ? size : 1;
+	}
+	text_add(text, "\"");
+}

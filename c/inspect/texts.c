@@ -1,0 +1,238 @@
+/* Texts of tables: where they are, and what is in them. */
+#define _GNU_SOURCE
+#include "inspect.h"
+
+#include <dirent.h>
+#include <errno.h>
+#include <limits.h>
+#include <spawn.h>
+#include <stdio.h>
+#include <sys/wait.h>
+#include <unistd.h>
+
+/* Where the installed texts are, from the folder of the tool itself; the Makefile says it. */
+#ifndef WAYWIRE_TABLES
+#define WAYWIRE_TABLES "../share/waywire/tables"
+#endif
+/* As much as `waywire` reads of a file. */
+#define LONGEST 16777216
+
+/* ---- other programs */
+
+void find_own(char *path, size_t size)
+{
+	ssize_t length = readlink("/proc/self/exe", path, size - 1);
+	if (length < 0)
+		fail("/proc/self/exe cannot be read: %s", strerror(errno));
+	path[length] = 0;
+}
+
+void find_beside(char *path, size_t size, const char *from_tool)
+{
+	find_own(path, size);
+	char *name = strrchr(path, '/') + 1;
+	size_t left = size - (size_t)(name - path);
+	if ((size_t)snprintf(name, left, "%s", from_tool) >= left)
+		fail("the path of %s is too long", from_tool);
+}
+
+static void read_all(int from, struct text *output)
+{
+	char bytes[4096];
+	ssize_t came;
+	while ((came = read(from, bytes, sizeof bytes)) > 0 || (came < 0 && errno == EINTR))
+		if (came > 0)
+			text_put(output, bytes, (size_t)came);
+	close(from);
+}
+
+/* A program is started with the usual signals, whatever the tool does with its own. */
+static void take_no_signals(posix_spawnattr_t *attributes)
+{
+	sigset_t none, usual;
+	sigemptyset(&none);
+	sigemptyset(&usual);
+	sigaddset(&usual, SIGPIPE);
+	posix_spawnattr_setflags(attributes, POSIX_SPAWN_SETSIGDEF | POSIX_SPAWN_SETSIGMASK);
+	posix_spawnattr_setsigdefault(attributes, &usual);
+	posix_spawnattr_setsigmask(attributes, &none);
+}
+
+int run_to_end(char *const *words, struct text *output)
+{
+	int ends[2], status = 0;
+	pid_t process;
+	posix_spawn_file_actions_t actions;
+	posix_spawnattr_t attributes;
+	if (pipe(ends))
+		return 127;
+	posix_spawnattr_init(&attributes);
+	take_no_signals(&attributes);
+	posix_spawn_file_actions_init(&actions);
+	if (output)
+		posix_spawn_file_actions_adddup2(&actions, ends[1], STDOUT_FILENO);
+	posix_spawn_file_actions_addclose(&actions, ends[0]);
+	posix_spawn_file_actions_addclose(&actions, ends[1]);
+	int error = posix_spawnp(&process, words[0], &actions, &attributes, words, environ);
+	posix_spawn_file_actions_destroy(&actions);
+	posix_spawnattr_destroy(&attributes);
+	close(ends[1]);
+	if (output)
+		read_all(ends[0], output);
+	else
+		close(ends[0]);
+	if (error)
+		return 127;
+	while (waitpid(process, &status, 0) < 0 && errno == EINTR)
+		;
+	return WIFEXITED(status) ? WEXITSTATUS(status) : 128 + WTERMSIG(status);
+}
+
+/* ---- a text */
+
+static bool ends_with(const char *path, const char *end)
+{
+	size_t length = strlen(path), its = strlen(end);
+	return length > its && !strcmp(path + length - its, end);
+}
+
+bool is_xml(const char *path)
+{
+	return ends_with(path, ".xml");
+}
+
+void read_file(const char *path, struct text *text)
+{
+	char bytes[65536];
+	size_t came;
+	FILE *file = fopen(path, "rbe");
+	if (!file)
+		fail("cannot read %s: %s", path, strerror(errno));
+	while ((came = fread(bytes, 1, sizeof bytes, file)) && text->length <= LONGEST)
+		text_put(text, bytes, came);
+	if (ferror(file))
+		fail("cannot read %s: %s", path, strerror(errno));
+	fclose(file);
+	if (text->length > LONGEST)
+		fail("%s: file too long", path);
+}
+
+/* Makes a text of a protocol's XML. */
+static void convert(const char *path, struct text *text)
+{
+	char tool[PATH_MAX];
+	char *words[] = { tool, (char *)path, NULL };
+	find_beside(tool, sizeof tool, WAYWIRE_TOOLS "/tables-from-xml");
+	int status = run_to_end(words, text);
+	if (status == 127)
+		fail("%s cannot be read: %s cannot be run", path, tool);
+	if (status)
+		fail("%s cannot be read", path);
+}
+
+void source_read(struct source *source)
+{
+	struct text text = { NULL, 0, 0 };
+	if (is_xml(source->path))
+		convert(source->path, &text);
+	else
+		read_file(source->path, &text);
+	if (text.length && text.bytes[text.length - 1] != '\n')
+		text_add(&text, "\n");
+	source->bytes = text.bytes ? text.bytes : calloc(1, 1);
+	source->length = text.length;
+	if (!source->bytes)
+		fail("out of memory");
+	source->lines = 0;
+	for (size_t each = 0; each < text.length; each++)
+		source->lines += text.bytes[each] == '\n';
+}
+
+/* ---- what a text declares */
+
+/* The line behind the one at a place. */
+static size_t next_line(const struct source *source, size_t at)
+{
+	const char *end = memchr(source->bytes + at, '\n', source->length - at);
+	return end ? (size_t)(end - source->bytes) + 1 : source->length;
+}
+
+/* A name in a text; one of no length stands for none. */
+struct name {
+	const char *bytes;
+	size_t length;
+};
+
+/* What a line names behind the word that it begins with. */
+static struct name named_by(const struct source *source, size_t at, const char *word)
+{
+	size_t length = source->length - at, begin = strlen(word);
+	if (length <= begin || memcmp(source->bytes + at, word, begin))
+		return (struct name){ NULL, 0 };
+	const char *name = source->bytes + at + begin, *end = memchr(name, ' ', length - begin);
+	return (struct name){ name, end ? (size_t)(end - name) : 0 };
+}
+
+static bool declares(const struct source *source, struct name name)
+{
+	for (size_t at = 0; source->bytes && at < source->length; at = next_line(source, at)) {
+		struct name its = named_by(source, at, "interface ");
+		if (its.length == name.length && !memcmp(its.bytes, name.bytes, name.length))
+			return true;
+	}
+	return false;
+}
+
+void source_without(struct source *source, const struct source *other)
+{
+	size_t kept = 0, lines = 0;
+	bool is_out = false;
+	for (size_t at = 0, next; at < source->length; at = next) {
+		next = next_line(source, at);
+		struct name name = named_by(source, at, "interface ");
+		if (!name.length)
+			name = named_by(source, at, "extend ");
+		if (name.length)
+			is_out = declares(other, name);
+		if (is_out)
+			continue;
+		memmove(source->bytes + kept, source->bytes + at, next - at);
+		kept += next - at;
+		lines++;
+	}
+	source->length = kept;
+	source->lines = lines;
+}
+
+/* ---- the installed texts */
+
+static int is_tables(const struct dirent *entry)
+{
+	return ends_with(entry->d_name, ".tables");
+}
+
+static int by_name(const struct dirent **one, const struct dirent **other)
+{
+	return strcmp((*one)->d_name, (*other)->d_name);
+}
+
+char **installed_texts(size_t *count)
+{
+	static char folder[PATH_MAX];
+	struct dirent **found = NULL;
+	find_beside(folder, sizeof folder, WAYWIRE_TABLES);
+	int entries = scandir(folder, &found, is_tables, by_name);
+	if (entries < 0)
+		say("cannot read %s: %s; the core's interfaces alone are known", folder, strerror(errno));
+	*count = entries < 0 ? 0 : (size_t)entries;
+	char **paths = calloc(*count + 1, sizeof *paths);
+	for (size_t each = 0; each < *count; each++) {
+		if (!paths || asprintf(&paths[each], "%s/%s", folder, found[each]->d_name) < 0)
+			fail("out of memory");
+		free(found[each]);
+	}
+	free(found);
+	if (!paths)
+		fail("out of memory");
+	return paths;
+}

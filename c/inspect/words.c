@@ -1,0 +1,154 @@
+/* What is wrong with a message, in words. The library has said which rule it breaks. */
+#define _GNU_SOURCE
+#include "show.h"
+
+#include <inttypes.h>
+
+#define MOST_IDS 1048576
+
+static const char *kind_of(const struct message *message)
+{
+	return message->from == CLIENT ? "request" : "event";
+}
+
+/* Puts which object an id means, and what became of it. */
+static void put_known(struct text *text, const struct object *object)
+{
+	if (!object->birth) {
+		text_format(text, "no object has had the id %" PRIu32, object->id);
+		return;
+	}
+	put_object(text, object);
+	if (object->state == ENDING)
+		text_format(text, " was destroyed by message %" PRIu64, object->ended);
+	else if (object->state == UNKNOWN && object->ended)
+		text_format(text, " was destroyed by message %" PRIu64 ", and its id is free", object->ended);
+	else if (object->state == UNKNOWN)
+		text_add(text, " has ended, and its id is free");
+	else if (object->made)
+		text_format(text, " was made by message %" PRIu64, object->made);
+	else
+		text_add(text, " is there from the start");
+}
+
+static void put_size(struct text *text, const struct follower *follower, const struct message *message)
+{
+	text_format(text, "its header says a size of %zu bytes, which must be at least 8", message->size);
+	text_format(text, ", a multiple of 4, and at most %" PRIu32, follower->limit);
+}
+
+static void put_unknown_message(struct text *text, const struct message *message)
+{
+	if (!message->name) {
+		put_object(text, &message->target);
+		text_format(text, " has no %s with the opcode %u", kind_of(message), message->opcode);
+		return;
+	}
+	put_object(text, &message->target);
+	text_format(text, " has version %" PRIu32 ", and this %s is there from version %" PRIu32 " on",
+		message->target.version, kind_of(message), message->signature.since);
+}
+
+/* Puts an argument's place, counted from 0 as in a verdict. */
+static void put_place(struct text *text, size_t place)
+{
+	text_format(text, "argument %zu: ", place);
+}
+
+/* The argument at a place; one of no object where it was not read. */
+static struct object object_at(const struct message *message, size_t place)
+{
+	return place < message->arg_count ? message->args[place].object : (struct object){ 0 };
+}
+
+static void put_bad_object(struct text *text, const struct follower *follower, const struct message *message,
+	size_t place)
+{
+	struct object object = object_at(message, place);
+	waywire_kind kind;
+	const char *name;
+	size_t length;
+	put_place(text, place);
+	put_known(text, &object);
+	if (object.state != LIVE || waywire_tables_kind(follower->tables, message->target.interface,
+			(waywire_sender)message->from, message->opcode, place, &kind)
+		|| waywire_tables_name(follower->tables, kind.interface, &name, &length))
+		return;
+	text_format(text, ", and a %.*s is wanted", (int)length, name);
+}
+
+static void put_bad_new_id(struct text *text, const struct follower *follower, const struct message *message,
+	size_t place)
+{
+	uint32_t id = object_at(message, place).id;
+	struct object old = object_of(&follower->objects, id);
+	put_place(text, place);
+	if (!id)
+		text_add(text, "a new id is not 0");
+	else if (old.state == LIVE) {
+		put_known(text, &old);
+		text_add(text, ", and still has this id");
+	} else if (old.state == ENDING) {
+		put_known(text, &old);
+		text_add(text, ", and no delete_id has made its id free");
+	} else if (message->from == COMPOSITOR)
+		text_format(text, "%" PRIu32 " is neither a free id nor the next one of the compositor's", id);
+	else
+		text_format(text, "%" PRIu32 " is neither a free id nor the next one, %" PRIu32, id,
+			next_id(&follower->objects));
+}
+
+/* The newest version with which an interface was announced under a name; 0 where it was not. */
+static uint32_t announced_version(const struct follower *follower, uint32_t name, const char *interface,
+	size_t length)
+{
+	uint32_t version = 0;
+	for (size_t each = 0; each < follower->global_count; each++) {
+		const struct global *it = &follower->globals[each];
+		if (it->name == name && it->length == length && !memcmp(it->interface, interface, length)
+			&& it->version > version)
+			version = it->version;
+	}
+	return version;
+}
+
+static void put_bad_bind(struct text *text, const struct follower *follower, const struct message *message)
+{
+	if (!is_bind(message))
+		return;
+	uint32_t name = message->args[0].value.u;
+	const waywire_arg *bound = &message->args[1].value;
+	uint32_t version = announced_version(follower, name, bound->bytes, bound->length);
+	if (!version) {
+		text_format(text, "no global %" PRIu32 " was announced that is a ", name);
+		text_put_quoted(text, bound->bytes, bound->length);
+	} else if (!bound->u)
+		text_add(text, "a version is not 0");
+	else if (bound->u > version)
+		text_format(text, "the global was announced with version %" PRIu32, version);
+	else
+		text_add(text, "no client may bind this interface");
+}
+
+void put_fault(struct text *text, const struct follower *follower, const struct message *message,
+	const struct fault *fault)
+{
+	switch (fault->number) {
+	case 1: put_size(text, follower, message); break;
+	case 2: put_known(text, &message->target); break;
+	case 3: put_unknown_message(text, message); break;
+	case 4:
+		put_place(text, fault->place);
+		text_add(text, waywire_strspelling(fault->spelling));
+		break;
+	case 5: put_bad_object(text, follower, message, fault->place); break;
+	case 6: put_bad_new_id(text, follower, message, fault->place); break;
+	case 7: text_add(text, "bytes stand behind its last argument"); break;
+	case 8:
+		text_format(text, "it needs %zu file descriptors, and fewer came", message->descriptor_count);
+		break;
+	case 9: put_bad_bind(text, follower, message); break;
+	default:
+		text_format(text, "an id is at most %d", MOST_IDS);
+	}
+}

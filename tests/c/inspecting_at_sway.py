@@ -1,0 +1,125 @@
+#!/usr/bin/env python3
+"""Tests of waywire-inspect between clients that copy and paste, and sway without a screen: the server makes
+an object for each selection that it offers.
+
+    tests/c/inspecting_at_sway.py [CLASS[.TEST]]..
+
+The environment is that of tests/c/inspecting.py. `wtype` is the keyboard."""
+import contextlib
+import functools
+import os
+import pwd
+import re
+import shutil
+import socket
+import subprocess
+import sys
+import tempfile
+import time
+import unittest
+
+sys.dont_write_bytecode = True
+sys.path.insert(0, os.path.dirname(os.path.realpath(__file__)))
+from inspecting import LONG  # noqa: E402
+import real_clients  # noqa: E402
+
+CONFIGURATION = "xwayland disable\noutput * bg #000000 solid_color\n"
+# All of a text is selected, copied, and pasted twice.
+COPY_AND_PASTE = ["wtype", *"-s 500 -M ctrl -k a -s 100 -k c -s 300 -k v -s 100 -k v -m ctrl -s 200".split()]
+
+
+class Sway(real_clients.RealClients):
+    """Real clients at sway without a screen."""
+
+    def setUp(self):
+        super().setUp()
+        self.need("sway", "wl-copy", "wl-paste")
+        # sway does not run as root.
+        self.room = self.enterContext(tempfile.TemporaryDirectory(prefix="sway-"))
+        user = pwd.getpwnam("nobody") if os.getuid() == 0 else None
+        as_user = {"user": user.pw_uid, "group": user.pw_gid, "extra_groups": []} if user else {}
+        with open(f"{self.room}/config", "w", encoding="ascii") as file:
+            file.write(CONFIGURATION)
+        if user:
+            shutil.chown(self.room, user.pw_uid, user.pw_gid)
+        env = {**self.env, "XDG_RUNTIME_DIR": self.room, "HOME": self.room, "WLR_BACKENDS": "headless",
+               "WLR_LIBINPUT_NO_DEVICES": "1", "WLR_RENDERER": "pixman"}
+        env.pop("WAYLAND_DISPLAY")
+        self.log = self.enterContext(open(f"{self.folder}/sway.log", "wb"))
+        words = ["sway", "--config", f"{self.room}/config"]
+        self.sway = subprocess.Popen(words, env=env, stdout=self.log, stderr=self.log, **as_user)
+        self.addCleanup(self.end_all, [self.sway])
+        self.env["WAYLAND_DISPLAY"] = f"{self.room}/wayland-1"
+        for _ in range(600):
+            with socket.socket(socket.AF_UNIX) as tried, contextlib.suppress(OSError):
+                tried.connect(self.env["WAYLAND_DISPLAY"])
+                return
+            time.sleep(0.05)
+        raise AssertionError("sway does not listen")
+
+    def end_all(self, programs):
+        for it in programs:
+            it.terminate()
+            try:
+                it.wait(20)
+            except subprocess.TimeoutExpired:
+                it.kill()
+                it.wait()
+
+    def quiet(self):
+        """How others run beside the inspected client, which alone says its messages."""
+        return {**self.env, "WAYLAND_DEBUG": "0"}
+
+    def copy(self, text):
+        """Another client offers a text, until a later one does."""
+        other = subprocess.Popen(["wl-copy", "--foreground", text], env=self.quiet())
+        self.addCleanup(self.end_all, [other])
+
+    def again_until(self, path, does, *wanted):
+        """Does something until the tool has said lines of all these forms."""
+        for _ in range(20):
+            does()
+            time.sleep(0.5)
+            said = self.read(path)
+            if all(re.search(it, said) for it in wanted):
+                return
+        self.fail(f"not all of {wanted} came: {said[-1000:]}")
+
+    def runs(self, *words):
+        """What runs a command to its end."""
+        return functools.partial(subprocess.run, words, env=self.quiet(), check=True, timeout=LONG,
+                                 stdout=subprocess.DEVNULL)
+
+    def test_wl_paste(self):
+        """The id of each offer is that of the one before it, which the client has destroyed."""
+        def copies(path):
+            for text in ("one", "two", "three", "four"):
+                self.copy(text)
+                time.sleep(0.5)
+            offer = "zwlr_data_control_offer_v1@4278190080"
+            self.again_until(path, lambda: self.copy("five"), rf"\(new id {offer}\)", rf"-> {offer}\.receive\(",
+                             rf"-> {offer}\.destroy\(\)")
+        said = self.inspected("wl-paste", "--watch", "sh", "-c", "cat >/dev/null", meanwhile=copies, least=10)
+        self.assertGreater(said.count("(new id zwlr_data_control_offer_v1@4278190080)"), 3)
+
+    def test_wl_copy(self):
+        def pastes(path):
+            self.again_until(path, self.runs("wl-paste"), r"\.send\(")
+        self.inspected("wl-copy", "--foreground", "waywire", meanwhile=pastes, least=10,
+                       until=lambda said: ".set_selection(" in said)
+
+    def test_gtk(self):
+        """It is offered what another client has copied, and copies and pastes its own."""
+        self.need("zenity", "wtype")
+        self.env["GDK_BACKEND"] = "wayland"
+        self.copy("another")
+        def types(path):
+            self.again_until(path, self.runs(*COPY_AND_PASTE),
+                             r"-> wl_data_device@\d+\.set_selection\(wl_data_source@",
+                             r"<- wl_data_device@\d+\.selection\(wl_data_offer@42781900\d\d\)",
+                             r"-> wl_data_offer@42781900\d\d\.destroy\(\)")
+        self.inspected("zenity", "--entry", "--entry-text=waywire", meanwhile=types)
+
+
+if __name__ == "__main__":
+    unittest.main()
