@@ -1,0 +1,134 @@
+"""Sessions that `check-picture` makes up: a short one as the inspector's lines, and a long recording."""
+
+import json
+import random
+import struct
+
+# Runs a command, and writes the most memory that it took at one time, in KB.
+MEASURE = """
+import resource, subprocess, sys
+status = subprocess.run(sys.argv[2:]).returncode
+with open(sys.argv[1], "w") as file:
+    file.write(str(resource.getrusage(resource.RUSAGE_CHILDREN).ru_maxrss))
+sys.exit(status)
+"""
+
+
+def named(interface, number, birth=1):
+    return {"interface": interface, "id": number, "birth": birth}
+
+
+def jsonl(lines):
+    return "".join(f"{json.dumps(it)}\n" for it in lines).encode()
+
+
+class Lines:
+    """Lines of the inspector, message by message."""
+
+    def __init__(self, name):
+        self.lines = [
+            {"type": "head", "recording": None, "command": ["a"], "started": None, "tables": ["core"], "timed": True},
+            {"type": "client", "client": 1, "name": name, "pid": 7}]
+        self.number, self.offset = 0, {"request": 0, "event": 0}
+
+    def add(self, direction, target, name, opcode, arguments, printed, **parts):
+        self.number += 1
+        size = 8 + 4 * len(arguments)
+        arrow = "->" if direction == "request" else "<-"
+        made = [{it: argument[it] for it in ("interface", "id", "birth")}
+                for argument in arguments if argument["kind"] == "new"]
+        self.lines.append({
+            "type": "message", "client": 1, "number": self.number, "time": self.number / 1000, "direction": direction,
+            "index": self.number, "piece": self.number, "offset": self.offset[direction], "size": size,
+            "object": target, "opcode": opcode, "message": name, "state": "live", "arguments": arguments,
+            "made": made, "destroyed": [], "freed": [],
+            "text": f"{arrow} {target['interface']}@{target['id']}.{name}({printed})", "judged": True, **parts})
+        self.offset[direction] += size
+
+
+def quoted(text):
+    plain = (chr(it) if 0x20 <= it <= 0x7E and it not in b'"\\' else f"\\x{it:02x}" for it in text.encode())
+    return f'"{"".join(plain)}"'
+
+
+def new(interface, number):
+    return {"kind": "new", "name": None, **named(interface, number), "version": 1}
+
+
+def string(text):
+    return {"kind": "string", "name": None, "value": text}
+
+
+def small(title="a title", name="client", error=None):
+    """A window with a title; the compositor may end it with an error."""
+    lines, display = Lines(name), named("wl_display", 1)
+    surface, window = named("wl_surface", 4), named("xdg_toplevel", 6)
+    lines.add("request", display, "get_registry", 1, [new("wl_registry", 2)], "new id wl_registry@2")
+    lines.add("request", named("wl_registry", 2), "bind", 0,
+              [{"kind": "uint", "name": "name", "value": 1}, new("wl_compositor", 3)],
+              '1, "wl_compositor", 1, new id wl_compositor@3')
+    lines.add("request", named("wl_compositor", 3), "create_surface", 0, [new("wl_surface", 4)], "new id wl_surface@4")
+    lines.add("request", named("xdg_surface", 5), "get_toplevel", 1, [new("xdg_toplevel", 6)], "new id xdg_toplevel@6")
+    lines.add("request", window, "set_title", 2, [string(title)], quoted(title))
+    for _ in range(3):
+        lines.add("request", surface, "commit", 6, [], "")
+    if error is not None:
+        about = {"kind": "object", "name": None, **surface, "state": "live"}
+        lines.add("event", display, "error", 0, [about, {"kind": "uint", "name": None, "value": 3}, string(error)],
+                  f"wl_surface@4, 3, {quoted(error)}")
+        lines.lines.append({"type": "error", "client": 1, "number": lines.number, "object": surface, "code": 3,
+                            "text": error})
+    counts = {it: sum(line.get("direction") == it for line in lines.lines) for it in ("request", "event")}
+    lines.lines.append({"type": "verdict", "client": 1, "verdict": "error" if error else "lawful", "words": "words",
+                        "messages": lines.number, "requests": counts["request"], "events": counts["event"]})
+    return lines.lines
+
+
+def words(*numbers):
+    return struct.pack(f"<{len(numbers)}I", *numbers)
+
+
+def text(characters):
+    data = characters.encode() + b"\0"
+    return words(len(data)) + data + bytes(-len(data) % 4)
+
+
+def message(target, opcode, body=b""):
+    return words(target, 8 + len(body) << 16 | opcode) + body
+
+
+def piece(moment, sign, messages, descriptors=0):
+    count = f" +{descriptors}" if descriptors else ""
+    return f"# {moment:.6f}\n{sign} {b''.join(messages).hex()}{count}\n"
+
+
+def long_recording(count, windows=6):
+    """The pieces of a lawful recording of a little over so many messages: surfaces that are drawn again and again."""
+    surfaces = range(5, 5 + windows)
+    yield piece(0, ">", [message(1, 1, words(2))])
+    names = (("wl_compositor", 6), ("wl_shm", 1))
+    yield piece(0, "<", [message(2, 0, words(at) + text(name) + words(version))
+                         for at, (name, version) in enumerate(names, 1)])
+    yield piece(0, ">", [message(2, 0, words(at) + text(name) + words(version, at + 2))
+                         for at, (name, version) in enumerate(names, 1)])
+    yield piece(0, ">", [message(3, 0, words(it)) for it in surfaces])
+    first = 5 + windows
+    for each in range(windows):
+        pool = first + 3 * each
+        yield piece(0, ">", [message(4, 0, words(pool, 65536))], 1)
+        yield piece(0, ">", [message(pool, 0, words(pool + it, 0, 64, 64, 256, 0)) for it in (1, 2)])
+    callback, made, moment, turn = first + 3 * windows, 5 + 4 * windows, 0.0, 0
+    chance = random.Random(1)
+    while made < count:
+        moment += 0.0166 if chance.random() > 0.001 else 0.09
+        buffers = [first + 3 * each + 1 + turn % 2 for each in range(windows)]
+        for each, surface in enumerate(surfaces):
+            yield piece(moment, ">", [
+                message(surface, 3, words(callback + each)), message(surface, 1, words(buffers[each], 0, 0)),
+                message(surface, 2, words(0, turn % 640, 640, 480)), message(surface, 6)])
+        moment += chance.random() * 0.004
+        for each, buffer in enumerate(buffers):
+            yield piece(moment, "<", [message(callback + each, 0, words(turn * 16)),
+                                      message(1, 1, words(callback + each)), message(buffer, 0)])
+        made += 7 * windows
+        turn += 1

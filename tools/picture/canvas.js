@@ -1,0 +1,205 @@
+"use strict";
+// Canvases, their colours, and the two narrow ones: the overview of all messages, and the axis.
+
+const FONT = 'system-ui, "Noto Sans", "DejaVu Sans", sans-serif';
+const MONO = 'ui-monospace, "Noto Sans Mono", "DejaVu Sans Mono", monospace';
+const COLOURS = ["ground", "panel", "text", "soft", "faint", "line", "request", "event", "bad", "amber", "wait", "top",
+    "green", "blue", "row", "dark",
+    "amber-top"];
+
+// The colours that the style has now, by their names.
+function readColours() {
+    const style = getComputedStyle(document.documentElement), colours = {};
+    const names = [...COLOURS, ...GROUPS.flatMap(({ key }) => [`${key}-fill`, `${key}-text`])];
+    for (const name of names) {
+        colours[name] = style.getPropertyValue(`--${name}`).trim();
+    }
+    return colours;
+}
+
+// Fits a canvas to its place, and returns what draws on it, in units of the page.
+function fitted(canvas, width, height) {
+    const scale = window.devicePixelRatio || 1;
+    const [wide, high] = [Math.round(width * scale), Math.round(height * scale)];
+    if (canvas.width !== wide || canvas.height !== high) {
+        canvas.width = wide;
+        canvas.height = high;
+        canvas.style.width = `${width}px`;
+        canvas.style.height = `${height}px`;
+    }
+    const pen = canvas.getContext("2d");
+    pen.setTransform(scale, 0, 0, scale, 0, 0);
+    pen.clearRect(0, 0, width, height);
+    return pen;
+}
+
+function write(pen, text, x, y, colour, font = `11px ${FONT}`, align = "left") {
+    pen.font = font;
+    pen.fillStyle = colour;
+    pen.textAlign = align;
+    pen.textBaseline = "alphabetic";
+    pen.fillText(text, x, y);
+}
+
+// A text, cut so that it is no wider than this.
+function cutTo(pen, text, font, width) {
+    pen.font = font;
+    if (pen.measureText(text).width <= width) {
+        return text;
+    }
+    let length = text.length;
+    while (length > 1 && pen.measureText(`${text.slice(0, length)}…`).width > width) {
+        length -= 1;
+    }
+    return `${text.slice(0, length)}…`;
+}
+
+const hatches = new Map();
+// A pattern of slanted lines, which says that something is not wholly there.
+function hatched(pen, colour) {
+    if (!hatches.has(colour)) {
+        const tile = document.createElement("canvas");
+        tile.width = tile.height = 5;
+        const own = tile.getContext("2d");
+        own.strokeStyle = colour;
+        own.lineWidth = 0.9;
+        own.beginPath();
+        for (const by of [-5, 0, 5]) {
+            own.moveTo(by - 1, 6);
+            own.lineTo(by + 6, -1);
+        }
+        own.stroke();
+        hatches.set(colour, pen.createPattern(tile, "repeat"));
+    }
+    return hatches.get(colour);
+}
+
+// How many messages there are in each column of pixels, requests and events apart.
+function columnsOf(session, view, isShown, whole) {
+    const wide = Math.max(1, Math.ceil(view.width - GUTTER - EDGE) + 1);
+    const counts = [new Uint32Array(wide), new Uint32Array(wide)];
+    for (let i = 0; i < session.count; i++) {
+        if (!isShown || isShown[i]) {
+            counts[session.direction[i]][Math.floor(view.at(i) / whole * (wide - 1))] += 1;
+        }
+    }
+    return counts;
+}
+
+// Everything at once: requests above, events below; the part that is seen is bright.
+function drawOverview(app, canvas) {
+    const { session, view, colours } = app, height = 47;
+    const pen = fitted(canvas, view.width, height);
+    const key = [view.width, view.isTime, app.filter, session.count].join(" ");
+    if (app.overviewKey !== key) {
+        app.overviewKey = key;
+        app.overviewCounts = columnsOf(session, view, app.isShown, view.end());
+    }
+    write(pen, "→ requests", 14, 20, colours.request, `11px ${FONT}`);
+    write(pen, "← events", 14, 35, colours.event, `11px ${FONT}`);
+    const inner = view.width - GUTTER - EDGE;
+    const isWhole = view.from <= 0 && view.to >= view.end();
+    if (!isWhole) {
+        pen.fillStyle = colours.row;
+        const [a, b] = [view.from, view.to].map((it) => GUTTER + it / view.end() * inner);
+        pen.fillRect(a, 0, Math.max(2, b - a), height);
+        pen.strokeStyle = colours.blue;
+        pen.strokeRect(a + 0.5, 0.5, Math.max(1, b - a - 1), height - 1);
+    }
+    app.overviewCounts.forEach((counts, direction) => {
+        // Half of the height where there is one message, all where there are as many as in the fullest column.
+        const most = counts.reduce((a, b) => Math.max(a, b), 1);
+        pen.fillStyle = direction === REQUEST ? colours.request : colours.event;
+        counts.forEach((count, x) => {
+            if (count) {
+                const high = most > 1 ? 6 + 13 * Math.sqrt((count - 1) / (most - 1)) : 19;
+                pen.fillRect(GUTTER + x, direction === REQUEST ? 23 - high : 24, 1.4, high);
+            }
+        });
+    });
+    for (const [message, colour] of [[app.selected, colours.text], [session.bad, colours.bad]]) {
+        if (message >= 0) {
+            pen.fillStyle = colour;
+            pen.fillRect(GUTTER + view.at(message) / view.end() * inner - 0.5, 0, 1.5, height);
+        }
+    }
+    if (app.overviewDrag) {
+        const [a, b] = app.overviewDrag;
+        pen.globalAlpha = 0.2;
+        pen.fillStyle = colours.blue;
+        pen.fillRect(Math.min(a, b), 0, Math.abs(b - a), height);
+        pen.globalAlpha = 1;
+    }
+}
+
+// A step of the axis that people count in: 1, 2 or 5 and zeros. Messages are counted whole.
+function stepFor(view, most) {
+    const raw = Math.max((view.to - view.from) / most, view.isTime ? 0 : 1), ten = 10 ** Math.floor(Math.log10(raw));
+    return [1, 2, 5, 10].map((it) => it * ten).find((it) => it >= raw);
+}
+
+function drawAxis(app, canvas) {
+    const { session, view, colours } = app, height = 34;
+    const pen = fitted(canvas, view.width, height);
+    write(pen, view.isTime ? "time" : session.isTimed ? "message" : "message (no times recorded)", 14, 13,
+        colours.soft, `10.5px ${FONT}`);
+    const step = stepFor(view, 6);
+    for (let at = Math.ceil(view.from / step) * step; at <= view.to; at += step) {
+        const x = Math.round(view.x(at)) + 0.5;
+        pen.fillStyle = colours.line;
+        pen.fillRect(x, 0, 1, height);
+        const digits = step >= 1000 ? 0 : step >= 100 ? 1 : step >= 10 ? 2 : 3;
+        const text = !view.isTime ? counted(Math.round(at)) : step >= 1e6 ? `${at / 1e6} s`
+            : `${(at / 1000).toFixed(digits)} ms`;
+        if (x < view.width - 30) {
+            write(pen, text, x + 3, 13, colours.soft, `10.5px ${FONT}`);
+        }
+    }
+    drawMilestones(app, pen);
+    // Which part of the session the list shows.
+    const [first, last] = app.listed();
+    if (first >= 0) {
+        const [a, b] = [first, last].map((it) => Math.min(view.width - EDGE, Math.max(GUTTER, view.xOf(it))));
+        pen.fillStyle = colours.faint;
+        pen.fillRect(a, height - 2, Math.max(2, b - a), 2);
+    }
+    if (app.axisDrag) {
+        const [a, b] = app.axisDrag;
+        pen.globalAlpha = 0.2;
+        pen.fillStyle = colours.blue;
+        pen.fillRect(Math.min(a, b), 0, Math.abs(b - a), height);
+        pen.globalAlpha = 1;
+        const wide = Math.abs(view.atX(b) - view.atX(a));
+        write(pen, view.isTime ? duration(wide) : several(Math.round(wide), "message"), Math.max(a, b) + 4, 29,
+            colours.text);
+    }
+}
+
+function drawMilestones(app, pen) {
+    const { session, view, colours } = app;
+    const seen = session.milestones.filter((it) => view.isSeen(it.message));
+    let free = 0;
+    const font = `10.5px ${FONT}`;
+    seen.forEach(({ name, message }, place) => {
+        const x = view.xOf(message);
+        pen.fillStyle = colours.green;
+        pen.fillRect(x, 15, 1.5, 16);
+        const text = view.isTime ? `${name} ${duration(session.time[message])}` : name;
+        pen.font = font;
+        const wide = pen.measureText(text).width;
+        const next = seen[place + 1] ? view.xOf(seen[place + 1].message) : view.width;
+        if (x > free && x + 4 + wide < next) {
+            write(pen, text, x + 4, 25, colours.green, font);
+            free = x + 4 + wide;
+        }
+    });
+    if (session.bad >= 0 && view.isSeen(session.bad)) {
+        const text = ruleOf(session.raw.broken);
+        pen.font = font;
+        const wide = pen.measureText(text).width + 10;
+        const x = Math.min(view.xOf(session.bad), view.width - wide);
+        pen.fillStyle = colours.bad;
+        pen.fillRect(x, 15, wide, 15);
+        write(pen, text, x + 5, 26, colours.ground, font);
+    }
+}

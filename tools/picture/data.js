@@ -1,0 +1,202 @@
+"use strict";
+// The session that the page holds: messages in columns, and objects, each with its life.
+
+const REQUEST = 0, EVENT = 1;
+const FIRST_OF_COMPOSITOR = 0xff000000;
+
+async function unpacked(base64) {
+    const text = atob(base64), packed = new Uint8Array(text.length);
+    for (let i = 0; i < text.length; i++) {
+        packed[i] = text.charCodeAt(i);
+    }
+    const stream = new Blob([packed]).stream().pipeThrough(new DecompressionStream("deflate"));
+    return JSON.parse(await new Response(stream).text());
+}
+
+function summed(differences, Column) {
+    const column = new Column(differences.length);
+    let sum = 0;
+    differences.forEach((it, place) => { column[place] = sum += it; });
+    return column;
+}
+
+// The letters behind an id: none for its first object, b for the second, .., z, aa, ab, ..
+function birthLetters(birth) {
+    let letters = "";
+    for (let rest = birth; rest > 0 && birth > 1; rest = Math.floor((rest - 1) / 26)) {
+        letters = String.fromCharCode(97 + (rest - 1) % 26) + letters;
+    }
+    return letters;
+}
+
+function newObject(number, iface, id, birth, version) {
+    const isServers = id >= FIRST_OF_COMPOSITOR;
+    const at = `@${isServers ? `s${id - FIRST_OF_COMPOSITOR}` : id}${birthLetters(birth)}`;
+    const known = iface ?? "unknown";
+    return {
+        number, interface: known, id, birth, version, isServers, at, name: known + at, printed: `${known}@${id}`,
+        made: -1, destroyed: -1, freed: -1, end: -1, messages: [], naming: [], isCursor: false,
+    };
+}
+
+class Session {
+    constructor(raw) {
+        const { rest, signatures } = raw;
+        this.raw = raw;
+        this.title = raw.title;
+        this.isTimed = raw.head.timed === true;
+        this.count = raw.signature.length;
+        this.rest = this.count ? rest.split("\n") : [];
+        this.signatures = signatures.map(([iface, name, direction, opcode, kinds]) => ({
+            interface: iface, name: name ?? (opcode < 0 ? "" : `opcode ${opcode}`), opcode, kinds,
+            direction: direction === "request" ? REQUEST : EVENT,
+        }));
+        this.signature = Int32Array.from(raw.signature);
+        this.object = Int32Array.from(raw.object);
+        this.size = Int32Array.from(raw.size);
+        this.state = Uint8Array.from(raw.state);
+        this.time = summed(raw.time, Float64Array);
+        this.piece = summed(raw.piece, Int32Array);
+        this.values = raw.values;
+        this.objects = raw.objects.id.map((id, number) => newObject(
+            number, raw.objects.interface[number], id, raw.objects.birth[number], raw.objects.version[number]));
+        this.lowered = null;
+        this.bad = raw.broken?.place ?? -1;
+        this.placeAll();
+        this.fillObjects();
+        const last = Math.max(0, this.count - 1);
+        this.span = this.count ? Math.max(this.time[last], 1) : 1;
+    }
+
+    // Where the values of each message begin, its direction, its place in its stream, and its number in it.
+    placeAll() {
+        const { count, raw } = this;
+        this.valuesAt = new Int32Array(count + 1);
+        this.direction = new Uint8Array(count);
+        this.offset = new Float64Array(count);
+        this.numberInStream = new Int32Array(count);
+        const next = [0, 0], numbers = [0, 0];
+        for (let i = 0; i < count; i++) {
+            const { kinds, direction } = this.signatures[this.signature[i]];
+            this.valuesAt[i + 1] = this.valuesAt[i] + kinds.length;
+            this.direction[i] = direction;
+            this.offset[i] = next[direction] + raw.offset[i];
+            next[direction] = this.offset[i] + this.size[i];
+            this.numberInStream[i] = ++numbers[direction];
+        }
+        this.requests = numbers[REQUEST];
+        this.events = numbers[EVENT];
+    }
+
+    fillObjects() {
+        const { raw, objects } = this;
+        const pairs = (list, fill) => {
+            for (let i = 0; i < list.length; i += 2) {
+                if (list[i + 1] >= 0) {
+                    fill(objects[list[i + 1]], list[i]);
+                }
+            }
+        };
+        const before = new Map();
+        pairs(raw.made, (it, message) => {
+            const last = before.get(it.id);
+            it.made = message;
+            // The compositor ends an object that no request ends by making another with its id.
+            if (last && last.end < 0) {
+                last.end = message;
+            }
+            before.set(it.id, it);
+        });
+        pairs(raw.destroyed, (it, message) => { it.destroyed = message; });
+        pairs(raw.freed, (it, message) => { it.freed = message; });
+        for (const it of objects) {
+            const end = it.isServers ? it.destroyed : it.freed;
+            it.end = end >= 0 ? end : it.end;
+        }
+        for (let i = 0; i < this.count; i++) {
+            objects[this.object[i]]?.messages.push(i);
+            const { kinds } = this.signatures[this.signature[i]];
+            for (let k = 0; k < kinds.length; k++) {
+                if (kinds[k][0] === "object") {
+                    objects[this.values[this.valuesAt[i] + k]]?.naming.push(i);
+                }
+            }
+        }
+    }
+
+    value(message, place) {
+        return this.values[this.valuesAt[message] + place];
+    }
+
+    // The object that the argument names, or undefined.
+    named(message, place) {
+        return this.objects[this.value(message, place)];
+    }
+
+    nameOf(message) {
+        return this.signatures[this.signature[message]].name;
+    }
+
+    isOf(message, iface, name) {
+        const it = this.signatures[this.signature[message]];
+        return it.interface === iface && it.name === name;
+    }
+
+    arrow(message) {
+        return this.direction[message] === REQUEST ? "->" : "<-";
+    }
+
+    // The line that the inspector prints, in its three parts: the object, the message's name, the arguments.
+    parts(message) {
+        const rest = this.rest[message] ?? "";
+        const object = this.objects[this.object[message]]?.printed ?? "unknown object";
+        return rest.startsWith("\t") ? [rest.length > 1 ? "" : object, "", rest.slice(1)]
+            : [object, this.nameOf(message), rest];
+    }
+
+    line(message) {
+        const [object, name, rest] = this.parts(message);
+        return `${this.arrow(message)} ${object}${name && `.${name}`}${rest}`;
+    }
+
+    // A line in small letters, for searches. They are made once.
+    searched() {
+        if (!this.lowered) {
+            this.lowered = Array.from({ length: this.count }, (_, it) => this.line(it).toLowerCase());
+        }
+        return this.lowered;
+    }
+
+    isOpen(object) {
+        return object.destroyed < 0 && object.freed < 0 && object.end < 0;
+    }
+}
+
+function microseconds(time) {
+    return (time / 1e6).toFixed(6);
+}
+
+// A duration in microseconds, in the unit that reads well.
+function duration(time) {
+    if (time < 1000) {
+        return `${Math.round(time)} µs`;
+    }
+    return time < 1e6 ? `${(time / 1000).toFixed(1)} ms` : `${(time / 1e6).toFixed(2)} s`;
+}
+
+const counted = (number) => number.toLocaleString("en-US");
+const several = (number, word) => `${counted(number)} ${word}${number === 1 ? "" : "s"}`;
+
+// The parts of a list that have the same key, in the order in which the keys came.
+function grouped(list, keyOf) {
+    const parts = new Map();
+    for (const it of list) {
+        const key = keyOf(it);
+        if (parts.has(key)) {
+            parts.get(key).push(it);
+        } else {
+            parts.set(key, [it]);
+        }
+    }
+    return parts;
+}

@@ -1,0 +1,232 @@
+"use strict";
+// The picture: waits and objects, row by row. Only rows that are seen are drawn, and no pixel twice.
+
+class Drawing {
+    constructor(app, canvas) {
+        this.app = app;
+        this.canvas = canvas;
+    }
+
+    draw(top, height) {
+        const { app } = this, { view, layout, colours } = app;
+        const pen = this.pen = fitted(this.canvas, view.width, height);
+        this.right = view.width - EDGE;
+        pen.fillStyle = colours.ground;
+        pen.fillRect(0, 0, view.width, height);
+        this.seen = [view.first(view.from), view.first(view.to + 1e-9)];
+        this.drawGrid(height);
+        const selected = layout.rowOf.get(app.selectedObject());
+        for (const row of layout.rows) {
+            const y = row.y - top;
+            if (y > height || y + row.height < 0) {
+                continue;
+            }
+            if (row === selected) {
+                pen.fillStyle = colours.row;
+                pen.fillRect(GUTTER, y, view.width - GUTTER, row.height);
+            }
+            this[row.kind](row, y);
+        }
+        drawSelection(app, pen, top, height);
+    }
+
+    drawGrid(height) {
+        const { view, colours } = this.app;
+        const step = stepFor(view, 6);
+        this.pen.fillStyle = colours.line;
+        for (let at = Math.ceil(view.from / step) * step; at <= view.to; at += step) {
+            this.pen.fillRect(Math.round(view.x(at)) + 0.5, 0, 1, height);
+        }
+    }
+
+    heading(row, y) {
+        const { pen } = this, { colours, view } = this.app;
+        pen.fillStyle = colours.ground;
+        pen.fillRect(0, y, view.width, row.height - 2);
+        const font = `600 11px ${FONT}`;
+        write(pen, row.label, 14, y + 17, colours[`${row.group}-text`] ?? colours.soft, font);
+        const wide = pen.measureText(row.label).width;
+        pen.fillStyle = colours.line;
+        pen.fillRect(14 + wide + 10, y + 13, view.width, 1);
+    }
+
+    inside(y, height, draw) {
+        clipped(this.pen, this.app.view, y, height, draw);
+    }
+
+    wait(row, y) {
+        const { pen } = this, { colours, view } = this.app;
+        write(pen, row.label, 22, y + 16, colours.text, `11.5px ${FONT}`);
+        write(pen, row.below, 22, y + 29, colours.soft, `10px ${FONT}`);
+        if (row.right) {
+            write(pen, cutTo(pen, row.right, `11px ${MONO}`, 105), GUTTER - 12, y + 16, colours.soft, `11px ${MONO}`,
+                "right");
+        }
+        pen.fillStyle = colours.line;
+        pen.fillRect(GUTTER, y + row.height - 6, this.right - GUTTER, 1);
+        this.inside(y, row.height, () => drawBars(this, row, y + row.height - 6));
+    }
+
+    label(row, y) {
+        const { pen } = this, { colours } = this.app;
+        if (row.label) {
+            const font = `11px ${MONO}`;
+            const room = GUTTER - 22 - (row.count > 1 ? 22 + 6 * counted(row.count).length : 12);
+            write(pen, cutTo(pen, row.label, font, room), 22, y + 14, colours.text, font);
+            if (row.count > 1) {
+                write(pen, counted(row.count), GUTTER - 12, y + 14, colours.soft, `11px ${MONO}`, "right");
+            }
+        }
+    }
+
+    life(row, y) {
+        this.label(row, y);
+        this.inside(y - 3, row.height + 4, () => this.objects(row, y));
+        const { session, view, colours } = this.app, last = row.objects.at(-1);
+        if (session.isOpen(last) && row.group !== "globals" && last.interface !== "wl_seat" && view.to >= view.end()) {
+            // Never destroyed.
+            this.pen.strokeStyle = colours[`${row.group}-text`];
+            this.pen.lineWidth = 1.5;
+            this.pen.beginPath();
+            this.pen.arc(this.right + 4, y + 10, 2.6, 0, 7);
+            this.pen.stroke();
+        }
+    }
+
+    // The objects of a row. Of those that are narrower than a pixel, one in a column is drawn.
+    objects(row, y) {
+        const { view } = this.app, narrow = 1.5 * (view.to - view.from) / (view.width - GUTTER - EDGE);
+        let covered = -Infinity;
+        for (const it of row.objects) {
+            const begin = it.made < 0 ? 0 : view.at(it.made);
+            const end = it.end >= 0 ? view.at(it.end) : view.end();
+            if (begin > view.to) {
+                break;
+            }
+            if (end < view.from || (end - begin < narrow && begin < covered)) {
+                continue;
+            }
+            covered = end - begin < narrow ? begin + narrow : covered;
+            this.object(row, it, y, begin, end);
+        }
+    }
+
+    object(row, it, y, begin, end) {
+        const { pen } = this, { session, view, colours } = this.app;
+        const x = Math.max(view.x(begin), GUTTER - 9), to = Math.min(view.x(end), this.right + 9);
+        const solid = it.destroyed >= 0 ? Math.max(x, Math.min(to, view.xOf(it.destroyed))) : to;
+        pen.fillStyle = colours[`${row.group}-fill`];
+        if (solid - x < 6) {
+            pen.fillRect(x, y + 5, Math.max(1, solid - x), 10);
+        } else {
+            pen.beginPath();
+            pen.roundRect(x, y + 5, solid - x, 10, 3);
+            pen.fill();
+        }
+        if (to > solid) {
+            pen.fillStyle = hatched(pen, colours[`${row.group}-text`]);
+            pen.globalAlpha = 0.45;
+            pen.fillRect(solid, y + 5, to - solid, 10);
+            pen.globalAlpha = 1;
+        }
+        if (it.holds.length) {
+            this.holds(row, it, y);
+        }
+        const [first, last] = this.seen;
+        this.ticks(it.messages, first, last, (i) => (session.direction[i] === REQUEST ? y : y + 15), 5);
+        this.ticks(it.naming, first, last, () => y + 9, 2, colours[`${row.group}-text`]);
+        if (to - x > 20) {
+            pen.font = `10px ${MONO}`;
+            if (pen.measureText(it.at).width < to - x) {
+                write(pen, it.at, Math.max(x, GUTTER) + 4, y + 13.5, colours[`${row.group}-text`], `10px ${MONO}`);
+            }
+        }
+    }
+
+    // Darker where the compositor holds the buffer; what ends and begins in one column of pixels is one.
+    holds(row, it, y) {
+        const { pen } = this, { view, colours } = this.app;
+        const put = () => to > -Infinity && pen.fillRect(from, y + 5, Math.max(1, to - from), 10);
+        let from = -Infinity, to = -Infinity;
+        pen.fillStyle = colours[`${row.group}-text`];
+        pen.globalAlpha = 0.16;
+        for (const hold of it.holds) {
+            const begin = view.xOf(hold.from), end = hold.to < 0 ? this.right : view.xOf(hold.to);
+            if (end < GUTTER || begin > this.right) {
+                continue;
+            }
+            if (begin <= to + 0.5) {
+                to = Math.max(to, end);
+            } else {
+                put();
+                [from, to] = [begin, end];
+            }
+        }
+        put();
+        pen.globalAlpha = 1;
+    }
+
+    // A tick for each message; those in one column of pixels are one, and columns side by side one mark.
+    ticks(messages, first, last, yOf, high, colour = null) {
+        const { pen } = this, { session, view, colours, isShown } = this.app;
+        const paint = { 0: colour ?? colours.request, 1: colour ?? colours.event };
+        const open = [null, null];
+        const put = (run, direction) => {
+            pen.fillStyle = paint[direction];
+            pen.fillRect(run.x, run.y, run.to - run.x, high);
+        };
+        for (let k = firstFrom(messages, first); k < messages.length && messages[k] < last; k++) {
+            const i = messages[k];
+            if (isShown && !isShown[i]) {
+                continue;
+            }
+            const direction = session.direction[i], x = Math.round(view.xOf(i) * 2) / 2;
+            const run = open[direction];
+            if (run && x <= run.to + 0.3) {
+                run.to = Math.max(run.to, x + 1.5);
+                continue;
+            }
+            if (run) {
+                put(run, direction);
+            }
+            open[direction] = { x, to: x + 1.5, y: yOf(i) };
+        }
+        open.forEach((run, direction) => run && put(run, direction));
+    }
+
+    // How many live, where there are too many for a row each.
+    fold(row, y) {
+        this.label(row, y);
+        const { pen } = this, { colours, view } = this.app, base = y + row.height - 6;
+        write(pen, `most ${counted(row.most)} at once`, 22, y + 27, colours.soft, `10px ${FONT}`);
+        this.inside(y, row.height, () => {
+            pen.fillStyle = colours[`${row.group}-text`];
+            pen.globalAlpha = 0.5;
+            let x = GUTTER, most = 0, live = 0;
+            const upTo = (to) => {
+                if (to > x && live > 0) {
+                    const high = 26 * live / row.most;
+                    pen.fillRect(x, base - high, to - x, high);
+                }
+                x = Math.max(x, to);
+            };
+            for (const [message, number] of row.steps) {
+                const at = view.xOf(message);
+                if (at > this.right) {
+                    break;
+                }
+                if (at - x >= 0.5) {
+                    live = Math.max(live, most);
+                    upTo(at);
+                    most = 0;
+                }
+                live = number;
+                most = Math.max(most, number);
+            }
+            upTo(this.right);
+            pen.globalAlpha = 1;
+        });
+        pen.fillStyle = colours.line;
+        pen.fillRect(GUTTER, base, this.right - GUTTER, 1);
+    }
+}

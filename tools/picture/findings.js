@@ -1,0 +1,177 @@
+"use strict";
+// What is worth a look, in words. It is told soberly: a session without trouble has none of it.
+
+const RULES = {
+    F1: ["bad message size", "A message has at least 8 bytes and at most the limit, in multiples of 4."],
+    F2: ["unknown object", "A message is for an object that is there. Once a client has destroyed one, it may not use it."],
+    F3: ["unknown message", "An object has the messages of its interface, up to the version that it was made with."],
+    F4: ["malformed argument", "An argument's bytes are those of a value that the message takes."],
+    F5: ["bad object", "An argument names an object that is there, of the interface that the message asks for."],
+    F6: ["bad new id", "A new id is one that was freed, or the next one that was never used."],
+    F7: ["trailing bytes", "A message ends with its last argument."],
+    F8: ["missing descriptor", "A file descriptor comes no later than its message."],
+    F9: ["bad bind", "A bind names a global that was announced, with its interface and a version that it has."],
+    F10: ["too many objects", "There are no more objects than the checker keeps."],
+};
+
+const ruleOf = ({ fault }) => `${fault} ${RULES[fault]?.[0] ?? ""}`.trim();
+
+// What is wrong with the message, as the inspector says it.
+function whatIsWrong({ fault, words }) {
+    const said = words.replace(new RegExp(`^${fault}:? *`), "");
+    return said && `: ${said}`;
+}
+
+// The messages that led to the one that broke a rule: words and a message each.
+function wayToBroken(session) {
+    const { bad } = session, way = [];
+    const about = session.objects[session.object[bad]];
+    const named = session.signatures[session.signature[bad]].kinds.map((_, place) => place)
+        .filter((place) => ["object", "new"].includes(session.signatures[session.signature[bad]].kinds[place][0]))
+        .map((place) => session.named(bad, place));
+    // Of a new id, what its last object was.
+    const last = (object) => (object?.made >= 0 ? object : session.objects.findLast((it) => it.id === object?.id
+        && it.made >= 0));
+    for (const object of new Set([about, ...named].map(last).filter((it) => it))) {
+        way.push({ words: `${object.name} was made by`, message: object.made });
+        if (object.destroyed >= 0) {
+            way.push({ words: `${object.name} was destroyed by`, message: object.destroyed });
+        }
+        if (object.freed >= 0) {
+            way.push({ words: "its id was freed by", message: object.freed });
+        }
+    }
+    const before = about?.messages.findLast((it) => it < bad);
+    if (before !== undefined && !way.some((it) => it.message === before)) {
+        way.push({ words: `the message before for ${about.name} is`, message: before });
+    }
+    return way;
+}
+
+function lateFindings(session) {
+    const found = [];
+    for (const { key, name } of WAITS) {
+        const own = session.waits.filter((it) => it.key === key && it.to >= 0 && !it.isGone);
+        // A buffer is held rightly until the next one is there.
+        const late = own.filter((it) => it.isSlow && (key !== "held"
+            || (it.next >= 0 && isSlow(session.time[it.to] - session.time[it.next], session.usual[key]))));
+        if (late.length && own.length >= 3) {
+            const worst = late.reduce((a, b) => (b.took > a.took ? b : a));
+            found.push({
+                level: "look", message: worst.from, words: `${name}: ${late.length} of ${counted(own.length)} took `
+                    + `more than twice as long as most. The longest ${duration(worst.took)} (${worst.object.name}), `
+                    + `where ${duration(session.usual[key])} is usual`,
+            });
+        }
+    }
+    return found;
+}
+
+// Pauses of a surface that is drawn all the time: between a frame's done and the next commit.
+function pauseFindings(session) {
+    const found = [];
+    const bySurface = grouped(session.waits.filter((it) => it.key === "frame"), (it) => it.object);
+    for (const [surface, frames] of bySurface) {
+        const { time } = session;
+        const pairs = frames.slice(1).map((it, place) => [frames[place].to, it.from]).filter(([done]) => done >= 0);
+        const usual = median(frames.slice(1).map((it, place) => time[it.from] - time[frames[place].from]));
+        const limit = Math.max(2 * usual, SLOW.over);
+        const pauses = pairs.filter(([done, commit]) => time[commit] - time[done] > limit);
+        if (pairs.length >= 30 && pauses.length && pauses.length <= pairs.length / 20 && usual < 100_000) {
+            const length = ([done, commit]) => time[commit] - time[done];
+            const worst = pauses.reduce((a, b) => (length(b) > length(a) ? b : a));
+            found.push({
+                level: "look", message: worst[0], words: `${surface.name}: ${several(pauses.length, "pause")} of over `
+                    + `${duration(limit)} between a done and the next commit; the longest ${duration(length(worst))}`,
+            });
+        }
+    }
+    return found.slice(0, 4);
+}
+
+// Questions without an answer, where the session went on: at least a second, and with messages of the one asked.
+function unansweredFindings(session) {
+    const found = [], { span, time, count } = session;
+    for (const { key, label } of WAITS.filter((it) => ["sync", "ping", "configure"].includes(it.key))) {
+        const left = session.waits.filter((it) => it.key === key && it.to < 0 && it.object.destroyed < 0
+            && (session.isTimed ? span - time[it.from] > 1e6 : count - it.from > 200));
+        if (left.length) {
+            found.push({ level: "look", message: left[0].from,
+                words: `${label}: ${several(left.length, "question")} had no answer. The first is for `
+                    + `${left[0].object.name}` });
+        }
+    }
+    return found;
+}
+
+// What piles up: objects that could be destroyed, were not, and were made all through the session.
+function leftFindings(session) {
+    const found = [];
+    const byInterface = grouped(session.objects.filter((it) => it.made >= 0), (it) => `${it.interface} ${it.isServers}`);
+    for (const made of byInterface.values()) {
+        const [{ interface: name, isServers }] = made;
+        const left = made.filter((it) => session.isOpen(it));
+        const isPile = isServers
+            // The last of a selection and of a drag are in use.
+            ? left.length >= 3 && made.some((it) => it.destroyed >= 0)
+            : left.length >= 16 && left.length * 2 >= made.length && isSpread(session, left)
+                && made.some((it) => it.destroyed >= 0 || it.messages.length > 0);
+        if (isPile && name !== "wl_registry" && !made.every(isMadeByBind.bind(null, session))) {
+            found.push({
+                level: "look", message: left[0].made, filter: `is:left ${name}`,
+                words: `${counted(left.length)} of ${counted(made.length)} ${name}`
+                    + `${isServers ? ", made by the compositor," : ""} were never destroyed`,
+            });
+        }
+    }
+    return found;
+}
+
+const isMadeByBind = (session, object) => object.made >= 0 && session.nameOf(object.made) === "bind";
+
+// Whether objects were made in each quarter of what follows the first, and so are no set that is made once.
+function isSpread(session, left) {
+    const first = left[0].made, part = (session.count - first) / 4;
+    const quarters = new Set(left.map((it) => Math.min(3, Math.floor((it.made - first) / part))));
+    return quarters.size === 4;
+}
+
+function endFindings(session) {
+    const { broken, error, notes } = session.raw, found = [];
+    if (broken) {
+        found.push({ level: "bad", message: session.bad, words: `${ruleOf(broken)}${whatIsWrong(broken)}.` });
+    }
+    if (error) {
+        const about = session.objects[error.object]?.name ?? "an object that is not known";
+        found.push({ level: "bad", message: error.place,
+            words: `The compositor ended the session with error ${error.code} for ${about}: “${error.text}”` });
+    }
+    for (const [message, words] of notes) {
+        found.push({ level: "note", message, words: `Message ${counted(message + 1)}: ${words}` });
+    }
+    return found;
+}
+
+function addFindings(session) {
+    const found = endFindings(session);
+    if (session.isTimed) {
+        found.push(...lateFindings(session), ...pauseFindings(session));
+    }
+    // Where the page ends before its session, what came later is not known.
+    if (!session.raw.left_out) {
+        found.push(...unansweredFindings(session), ...leftFindings(session));
+    }
+    let late = 0, first = -1;
+    for (let i = 0; i < session.count; i++) {
+        if ((session.state[i] & 3) === 1 && session.direction[i] === EVENT) {
+            late += 1;
+            first = first < 0 ? i : first;
+        }
+    }
+    if (late) {
+        found.push({ level: "note", message: first, filter: "is:zombie",
+            words: `${several(late, "event")} came for ${late === 1 ? "an object" : "objects"} `
+                + "that the client had destroyed" });
+    }
+    session.findings = found;
+}

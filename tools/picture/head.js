@@ -1,0 +1,120 @@
+"use strict";
+// The head of the page, and what its buttons do; the hash of the URL, which has the selection and the filter.
+
+function pill(className, text) {
+    return element("span", `pill ${className}`, text);
+}
+
+function fillHead(app) {
+    const { session } = app, { verdict, broken, error } = session.raw, head = document.getElementById("about");
+    const kind = broken ? "broken" : error ? "error" : verdict?.verdict ?? "unknown";
+    const words = broken ? `broken: ${ruleOf(broken)}` : error ? `ended by error ${error.code}` : kind;
+    head.append(element("h1", "", session.title), pill(kind === "lawful" ? "good" : broken || error ? "bad" : "look", words));
+    const looks = session.findings.filter((it) => it.level === "look").length;
+    if (looks) {
+        const button = element("button", "pill look", `${looks} to look at`);
+        button.addEventListener("click", () => app.panel.show("session"));
+        head.append(button);
+    }
+    head.append(countsOf(session));
+    document.title = `${session.title}: ${kind}`;
+    app.places.picture.setAttribute("aria-label", `The picture of ${session.title}: ${words}, `
+        + `${several(session.count, "message")}. The list below has every message, and the tabs have what is worth a look.`);
+    showScale(app);
+    document.getElementById("scale").disabled = !session.isTimed;
+}
+
+function countsOf(session) {
+    const { verdict } = session.raw, line = element("span", "counts");
+    const made = session.objects.filter((it) => it.made >= 0 || it.id === 1);
+    const left = made.filter((it) => session.isOpen(it)).length;
+    const fds = session.signatures.map(({ kinds }) => kinds.filter(([kind]) => kind === "fd").length);
+    const descriptors = session.signature.reduce((sum, it) => sum + fds[it], 0);
+    const totals = [verdict?.requests ?? session.requests, verdict?.events ?? session.events];
+    if (session.bad >= 0) {
+        totals[session.direction[session.bad]] += 1;
+    }
+    const part = (...words) => {
+        const span = element("span");
+        words.forEach((it, place) => span.append(place % 2 ? it : element("b", "", it)));
+        return span;
+    };
+    const requests = part(counted(totals[REQUEST]), " →");
+    requests.setAttribute("aria-label", `${requests.textContent.slice(0, -1)} requests`);
+    const events = part(counted(totals[EVENT]), " ←");
+    events.setAttribute("aria-label", `${events.textContent.slice(0, -1)} events`);
+    const parts = [requests, " ", events, " · ", session.isTimed ? [part(duration(session.span)), " · "] : [],
+        part(counted(made.length), ` object${made.length === 1 ? "" : "s"}, `, counted(left), " open at the end"),
+        descriptors ? [" · ", part(counted(descriptors), descriptors === 1 ? " fd" : " fds")] : []];
+    line.append(...parts.flat());
+    return line;
+}
+
+function showScale(app) {
+    const button = document.getElementById("scale");
+    button.textContent = app.view.isTime ? "time" : "order";
+    button.setAttribute("aria-label", `the picture is by ${button.textContent}; switch (t)`);
+}
+
+// By time or by order. The same messages stay in view.
+function switchScale(app) {
+    const { view } = app;
+    if (!app.session.isTimed) {
+        return;
+    }
+    const isWhole = view.from <= 0 && view.to >= view.end();
+    const [first, last] = [view.first(view.from), Math.max(0, view.first(view.to) - 1)];
+    view.scale(!view.isTime);
+    if (isWhole) {
+        view.all();
+    } else {
+        view.show(view.at(Math.min(first, last)), view.at(last));
+    }
+    showScale(app);
+    app.drawSoon();
+}
+
+function isDark() {
+    const chosen = document.documentElement.dataset.theme;
+    return chosen ? chosen === "dark" : matchMedia("(prefers-color-scheme: dark)").matches;
+}
+
+function switchTheme(app) {
+    document.documentElement.dataset.theme = isDark() ? "light" : "dark";
+    recolour(app);
+}
+
+function recolour(app) {
+    app.colours = readColours();
+    app.draw();
+}
+
+function showHelp() {
+    document.getElementById("keys").showModal();
+}
+
+function writeHash(app) {
+    const parts = [];
+    if (app.selected >= 0) {
+        parts.push(`m=${app.selected + 1}`);
+    }
+    if (app.filter) {
+        parts.push(`f=${encodeURIComponent(app.filter)}`);
+    }
+    app.hash = parts.join("&");
+    history.replaceState(null, "", `#${app.hash}`);
+}
+
+// Takes over what the hash says, where it is not what the page itself wrote.
+function readHash(app) {
+    const hash = location.hash.slice(1);
+    if (hash === (app.hash ?? "")) {
+        return;
+    }
+    const words = new URLSearchParams(hash.replaceAll("+", "%2B"));
+    const message = Number.parseInt(words.get("m") ?? "", 10);
+    app.setFilter(words.get("f") ?? "");
+    if (message >= 1) {
+        app.select(message - 1);
+    }
+}

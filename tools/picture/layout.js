@@ -1,0 +1,236 @@
+"use strict";
+// Where everything is: the part of the session that is seen, and the rows of the picture.
+
+const GUTTER = 236, EDGE = 14;
+const HEIGHT = { heading: 26, wait: 36, life: 20, fold: 36 };
+const MOST_ROWS = 8;
+const OWN_ROWS = 4;
+
+const GROUPS = [
+    { key: "windows", label: "Windows" }, { key: "buffers", label: "Buffers" }, { key: "input", label: "Input" },
+    { key: "data", label: "Data" }, { key: "server", label: "Made by the compositor" },
+    { key: "callbacks", label: "Callbacks" }, { key: "globals", label: "Globals" }, { key: "others", label: "Others" },
+];
+// What an interface is for, by its name; the first that fits.
+const PURPOSES = [
+    ["callbacks", /^(wl_callback|wp_presentation_feedback)$|_callback(_v\d+)?$/],
+    ["globals", /^(wl_display|wl_registry|wl_fixes)$|_output(_v\d+)?$|_manager|_factory|_shell(_v\d+)?$|wm_base|compositor/],
+    ["data", /data_|_offer|_source|primary_selection|transfer/],
+    ["buffers", /buffer|shm_pool|dmabuf|linux_|drm_|syncobj|timeline|screencopy/],
+    ["input", /seat|pointer|keyboard|touch|tablet|input|gesture|cursor|shortcuts|grab|pad_/],
+    ["windows", /surface|region|xdg_|toplevel|popup|viewport|decoration|fractional|blur|shadow|slide|contrast|tearing/],
+];
+
+function purposeOf(session, object) {
+    if (object.isServers) {
+        return "server";
+    }
+    const isBound = isMadeByBind(session, object);
+    const [found] = PURPOSES.find(([, names]) => names.test(object.interface)) ?? ["others"];
+    return isBound && found !== "input" ? "globals" : isBound && /_manager|_constraints|_gestures/.test(object.interface)
+        ? "globals" : found;
+}
+
+// What is seen of the session, by time or by order. Its unit is a microsecond, or a message.
+class View {
+    constructor(session) {
+        this.session = session;
+        this.order = Float64Array.from({ length: session.count }, (_, it) => it + 1);
+        this.width = 1000;
+        this.scale(session.isTimed);
+        this.all();
+    }
+
+    // Takes the places of messages, which never go down, from their times or from their order.
+    scale(isTime) {
+        this.isTime = isTime;
+        this.places = isTime ? this.session.time : this.order;
+    }
+
+    at(message) {
+        return this.places[message];
+    }
+
+    end() {
+        return this.isTime ? this.session.span : this.session.count + (this.session.count < 2 ? 1 : 0);
+    }
+
+    all() {
+        this.from = 0;
+        this.to = this.end();
+    }
+
+    // Shows this much, but no more than there is and not too little of it.
+    show(from, to) {
+        const least = this.isTime ? 20 : 4, end = this.end();
+        const width = Math.min(end, Math.max(to - from, Math.min(least, end)));
+        this.from = Math.min(Math.max(0, (from + to - width) / 2), end - width);
+        this.to = this.from + width;
+    }
+
+    zoom(times, at = (this.from + this.to) / 2) {
+        this.show(at - (at - this.from) * times, at + (this.to - at) * times);
+    }
+
+    move(part) {
+        const by = (this.to - this.from) * part;
+        const least = Math.max(-this.from, Math.min(by, this.end() - this.to));
+        this.from += least;
+        this.to += least;
+    }
+
+    x(at) {
+        return GUTTER + (at - this.from) / (this.to - this.from) * (this.width - GUTTER - EDGE);
+    }
+
+    xOf(message) {
+        return this.x(this.at(message));
+    }
+
+    atX(x) {
+        return this.from + (x - GUTTER) / (this.width - GUTTER - EDGE) * (this.to - this.from);
+    }
+
+    // The first message at this place or behind it.
+    first(at) {
+        let low = 0, high = this.session.count;
+        while (low < high) {
+            const middle = (low + high) >> 1;
+            if (this.at(middle) < at) {
+                low = middle + 1;
+            } else {
+                high = middle;
+            }
+        }
+        return low;
+    }
+
+    isSeen(message) {
+        return this.at(message) >= this.from && this.at(message) <= this.to;
+    }
+}
+
+// The first place in a list of messages that is at this message or behind it.
+function firstFrom(list, message) {
+    let low = 0, high = list.length;
+    while (low < high) {
+        const middle = (low + high) >> 1;
+        if (list[middle] < message) {
+            low = middle + 1;
+        } else {
+            high = middle;
+        }
+    }
+    return low;
+}
+
+const shortName = (object) => object.name.replace(/^(wl|wp|xdg|z?wlr|zwp|zxdg|ext|org_kde|org_kde_kwin)_/, "");
+
+// The rows of the waits: the busiest objects of a kind have rows of their own.
+function waitRows(session) {
+    const rows = [];
+    for (const { key, label } of WAITS) {
+        const parts = grouped(session.waits.filter((it) => it.key === key), (it) => it.object);
+        const busiest = [...parts].sort(([, a], [, b]) => b.length - a.length);
+        const own = busiest.length > OWN_ROWS + 1 ? busiest.slice(0, OWN_ROWS) : busiest;
+        const shown = own.map(([object, waits]) => ({ waits, right: key === "sync" ? "" : shortName(object) }));
+        if (own.length < busiest.length) {
+            const shared = busiest.slice(own.length);
+            shown.push({
+                right: `${shared.length} objects`,
+                waits: shared.flatMap(([, waits]) => waits).sort((a, b) => a.from - b.from),
+            });
+        }
+        for (const { waits, right } of shown) {
+            rows.push({ kind: "wait", key, label, right, waits, height: HEIGHT.wait, below: belowOf(session, waits) });
+        }
+    }
+    return rows;
+}
+
+function belowOf(session, waits) {
+    const times = waits.filter((it) => it.to >= 0 && !it.isGone).map((it) => it.took);
+    const parts = [`${counted(waits.length)}×`];
+    if (session.isTimed && times.length) {
+        parts.push(duration(median(times)));
+        if (times.length > 1) {
+            parts.push(`most ${duration(times.reduce((a, b) => Math.max(a, b), 0))}`);
+        }
+    }
+    return parts.join(", ");
+}
+
+const beginOf = (object) => Math.max(0, object.made);
+const endOf = (session, object) => (object.end >= 0 ? object.end : session.count);
+
+// Lives that do not overlap share a row.
+function lanesOf(session, objects) {
+    const lanes = [], ends = [];
+    for (const it of objects) {
+        // The heap of ends is short where lanes are few; where they are many, the rows are folded.
+        let lane = lanes.length > 400 ? -1 : ends.findIndex((end) => end < beginOf(it));
+        if (lane < 0) {
+            lane = lanes.length;
+            lanes.push([]);
+        }
+        lanes[lane].push(it);
+        ends[lane] = endOf(session, it);
+    }
+    return lanes;
+}
+
+// How many of the objects live: a message, and the number from there on.
+function stepsOf(session, objects) {
+    const changes = objects.flatMap((it) => [[beginOf(it), 1], ...(it.end >= 0 ? [[it.end, -1]] : [])]);
+    changes.sort((a, b) => a[0] - b[0]);
+    let live = 0;
+    return changes.map(([message, by]) => [message, live += by]);
+}
+
+// The rows of the objects, by what their interfaces are for. `unfolded` has the interfaces opened or closed by hand.
+function lifeRows(session, unfolded) {
+    const rows = [];
+    const byGroup = grouped(session.objects.filter((it) => it.made >= 0 || it.messages.length), (it) => it.group);
+    for (const { key, label } of GROUPS.filter((it) => byGroup.has(it.key))) {
+        rows.push({ kind: "heading", label, group: key, height: HEIGHT.heading });
+        const parts = grouped(byGroup.get(key), (it) => it.interface);
+        const isLong = (lanes) => lanes.length > MOST_ROWS;
+        for (const [name, objects] of parts) {
+            objects.sort((a, b) => a.made - b.made);
+            const lanes = lanesOf(session, objects);
+            const base = { group: key, interface: name, count: objects.length };
+            const isFolded = unfolded.get(name) ?? isLong(lanes);
+            if (isFolded && lanes.length > 1) {
+                const steps = stepsOf(session, objects);
+                const most = steps.reduce((a, [, live]) => Math.max(a, live), 0);
+                rows.push({ ...base, kind: "fold", label: name, objects, steps, most, height: HEIGHT.fold });
+                continue;
+            }
+            lanes.slice(0, 400).forEach((lane, place) => rows.push({
+                ...base, kind: "life", label: place ? "" : name, objects: lane, height: HEIGHT.life,
+            }));
+        }
+    }
+    return rows;
+}
+
+// All rows with their places, and for each object its row.
+class Layout {
+    constructor(session, unfolded) {
+        const waits = waitRows(session);
+        this.rows = waits.length ? [{ kind: "heading", label: "Waits", group: "", height: HEIGHT.heading }] : [];
+        this.rows.push(...waits, ...lifeRows(session, unfolded));
+        this.rowOf = new Map();
+        let y = 0;
+        for (const row of this.rows) {
+            row.y = y;
+            y += row.height;
+            row.objects?.forEach((it) => this.rowOf.set(it, row));
+        }
+        this.height = y + 8;
+    }
+
+    rowAt(y) {
+        return this.rows.find((it) => y >= it.y && y < it.y + it.height);
+    }
+}

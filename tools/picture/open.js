@@ -1,0 +1,23 @@
+"use strict";
+// Unpacks the session, finds what there is to say of it, and shows it.
+
+async function openPage() {
+    const status = document.getElementById("status");
+    try {
+        const session = new Session(await unpacked(document.getElementById("data").textContent));
+        addWaits(session);
+        session.milestones = milestones(session);
+        session.objects.forEach((it) => { it.group = purposeOf(session, it); });
+        addFindings(session);
+        window.app = new App(session);
+        window.app.start();
+        status.remove();
+        // The first search is as quick as the others.
+        (window.requestIdleCallback ?? setTimeout)(() => session.searched());
+    } catch (error) {
+        status.textContent = `The page cannot be shown: ${error.message}`;
+        throw error;
+    }
+}
+
+openPage();

@@ -1,0 +1,240 @@
+"use strict";
+// The tabs beside the list: the session, the message, the interfaces.
+
+class Panel {
+    constructor(app, place) {
+        this.app = app;
+        this.tabs = [...place.querySelectorAll("[role=tab]")];
+        this.body = place.querySelector("[role=tabpanel]");
+        this.tab = "session";
+        for (const tab of this.tabs) {
+            tab.addEventListener("click", () => this.show(tab.dataset.tab));
+            tab.addEventListener("keydown", (event) => {
+                const by = { ArrowRight: 1, ArrowLeft: -1 }[event.key];
+                if (by) {
+                    const next = this.tabs[(this.tabs.indexOf(tab) + by + this.tabs.length) % this.tabs.length];
+                    next.focus();
+                    this.show(next.dataset.tab);
+                }
+            });
+        }
+    }
+
+    show(tab) {
+        this.tab = tab;
+        for (const it of this.tabs) {
+            it.setAttribute("aria-selected", String(it.dataset.tab === tab));
+            it.tabIndex = it.dataset.tab === tab ? 0 : -1;
+        }
+        this.body.setAttribute("aria-labelledby", `tab-${tab}`);
+        this.draw();
+    }
+
+    draw() {
+        this.body.replaceChildren(...this[this.tab]().flat(4).filter((it) => it !== null && it !== ""));
+    }
+
+    // A link to a message; or to what a filter finds.
+    link(text, message, filter = null) {
+        const made = element("a", "", text);
+        made.href = filter === null ? `#m=${message + 1}` : `#f=${encodeURIComponent(filter)}`;
+        made.addEventListener("click", (event) => {
+            event.preventDefault();
+            if (filter !== null) {
+                this.app.setFilter(filter);
+            }
+            if (message >= 0) {
+                this.app.select(message);
+            }
+        });
+        return made;
+    }
+
+    toMessage(message) {
+        return this.link(`message ${counted(message + 1)}`, message);
+    }
+
+    toObject(object) {
+        return this.link(object.name, object.made >= 0 ? object.made : object.messages[0] ?? -1, object.at);
+    }
+
+    row(name, ...parts) {
+        const made = element("div", "row"), value = element("span", "value");
+        value.append(...parts.flat(3).filter((it) => it !== ""));
+        made.append(element("span", "name", name), value);
+        return made;
+    }
+
+    session() {
+        const { session } = this.app, { findings, raw } = session;
+        const items = findings.map(({ level, words, message, filter }) => {
+            const made = element("li", level);
+            const level_words = { bad: "broken: ", look: "", note: "" }[level];
+            made.append(element("span", "unseen", level_words), this.link(words, message, filter ?? null));
+            return made;
+        });
+        if (!items.length) {
+            items.push(element("li", "note plain", session.isTimed ? "Nothing was late, nothing piled up, and "
+                + "nothing was left without an answer." : "Nothing piled up, and nothing was left without an answer."));
+        }
+        const list = element("ul");
+        list.append(...items);
+        return [element("h2", "", "Worth a look"), list, session.bad >= 0 ? this.wayThere() : [], this.remarks(),
+            this.wayToWindow(), this.about(raw)];
+    }
+
+    wayThere() {
+        const way = wayToBroken(this.app.session);
+        if (!way.length) {
+            return [];
+        }
+        return [element("h2", "", "What led there"), way.map(({ words, message }) => {
+            const line = element("p");
+            line.append(`${words} `, this.toMessage(message), `, ${this.app.session.nameOf(message)}`);
+            return line;
+        })];
+    }
+
+    remarks() {
+        const { session } = this.app, { left_out: leftOut, cut_at: end, others } = session.raw, said = [];
+        if (!session.isTimed) {
+            said.push("This recording has no times: what was late is not known, and the picture is in order of messages.");
+        }
+        if (leftOut) {
+            said.push(`The page ends before the recording does: ${several(leftOut, "message")} behind `
+                + `message ${counted(end)} are left out. `
+                + "The verdict is that of the whole recording.");
+        }
+        if (others) {
+            said.push(`${several(others, "further client")} took part, and ${others === 1 ? "has a page" : "have pages"} `
+                + "of their own.");
+        }
+        return said.map((it) => element("p", "remark", it));
+    }
+
+    wayToWindow() {
+        const { app } = this, { session } = app;
+        if (session.milestones.length < 2) {
+            return [];
+        }
+        const heading = element("h2", "", "On the way to a window ");
+        const zoom = element("button", "inline", "zoom");
+        zoom.addEventListener("click", () => {
+            const end = app.view.at(session.milestones.at(-1).message);
+            app.show(0, end * 1.05);
+        });
+        heading.append(zoom);
+        return [heading, session.milestones.map(({ name, message }) => {
+            const made = element("div", "row");
+            made.append(this.link(name, message), element("span", "value",
+                session.isTimed ? duration(session.time[message]) : `message ${counted(message + 1)}`));
+            made.firstChild.classList.add("name");
+            return made;
+        })];
+    }
+
+    about({ head, client, verdict }) {
+        const rows = [
+            ["verdict", verdict?.words], ["recording", head.recording], ["command", (head.command ?? []).join(" ")],
+            ["client", [client.name, client.pid && `process ${client.pid}`].filter((it) => it).join(", ")],
+            ["started", head.started], ["tables", (head.tables ?? []).join(", ")],
+        ].filter(([, value]) => value);
+        return [element("h2", "", "The session"), rows.map(([name, value]) => this.row(name, String(value)))];
+    }
+
+    message() {
+        const { selected, session } = this.app;
+        if (selected < 0) {
+            return [element("p", "remark", "No message is selected. Choose one in the list or in the picture.")];
+        }
+        const line = element("p", "whole");
+        line.append(arrowOf(session, selected), " ", wordsOf(session, selected));
+        return [line, this.effects(selected), this.facts(selected), element("p", "bytes", bytesOf(session, selected)),
+            this.objectPart(session.objects[session.object[selected]])];
+    }
+
+    // What a commit takes into effect: the requests for its surface since the commit before.
+    effects(message) {
+        const { session } = this.app;
+        if (!session.isOf(message, "wl_surface", "commit")) {
+            return [];
+        }
+        const { messages } = session.objects[session.object[message]], found = [];
+        for (let k = firstFrom(messages, message) - 1; k >= 0 && !session.isOf(messages[k], "wl_surface", "commit"); k--) {
+            if (session.direction[messages[k]] === REQUEST) {
+                found.unshift(messages[k]);
+            }
+        }
+        const line = element("p", "", found.length ? "Takes into effect " : "Takes nothing into effect.");
+        found.slice(-12).forEach((it, place) => line.append(place ? ", " : "", this.link(session.nameOf(it), it)));
+        line.append(found.length ? "." : "");
+        return [line];
+    }
+
+    facts(message) {
+        const { session } = this.app, rows = [];
+        if (message === session.bad) {
+            const { broken } = session.raw;
+            rows.push(this.row("broken", `${ruleOf(broken)}${whatIsWrong(broken)}.`),
+                this.row("the rule", RULES[broken.fault]?.[1] ?? ""));
+        }
+        session.signatures[session.signature[message]].kinds.forEach(([kind, name], place) => {
+            const { text, object } = argumentWords(session, message, place);
+            rows.push(this.row(name ?? kind, object ? this.toObject(object) : "", object && text ? ", " : "", text));
+        });
+        if (session.isTimed) {
+            const since = message ? session.time[message] - session.time[message - 1] : 0;
+            rows.push(this.row("time", `${microseconds(session.time[message])} s`, !message ? ""
+                : since ? `, ${duration(since)} after the message before` : ", with the message before"));
+        }
+        rows.push(...(session.waitsOf.get(message) ?? []).map((it) => this.waitRow(it, message)));
+        const stream = session.direction[message] === REQUEST ? "request" : "event";
+        rows.push(this.row("place", `${stream} ${counted(session.numberInStream[message])}, `
+            + `byte ${counted(session.offset[message])}, piece ${counted(session.piece[message])}`));
+        if ((session.state[message] & 3) === 1 && stream === "event") {
+            rows.push(this.row("discarded", "the client had destroyed the object"));
+        }
+        if (session.state[message] & 4) {
+            rows.push(this.row("judged", "no: what comes from here on is not judged"));
+        }
+        return rows;
+    }
+
+    waitRow(wait, message) {
+        const { session } = this.app, { label, name } = WAITS.find((it) => it.key === wait.key);
+        const took = session.isTimed && wait.to >= 0 ? ` after ${duration(wait.took)}${wait.isSlow ? ", slow" : ""}` : "";
+        if (wait.to === message) {
+            return this.row(label, "answers ", this.toMessage(wait.from), took);
+        }
+        const from = wait.from === message ? "" : [" from ", this.toMessage(wait.from), " on"];
+        if (wait.to < 0) {
+            return this.row(name, "has no answer", from);
+        }
+        return wait.isGone ? this.row(name, "ended with ", this.toMessage(wait.to), ", without an answer")
+            : this.row(name, "answered by ", this.toMessage(wait.to), took, from);
+    }
+
+    objectPart(object) {
+        if (!object) {
+            return [];
+        }
+        const { session } = this.app, life = [];
+        const by = (message) => {
+            const maker = session.objects[session.object[message]];
+            return [this.toMessage(message), `, ${maker ? maker.name : "unknown"}.${session.nameOf(message)}`];
+        };
+        life.push(...(object.made >= 0 ? ["made by ", by(object.made)] : ["there from the start"]));
+        life.push(...(object.destroyed >= 0 ? ["; destroyed by ", by(object.destroyed)] : []));
+        life.push(...(object.freed >= 0 ? ["; its id was freed by ", this.toMessage(object.freed)] : []));
+        life.push(session.isOpen(object) ? "; open at the end" : "");
+        const name = element("p");
+        name.append(this.toObject(object));
+        return [element("h2", "", "Object"), name, object.version ? this.row("version", String(object.version)) : null,
+            this.row("life", life), this.row("messages", `${counted(object.messages.length)} for it, `
+                + `${counted(object.naming.length)} that name it`)];
+    }
+
+    interfaces() {
+        return [interfacesTable(this.app.session, this)];
+    }
+}

@@ -1,0 +1,251 @@
+"use strict";
+// What waited for what: questions with their answers, and the milestones on the way to a window.
+
+const WAITS = [
+    { key: "sync", label: "sync → done", name: "wl_display.sync" },
+    { key: "configure", label: "configure → ack", name: "configure" },
+    { key: "frame", label: "frame → done", name: "wl_surface.frame" },
+    { key: "presented", label: "frame → presented", name: "wp_presentation.feedback" },
+    { key: "held", label: "buffer held", name: "buffer held" },
+    { key: "ping", label: "ping → pong", name: "ping" },
+];
+const ACKED = new Set(["xdg_surface", "zxdg_surface_v6", "zwlr_layer_surface_v1", "ext_session_lock_surface_v1"]);
+const SLOW = { times: 2, more: 8000, over: 20000 };
+
+function isSlow(took, usual) {
+    return took > SLOW.times * usual && took > usual + SLOW.more && took > SLOW.over;
+}
+
+function median(numbers) {
+    const sorted = Float64Array.from(numbers).sort();
+    return sorted.length ? sorted[sorted.length >> 1] : 0;
+}
+
+// Reads a session once, in the order of its messages.
+class Waiting {
+    constructor(session) {
+        this.session = session;
+        this.waits = [];
+        this.callbacks = new Map();         // a callback's number: its wait
+        this.surfaces = new Map();          // a surface's number: what its next commit takes into effect
+        this.holds = new Map();             // a buffer's number: its wait
+        this.serials = new Map();           // an object's number: waits by serial, for acks and pongs
+    }
+
+    // A wait from a message on. `asked` is the request that asked, where another takes it into effect.
+    open(key, object, from, asked = from) {
+        const wait = { key, object, from, asked, to: -1, isGone: false, isSlow: false, next: -1 };
+        this.waits.push(wait);
+        return wait;
+    }
+
+    close(wait, to, isGone = false) {
+        if (wait && wait.to < 0) {
+            wait.to = to;
+            wait.isGone = isGone;
+        }
+    }
+
+    surface(object) {
+        if (!this.surfaces.has(object.number)) {
+            this.surfaces.set(object.number, { frames: [], feedback: [], buffer: null, hold: null, open: [] });
+        }
+        return this.surfaces.get(object.number);
+    }
+
+    request(i, about, name) {
+        const { session } = this;
+        if (about.interface === "wl_display" && name === "sync") {
+            this.callbacks.set(session.value(i, 0), this.open("sync", about, i));
+        } else if (about.interface === "wl_surface") {
+            this.ofSurface(i, about, name);
+        } else if (about.interface === "wp_presentation" && name === "feedback" && session.named(i, 0)) {
+            this.surface(session.named(i, 0)).feedback.push({ asked: i, number: session.value(i, 1) });
+        } else if (name === "set_cursor" || (about.interface === "wl_data_device" && name === "start_drag")) {
+            const place = name === "set_cursor" ? 1 : 2;
+            const icon = session.named(i, place);
+            if (icon) {
+                icon.isCursor = true;
+            }
+        } else if (name === "ack_configure") {
+            this.acknowledged(i, about);
+        } else if (name === "pong") {
+            this.close(this.serials.get(about.number)?.get(session.value(i, 0)), i);
+        }
+    }
+
+    ofSurface(i, about, name) {
+        const { session } = this, surface = this.surface(about);
+        if (name === "frame") {
+            surface.frames.push({ asked: i, number: session.value(i, 0) });
+        } else if (name === "attach") {
+            surface.buffer = { asked: i, number: session.value(i, 0) };
+        } else if (name === "commit") {
+            this.commit(i, about, surface);
+        } else if (name === "destroy") {
+            surface.open.forEach((it) => this.close(it, i, true));
+        }
+    }
+
+    commit(i, about, surface) {
+        const opened = [];
+        for (const [key, list] of [["frame", surface.frames], ["presented", surface.feedback]]) {
+            for (const { asked, number } of list) {
+                const wait = this.open(key, about, i, asked);
+                this.callbacks.set(number, wait);
+                opened.push(wait);
+            }
+            list.length = 0;
+        }
+        if (surface.buffer) {
+            const { asked, number } = surface.buffer, last = surface.hold;
+            surface.buffer = null;
+            if (last && last.next < 0) {
+                last.next = i;
+            }
+            surface.hold = number < 0 ? null : this.hold(i, about, asked, number);
+            opened.push(surface.hold);
+        }
+        surface.open = [...surface.open, ...opened].filter((it) => it && it.to < 0);
+    }
+
+    // What the compositor holds from here on; a buffer that is shown again before it was released is held on.
+    hold(i, about, asked, buffer) {
+        const held = this.holds.get(buffer);
+        if (held && held.to < 0 && held.object === about) {
+            held.next = -1;
+            return held;
+        }
+        const wait = this.open("held", about, i, asked);
+        this.holds.set(buffer, wait);
+        this.session.objects[buffer].holds.push(wait);
+        return wait;
+    }
+
+    acknowledged(i, about) {
+        const serial = this.session.value(i, 0);
+        const waits = this.serials.get(about.number);
+        if (waits?.has(serial)) {
+            // What stood before it needs no answer any more.
+            for (const [number, wait] of waits) {
+                this.close(wait, i, number !== serial);
+                waits.delete(number);
+                if (number === serial) {
+                    break;
+                }
+            }
+        }
+    }
+
+    event(i, about, name) {
+        const { session } = this, { number } = about;
+        if (about.interface === "wl_callback" && name === "done") {
+            this.close(this.callbacks.get(number), i);
+        } else if (about.interface === "wp_presentation_feedback" && (name === "presented" || name === "discarded")) {
+            this.close(this.callbacks.get(number), i, name === "discarded");
+        } else if (about.interface === "wl_buffer" && name === "release") {
+            this.close(this.holds.get(number), i);
+        } else if ((name === "configure" && ACKED.has(about.interface)) || name === "ping") {
+            if (!this.serials.has(number)) {
+                this.serials.set(number, new Map());
+            }
+            const wait = this.open(name, about, i);
+            this.serials.get(number).set(session.value(i, 0), wait);
+        }
+    }
+
+    read() {
+        const { session } = this;
+        for (let i = 0; i < session.count; i++) {
+            const about = session.objects[session.object[i]];
+            if (!about || i === session.bad) {
+                continue;
+            }
+            const name = session.nameOf(i);
+            if (session.direction[i] === REQUEST) {
+                this.request(i, about, name);
+            } else {
+                this.event(i, about, name);
+            }
+        }
+        for (const [buffer, wait] of this.holds) {
+            this.close(wait, session.objects[buffer].destroyed, true);
+        }
+        return this.waits.filter((it) => !it.object.isCursor);
+    }
+}
+
+// Adds to a session its waits, and for each message what it answers and what answers it.
+function addWaits(session) {
+    session.objects.forEach((it) => { it.holds = []; });
+    session.waits = new Waiting(session).read();
+    session.answer = new Int32Array(session.count).fill(-1);
+    session.question = new Int32Array(session.count).fill(-1);
+    session.slow = new Set();
+    session.usual = {};
+    session.waitsOf = new Map();            // a message: the waits that begin or end with it
+    const add = (message, wait) => {
+        if (!session.waitsOf.has(message)) {
+            session.waitsOf.set(message, []);
+        }
+        session.waitsOf.get(message).push(wait);
+    };
+    for (const wait of session.waits) {
+        wait.took = wait.to < 0 ? -1 : session.time[wait.to] - session.time[wait.from];
+        new Set([wait.asked, wait.from]).forEach((it) => add(it, wait));
+        if (wait.to >= 0 && !wait.isGone) {
+            // Of the answers to one commit the frame's is the first.
+            [wait.asked, wait.from].filter((it) => session.answer[it] < 0).forEach((it) => {
+                session.answer[it] = wait.to;
+            });
+            session.question[wait.to] = wait.from;
+            add(wait.to, wait);
+        }
+    }
+    if (session.isTimed) {
+        for (const { key } of WAITS) {
+            const own = session.waits.filter((it) => it.key === key && it.to >= 0 && !it.isGone);
+            const usual = session.usual[key] = median(own.map((it) => it.took));
+            for (const wait of own.filter((it) => isSlow(it.took, usual))) {
+                wait.isSlow = true;
+                session.slow.add(wait.from).add(wait.to);
+            }
+        }
+    }
+}
+
+const ROLES = /^(get_toplevel|get_popup|get_layer_surface|get_lock_surface|get_shell_surface|get_xdg_popup)$/;
+
+// The first steps to a window, in order: a name and a message each.
+function milestones(session) {
+    const found = [], seen = new Set();
+    const add = (name, message) => {
+        if (!seen.has(name)) {
+            seen.add(name);
+            found.push({ name, message });
+        }
+    };
+    for (let i = 0; i < session.count && seen.size < 6; i++) {
+        const about = session.objects[session.object[i]];
+        const name = session.nameOf(i);
+        if (!about || i === session.bad) {
+            continue;
+        }
+        if (name === "bind" && about.interface === "wl_registry") {
+            add("first bind", i);
+        } else if (name === "create_surface") {
+            add("surface", i);
+        } else if (ROLES.test(name)) {
+            add("role", i);
+        } else if (name === "configure" && ACKED.has(about.interface)) {
+            add("configured", i);
+        } else if (name === "attach" && about.interface === "wl_surface" && session.value(i, 0) >= 0
+            && !about.isCursor) {
+            add("first buffer", i);
+        } else if (seen.has("first buffer") && session.waitsOf.get(i)?.some((it) => it.to === i && !it.isGone
+            && (it.key === "frame" || it.key === "presented"))) {
+            add("first frame", i);
+        }
+    }
+    return found;
+}

@@ -1,0 +1,230 @@
+"""The lines of `waywire-inspect --json` as columns, which a page of waywire-picture holds deflated.
+
+A message is a row of numbers: its signature, its object and its arguments' values are numbers of the lists
+`signatures`, `objects`, `strings` and `arrays`. Nothing here reads a recording, or takes a printed line
+apart: the end of a line is kept as it was printed."""
+
+import base64
+import json
+import zlib
+from array import array
+
+# A page holds no more messages, and no more bytes of text; what comes behind is left out, and it says so.
+MOST_MESSAGES = 200_000
+MOST_TEXT = 32 * 2**20
+# Of an array no more bytes are kept.
+MOST_BYTES = 256
+STATES = {"live": 0, "ending": 1, "unknown": 2}
+
+
+class NoSession(Exception):
+    """No page can be made, and why."""
+
+
+class NoLines(NoSession):
+    """What was read is not what the inspector prints."""
+
+    def __init__(self):
+        super().__init__("these are no lines of waywire-inspect --json")
+
+
+class Numbered:
+    """Values with the numbers in which they came."""
+
+    def __init__(self):
+        self.numbers = {}
+
+    def of(self, value):
+        return self.numbers.setdefault(value, len(self.numbers))
+
+    def values(self):
+        return list(self.numbers)
+
+
+def shown(data):
+    """The bytes of a string as a printed line has them, in quotes."""
+    plain = (chr(it) if 0x20 <= it <= 0x7E and it not in b'"\\' else f"\\x{it:02x}" for it in data)
+    return f'"{"".join(plain)}"'
+
+
+def readable(text):
+    """A string in quotes in which letters of all scripts stand as they are."""
+    if text.isascii() or "\ufffd" in text:
+        return None
+    parts = (it if not it.isascii() and it.isprintable() else shown(it.encode())[1:-1] for it in text)
+    return f'"{"".join(parts)}"'
+
+
+class Columns:
+    """What a page says of the session of one client."""
+
+    def __init__(self, client=1):
+        self.client, self.others = client, set()
+        self.head, self.who = {}, {}
+        self.verdict = self.broken = self.error = None
+        self.signatures, self.strings, self.arrays = Numbered(), Numbered(), Numbered()
+        self.objects, self.about = {}, []
+        names = ("time", "piece", "signature", "object", "size", "offset", "state")
+        self.rows = {it: array("q") for it in names}
+        self.values, self.rest = [], []
+        self.made, self.destroyed, self.freed = [], [], []
+        self.text_size, self.left_out, self.cut_at, self.notes = 0, 0, 0, []
+        self.last_time, self.last_piece, self.next_offset = 0, 0, {}
+
+    def read(self, lines):
+        """Takes lines in. Raises `NoSession`."""
+        # A kind that is not known here tells what a page does not show.
+        does = {it: getattr(self, f"take_{it}") for it in ("message", "broken", "error", "verdict", "client")}
+        decode = json.JSONDecoder().decode
+        for line in lines:
+            try:
+                found = decode(line.decode())
+                kind = found["type"]
+                if kind == "head":
+                    self.head = found
+                elif kind == "bad_line":
+                    raise NoSession(f"line {found['line']}: bad line")
+                elif kind in does:
+                    if found.get("client", 1) == self.client:
+                        does[kind](found)
+                    else:
+                        self.others.add(found["client"])
+            except (ValueError, KeyError, TypeError, AttributeError) as error:
+                raise NoLines from error
+        if not self.head:
+            raise NoLines
+        if self.verdict is None and self.others:
+            raise NoSession(f"there is no client {self.client}; there are {sorted(self.others)}")
+
+    def take_client(self, found):
+        self.who = found
+
+    def take_verdict(self, found):
+        self.verdict = {it: found.get(it) for it in ("verdict", "words", "messages", "requests", "events")}
+
+    def take_error(self, found):
+        """A wl_display.error; its message came just before."""
+        self.error = {"place": len(self.rest) - 1, "object": self.object(found["object"]),
+                      "code": found["code"], "text": found["text"]}
+
+    def take_broken(self, found):
+        """A message that breaks a rule is a row like others, also where it could not be taken apart."""
+        message = found.get("message") or {"object": self.target(found["bytes"]), "opcode": -1, "message": None,
+                                           "arguments": [], "state": "unknown", "text": "", "piece": None}
+        place = {it: found[it] for it in ("direction", "offset", "size", "number")}
+        self.broken = {"place": len(self.rest), "fault": found["fault"], "words": found["words"],
+                       "bytes": found["bytes"][: 2 * MOST_BYTES]}
+        self.add_row({"time": None, **message, **place, "made": (), "destroyed": (), "freed": ()})
+
+    def target(self, digits):
+        """The object that a message is for which could not be taken apart: the last with its id."""
+        number = int.from_bytes(bytes.fromhex(digits[:8]), "little") if len(digits) >= 8 else 0
+        known = [it for it in self.objects if it[0] == number]
+        if not known:
+            return {"interface": None, "id": number, "birth": 0}
+        interface, _, birth, _ = self.about[self.objects[known[-1]]]
+        return {"interface": interface, "id": number, "birth": birth}
+
+    def object(self, found, version=None):
+        """The number of an object; -1 stands for none."""
+        if not found or not found.get("id"):
+            return -1
+        key = (found["id"], found.get("birth", 0))
+        number = self.objects.get(key)
+        if number is None:
+            number = self.objects[key] = len(self.about)
+            self.about.append([found.get("interface"), *key, version or 0])
+        elif version:
+            self.about[number][3] = version
+        return number
+
+    def value(self, argument):
+        kind = argument["kind"]
+        if kind == "object":
+            return self.object(argument)
+        if kind == "new":
+            return self.object(argument, argument.get("version"))
+        if kind == "string":
+            value = argument["value"]
+            return -1 if value is None else self.strings.of((value, argument.get("bytes")))
+        if kind == "array":
+            return self.arrays.of((argument["size"], argument["value"][: 2 * MOST_BYTES]))
+        return argument["number"] if kind == "fd" else argument["value"]
+
+    def take_message(self, found):
+        is_full = len(self.rest) >= MOST_MESSAGES or self.text_size > MOST_TEXT
+        if is_full and (found["message"] != "error" or found["object"]["id"] != 1):
+            self.left_out += 1
+            self.cut_at = self.cut_at or len(self.rest)
+        else:
+            self.add_row(found)
+
+    def add_row(self, found):
+        rows, about = self.rows, found["object"]
+        arguments, direction = found["arguments"], found["direction"]
+        place = len(self.rest)
+        kinds = tuple([(it["kind"], it.get("name")) for it in arguments])
+        signature = (about.get("interface"), found["message"], direction, found["opcode"], kinds)
+        rows["signature"].append(self.signatures.of(signature))
+        rows["object"].append(self.object(about))
+        self.values.extend([self.value(it) for it in arguments])
+        # The places of messages in a picture never go back.
+        time = max(self.last_time, round((found["time"] or 0) * 1_000_000))
+        rows["time"].append(time - self.last_time)
+        piece = found["piece"] or self.last_piece
+        rows["piece"].append(piece - self.last_piece)
+        self.last_time, self.last_piece = time, piece
+        rows["size"].append(found["size"])
+        rows["offset"].append(found["offset"] - self.next_offset.get(direction, 0))
+        self.next_offset[direction] = found["offset"] + found["size"]
+        rows["state"].append(STATES[found["state"]] + 4 * (found.get("judged") is False))
+        if found.get("note"):
+            self.notes.append((place, found["note"]))
+        for what, kept in (("made", self.made), ("destroyed", self.destroyed), ("freed", self.freed)):
+            for it in found.get(what) or ():
+                kept += (place, self.object(it))
+        self.rest.append(self.end_of_line(found, arguments))
+
+    def end_of_line(self, found, arguments):
+        """What the printed line has behind the message's name, with letters of all scripts as they are."""
+        text, about = found["text"], found["object"]
+        arrow = "-> " if found["direction"] == "request" else "<- "
+        known = f"{arrow}{about.get('interface')}@{about['id']}.{found['message']}"
+        # Where the line begins in another way, all of it is kept.
+        rest = text[len(known) :] if text.startswith(known) else f"\t{text.removeprefix(arrow)}"
+        for it in arguments:
+            if it["kind"] == "string" and it["value"] and (new := readable(it["value"])):
+                rest = rest.replace(shown(it["value"].encode()), new, 1)
+        self.text_size += len(rest)
+        return rest.replace("\n", " ")
+
+    def title(self, path):
+        named = path or self.head.get("recording") or ""
+        stem = named.rsplit("/", 1)[-1].removesuffix(".rec")
+        # What was recorded for a page alone has no name of its own.
+        stem = "" if stem == "session" else stem
+        return stem or self.who.get("name") or " ".join(self.head.get("command") or []) or "session"
+
+    def packed(self, title):
+        """All of it, deflated, in base64."""
+        about = list(zip(*self.about)) or [[], [], [], []]
+        parts = {
+            "form": 1, "title": title, "head": self.head, "client": self.who, "others": len(self.others),
+            "verdict": self.verdict, "broken": self.broken, "error": self.error, "left_out": self.left_out, "cut_at": self.cut_at,
+            "notes": self.notes,
+            "signatures": self.signatures.values(), "strings": self.strings.values(),
+            "arrays": self.arrays.values(),
+            "objects": dict(zip(("interface", "id", "birth", "version"), about)),
+            "rest": "\n".join(self.rest), "values": self.values,
+            "made": self.made, "destroyed": self.destroyed, "freed": self.freed,
+            **{name: row.tolist() for name, row in self.rows.items()},
+        }
+        deflate, out = zlib.compressobj(7), []
+        write = json.JSONEncoder(ensure_ascii=False, separators=(",", ":")).encode
+        for place, (name, value) in enumerate(parts.items()):
+            text = f"{',' if place else '{'}{write(name)}:{write(value)}"
+            # A lone surrogate of a line in JSON is no character.
+            out.append(deflate.compress(text.encode("utf-8", "replace")))
+        out.append(deflate.compress(b"}"))
+        out.append(deflate.flush())
+        return base64.b64encode(b"".join(out)).decode()
