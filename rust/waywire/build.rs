@@ -1,8 +1,10 @@
 //! Finds libwaywire: below `WAYWIRE_DIR`, where that is set, else by pkg-config.
 //!
-//! The archive is linked where it is found, and the shared library where it is not.
+//! The archive is linked where it is found, and the shared library where it is not. The library's version is
+//! to be compatible with this package's: of one major number, and below 1 of one minor number.
 
 use std::env;
+use std::fs;
 use std::path::{Path, PathBuf};
 use std::process::Command;
 
@@ -16,6 +18,7 @@ fn main() {
         }
         None => (asked("libdir"), asked("includedir")),
     };
+    is_compatible(&headers.join("waywire-version.h"));
     let kind = if libraries.join("libwaywire.a").exists() { "static" } else { "dylib" };
     println!("cargo:rustc-link-search=native={}", libraries.display());
     println!("cargo:rustc-link-lib={kind}=waywire");
@@ -32,6 +35,23 @@ fn asked(variable: &str) -> PathBuf {
             PathBuf::from(String::from_utf8_lossy(&said.stdout).trim())
         }
         _ => panic!("libwaywire is not found: set WAYWIRE_DIR, or PKG_CONFIG_PATH for pkg-config"),
+    }
+}
+
+/// Ends the build where the header's version is not compatible with this package's.
+fn is_compatible(header: &Path) {
+    rerun(header);
+    // To check this package alone takes no library.
+    let Ok(text) = fs::read_to_string(header) else { return };
+    let number = |name: &str| {
+        let found = text.lines().find_map(|it| it.strip_prefix(&format!("#define {name} ")));
+        found.map(str::trim).unwrap_or_default().to_owned()
+    };
+    let (major, minor) = (number("WAYWIRE_VERSION_MAJOR"), number("WAYWIRE_VERSION_MINOR"));
+    let same_minor = major != "0" || minor == env!("CARGO_PKG_VERSION_MINOR");
+    if major != env!("CARGO_PKG_VERSION_MAJOR") || !same_minor {
+        let package = env!("CARGO_PKG_VERSION");
+        panic!("libwaywire {major}.{minor} is not compatible with the package waywire {package}");
     }
 }
 

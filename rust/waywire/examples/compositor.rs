@@ -1,163 +1,428 @@
 //! A small compositor: takes one client at a path, lets it open windows over xdg-shell, and says the
-//! first pixel of each picture that it commits.
+//! first pixel of each picture that it commits. Behind the first picture of a window it plays a script.
 //!
-//!     compositor PATH
+//!     compositor PATH [SCRIPT]
+//!
+//! The script is a file with an event a line: `key CODE` and `button CODE` press and release what has that
+//! number in linux/input-event-codes.h, `motion X Y` moves the pointer over the window, and `close` asks
+//! the window to close.
 
 mod common;
 
-use common::xdg_shell::{self, event as xdg_event, request as xdg};
-use common::{Failure, Link};
-use std::collections::HashMap;
-use std::fs::File;
+use common::xdg_shell::xdg_popup::XdgPopup;
+use common::xdg_shell::xdg_positioner::XdgPositioner;
+use common::xdg_shell::xdg_surface::{self, XdgSurface};
+use common::xdg_shell::xdg_toplevel::XdgToplevel;
+use common::xdg_shell::xdg_wm_base::{self, XdgWmBase};
+use common::{xdg_shell, Came, Failure, Link};
+use std::collections::{HashMap, VecDeque};
+use std::fs::{self, File};
 use std::os::unix::fs::FileExt;
 use std::os::unix::net::UnixListener;
-use waywire::{event, request, Arg, Object, Server, Sizes, Tables, Value};
+use std::rc::Rc;
+use std::time::{Duration, Instant};
+use waywire::wayland::wl_buffer::{self, WlBuffer};
+use waywire::wayland::wl_callback::WlCallback;
+use waywire::wayland::wl_compositor::{self, WlCompositor};
+use waywire::wayland::wl_display::{self, WlDisplay};
+use waywire::wayland::wl_keyboard::{self, KeyState, KeymapFormat, WlKeyboard};
+use waywire::wayland::wl_output::{Mode, Subpixel, Transform, WlOutput};
+use waywire::wayland::wl_pointer::{self, ButtonState, WlPointer};
+use waywire::wayland::wl_registry::{self, WlRegistry};
+use waywire::wayland::wl_seat::{self, Capability, WlSeat};
+use waywire::wayland::wl_shm::{self, Format, WlShm};
+use waywire::wayland::wl_shm_pool::{self, WlShmPool};
+use waywire::wayland::wl_subcompositor::WlSubcompositor;
+use waywire::wayland::wl_surface::{self, WlSurface};
+use waywire::{Fixed, Handle, Object, OwnedMessage, SendError, Server, Sizes, Tables};
 
-const FORMATS: [u32; 2] = [0, 1]; // ARGB8888, XRGB8888
+/// The tables of the clipboard, without which GTK has no seat. Its requests are read, and have no answer.
+const CLIPBOARD: &[u8] = include_bytes!("../../../examples/tables/data-device.tables");
+const GLOBALS: [(&str, u32); 7] = [
+    (WlCompositor::NAME, 4),
+    (WlSubcompositor::NAME, 1),
+    (WlShm::NAME, 1),
+    (WlSeat::NAME, 5),
+    (WlOutput::NAME, 2),
+    ("wl_data_device_manager", 3),
+    (XdgWmBase::NAME, 1),
+];
+/// The time between two lines of the script.
+const STEP: Duration = Duration::from_millis(100);
 
-/// A buffer's file, the place of its first pixel, its width and its height.
-type Picture = (Object, i32, i32, i32);
+/// A buffer's memory, the place of its first pixel in that, its width and its height.
+type Picture = (Rc<File>, i32, i32, i32);
 
-struct Compositor {
-    tables: Tables,
-    link: Link<Server>,
-    pools: HashMap<Object, File>,
-    pictures: HashMap<Object, Picture>,
-    attached: Option<Object>,
-    frames: Vec<Object>,
-    serial: u32,
+#[derive(Default)]
+struct Surface {
+    attached: Option<WlBuffer>,
+    frames: Vec<WlCallback>,
+    role: Option<XdgSurface>,
 }
 
-/// A request, in memory of its own: what serving it writes ends the loan of its report.
-struct Asked {
-    interface: String,
-    target: Object,
-    opcode: u16,
-    numbers: Vec<i32>,
-    objects: Vec<Object>,
-    bound: String,
-    tokens: Vec<u32>,
+struct Compositor {
+    link: Link<Server>,
+    began: Instant,
+    serial: u32,
+    pools: HashMap<WlShmPool, Rc<File>>,
+    pictures: HashMap<WlBuffer, Picture>,
+    surfaces: HashMap<WlSurface, Surface>,
+    toplevels: HashMap<XdgSurface, XdgToplevel>,
+    keyboards: Vec<WlKeyboard>,
+    pointers: Vec<WlPointer>,
+    /// The first window that has shown a picture, and whether keyboard and pointer were told.
+    window: Option<(WlSurface, XdgToplevel)>,
+    has_entered: bool,
+    refused: Option<SendError>,
 }
 
 impl Compositor {
-    fn event(&mut self, target: Object, opcode: u16, args: &[Arg<'_>]) -> Result<(), Failure> {
-        Ok(self.link.end.send(target, opcode, args)?)
-    }
-
-    /// The next request. Which interface its target has is asked before, since it may destroy it.
-    fn next(&mut self) -> Result<Option<Asked>, Failure> {
-        let Some(request) = self.link.end.next()? else {
-            return Ok(None);
-        };
-        let mut asked = Asked {
-            interface: String::new(),
-            target: request.target(),
-            opcode: request.opcode(),
-            numbers: Vec::new(),
-            objects: Vec::new(),
-            bound: String::new(),
-            tokens: Vec::new(),
-        };
-        for value in request.args() {
-            match value {
-                Value::Int(number) => asked.numbers.push(number),
-                Value::Object(Some(object)) | Value::NewId(object) => asked.objects.push(object),
-                Value::Bound { interface, object, .. } => {
-                    asked.bound = String::from_utf8_lossy(interface).into_owned();
-                    asked.objects.push(object);
-                }
-                Value::Fd(token) => asked.tokens.push(token),
-                _ => {}
+    /// Remembers the first event that was refused. That it is newer than its object is no failure.
+    fn must(&mut self, sent: Result<(), SendError>) {
+        if let Err(why) = sent {
+            if why != SendError::TooOld {
+                self.refused.get_or_insert(why);
             }
         }
-        // An object that the request destroyed is not live; nothing is to be done for it.
-        if let Some((interface, _)) = self.link.end.live(asked.target) {
-            asked.interface = self.tables.name(interface).unwrap_or("").to_string();
-        }
-        Ok(Some(asked))
     }
 
-    fn serve(&mut self, asked: Asked) -> Result<(), Failure> {
-        match (asked.interface.as_str(), asked.opcode) {
-            ("wl_display", request::wl_display::SYNC) => {
-                self.event(asked.objects[0], event::wl_callback::DONE, &[Arg::Uint(0)])
+    fn next_serial(&mut self) -> u32 {
+        self.serial += 1;
+        self.serial
+    }
+
+    fn milliseconds(&self) -> u32 {
+        self.began.elapsed().as_millis() as u32
+    }
+}
+
+impl wl_display::Requests for Compositor {
+    fn sync(&mut self, _: WlDisplay, callback: WlCallback) {
+        let sent = callback.send_done(&mut self.link, 0);
+        self.must(sent);
+    }
+}
+
+impl wl_registry::Requests for Compositor {
+    fn bind(&mut self, _: WlRegistry, _: u32, interface: &[u8], _: u32, object: Object) {
+        let sent = match std::str::from_utf8(interface) {
+            Ok(WlShm::NAME) => self.tell_formats(WlShm(object)),
+            Ok(WlSeat::NAME) => {
+                let both = Capability::POINTER | Capability::KEYBOARD;
+                WlSeat(object).send_capabilities(&mut self.link, both)
             }
-            ("wl_registry", _) if asked.bound == "wl_shm" => FORMATS.iter().try_for_each(|&it| {
-                self.event(asked.objects[0], event::wl_shm::FORMAT, &[Arg::Uint(it)])
-            }),
-            ("wl_shm", request::wl_shm::CREATE_POOL) => {
-                let file = self.link.descriptor(asked.tokens[0]).ok_or("no descriptor")?;
-                self.pools.insert(asked.objects[0], file.into());
-                Ok(())
-            }
-            ("wl_shm_pool", request::wl_shm_pool::CREATE_BUFFER) => {
-                let [offset, width, height] = [0, 1, 2].map(|it| asked.numbers[it]);
-                self.pictures.insert(asked.objects[0], (asked.target, offset, width, height));
-                Ok(())
-            }
-            ("wl_surface", request::wl_surface::ATTACH) => {
-                self.attached = asked.objects.first().copied();
-                Ok(())
-            }
-            ("wl_surface", request::wl_surface::FRAME) => {
-                self.frames.push(asked.objects[0]);
-                Ok(())
-            }
-            ("wl_surface", request::wl_surface::COMMIT) => self.commit(),
-            ("xdg_surface", xdg::xdg_surface::GET_TOPLEVEL) => {
-                let opcode = xdg_event::xdg_toplevel::CONFIGURE;
-                self.event(asked.objects[0], opcode, &[Arg::Int(0), Arg::Int(0), Arg::Array(&[])])?;
-                let serial = Arg::Uint(self.serial);
-                self.event(asked.target, xdg_event::xdg_surface::CONFIGURE, &[serial])
-            }
+            Ok(WlOutput::NAME) => self.tell_output(WlOutput(object)),
             _ => Ok(()),
+        };
+        self.must(sent);
+    }
+}
+
+impl Compositor {
+    fn tell_formats(&mut self, shm: WlShm) -> Result<(), SendError> {
+        shm.send_format(&mut self.link, Format::ARGB8888)?;
+        shm.send_format(&mut self.link, Format::XRGB8888)
+    }
+
+    fn tell_output(&mut self, output: WlOutput) -> Result<(), SendError> {
+        let link = &mut self.link;
+        output.send_geometry(link, 0, 0, 340, 190, Subpixel::UNKNOWN, "", "", Transform::NORMAL)?;
+        output.send_mode(link, Mode::CURRENT, 1280, 720, 60_000)?;
+        output.send_done(link)
+    }
+}
+
+impl wl_shm::Requests for Compositor {
+    fn create_pool(&mut self, _: WlShm, pool: WlShmPool, fd: u32, _size: i32) {
+        if let Some(file) = self.link.descriptor(fd) {
+            self.pools.insert(pool, Rc::new(file.into()));
+        }
+    }
+}
+
+impl wl_shm_pool::Requests for Compositor {
+    fn create_buffer(
+        &mut self,
+        pool: WlShmPool,
+        buffer: WlBuffer,
+        offset: i32,
+        width: i32,
+        height: i32,
+        _stride: i32,
+        _format: Format,
+    ) {
+        if let Some(file) = self.pools.get(&pool) {
+            self.pictures.insert(buffer, (Rc::clone(file), offset, width, height));
         }
     }
 
-    fn commit(&mut self) -> Result<(), Failure> {
-        if let Some(buffer) = self.attached.take() {
-            let (pool, offset, width, height) = self.pictures[&buffer];
-            let mut pixel = [0; 4];
-            if let Some(file) = self.pools.get(&pool) {
-                file.read_exact_at(&mut pixel, offset as u64)?;
-            }
+    fn destroy(&mut self, pool: WlShmPool) {
+        self.pools.remove(&pool);
+    }
+}
+
+impl wl_buffer::Requests for Compositor {
+    fn destroy(&mut self, buffer: WlBuffer) {
+        self.pictures.remove(&buffer);
+    }
+}
+
+impl wl_compositor::Requests for Compositor {
+    fn create_surface(&mut self, _: WlCompositor, surface: WlSurface) {
+        self.surfaces.insert(surface, Surface::default());
+    }
+}
+
+impl wl_surface::Requests for Compositor {
+    fn attach(&mut self, surface: WlSurface, buffer: Option<WlBuffer>, _x: i32, _y: i32) {
+        self.surfaces.entry(surface).or_default().attached = buffer;
+    }
+
+    fn frame(&mut self, surface: WlSurface, callback: WlCallback) {
+        self.surfaces.entry(surface).or_default().frames.push(callback);
+    }
+
+    fn commit(&mut self, surface: WlSurface) {
+        let it = self.surfaces.entry(surface).or_default();
+        let (attached, frames, role) =
+            (it.attached.take(), std::mem::take(&mut it.frames), it.role);
+        if let Some(buffer) = attached {
+            self.show(buffer);
+            let toplevel = role.and_then(|it| self.toplevels.get(&it));
+            self.window = self.window.or(toplevel.map(|it| (surface, *it)));
+        }
+        let time = self.milliseconds();
+        for callback in frames {
+            let sent = callback.send_done(&mut self.link, time);
+            self.must(sent);
+        }
+    }
+
+    fn destroy(&mut self, surface: WlSurface) {
+        self.surfaces.remove(&surface);
+        self.window = self.window.filter(|it| it.0 != surface);
+    }
+}
+
+impl Compositor {
+    fn show(&mut self, buffer: WlBuffer) {
+        let Some((file, offset, width, height)) = self.pictures.get(&buffer) else { return };
+        let mut pixel = [0; 4];
+        if file.read_exact_at(&mut pixel, *offset as u64).is_ok() {
             let pixel = u32::from_le_bytes(pixel);
             println!("a picture of {width} by {height}, its first pixel {pixel:08x}");
-            self.event(buffer, event::wl_buffer::RELEASE, &[])?;
         }
-        for callback in std::mem::take(&mut self.frames) {
-            self.serial += 1;
-            self.event(callback, event::wl_callback::DONE, &[Arg::Uint(self.serial)])?;
+        let sent = buffer.send_release(&mut self.link);
+        self.must(sent);
+    }
+}
+
+impl xdg_wm_base::Requests for Compositor {
+    fn get_xdg_surface(&mut self, _: XdgWmBase, xdg_surface: XdgSurface, surface: WlSurface) {
+        self.surfaces.entry(surface).or_default().role = Some(xdg_surface);
+    }
+}
+
+impl xdg_surface::Requests for Compositor {
+    fn get_toplevel(&mut self, xdg_surface: XdgSurface, toplevel: XdgToplevel) {
+        self.toplevels.insert(xdg_surface, toplevel);
+        let sent = toplevel.send_configure(&mut self.link, 0, 0, []);
+        self.must(sent);
+        let serial = self.next_serial();
+        let sent = xdg_surface.send_configure(&mut self.link, serial);
+        self.must(sent);
+    }
+
+    fn destroy(&mut self, xdg_surface: XdgSurface) {
+        self.toplevels.remove(&xdg_surface);
+        self.window = self.window.filter(|it| self.link.live(it.1 .0).is_some());
+    }
+
+    /// There is no place for menus: each is closed at once.
+    fn get_popup(
+        &mut self,
+        _: XdgSurface,
+        popup: XdgPopup,
+        _: Option<XdgSurface>,
+        _: XdgPositioner,
+    ) {
+        let sent = popup.send_popup_done(&mut self.link);
+        self.must(sent);
+    }
+}
+
+impl wl_seat::Requests for Compositor {
+    fn get_keyboard(&mut self, _: WlSeat, keyboard: WlKeyboard) {
+        self.keyboards.push(keyboard);
+        if let Ok(nothing) = File::open("/dev/null") {
+            let token = self.link.token(nothing);
+            let sent = keyboard.send_keymap(&mut self.link, KeymapFormat::NO_KEYMAP, token, 0);
+            self.must(sent);
+        }
+        let sent = keyboard.send_repeat_info(&mut self.link, 0, 0);
+        self.must(sent);
+    }
+
+    fn get_pointer(&mut self, _: WlSeat, pointer: WlPointer) {
+        self.pointers.push(pointer);
+    }
+}
+
+impl wl_keyboard::Requests for Compositor {
+    fn release(&mut self, keyboard: WlKeyboard) {
+        self.keyboards.retain(|it| *it != keyboard);
+    }
+}
+
+impl wl_pointer::Requests for Compositor {
+    fn set_cursor(&mut self, _: WlPointer, _: u32, _: Option<WlSurface>, _: i32, _: i32) {
+        println!("a cursor");
+    }
+
+    fn release(&mut self, pointer: WlPointer) {
+        self.pointers.retain(|it| *it != pointer);
+    }
+}
+
+impl Compositor {
+    fn serve(&mut self, tables: &Tables, message: &OwnedMessage) {
+        let _is_known = wl_display::dispatch_request(self, tables, message)
+            || wl_registry::dispatch_request(self, tables, message)
+            || wl_shm::dispatch_request(self, tables, message)
+            || wl_shm_pool::dispatch_request(self, tables, message)
+            || wl_buffer::dispatch_request(self, tables, message)
+            || wl_compositor::dispatch_request(self, tables, message)
+            || wl_surface::dispatch_request(self, tables, message)
+            || xdg_wm_base::dispatch_request(self, tables, message)
+            || xdg_surface::dispatch_request(self, tables, message)
+            || wl_seat::dispatch_request(self, tables, message)
+            || wl_keyboard::dispatch_request(self, tables, message)
+            || wl_pointer::dispatch_request(self, tables, message);
+    }
+
+    /// Gives the window the keyboard and the pointer, once.
+    fn enter(&mut self, surface: WlSurface) -> Result<(), SendError> {
+        if std::mem::replace(&mut self.has_entered, true) {
+            return Ok(());
+        }
+        let serial = self.next_serial();
+        for keyboard in &self.keyboards {
+            keyboard.send_enter(&mut self.link, serial, surface, [])?;
+            keyboard.send_modifiers(&mut self.link, serial, 0, 0, 0, 0)?;
+        }
+        for pointer in &self.pointers {
+            let at = Fixed::from(1.0);
+            pointer.send_enter(&mut self.link, serial, surface, at, at)?;
+        }
+        self.end_frame()
+    }
+
+    /// Ends what belongs together of a pointer, where that is new enough to have an end.
+    fn end_frame(&mut self) -> Result<(), SendError> {
+        for pointer in &self.pointers {
+            match pointer.send_frame(&mut self.link) {
+                Err(SendError::TooOld) => {}
+                sent => sent?,
+            }
+        }
+        Ok(())
+    }
+
+    /// Plays a line of the script at a window.
+    fn play(&mut self, line: &str, surface: WlSurface, window: XdgToplevel) -> Result<(), Failure> {
+        self.enter(surface)?;
+        let (time, serial) = (self.milliseconds(), self.next_serial());
+        let words: Vec<&str> = line.split_whitespace().collect();
+        match words[..] {
+            ["key", code] => {
+                let states = [KeyState::PRESSED, KeyState::RELEASED];
+                for (keyboard, state) in each(&self.keyboards, states) {
+                    keyboard.send_key(&mut self.link, serial, time, code.parse()?, state)?;
+                }
+            }
+            ["button", code] => {
+                let states = [ButtonState::PRESSED, ButtonState::RELEASED];
+                for (pointer, state) in each(&self.pointers, states) {
+                    pointer.send_button(&mut self.link, serial, time, code.parse()?, state)?;
+                }
+                self.end_frame()?;
+            }
+            ["motion", x, y] => {
+                let at: [f64; 2] = [x.parse()?, y.parse()?];
+                for pointer in &self.pointers {
+                    pointer.send_motion(&mut self.link, time, at[0].into(), at[1].into())?;
+                }
+                self.end_frame()?;
+            }
+            ["close"] => window.send_close(&mut self.link)?,
+            _ => return Err(format!("the script has {line:?}").into()),
+        }
+        Ok(())
+    }
+
+    /// Serves the client until it goes, and plays the script meanwhile.
+    fn run(&mut self, tables: &Tables, mut script: VecDeque<String>) -> Result<(), Failure> {
+        let mut last = Instant::now();
+        while self.link.wait_at_most(STEP)? != Came::End {
+            while let Some(message) = self.link.next()?.map(|it| it.into_owned()) {
+                self.serve(tables, &message);
+                // It may have made a registry.
+                self.link.announce()?;
+                self.link.flush()?;
+            }
+            if let Some(why) = self.refused {
+                return Err(why.into());
+            }
+            if let Some((surface, toplevel)) = self.window.filter(|_| last.elapsed() >= STEP) {
+                if let Some(line) = script.pop_front() {
+                    self.play(&line, surface, toplevel)?;
+                }
+                last = Instant::now();
+            }
         }
         Ok(())
     }
 }
 
+/// Each object with both states, one after the other.
+fn each<T: Copy, S: Copy + 'static>(
+    objects: &[T],
+    states: [S; 2],
+) -> impl Iterator<Item = (T, S)> + '_ {
+    objects.iter().flat_map(move |it| states.map(|state| (*it, state)))
+}
+
 fn main() -> Result<(), Failure> {
     let path = std::env::args().nth(1).ok_or("the socket's path is wanted")?;
+    let script = match std::env::args().nth(2) {
+        Some(file) => fs::read_to_string(file)?.lines().map(String::from).collect(),
+        None => VecDeque::new(),
+    };
     let listener = UnixListener::bind(&path)?;
-    let tables = Tables::core()?.read(xdg_shell::TABLES)?;
+    let tables = Tables::core()?.read(CLIPBOARD)?.read(xdg_shell::TABLES)?;
     let mut server = Server::new(&tables, &Sizes::default())?;
-    for name in ["wl_compositor", "wl_shm", "xdg_wm_base"] {
-        let interface = tables.interface(name).ok_or("no such interface")?;
-        server.add_global(interface, 1)?;
+    for (name, version) in GLOBALS {
+        server.add_global(tables.interface(name).ok_or("no such interface")?, version)?;
     }
     let (socket, _) = listener.accept()?;
     let mut compositor = Compositor {
-        tables,
         link: Link::new(server, socket),
+        began: Instant::now(),
+        serial: 0,
         pools: HashMap::new(),
         pictures: HashMap::new(),
-        attached: None,
-        frames: Vec::new(),
-        serial: 1,
+        surfaces: HashMap::new(),
+        toplevels: HashMap::new(),
+        keyboards: Vec::new(),
+        pointers: Vec::new(),
+        window: None,
+        has_entered: false,
+        refused: None,
     };
-    while compositor.link.wait()? {
-        while let Some(asked) = compositor.next()? {
-            compositor.serve(asked)?;
-        }
-        compositor.link.end.announce()?;
+    let ended = compositor.run(&tables, script);
+    fs::remove_file(&path)?;
+    match ended {
+        Err(error) if error.downcast_ref().is_some_and(common::has_gone) => Ok(()),
+        ended => ended,
     }
-    std::fs::remove_file(&path)?;
-    Ok(())
 }

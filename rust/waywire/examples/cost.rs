@@ -16,13 +16,13 @@ impl Pair {
     fn up(&mut self) {
         let taken = self.client.take(&mut self.bytes, &mut []);
         let fed = self.server.feed(&self.bytes[..taken.bytes], &[]);
-        assert_eq!(fed, taken);
+        assert_eq!(fed, Ok(taken));
     }
 
     fn down(&mut self) {
         let taken = self.server.take(&mut self.bytes, &mut []);
         let fed = self.client.feed(&self.bytes[..taken.bytes], &[]);
-        assert_eq!(fed, taken);
+        assert_eq!(fed, Ok(taken));
     }
 
     fn make(&mut self, target: Object, opcode: u16) -> Object {

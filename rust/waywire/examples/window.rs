@@ -1,139 +1,82 @@
-//! A client: opens a window of one colour over xdg-shell, and closes it once the compositor has taken
-//! the picture in.
+//! A client: opens a window of one colour, and closes it once the compositor has taken the picture in.
 
 mod common;
 
-use common::xdg_shell::{self, request as xdg};
+use common::xdg_shell::{self, xdg_surface, xdg_wm_base::XdgWmBase};
 use common::{compositor_path, socket, Failure, Link};
-use std::io::Write;
-use std::os::unix::net::UnixStream;
-use waywire::{event, request, Arg, Client, Incoming, Object, Sizes, Tables, Value};
+use std::{collections::HashMap, io::Write, os::unix::net::UnixStream};
+use waywire::wayland::wl_shm::{Format, WlShm};
+use waywire::wayland::{wl_compositor::WlCompositor, wl_display::WlDisplay, wl_registry};
+use waywire::{Client, Handle, Incoming, Sizes, Tables};
 
 const SIDE: i32 = 64;
-const COLOUR: u32 = 0xff33_6699;
-const XRGB8888: u32 = 1;
+/// The bytes of a pixel: blue, green, red.
+const PIXEL: [u8; 4] = [0x99, 0x66, 0x33, 0xff];
 
-/// A global that was announced: its name, interface and version.
-type Global = (u32, String, u32);
+/// What the compositor has told: the names of its globals, and the serial of the last configure.
+#[derive(Default)]
+struct Told(HashMap<Vec<u8>, u32>, Option<u32>);
 
-struct Window {
-    link: Link<Client>,
-    globals: Vec<Global>,
-    configured: Option<u32>,
-    xdg_surface: Option<Object>,
-    registry: Object,
+impl wl_registry::Events for Told {
+    fn global(&mut self, _: wl_registry::WlRegistry, name: u32, interface: &[u8], _: u32) {
+        self.0.insert(interface.to_vec(), name);
+    }
 }
 
-impl Window {
-    fn request(&mut self, target: Object, opcode: u16, args: &[Arg<'_>]) -> Result<(), Failure> {
-        self.link.end.send(target, opcode, args)?;
-        Ok(())
+impl xdg_surface::Events for Told {
+    fn configure(&mut self, _: xdg_surface::XdgSurface, serial: u32) {
+        self.1 = Some(serial);
     }
+}
 
-    fn make(&mut self, target: Object, opcode: u16, args: &[Arg<'_>]) -> Result<Object, Failure> {
-        Ok(self.link.end.send(target, opcode, args)?.ok_or("the request makes no object")?)
-    }
-
-    /// Reads all events that came. True where one ended this object.
-    fn read(&mut self, waited_for: Object) -> Result<bool, Failure> {
-        let mut is_done = false;
-        while let Some(incoming) = self.link.end.next()? {
+/// Goes round until the compositor has read all that was written.
+fn round_trip(link: &mut Link<Client>, tables: &Tables, told: &mut Told) -> Result<(), Failure> {
+    let callback = WlDisplay(link.display()).sync(link)?;
+    while link.wait()? {
+        while let Some(incoming) = link.next()? {
             match incoming {
-                Incoming::Event(event) if event.target() == self.registry => {
-                    let args: Vec<Value<'_>> = event.args().collect();
-                    if let [Value::Uint(name), Value::Str(Some(interface)), Value::Uint(version)] =
-                        args[..]
-                    {
-                        let interface = String::from_utf8_lossy(interface).into_owned();
-                        self.globals.push((name, interface, version));
-                    }
+                Incoming::Event(event) => {
+                    let _is_known = wl_registry::dispatch_event(told, tables, &event)
+                        || xdg_surface::dispatch_event(told, tables, &event);
                 }
-                Incoming::Event(event) if Some(event.target()) == self.xdg_surface => {
-                    if let Some(Value::Uint(serial)) = event.args().next() {
-                        self.configured = Some(serial);
-                    }
-                }
-                Incoming::Deleted(object) => is_done |= object == waited_for,
+                Incoming::Deleted(object) if object == callback.0 => return Ok(()),
                 Incoming::Error(error) => return Err(error.to_string().into()),
                 _ => {}
             }
         }
-        Ok(is_done)
     }
-
-    /// Goes round until the compositor has read all that was written.
-    fn round_trip(&mut self) -> Result<(), Failure> {
-        let display = self.link.end.display();
-        let callback = self.make(display, request::wl_display::SYNC, &[Arg::NewId])?;
-        while self.link.wait()? {
-            if self.read(callback)? {
-                return Ok(());
-            }
-        }
-        Err("the compositor has gone".into())
-    }
-
-    fn bind(&mut self, interface: &str) -> Result<Object, Failure> {
-        let found = self.globals.iter().find(|it| it.1 == interface);
-        let name = found.ok_or_else(|| format!("no {interface}"))?.0;
-        Ok(self.link.end.bind(self.registry, name, interface, 1)?)
-    }
-
-    fn show(&mut self) -> Result<(), Failure> {
-        let compositor = self.bind("wl_compositor")?;
-        let shm = self.bind("wl_shm")?;
-        let base = self.bind("xdg_wm_base")?;
-
-        let surface =
-            self.make(compositor, request::wl_compositor::CREATE_SURFACE, &[Arg::NewId])?;
-        let opcode = xdg::xdg_wm_base::GET_XDG_SURFACE;
-        let xdg_surface = self.make(base, opcode, &[Arg::NewId, surface.into()])?;
-        self.xdg_surface = Some(xdg_surface);
-        let toplevel = self.make(xdg_surface, xdg::xdg_surface::GET_TOPLEVEL, &[Arg::NewId])?;
-        self.request(toplevel, xdg::xdg_toplevel::SET_TITLE, &["waywire".into()])?;
-        self.request(surface, request::wl_surface::COMMIT, &[])?;
-        self.round_trip()?;
-        let serial = self.configured.ok_or("the window was not configured")?;
-        self.request(xdg_surface, xdg::xdg_surface::ACK_CONFIGURE, &[Arg::Uint(serial)])?;
-
-        let size = SIDE * SIDE * 4;
-        let mut memory = socket::memory()?;
-        memory.write_all(&COLOUR.to_le_bytes().repeat((SIDE * SIDE) as usize))?;
-        let token = self.link.token(memory);
-        let args = [Arg::NewId, Arg::Fd(token), Arg::Int(size)];
-        let pool = self.make(shm, request::wl_shm::CREATE_POOL, &args)?;
-        let [zero, side, stride] = [0, SIDE, SIDE * 4].map(Arg::Int);
-        let args = [Arg::NewId, zero, side, side, stride, Arg::Uint(XRGB8888)];
-        let buffer = self.make(pool, request::wl_shm_pool::CREATE_BUFFER, &args)?;
-        self.request(surface, request::wl_surface::ATTACH, &[buffer.into(), zero, zero])?;
-        self.request(surface, request::wl_surface::DAMAGE, &[zero, zero, side, side])?;
-        self.request(surface, request::wl_surface::COMMIT, &[])?;
-        self.round_trip()?;
-
-        self.request(toplevel, xdg::xdg_toplevel::DESTROY, &[])?;
-        self.request(xdg_surface, xdg::xdg_surface::DESTROY, &[])?;
-        self.request(surface, request::wl_surface::DESTROY, &[])?;
-        self.round_trip()
-    }
+    Err("the compositor has gone".into())
 }
 
 fn main() -> Result<(), Failure> {
     let tables = Tables::core()?.read(xdg_shell::TABLES)?;
-    let mut client = Client::new(&tables, &Sizes::default())?;
-    let display = client.display();
-    let registry = client
-        .send(display, request::wl_display::GET_REGISTRY, &[Arg::NewId])?
-        .ok_or("get_registry makes an object")?;
-    debug_assert_eq!(event::wl_registry::GLOBAL, 0);
-    let mut window = Window {
-        link: Link::new(client, UnixStream::connect(compositor_path())?),
-        globals: Vec::new(),
-        configured: None,
-        xdg_surface: None,
-        registry,
-    };
-    window.round_trip()?;
-    window.show()?;
-    println!("the compositor took a picture of {SIDE} by {SIDE}");
-    Ok(())
+    let client = Client::new(&tables, &Sizes::default())?;
+    let (mut told, mut link) =
+        (Told::default(), Link::new(client, UnixStream::connect(compositor_path())?));
+    let registry = WlDisplay(link.display()).get_registry(&mut link)?;
+    round_trip(&mut link, &tables, &mut told)?;
+    let name =
+        |interface: &str| told.0.get(interface.as_bytes()).copied().ok_or("a global is missing");
+    let compositor: WlCompositor = registry.bind(&mut link, name(WlCompositor::NAME)?, 1)?;
+    let shm: WlShm = registry.bind(&mut link, name(WlShm::NAME)?, 1)?;
+    let base: XdgWmBase = registry.bind(&mut link, name(XdgWmBase::NAME)?, 1)?;
+
+    let surface = compositor.create_surface(&mut link)?;
+    let xdg_surface = base.get_xdg_surface(&mut link, surface)?;
+    xdg_surface.get_toplevel(&mut link)?.set_title(&mut link, "waywire")?;
+    surface.commit(&mut link)?;
+    while told.1.is_none() {
+        round_trip(&mut link, &tables, &mut told)?;
+    }
+    xdg_surface.ack_configure(&mut link, told.1.unwrap_or_default())?;
+
+    let mut memory = socket::memory()?;
+    memory.write_all(&PIXEL.repeat((SIDE * SIDE) as usize))?;
+    let token = link.token(memory);
+    let pool = shm.create_pool(&mut link, token, SIDE * SIDE * 4)?;
+    let buffer = pool.create_buffer(&mut link, 0, SIDE, SIDE, SIDE * 4, Format::XRGB8888)?;
+    surface.attach(&mut link, Some(buffer), 0, 0)?;
+    surface.damage(&mut link, 0, 0, SIDE, SIDE)?;
+    surface.commit(&mut link)?;
+    round_trip(&mut link, &tables, &mut told)
 }

@@ -2,7 +2,7 @@
 
 use crate::amounts::{Amounts, Sizes};
 use crate::args::Arg;
-use crate::error::{NewError, NextError, SendError};
+use crate::error::{Failed, NewError, NextError, SendError};
 use crate::report::Incoming;
 use crate::sys;
 use crate::tables::{Interface, Object, Tables};
@@ -10,7 +10,7 @@ use crate::tables::{Interface, Object, Tables};
 /// The client's end of a connection: its objects, its inbox and outbox, the globals that it was told.
 #[derive(Debug)]
 pub struct Client {
-    end: sys::Client,
+    pub(crate) end: sys::Client,
     report: Box<sys::Report>,
 }
 
@@ -38,6 +38,31 @@ impl Client {
     /// and that [`Incoming::Deleted`] has not ended yet.
     pub fn object_count(&self) -> usize {
         self.end.object_count()
+    }
+
+    /// Sets a number of the caller's own for an object that is live, such as a place in a list of its; 0 is none.
+    /// Each message to the object has it ([`Message::user`](crate::Message::user)).
+    pub fn set_user(&mut self, object: Object, user: usize) -> Result<(), SendError> {
+        self.end.set_user(object, user)
+    }
+
+    /// The number that was set for an object, also once it has ended, as long as none was set for a later object
+    /// with its id; else 0.
+    pub fn user(&self, object: Object) -> usize {
+        self.end.user(object)
+    }
+
+    /// The objects that [`object_count`](Client::object_count) counts, by their ids.
+    pub fn objects(&self) -> impl Iterator<Item = Object> + '_ {
+        let first = self.end.object_after(0);
+        std::iter::successors(first, |last| self.end.object_after(last.id()))
+    }
+
+    /// Whether the client has failed. It fails for good where [`next`](Client::next) reads a message
+    /// at fault or wl_display.error, and by [`take_waiting_tokens`](Client::take_waiting_tokens). What
+    /// waits in its outbox can still be taken.
+    pub fn has_failed(&self) -> bool {
+        self.end.has_failed()
     }
 
     /// The free bytes and tokens of the inbox; zeros at a failed client.
@@ -77,9 +102,9 @@ impl Client {
     }
 
     /// Moves what came into the inbox: as many tokens as fit, and if these are all, as many bytes as
-    /// fit. Feed the rest again later. A failed client takes nothing.
+    /// fit. Feed the rest again later. A client that has failed takes nothing, which is an error.
     #[inline]
-    pub fn feed(&mut self, bytes: &[u8], tokens: &[u32]) -> Amounts {
+    pub fn feed(&mut self, bytes: &[u8], tokens: &[u32]) -> Result<Amounts, Failed> {
         self.end.feed(bytes, tokens)
     }
 

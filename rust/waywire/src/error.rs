@@ -28,7 +28,7 @@ pub enum TablesError {
     BadTable {
         /// The first such line, counted from 1.
         line: usize,
-        /// The least rule that it breaks: 1 to 9 for V1 to V9.
+        /// The least rule that it breaks: 1 to 9 for V1 to V9, 11 for V11.
         rule: u32,
     },
     /// Out of memory.
@@ -106,6 +106,10 @@ pub enum NextError {
 /// Out of memory. Nothing has changed.
 #[derive(Clone, Copy, Debug, PartialEq, Eq)]
 pub struct NoMemory;
+
+/// The end has failed, and takes nothing in.
+#[derive(Clone, Copy, Debug, PartialEq, Eq)]
+pub struct Failed;
 
 /// What is wrong with a message that came.
 #[derive(Clone, Copy, Debug, PartialEq, Eq)]
@@ -214,6 +218,12 @@ impl Status for NoMemory {
     }
 }
 
+impl Status for Failed {
+    fn status(&self) -> u32 {
+        sys::FAILED
+    }
+}
+
 impl Status for FaultKind {
     fn status(&self) -> u32 {
         match self {
@@ -280,6 +290,12 @@ impl fmt::Display for NoMemory {
     }
 }
 
+impl fmt::Display for Failed {
+    fn fmt(&self, f: &mut fmt::Formatter<'_>) -> fmt::Result {
+        f.write_str(sys::text_of(self.status()))
+    }
+}
+
 impl fmt::Display for Fault {
     fn fmt(&self, f: &mut fmt::Formatter<'_>) -> fmt::Result {
         write!(f, "message at byte {}: {}", self.offset, sys::text_of(self.kind.status()))?;
@@ -301,3 +317,4 @@ impl Error for SendError {}
 impl Error for GlobalError {}
 impl Error for NextError {}
 impl Error for NoMemory {}
+impl Error for Failed {}

@@ -34,13 +34,13 @@
 //!
 //! let (mut bytes, mut tokens) = ([0; 4096], [0; 28]);
 //! let taken = client.take(&mut bytes, &mut tokens);
-//! server.feed(&bytes[..taken.bytes], &tokens[..taken.tokens]);
+//! server.feed(&bytes[..taken.bytes], &tokens[..taken.tokens])?;
 //! let asked = server.next()?.expect("a whole request came");
 //! assert_eq!(asked.opcode(), request::wl_display::SYNC);
 //!
 //! server.send(callback, event::wl_callback::DONE, &[Arg::Uint(7)])?;
 //! let taken = server.take(&mut bytes, &mut tokens);
-//! client.feed(&bytes[..taken.bytes], &tokens[..taken.tokens]);
+//! client.feed(&bytes[..taken.bytes], &tokens[..taken.tokens])?;
 //! match client.next()? {
 //!     Some(Incoming::Event(done)) => assert_eq!(done.target(), callback),
 //!     other => panic!("{other:?}"),
@@ -48,6 +48,62 @@
 //! # Ok(())
 //! # }
 //! ```
+//!
+//! # Typed calls
+//!
+//! [`wayland`] has a type for the objects of each interface of the core, with a method for each of its
+//! messages; `stubs-from-xml --rust` makes such modules for other protocols. What comes is dispatched to a
+//! handler, the [`Events`](wayland::wl_callback::Events) of an interface at a client and the
+//! [`Requests`](wayland::wl_display::Requests) at a server.
+//!
+//! ```
+//! use waywire::wayland::wl_callback::{self, WlCallback};
+//! use waywire::wayland::wl_display::{self, WlDisplay};
+//! use waywire::{Client, Incoming, Server, Sizes, Tables};
+//!
+//! /// Answers each sync.
+//! struct Answering<'a>(&'a mut Server);
+//!
+//! impl wl_display::Requests for Answering<'_> {
+//!     fn sync(&mut self, _display: WlDisplay, callback: WlCallback) {
+//!         callback.send_done(self.0, 7).expect("there is room");
+//!     }
+//! }
+//!
+//! /// What the last callback said.
+//! struct Told(u32);
+//!
+//! impl wl_callback::Events for Told {
+//!     fn done(&mut self, _callback: WlCallback, data: u32) {
+//!         self.0 = data;
+//!     }
+//! }
+//!
+//! # fn main() -> Result<(), Box<dyn std::error::Error>> {
+//! let tables = Tables::core()?;
+//! let mut client = Client::new(&tables, &Sizes::default())?;
+//! let mut server = Server::new(&tables, &Sizes::default())?;
+//! # let (mut bytes, mut tokens) = ([0; 4096], [0; 28]);
+//! WlDisplay(client.display()).sync(&mut client)?;
+//! # let taken = client.take(&mut bytes, &mut tokens);
+//! # server.feed(&bytes[..taken.bytes], &tokens[..taken.tokens])?;
+//! // .. the bytes go to the server
+//! let asked = server.next()?.expect("a whole request came").into_owned();
+//! assert!(wl_display::dispatch_request(&mut Answering(&mut server), &tables, &asked));
+//! # let taken = server.take(&mut bytes, &mut tokens);
+//! # client.feed(&bytes[..taken.bytes], &tokens[..taken.tokens])?;
+//! // .. and others to the client
+//! let mut told = Told(0);
+//! if let Some(Incoming::Event(event)) = client.next()? {
+//!     assert!(wl_callback::dispatch_event(&mut told, &tables, &event));
+//! }
+//! assert_eq!(told.0, 7);
+//! # Ok(())
+//! # }
+//! ```
+//!
+//! A handler's method that is not written does nothing. While `next` lends a message its end cannot be
+//! used; [`Message::into_owned`] copies it, as above, so that it can.
 //!
 //! # Loans
 //!
@@ -92,26 +148,39 @@
 
 #![deny(unsafe_code)]
 
+// The generated modules name this package as a user's do.
+extern crate self as waywire;
+
 mod amounts;
 mod args;
 mod client;
+mod decoded;
 mod error;
 pub mod event;
+mod in_place;
 mod inspector;
+mod owned;
 mod report;
 pub mod request;
 mod server;
 #[allow(unsafe_code)]
 mod sys;
 mod tables;
+pub mod typed;
+#[rustfmt::skip]
+pub mod wayland;
 
 pub use amounts::{Amounts, Sizes};
 pub use args::{Arg, Args, Fixed, Value};
 pub use client::Client;
+pub use decoded::{Decoded, Spelled};
 pub use error::{
-    Fault, FaultKind, GlobalError, NewError, NextError, NoMemory, SendError, TablesError,
+    Failed, Fault, FaultKind, GlobalError, NewError, NextError, NoMemory, SendError, TablesError,
 };
+pub use in_place::Waiting;
 pub use inspector::{Inspector, Sender, Verdict};
+pub use owned::{OwnedMessage, OwnedValue};
 pub use report::{Event, Incoming, Message, Named, ProtocolError, Request};
 pub use server::Server;
-pub use tables::{Interface, Object, Tables};
+pub use tables::{ArgKind, Destroys, Interface, Object, Signature, Tables};
+pub use typed::{Handle, Readable};

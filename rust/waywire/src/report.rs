@@ -1,18 +1,15 @@
 //! What ends read.
 
 use crate::args::Args;
+use crate::inspector::Sender;
 use crate::sys;
-use crate::tables::{Interface, Object};
+use crate::tables::{Interface, Object, Tables};
+use std::fmt;
 
 /// A message that was read: its target, its opcode and its arguments. Lent from the end.
-#[derive(Clone, Debug)]
+#[derive(Clone)]
 pub struct Message<'a> {
-    target: Object,
-    interface: Interface,
-    version: u32,
-    opcode: u16,
-    forgotten: bool,
-    args: Args<'a>,
+    report: &'a sys::Report,
 }
 
 /// A message to a client.
@@ -24,51 +21,77 @@ pub type Request<'a> = Message<'a>;
 impl<'a> Message<'a> {
     #[inline]
     pub(crate) fn of(report: &'a sys::Report) -> Message<'a> {
-        Message {
-            target: report.target(),
-            interface: report.interface(),
-            version: report.version(),
-            opcode: report.opcode(),
-            forgotten: report.is_forgotten(),
-            args: Args(report.args()),
-        }
+        Message { report }
     }
 
     /// The object that it is for.
     #[inline]
     pub fn target(&self) -> Object {
-        self.target
+        self.report.target()
     }
 
     /// Its target's interface, also where the message destroyed the target.
     #[inline]
     pub fn interface(&self) -> Interface {
-        self.interface
+        self.report.interface()
     }
 
     /// The version that its target has.
     #[inline]
     pub fn version(&self) -> u32 {
-        self.version
+        self.report.version()
     }
 
     /// Which message of its target's interface it is.
     #[inline]
     pub fn opcode(&self) -> u16 {
-        self.opcode
+        self.report.opcode()
+    }
+
+    /// What was set for its target by [`Client::set_user`](crate::Client::set_user) or
+    /// [`Server::set_user`](crate::Server::set_user), also where the message destroyed the target; else 0.
+    #[inline]
+    pub fn user(&self) -> usize {
+        self.report.user()
     }
 
     /// Whether it is wl_registry.global and the client does not remember the global, which then
     /// cannot be bound: it remembers 1,024 at a time, and none whose interface is not in the tables.
     #[inline]
     pub fn is_forgotten(&self) -> bool {
-        self.forgotten
+        self.report.is_forgotten()
     }
 
     /// Its arguments, in order.
     #[inline]
     pub fn args(&self) -> Args<'a> {
-        self.args.clone()
+        Args(self.report.args())
+    }
+
+    /// The tokens of all its descriptors, in order: the same as are in its arguments.
+    #[inline]
+    pub fn tokens(&self) -> &'a [u32] {
+        self.report.tokens()
+    }
+
+    /// Its line, as `waywire trace` prints it: `<- wl_surface@4.enter(wl_output@7)`. `sender` is who wrote it.
+    ///
+    /// It knows less than a trace: it has `unknown@id` for an object whose interface the signature leaves open,
+    /// and a token for a descriptor.
+    pub fn line(&self, tables: &Tables, sender: Sender) -> String {
+        self.report.line(&tables.0, sender)
+    }
+}
+
+impl fmt::Debug for Message<'_> {
+    fn fmt(&self, f: &mut fmt::Formatter<'_>) -> fmt::Result {
+        f.debug_struct("Message")
+            .field("target", &self.target())
+            .field("interface", &self.interface())
+            .field("version", &self.version())
+            .field("opcode", &self.opcode())
+            .field("args", &self.args())
+            .finish_non_exhaustive()
     }
 }
 
@@ -123,8 +146,8 @@ pub enum Named {
     Dead(Object),
 }
 
-impl std::fmt::Display for ProtocolError<'_> {
-    fn fmt(&self, f: &mut std::fmt::Formatter<'_>) -> std::fmt::Result {
+impl fmt::Display for ProtocolError<'_> {
+    fn fmt(&self, f: &mut fmt::Formatter<'_>) -> fmt::Result {
         write!(f, "error {} of object {}: ", self.code, self.id)?;
         f.write_str(&String::from_utf8_lossy(self.text))
     }

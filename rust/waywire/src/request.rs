@@ -1,6 +1,6 @@
 //! The opcodes of the core interfaces' requests, which a client writes, by name.
 //!
-//! Made by tools/core-files.
+//! Made by tools/dev/core-files.
 
 #![allow(missing_docs)]
 

@@ -2,7 +2,7 @@
 
 use crate::amounts::{Amounts, Sizes};
 use crate::args::Arg;
-use crate::error::{GlobalError, NewError, NextError, SendError};
+use crate::error::{Failed, GlobalError, NewError, NextError, SendError};
 use crate::report::{Message, Request};
 use crate::sys;
 use crate::tables::{Interface, Object, Tables};
@@ -10,7 +10,7 @@ use crate::tables::{Interface, Object, Tables};
 /// The server's end of one connection: its objects, its inbox and outbox, the globals it advertises.
 #[derive(Debug)]
 pub struct Server {
-    end: sys::Server,
+    pub(crate) end: sys::Server,
     report: Box<sys::Report>,
 }
 
@@ -37,6 +37,32 @@ impl Server {
     /// How many objects the server has, wl_display counted.
     pub fn object_count(&self) -> usize {
         self.end.object_count()
+    }
+
+    /// Sets a number of the caller's own for an object that is live, such as a place in a list of its; 0 is none.
+    /// Each message to the object has it ([`Message::user`](crate::Message::user)).
+    pub fn set_user(&mut self, object: Object, user: usize) -> Result<(), SendError> {
+        self.end.set_user(object, user)
+    }
+
+    /// The number that was set for an object, also once it has ended, as long as none was set for a later object
+    /// with its id; else 0.
+    pub fn user(&self, object: Object) -> usize {
+        self.end.user(object)
+    }
+
+    /// The objects that [`object_count`](Server::object_count) counts, by their ids.
+    pub fn objects(&self) -> impl Iterator<Item = Object> + '_ {
+        let first = self.end.object_after(0);
+        std::iter::successors(first, |last| self.end.object_after(last.id()))
+    }
+
+    /// Whether the server has failed. It fails for good where [`next`](Server::next) reads a message
+    /// at fault, and by [`post_error`](Server::post_error) and
+    /// [`take_waiting_tokens`](Server::take_waiting_tokens). What waits in its outbox can still be
+    /// taken, its wl_display.error last.
+    pub fn has_failed(&self) -> bool {
+        self.end.has_failed()
     }
 
     /// The free bytes and tokens of the inbox; zeros at a failed server.
@@ -87,7 +113,7 @@ impl Server {
 
     /// Moves what came into the inbox, as [`Client::feed`](crate::Client::feed) does.
     #[inline]
-    pub fn feed(&mut self, bytes: &[u8], tokens: &[u32]) -> Amounts {
+    pub fn feed(&mut self, bytes: &[u8], tokens: &[u32]) -> Result<Amounts, Failed> {
         self.end.feed(bytes, tokens)
     }
 

@@ -1,4 +1,4 @@
-//! The calls of waywire.h, and what makes them safe. This module, with the one below it, is
+//! The calls of waywire.h, and what makes them safe. This module, with those below it, is
 //! the only one with `unsafe` in it.
 //!
 //! The declarations are those of the header: a test compares sizes, offsets and numbers with what a
@@ -13,18 +13,25 @@
 
 use crate::amounts::{Amounts, Sizes};
 use crate::args::Arg;
-use crate::error::{Fault, FaultKind, GlobalError, NewError, NextError, SendError, TablesError};
+use crate::error::{Failed, Fault, FaultKind, GlobalError, NewError, NextError, SendError};
+use crate::inspector::Sender;
 use crate::report::Named;
 use crate::tables::{Interface, Object};
 use std::ffi::{c_char, c_void, CStr, CString};
 use std::mem::MaybeUninit;
 use std::ptr::{self, NonNull};
 use std::slice;
-use std::sync::Arc;
 
+mod decoded;
+mod in_place;
 mod inspector;
+mod tables;
 
+pub use decoded::Decoded;
+pub use in_place::Tokens;
 pub use inspector::Inspector;
+use tables::RawTables;
+pub use tables::Tables;
 
 macro_rules! numbers {
     ($($name:ident = $number:expr, $header:literal;)*) => {
@@ -78,6 +85,10 @@ numbers! {
     FD = 10, "WAYWIRE_FD";
     DEAD_OBJECT = 11, "WAYWIRE_DEAD_OBJECT";
     BOUND = 12, "WAYWIRE_BOUND";
+    NEW_BY_SERVER = 13, "WAYWIRE_NEW_BY_SERVER";
+    ANY_INTERFACE = 65_535, "WAYWIRE_ANY_INTERFACE";
+    DESTROYS_TARGET = 1, "WAYWIRE_DESTROYS_TARGET";
+    DESTROYS_ARG = 2, "WAYWIRE_DESTROYS_ARG";
     MESSAGE = 1, "WAYWIRE_MESSAGE";
     DISCARDED = 2, "WAYWIRE_DISCARDED";
     DELETED = 3, "WAYWIRE_DELETED";
@@ -90,6 +101,16 @@ numbers! {
 }
 
 const OK: u32 = 0;
+
+impl Sender {
+    /// `waywire_sender`.
+    fn number(self) -> u32 {
+        match self {
+            Sender::Client => FROM_CLIENT,
+            Sender::Server => FROM_SERVER,
+        }
+    }
+}
 
 /// The kinds of arguments of a report.
 pub enum Kind {
@@ -168,8 +189,7 @@ pub struct Report {
     interface: u16,
     forgotten: bool,
     version: u32,
-    /// For C alone.
-    #[allow(dead_code)]
+    /// A number that the caller has set, and never a pointer that is followed.
     user: *mut c_void,
     args: [RawArg; MAX_ARGS as usize],
 }
@@ -243,6 +263,27 @@ impl Report {
     }
 
     #[inline]
+    pub fn user(&self) -> usize {
+        self.user as usize
+    }
+
+    /// The line of the report, as a trace has it.
+    pub fn line(&self, tables: &Tables, sender: Sender) -> String {
+        // Safety: the tables are the library's, the report is one that `next` of an end wrote, which
+        // has not been called since, and no line is written.
+        let length =
+            unsafe { waywire_report_line(tables.at(), sender.number(), self, ptr::null_mut(), 0) };
+        let mut line = vec![0_u8; length + 1];
+        // Safety: as above, and the line has room for so many bytes.
+        unsafe {
+            let room = line.len();
+            waywire_report_line(tables.at(), sender.number(), self, line.as_mut_ptr().cast(), room)
+        };
+        line.pop();
+        String::from_utf8_lossy(&line).into_owned()
+    }
+
+    #[inline]
     pub fn target(&self) -> Object {
         self.target
     }
@@ -281,19 +322,7 @@ impl Report {
     }
 
     fn fault(&self, status: u32) -> NextError {
-        let place = self.place;
-        let kind = match status {
-            FAULT_BAD_SIZE => FaultKind::BadSize,
-            FAULT_UNKNOWN_OBJECT => FaultKind::UnknownObject,
-            FAULT_UNKNOWN_MESSAGE => FaultKind::UnknownMessage,
-            FAULT_BAD_ARGUMENT => FaultKind::BadArgument { place, spelling: self.spelling },
-            FAULT_BAD_OBJECT => FaultKind::BadObject { place },
-            FAULT_BAD_NEW_ID => FaultKind::BadNewId { place },
-            FAULT_TRAILING_BYTES => FaultKind::TrailingBytes,
-            FAULT_MISSING_DESCRIPTOR => FaultKind::MissingDescriptor,
-            FAULT_BAD_BIND => FaultKind::BadBind,
-            _ => FaultKind::TooManyObjects,
-        };
+        let kind = fault_kind(status, self.place, self.spelling);
         NextError::Fault(Fault { kind, offset: self.offset })
     }
 
@@ -306,6 +335,21 @@ impl Report {
             FAULT_BAD_SIZE..=FAULT_TOO_MANY_OBJECTS => Err(self.fault(status)),
             _ => Err(NextError::Failed),
         }
+    }
+}
+
+fn fault_kind(status: u32, place: usize, spelling: u32) -> FaultKind {
+    match status {
+        FAULT_BAD_SIZE => FaultKind::BadSize,
+        FAULT_UNKNOWN_OBJECT => FaultKind::UnknownObject,
+        FAULT_UNKNOWN_MESSAGE => FaultKind::UnknownMessage,
+        FAULT_BAD_ARGUMENT => FaultKind::BadArgument { place, spelling },
+        FAULT_BAD_OBJECT => FaultKind::BadObject { place },
+        FAULT_BAD_NEW_ID => FaultKind::BadNewId { place },
+        FAULT_TRAILING_BYTES => FaultKind::TrailingBytes,
+        FAULT_MISSING_DESCRIPTOR => FaultKind::MissingDescriptor,
+        FAULT_BAD_BIND => FaultKind::BadBind,
+        _ => FaultKind::TooManyObjects,
     }
 }
 
@@ -345,6 +389,8 @@ impl<'a> ArgOf<'a> {
             FD => Kind::Fd,
             DEAD_OBJECT => Kind::Dead,
             BOUND => Kind::Bound,
+            // Of a message that was taken apart.
+            NEW_BY_SERVER => Kind::NewId,
             // No report has another kind.
             other => unreachable!("an argument of kind {other}"),
         }
@@ -368,13 +414,13 @@ impl<'a> ArgOf<'a> {
     }
 }
 
-type RawTables = c_void;
 type RawEnd = c_void;
 
 macro_rules! end_calls {
-    ($new:ident $free:ident $display:ident $live:ident $object_count:ident $in_room:ident
-     $is_drained:ident $feed:ident $goes:ident $take:ident $take_waiting_tokens:ident $send:ident
-     $next:ident) => {
+    ($new:ident $free:ident $display:ident $live:ident $set_user:ident $user:ident
+     $object_count:ident $object_after:ident $has_failed:ident
+     $in_room:ident $is_drained:ident $feed:ident $goes:ident $take:ident
+     $take_waiting_tokens:ident $send:ident $next:ident) => {
         extern "C" {
             fn $new(tables: *const RawTables, sizes: *const Sizes, made: *mut *mut RawEnd) -> u32;
             fn $free(end: *mut RawEnd);
@@ -385,7 +431,11 @@ macro_rules! end_calls {
                 interface: *mut u16,
                 version: *mut u32,
             ) -> u32;
+            fn $set_user(end: *mut RawEnd, object: Object, user: *mut c_void) -> u32;
+            fn $user(end: *const RawEnd, object: Object) -> *mut c_void;
             fn $object_count(end: *const RawEnd, count: *mut usize) -> u32;
+            fn $object_after(end: *const RawEnd, id: u32, object: *mut Object) -> u32;
+            fn $has_failed(end: *const RawEnd, failed: *mut bool) -> u32;
             fn $in_room(end: *const RawEnd, room: *mut Amounts) -> u32;
             fn $is_drained(end: *const RawEnd, drained: *mut bool) -> u32;
             fn $feed(
@@ -427,39 +477,26 @@ macro_rules! end_calls {
 }
 
 end_calls!(waywire_client_new waywire_client_free waywire_client_display waywire_client_live
-    waywire_client_object_count waywire_client_in_room waywire_client_is_drained waywire_client_feed
-    waywire_client_goes waywire_client_take waywire_client_take_waiting_tokens waywire_client_send
-    waywire_client_next);
+    waywire_client_set_user waywire_client_user waywire_client_object_count
+    waywire_client_object_after waywire_client_has_failed waywire_client_in_room
+    waywire_client_is_drained waywire_client_feed waywire_client_goes waywire_client_take
+    waywire_client_take_waiting_tokens waywire_client_send waywire_client_next);
 end_calls!(waywire_server_new waywire_server_free waywire_server_display waywire_server_live
-    waywire_server_object_count waywire_server_in_room waywire_server_is_drained waywire_server_feed
-    waywire_server_goes waywire_server_take waywire_server_take_waiting_tokens waywire_server_send
-    waywire_server_next);
+    waywire_server_set_user waywire_server_user waywire_server_object_count
+    waywire_server_object_after waywire_server_has_failed waywire_server_in_room
+    waywire_server_is_drained waywire_server_feed waywire_server_goes waywire_server_take
+    waywire_server_take_waiting_tokens waywire_server_send waywire_server_next);
 
 extern "C" {
     fn waywire_strerror(status: u32) -> *const c_char;
     fn waywire_strspelling(spelling: u32) -> *const c_char;
-    fn waywire_tables_core(tables: *mut *mut RawTables) -> u32;
-    fn waywire_tables_free(tables: *mut RawTables);
-    fn waywire_tables_read(
+    fn waywire_report_line(
         tables: *const RawTables,
-        text: *const c_void,
-        length: usize,
-        more: *mut *mut RawTables,
-        line: *mut usize,
-        rule: *mut u32,
-    ) -> u32;
-    fn waywire_tables_interface(
-        tables: *const RawTables,
-        name: *const c_char,
-        interface: *mut u16,
-    ) -> u32;
-    fn waywire_tables_name(
-        tables: *const RawTables,
-        interface: u16,
-        name: *mut *const c_char,
-        length: *mut usize,
-    ) -> u32;
-    fn waywire_tables_version(tables: *const RawTables, interface: u16, version: *mut u32) -> u32;
+        sender: u32,
+        report: *const Report,
+        line: *mut c_char,
+        room: usize,
+    ) -> usize;
     fn waywire_client_bind(
         client: *mut RawEnd,
         registry: Object,
@@ -503,91 +540,6 @@ pub fn spelling_of(spelling: u32) -> &'static str {
     static_text(unsafe { waywire_strspelling(spelling) })
 }
 
-/// Tables as the library has them, freed when they are dropped. Ends keep what they need of them.
-#[derive(Debug)]
-struct OwnTables(NonNull<RawTables>);
-
-impl Drop for OwnTables {
-    fn drop(&mut self) {
-        // Safety: the tables are the library's, and freed here alone.
-        unsafe { waywire_tables_free(self.0.as_ptr()) }
-    }
-}
-
-// Safety: the header says so: any threads may use tables at once, and any may free them.
-unsafe impl Send for OwnTables {}
-unsafe impl Sync for OwnTables {}
-
-/// Tables, which go with the last of their clones.
-#[derive(Clone, Debug)]
-pub struct Tables(Arc<OwnTables>);
-
-impl Tables {
-    /// Tables that the library made.
-    fn owned(made: NonNull<RawTables>) -> Tables {
-        Tables(Arc::new(OwnTables(made)))
-    }
-
-    fn at(&self) -> *mut RawTables {
-        self.0 .0.as_ptr()
-    }
-
-    pub fn core() -> Result<Tables, NewError> {
-        let mut made = ptr::null_mut();
-        // Safety: `made` can be written.
-        let _status = unsafe { waywire_tables_core(&mut made) };
-        NonNull::new(made).map(Tables::owned).ok_or(NewError::NoMemory)
-    }
-
-    pub fn read(&self, text: &[u8]) -> Result<Tables, TablesError> {
-        let (mut more, mut line, mut rule) = (ptr::null_mut(), 0, 0);
-        // Safety: the tables are the library's, and all else lasts longer than the call.
-        let status = unsafe {
-            waywire_tables_read(
-                self.at(),
-                text.as_ptr().cast(),
-                text.len(),
-                &mut more,
-                &mut line,
-                &mut rule,
-            )
-        };
-        match (status, NonNull::new(more)) {
-            (OK, Some(more)) => Ok(Tables::owned(more)),
-            (BAD_LINE, _) => Err(TablesError::BadLine { line }),
-            (BAD_TABLE, _) => Err(TablesError::BadTable { line, rule }),
-            _ => Err(TablesError::NoMemory),
-        }
-    }
-
-    pub fn interface(&self, name: &str) -> Option<u16> {
-        let name = CString::new(name).ok()?;
-        let mut interface = 0;
-        // Safety: the tables are the library's, and all else lasts longer than the call.
-        let status = unsafe { waywire_tables_interface(self.at(), name.as_ptr(), &mut interface) };
-        (status == OK).then_some(interface)
-    }
-
-    pub fn name(&self, interface: u16) -> Option<&str> {
-        let (mut name, mut length) = (ptr::null(), 0);
-        // Safety: the tables are the library's, and all else lasts longer than the call.
-        let status = unsafe { waywire_tables_name(self.at(), interface, &mut name, &mut length) };
-        if status != OK {
-            return None;
-        }
-        // Safety: names last as long as the tables, from which this one is borrowed.
-        let bytes = unsafe { lent::<u8>(name.cast(), length) };
-        std::str::from_utf8(bytes).ok()
-    }
-
-    pub fn version(&self, interface: u16) -> Option<u32> {
-        let mut version = 0;
-        // Safety: the tables are the library's, and `version` can be written.
-        let status = unsafe { waywire_tables_version(self.at(), interface, &mut version) };
-        (status == OK).then_some(version)
-    }
-}
-
 /// Why a message was not written.
 fn send_error(status: u32, place: usize) -> SendError {
     match status {
@@ -625,8 +577,8 @@ fn global_error(status: u32) -> GlobalError {
 
 macro_rules! end {
     ($(#[$doc:meta])* $name:ident: $new:ident $free:ident $display:ident $live:ident
-     $object_count:ident $in_room:ident $is_drained:ident $feed:ident $goes:ident $take:ident
-     $take_waiting_tokens:ident $send:ident $next:ident) => {
+     $set_user:ident $user:ident $object_count:ident $object_after:ident $has_failed:ident
+     $in_room:ident $is_drained:ident $feed:ident $goes:ident $take:ident $take_waiting_tokens:ident $send:ident $next:ident) => {
         $(#[$doc])*
         #[derive(Debug)]
         pub struct $name {
@@ -674,10 +626,30 @@ macro_rules! end {
                 (status == OK).then_some((Interface(interface), version))
             }
 
+            pub fn set_user(&mut self, object: Object, user: usize) -> Result<(), SendError> {
+                sent(unsafe { $set_user(self.at.as_ptr(), object, user as *mut c_void) })
+            }
+
+            pub fn user(&self, object: Object) -> usize {
+                (unsafe { $user(self.at.as_ptr(), object) }) as usize
+            }
+
+            pub fn object_after(&self, id: u32) -> Option<Object> {
+                let mut object = Object::NONE;
+                let status = unsafe { $object_after(self.at.as_ptr(), id, &mut object) };
+                (status == OK).then_some(object)
+            }
+
             pub fn object_count(&self) -> usize {
                 let mut count = 0;
                 unsafe { $object_count(self.at.as_ptr(), &mut count) };
                 count
+            }
+
+            pub fn has_failed(&self) -> bool {
+                let mut failed = false;
+                unsafe { $has_failed(self.at.as_ptr(), &mut failed) };
+                failed
             }
 
             pub fn in_room(&self) -> Amounts {
@@ -693,13 +665,16 @@ macro_rules! end {
             }
 
             #[inline]
-            pub fn feed(&mut self, bytes: &[u8], tokens: &[u32]) -> Amounts {
+            pub fn feed(&mut self, bytes: &[u8], tokens: &[u32]) -> Result<Amounts, Failed> {
                 let mut fed = Amounts::default();
-                unsafe {
+                let status = unsafe {
                     $feed(self.at.as_ptr(), bytes.as_ptr().cast(), bytes.len(), tokens.as_ptr(),
                         tokens.len(), &mut fed)
                 };
-                fed
+                match status {
+                    OK => Ok(fed),
+                    _ => Err(Failed),
+                }
             }
 
             #[inline]
@@ -766,16 +741,18 @@ macro_rules! end {
 end!(
     /// A client's end, freed when it is dropped.
     Client: waywire_client_new waywire_client_free waywire_client_display waywire_client_live
-    waywire_client_object_count waywire_client_in_room waywire_client_is_drained waywire_client_feed
-    waywire_client_goes waywire_client_take waywire_client_take_waiting_tokens waywire_client_send
-    waywire_client_next
+    waywire_client_set_user waywire_client_user waywire_client_object_count
+    waywire_client_object_after waywire_client_has_failed waywire_client_in_room
+    waywire_client_is_drained waywire_client_feed waywire_client_goes waywire_client_take
+    waywire_client_take_waiting_tokens waywire_client_send waywire_client_next
 );
 end!(
     /// A server's end, freed when it is dropped.
     Server: waywire_server_new waywire_server_free waywire_server_display waywire_server_live
-    waywire_server_object_count waywire_server_in_room waywire_server_is_drained waywire_server_feed
-    waywire_server_goes waywire_server_take waywire_server_take_waiting_tokens waywire_server_send
-    waywire_server_next
+    waywire_server_set_user waywire_server_user waywire_server_object_count
+    waywire_server_object_after waywire_server_has_failed waywire_server_in_room
+    waywire_server_is_drained waywire_server_feed waywire_server_goes waywire_server_take
+    waywire_server_take_waiting_tokens waywire_server_send waywire_server_next
 );
 
 // Safety, for each call of these two: as for the calls that both ends have.
@@ -869,6 +846,7 @@ mod tests {
         text.lines().map(|it| it.parse().unwrap()).collect()
     }
 
+    /// The sizes and offsets of types, each behind the words that C has for it.
     macro_rules! layout {
         ($($type:ty, $header:literal: $($field:ident)*;)*) => {
             vec![$(
@@ -880,6 +858,7 @@ mod tests {
             )*]
         };
     }
+    pub(super) use layout;
 
     #[test]
     fn declarations_are_those_of_the_header() {
@@ -890,6 +869,9 @@ mod tests {
             Report, "waywire_report": kind opcode target arg_count tokens token_count id code named
                 spelling text text_length place offset interface forgotten version user args;
         };
+        wanted.extend(decoded::tests::layout());
+        wanted.extend(tables::tests::layout());
+        wanted.extend(layout! { in_place::RawPart, "waywire_part": bytes length; });
         wanted.push(("sizeof(waywire_object)".into(), size_of::<Object>()));
         wanted.push(("sizeof(waywire_status)".into(), size_of::<u32>()));
         wanted.push(("sizeof(waywire_sender)".into(), size_of::<u32>()));

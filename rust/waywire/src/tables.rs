@@ -1,6 +1,7 @@
 //! The interfaces that ends know, and the objects that are of them.
 
 use crate::error::{NewError, TablesError};
+use crate::inspector::Sender;
 use crate::sys;
 use std::fmt;
 
@@ -84,4 +85,78 @@ impl Tables {
     pub fn version(&self, interface: Interface) -> Option<u32> {
         self.0.version(interface.0)
     }
+
+    /// The message of an interface with this opcode: a request or an event, depending on the sender. `None`
+    /// where there is none.
+    ///
+    /// ```
+    /// # use waywire::{request, ArgKind, Destroys, Sender, Tables};
+    /// let tables = Tables::core().unwrap();
+    /// let surface = tables.interface("wl_surface").unwrap();
+    /// let opcode = request::wl_surface::FRAME;
+    /// let frame = tables.message(surface, Sender::Client, opcode).unwrap();
+    /// assert_eq!((frame.name, frame.since, frame.destroys), ("frame", 1, Destroys::Nothing));
+    /// assert_eq!(frame.kinds, [ArgKind::NewId { interface: tables.interface("wl_callback") }]);
+    /// ```
+    pub fn message(
+        &self,
+        interface: Interface,
+        sender: Sender,
+        opcode: u16,
+    ) -> Option<Signature<'_>> {
+        self.0.message(interface.0, sender, opcode)
+    }
+}
+
+/// What tables say of a message.
+#[derive(Clone, Debug, PartialEq, Eq)]
+pub struct Signature<'a> {
+    /// Its name.
+    pub name: &'a str,
+    /// The first version of its interface that has it.
+    pub since: u32,
+    /// What it destroys.
+    pub destroys: Destroys,
+    /// The kinds of its arguments, in order.
+    pub kinds: Vec<ArgKind>,
+}
+
+/// What a message destroys.
+#[derive(Clone, Copy, Debug, PartialEq, Eq)]
+pub enum Destroys {
+    /// No object.
+    Nothing,
+    /// Its target.
+    Target,
+    /// The object that an argument names.
+    Arg {
+        /// The argument's place, counted from 0.
+        place: usize,
+    },
+}
+
+/// The kind of an argument. An interface that is `None` stands for any.
+#[derive(Clone, Copy, Debug, PartialEq, Eq)]
+#[allow(missing_docs)]
+pub enum ArgKind {
+    Int,
+    Uint,
+    Fixed,
+    Str {
+        nullable: bool,
+    },
+    Object {
+        nullable: bool,
+        interface: Option<Interface>,
+    },
+    /// A new object. Only that of wl_registry.bind has no interface here: it stands in the bytes.
+    NewId {
+        interface: Option<Interface>,
+    },
+    /// A new object that the server makes.
+    NewByServer {
+        interface: Option<Interface>,
+    },
+    Array,
+    Fd,
 }

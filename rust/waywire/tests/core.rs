@@ -6,8 +6,8 @@ mod common;
 use common::{core_messages, repository, Core};
 use std::fs;
 use waywire::{
-    event, request, Amounts, Arg, Client, Fixed, Incoming, Object, SendError, Server, Sizes,
-    Tables, Value,
+    event, request, Amounts, Arg, ArgKind, Client, Decoded, Destroys, Failed, FaultKind, Fixed,
+    Incoming, Object, SendError, Sender, Server, Sizes, Spelled, Tables, Value,
 };
 
 /// A client and a server with nothing between.
@@ -18,8 +18,8 @@ struct Pair {
     registry: Object,
 }
 
-fn must_all(took: Amounts, wanted: Amounts) {
-    assert_eq!(took, wanted);
+fn must_all(took: Result<Amounts, Failed>, wanted: Amounts) {
+    assert_eq!(took, Ok(wanted));
 }
 
 impl Pair {
@@ -226,8 +226,75 @@ fn refusals_name_their_place() {
     assert_eq!(refused, Err(SendError::WrongArgs { place: 0 }));
 
     let mut pair = Pair::new(&tables);
-    pair.server.feed(&[9, 0, 0, 0, 0, 0, 8, 0], &[]);
+    pair.server.feed(&[9, 0, 0, 0, 0, 0, 8, 0], &[]).unwrap();
+    assert!(!pair.server.has_failed());
     let refused = pair.server.next().unwrap_err();
     assert_eq!(refused.to_string(), "message at byte 12: unknown object");
+    assert!(pair.server.has_failed() && !pair.client.has_failed());
     assert_eq!(pair.server.next().unwrap_err().to_string(), "this end has failed");
+    assert_eq!(pair.server.feed(&[], &[]), Err(Failed));
+    assert_eq!(Failed.to_string(), "this end has failed");
+}
+
+/// What a caller hangs on objects, and going through them.
+#[test]
+fn objects_have_a_number_of_the_callers() {
+    let mut pair = Pair::new(&Tables::core().unwrap());
+    let surface = pair.object("wl_surface");
+    pair.client.set_user(surface, 7).unwrap();
+    pair.server.set_user(surface, 8).unwrap();
+    assert_eq!((pair.client.user(surface), pair.server.user(surface)), (7, 8));
+    assert_eq!(pair.client.user(pair.registry), 0);
+    for objects in [pair.client.objects().collect::<Vec<_>>(), pair.server.objects().collect()] {
+        assert_eq!(objects.len(), pair.client.object_count());
+        assert_eq!(objects[..2], [pair.client.display(), pair.registry]);
+        assert!(objects.contains(&surface));
+    }
+    pair.client.send(surface, request::wl_surface::COMMIT, &[]).unwrap();
+    pair.client.send(surface, request::wl_surface::DESTROY, &[]).unwrap();
+    pair.carry_to_server();
+    let commit = pair.server.next().unwrap().unwrap();
+    assert_eq!(commit.user(), 8);
+    let wanted = format!("-> wl_surface@{}.commit()", surface.id());
+    assert_eq!(commit.line(&pair.tables, Sender::Client), wanted);
+    assert_eq!(pair.server.next().unwrap().unwrap().user(), 8);
+    assert!(!pair.server.objects().any(|it| it == surface));
+    assert!(pair.client.objects().any(|it| it == surface));
+    assert_eq!(pair.client.set_user(surface, 1), Err(SendError::Stale));
+}
+
+/// What tables say of messages, and messages that are taken apart by it.
+#[test]
+fn messages_are_taken_apart() {
+    let tables = Tables::core().unwrap();
+    let interface = |name| tables.interface(name).unwrap();
+    let registry = interface("wl_registry");
+    let bind = tables.message(registry, Sender::Client, request::wl_registry::BIND).unwrap();
+    assert_eq!((bind.name, bind.since, bind.destroys), ("bind", 1, Destroys::Nothing));
+    assert_eq!(bind.kinds, [ArgKind::Uint, ArgKind::NewId { interface: None }]);
+    assert_eq!(tables.message(registry, Sender::Client, 1), None);
+
+    let mut pair = Pair::new(&tables);
+    let shm = pair.object("wl_shm");
+    let new = [Arg::NewId, Arg::Fd(77), Arg::Int(-5)];
+    let pool = pair.client.send(shm, request::wl_shm::CREATE_POOL, &new).unwrap().unwrap();
+    let bytes = pair.carry_to_server();
+    let asked = pair.server.next().unwrap().unwrap();
+    assert_eq!(asked.tokens(), [77]);
+    let create = Decoded::of(&tables, interface("wl_shm"), 1, Sender::Client, &bytes).unwrap();
+    assert_eq!((create.name(), create.fault()), ("create_pool", None));
+    assert_eq!((create.target(), usize::from(create.size())), (shm.id(), bytes.len()));
+    let made = Spelled::NewId {
+        id: pool.id(),
+        interface: tables.interface("wl_shm_pool"),
+        by_server: false,
+    };
+    assert_eq!(create.args().collect::<Vec<_>>(), [made, Spelled::Fd, Spelled::Int(-5)]);
+
+    let short = Decoded::of(&tables, interface("wl_shm"), 1, Sender::Client, &bytes[..7]).unwrap();
+    assert_eq!((short.fault(), short.target()), (Some(FaultKind::BadSize), 0));
+    let cut = [9, 0, 0, 0, 0, 0, 8, 0];
+    let cut = Decoded::of(&tables, registry, 1, Sender::Client, &cut).unwrap();
+    assert_eq!(cut.fault(), Some(FaultKind::BadArgument { place: 0, spelling: 1 }));
+    assert_eq!((cut.name(), cut.args().count()), ("bind", 0));
 }

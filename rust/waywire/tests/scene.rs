@@ -245,7 +245,7 @@ impl Player {
         } else {
             ('<', Sender::Server, self.client.feed(bytes, tokens))
         };
-        assert_eq!(fed, taken);
+        assert_eq!(fed, Ok(taken));
         self.inspector.pass(sender, bytes, tokens.len()).unwrap();
         let count = if tokens.is_empty() { String::new() } else { format!(" +{}", tokens.len()) };
         self.pieces.push(format!("{sign} {}{count}", hex(bytes)));

@@ -26,7 +26,7 @@ impl Pair {
         let new = [Arg::NewId];
         let made = self.client.send(display, request::wl_display::SYNC, &new).unwrap();
         let taken = self.client.take(&mut bytes, &mut []);
-        self.server.feed(&bytes[..taken.bytes], &[]);
+        assert_eq!(self.server.feed(&bytes[..taken.bytes], &[]), Ok(taken));
         let asked = self.server.next().unwrap().unwrap();
         assert_eq!(asked.opcode(), request::wl_display::SYNC);
         assert!(self.server.live(made.unwrap()).is_some());

@@ -3,21 +3,24 @@
 #![allow(dead_code)]
 
 pub mod socket;
+#[rustfmt::skip]
 pub mod xdg_shell;
 
 use std::collections::HashMap;
 use std::io::{Error, ErrorKind};
+use std::ops::{Deref, DerefMut};
 use std::os::fd::{AsRawFd, OwnedFd, RawFd};
 use std::os::unix::net::UnixStream;
 use std::path::PathBuf;
-use waywire::{Amounts, Client, Server};
+use std::time::Duration;
+use waywire::{Amounts, Client, Failed, Server};
 
 pub type Failure = Box<dyn std::error::Error>;
 
 /// What a link asks of its end.
 pub trait End {
     fn take(&mut self, bytes: &mut [u8], tokens: &mut [u32]) -> Amounts;
-    fn feed(&mut self, bytes: &[u8], tokens: &[u32]) -> Amounts;
+    fn feed(&mut self, bytes: &[u8], tokens: &[u32]) -> Result<Amounts, Failed>;
     fn in_room(&self) -> Amounts;
 }
 
@@ -28,7 +31,7 @@ macro_rules! end {
                 <$type>::take(self, bytes, tokens)
             }
 
-            fn feed(&mut self, bytes: &[u8], tokens: &[u32]) -> Amounts {
+            fn feed(&mut self, bytes: &[u8], tokens: &[u32]) -> Result<Amounts, Failed> {
                 <$type>::feed(self, bytes, tokens)
             }
 
@@ -47,6 +50,21 @@ pub struct Link<E> {
     pub end: E,
     socket: UnixStream,
     descriptors: HashMap<RawFd, OwnedFd>,
+}
+
+/// A link is used as its end is.
+impl<E> Deref for Link<E> {
+    type Target = E;
+
+    fn deref(&self) -> &E {
+        &self.end
+    }
+}
+
+impl<E> DerefMut for Link<E> {
+    fn deref_mut(&mut self) -> &mut E {
+        &mut self.end
+    }
 }
 
 impl<E: End> Link<E> {
@@ -100,6 +118,17 @@ impl<E: End> Link<E> {
         }
     }
 
+    /// The same, for so long at most.
+    pub fn wait_at_most(&mut self, time: Duration) -> std::io::Result<Came> {
+        self.socket.set_read_timeout(Some(time))?;
+        match self.wait() {
+            Ok(true) => Ok(Came::Something),
+            Ok(false) => Ok(Came::End),
+            Err(error) if error.kind() == ErrorKind::WouldBlock => Ok(Came::Nothing),
+            Err(error) => Err(error),
+        }
+    }
+
     fn read(&mut self) -> std::io::Result<bool> {
         let room = self.end.in_room();
         if room.bytes == 0 || room.tokens < socket::MOST_DESCRIPTORS {
@@ -110,9 +139,18 @@ impl<E: End> Link<E> {
         let mut came = Vec::new();
         let count = socket::receive(&self.socket, &mut bytes[..most], &mut came)?;
         let tokens: Vec<u32> = came.into_iter().map(|it| self.token(it)).collect();
-        self.end.feed(&bytes[..count], &tokens);
+        self.end.feed(&bytes[..count], &tokens).map_err(Error::other)?;
         Ok(count > 0)
     }
+}
+
+/// What came of waiting.
+#[derive(Clone, Copy, PartialEq, Eq)]
+pub enum Came {
+    Something,
+    Nothing,
+    /// The other end has gone.
+    End,
 }
 
 /// Whether an error says that the other end has closed the connection.

@@ -1,9 +1,9 @@
 //! The calls of an inspector.
 
-use super::{lent, RawTables, Tables, BAD_SIZES, FROM_CLIENT, FROM_SERVER, OK};
+use super::{lent, RawTables, Tables, BAD_SIZES, OK};
 use crate::error::{NewError, NoMemory};
 use crate::inspector::Sender;
-use std::ffi::{c_char, c_int, c_void};
+use std::ffi::{c_char, c_void};
 use std::ptr::{self, NonNull};
 
 type RawInspector = c_void;
@@ -31,7 +31,7 @@ extern "C" {
         inspector: *mut RawInspector,
         line: *mut *const c_char,
         length: *mut usize,
-        broken: *mut c_int,
+        broken: *mut bool,
     ) -> u32;
 }
 
@@ -61,10 +61,7 @@ impl Inspector {
     }
 
     pub fn pass(&mut self, sender: Sender, bytes: &[u8], tokens: usize) -> Result<(), NoMemory> {
-        let from = match sender {
-            Sender::Client => FROM_CLIENT,
-            Sender::Server => FROM_SERVER,
-        };
+        let from = sender.number();
         let (at, bytes, length) = (self.0.as_ptr(), bytes.as_ptr().cast(), bytes.len());
         match unsafe { waywire_inspector_pass(at, from, bytes, length, tokens) } {
             OK => Ok(()),
@@ -82,11 +79,11 @@ impl Inspector {
 
     /// The line of the verdict, and whether a message breaks a rule.
     pub fn verdict(&mut self) -> Result<(&[u8], bool), NoMemory> {
-        let (mut line, mut length, mut broken) = (ptr::null(), 0, 0);
+        let (mut line, mut length, mut broken) = (ptr::null(), 0, false);
         let at = self.0.as_ptr();
         match unsafe { waywire_inspector_verdict(at, &mut line, &mut length, &mut broken) } {
             // Safety: as in `lines`.
-            OK => Ok((unsafe { lent(line.cast(), length) }, broken != 0)),
+            OK => Ok((unsafe { lent(line.cast(), length) }, broken)),
             _ => Err(NoMemory),
         }
     }

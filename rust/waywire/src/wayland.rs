@@ -1,0 +1,4186 @@
+//! Typed calls for the core protocol, wayland.xml without data transfer.
+//!
+//! Made by tools/dev/core-files.
+
+#![allow(dead_code, missing_docs)]
+#![allow(clippy::module_inception, clippy::new_ret_no_self, clippy::too_many_arguments)]
+#![allow(clippy::wrong_self_convention)]
+
+/// The connection itself, object 1.
+pub mod wl_display {
+    /// The name of the interface.
+    pub const NAME: &str = "wl_display";
+
+    /// Its newest version.
+    pub const VERSION: u32 = 1;
+
+    /// The connection itself, object 1.
+    #[derive(Clone, Copy, Debug, PartialEq, Eq, Hash)]
+    pub struct WlDisplay(pub waywire::Object);
+
+    impl waywire::Handle for WlDisplay {
+        const NAME: &'static str = NAME;
+        const VERSION: u32 = VERSION;
+
+        fn of(object: waywire::Object) -> Self {
+            WlDisplay(object)
+        }
+
+        fn object(self) -> waywire::Object {
+            self.0
+        }
+    }
+
+    /// The opcodes of the requests, and the versions that have them.
+    pub mod request {
+        pub const SYNC: u16 = 0;
+        pub const SYNC_SINCE: u32 = 1;
+        pub const GET_REGISTRY: u16 = 1;
+        pub const GET_REGISTRY_SINCE: u32 = 1;
+    }
+
+    /// The opcodes of the events, and the versions that have them.
+    pub mod event {
+        pub const ERROR: u16 = 0;
+        pub const ERROR_SINCE: u32 = 1;
+        pub const DELETE_ID: u16 = 1;
+        pub const DELETE_ID_SINCE: u32 = 1;
+    }
+
+    /// A number that has no name here may come.
+    #[derive(Clone, Copy, Debug, PartialEq, Eq, Hash)]
+    pub struct Error(pub u32);
+
+    impl Error {
+        pub const INVALID_OBJECT: Error = Error(0);
+        pub const INVALID_METHOD: Error = Error(1);
+        pub const NO_MEMORY: Error = Error(2);
+        pub const IMPLEMENTATION: Error = Error(3);
+    }
+
+    impl WlDisplay {
+        /// Asks for an answer once all requests before it are done.
+        pub fn sync(
+            self,
+            client: &mut waywire::Client,
+        ) -> Result<super::wl_callback::WlCallback, waywire::SendError> {
+            waywire::typed::make(client, self.0, request::SYNC, &[waywire::Arg::NewId])
+        }
+
+        /// Makes a registry, which tells the globals.
+        pub fn get_registry(
+            self,
+            client: &mut waywire::Client,
+        ) -> Result<super::wl_registry::WlRegistry, waywire::SendError> {
+            waywire::typed::make(client, self.0, request::GET_REGISTRY, &[waywire::Arg::NewId])
+        }
+    }
+
+    /// What becomes of the requests. A method that is not written does nothing.
+    pub trait Requests {
+        /// Asks for an answer once all requests before it are done.
+        fn sync(&mut self, wl_display: WlDisplay, callback: super::wl_callback::WlCallback) {
+            let _ = (wl_display, callback);
+        }
+
+        /// Makes a registry, which tells the globals.
+        fn get_registry(
+            &mut self,
+            wl_display: WlDisplay,
+            registry: super::wl_registry::WlRegistry,
+        ) {
+            let _ = (wl_display, registry);
+        }
+    }
+
+    /// Calls the method of a request. False where the message is for another interface, or the
+    /// interface has no such request with these arguments: nothing is called then.
+    pub fn dispatch_request(
+        handler: &mut impl Requests,
+        tables: &waywire::Tables,
+        message: &impl waywire::Readable,
+    ) -> bool {
+        waywire::typed::is_for(tables, message, NAME) && request_of(handler, message).is_some()
+    }
+
+    fn request_of(handler: &mut impl Requests, message: &impl waywire::Readable) -> Option<()> {
+        let mut fields = waywire::typed::fields(message);
+        let target = WlDisplay(message.target());
+        match message.opcode() {
+            request::SYNC => handler.sync(
+                target,
+                super::wl_callback::WlCallback(fields.new_object()?),
+            ),
+            request::GET_REGISTRY => handler.get_registry(
+                target,
+                super::wl_registry::WlRegistry(fields.new_object()?),
+            ),
+            _ => return None,
+        }
+        Some(())
+    }
+}
+
+/// Tells the globals of the server, and binds them.
+pub mod wl_registry {
+    /// The name of the interface.
+    pub const NAME: &str = "wl_registry";
+
+    /// Its newest version.
+    pub const VERSION: u32 = 1;
+
+    /// Tells the globals of the server, and binds them.
+    #[derive(Clone, Copy, Debug, PartialEq, Eq, Hash)]
+    pub struct WlRegistry(pub waywire::Object);
+
+    impl waywire::Handle for WlRegistry {
+        const NAME: &'static str = NAME;
+        const VERSION: u32 = VERSION;
+
+        fn of(object: waywire::Object) -> Self {
+            WlRegistry(object)
+        }
+
+        fn object(self) -> waywire::Object {
+            self.0
+        }
+    }
+
+    /// The opcodes of the requests, and the versions that have them.
+    pub mod request {
+        pub const BIND: u16 = 0;
+        pub const BIND_SINCE: u32 = 1;
+    }
+
+    /// The opcodes of the events, and the versions that have them.
+    pub mod event {
+        pub const GLOBAL: u16 = 0;
+        pub const GLOBAL_SINCE: u32 = 1;
+        pub const GLOBAL_REMOVE: u16 = 1;
+        pub const GLOBAL_REMOVE_SINCE: u32 = 1;
+    }
+
+    impl WlRegistry {
+        /// Makes an object of a global.
+        pub fn bind<T: waywire::Handle>(
+            self,
+            client: &mut waywire::Client,
+            name: u32,
+            version: u32,
+        ) -> Result<T, waywire::SendError> {
+            client.bind(self.0, name, T::NAME, version).map(T::of)
+        }
+    }
+
+    /// What becomes of the events. A method that is not written does nothing.
+    pub trait Events {
+        /// A global is there.
+        fn global(&mut self, wl_registry: WlRegistry, name: u32, interface: &[u8], version: u32) {
+            let _ = (wl_registry, name, interface, version);
+        }
+
+        /// A global is gone.
+        fn global_remove(&mut self, wl_registry: WlRegistry, name: u32) {
+            let _ = (wl_registry, name);
+        }
+    }
+
+    /// Calls the method of an event. False where the message is for another interface, or the
+    /// interface has no such event with these arguments: nothing is called then.
+    pub fn dispatch_event(
+        handler: &mut impl Events,
+        tables: &waywire::Tables,
+        message: &impl waywire::Readable,
+    ) -> bool {
+        waywire::typed::is_for(tables, message, NAME) && event_of(handler, message).is_some()
+    }
+
+    fn event_of(handler: &mut impl Events, message: &impl waywire::Readable) -> Option<()> {
+        let mut fields = waywire::typed::fields(message);
+        let target = WlRegistry(message.target());
+        match message.opcode() {
+            event::GLOBAL => handler.global(
+                target,
+                fields.uint()?,
+                fields.string()?,
+                fields.uint()?,
+            ),
+            event::GLOBAL_REMOVE => handler.global_remove(target, fields.uint()?),
+            _ => return None,
+        }
+        Some(())
+    }
+
+    /// What becomes of the requests. A method that is not written does nothing.
+    pub trait Requests {
+        /// Makes an object of a global.
+        fn bind(
+            &mut self,
+            wl_registry: WlRegistry,
+            name: u32,
+            interface: &[u8],
+            version: u32,
+            id: waywire::Object,
+        ) {
+            let _ = (wl_registry, name, interface, version, id);
+        }
+    }
+
+    /// Calls the method of a request. False where the message is for another interface, or the
+    /// interface has no such request with these arguments: nothing is called then.
+    pub fn dispatch_request(
+        handler: &mut impl Requests,
+        tables: &waywire::Tables,
+        message: &impl waywire::Readable,
+    ) -> bool {
+        waywire::typed::is_for(tables, message, NAME) && request_of(handler, message).is_some()
+    }
+
+    fn request_of(handler: &mut impl Requests, message: &impl waywire::Readable) -> Option<()> {
+        let mut fields = waywire::typed::fields(message);
+        let target = WlRegistry(message.target());
+        match message.opcode() {
+            request::BIND => {
+                let name = fields.uint()?;
+                let (interface, version, object) = fields.bound()?;
+                handler.bind(target, name, interface, version, object)
+            }
+            _ => return None,
+        }
+        Some(())
+    }
+}
+
+/// Tells once that something is done.
+pub mod wl_callback {
+    /// The name of the interface.
+    pub const NAME: &str = "wl_callback";
+
+    /// Its newest version.
+    pub const VERSION: u32 = 1;
+
+    /// Tells once that something is done.
+    #[derive(Clone, Copy, Debug, PartialEq, Eq, Hash)]
+    pub struct WlCallback(pub waywire::Object);
+
+    impl waywire::Handle for WlCallback {
+        const NAME: &'static str = NAME;
+        const VERSION: u32 = VERSION;
+
+        fn of(object: waywire::Object) -> Self {
+            WlCallback(object)
+        }
+
+        fn object(self) -> waywire::Object {
+            self.0
+        }
+    }
+
+    /// The opcodes of the events, and the versions that have them.
+    pub mod event {
+        pub const DONE: u16 = 0;
+        pub const DONE_SINCE: u32 = 1;
+    }
+
+    impl WlCallback {
+        /// What was waited for is done; the object ends with it.
+        ///
+        /// It destroys the object.
+        pub fn send_done(
+            self,
+            server: &mut waywire::Server,
+            callback_data: u32,
+        ) -> Result<(), waywire::SendError> {
+            waywire::typed::send_at_server(
+                server,
+                self.0,
+                event::DONE,
+                &[waywire::Arg::Uint(callback_data)],
+            )
+        }
+    }
+
+    /// What becomes of the events. A method that is not written does nothing.
+    pub trait Events {
+        /// What was waited for is done; the object ends with it.
+        ///
+        /// It destroys the object.
+        fn done(&mut self, wl_callback: WlCallback, callback_data: u32) {
+            let _ = (wl_callback, callback_data);
+        }
+    }
+
+    /// Calls the method of an event. False where the message is for another interface, or the
+    /// interface has no such event with these arguments: nothing is called then.
+    pub fn dispatch_event(
+        handler: &mut impl Events,
+        tables: &waywire::Tables,
+        message: &impl waywire::Readable,
+    ) -> bool {
+        waywire::typed::is_for(tables, message, NAME) && event_of(handler, message).is_some()
+    }
+
+    fn event_of(handler: &mut impl Events, message: &impl waywire::Readable) -> Option<()> {
+        let mut fields = waywire::typed::fields(message);
+        let target = WlCallback(message.target());
+        match message.opcode() {
+            event::DONE => handler.done(target, fields.uint()?),
+            _ => return None,
+        }
+        Some(())
+    }
+}
+
+/// Makes surfaces and regions.
+pub mod wl_compositor {
+    /// The name of the interface.
+    pub const NAME: &str = "wl_compositor";
+
+    /// Its newest version.
+    pub const VERSION: u32 = 6;
+
+    /// Makes surfaces and regions.
+    #[derive(Clone, Copy, Debug, PartialEq, Eq, Hash)]
+    pub struct WlCompositor(pub waywire::Object);
+
+    impl waywire::Handle for WlCompositor {
+        const NAME: &'static str = NAME;
+        const VERSION: u32 = VERSION;
+
+        fn of(object: waywire::Object) -> Self {
+            WlCompositor(object)
+        }
+
+        fn object(self) -> waywire::Object {
+            self.0
+        }
+    }
+
+    /// The opcodes of the requests, and the versions that have them.
+    pub mod request {
+        pub const CREATE_SURFACE: u16 = 0;
+        pub const CREATE_SURFACE_SINCE: u32 = 1;
+        pub const CREATE_REGION: u16 = 1;
+        pub const CREATE_REGION_SINCE: u32 = 1;
+    }
+
+    impl WlCompositor {
+        /// Makes a surface.
+        pub fn create_surface(
+            self,
+            client: &mut waywire::Client,
+        ) -> Result<super::wl_surface::WlSurface, waywire::SendError> {
+            waywire::typed::make(client, self.0, request::CREATE_SURFACE, &[waywire::Arg::NewId])
+        }
+
+        /// Makes a region.
+        pub fn create_region(
+            self,
+            client: &mut waywire::Client,
+        ) -> Result<super::wl_region::WlRegion, waywire::SendError> {
+            waywire::typed::make(client, self.0, request::CREATE_REGION, &[waywire::Arg::NewId])
+        }
+    }
+
+    /// What becomes of the requests. A method that is not written does nothing.
+    pub trait Requests {
+        /// Makes a surface.
+        fn create_surface(
+            &mut self,
+            wl_compositor: WlCompositor,
+            id: super::wl_surface::WlSurface,
+        ) {
+            let _ = (wl_compositor, id);
+        }
+
+        /// Makes a region.
+        fn create_region(&mut self, wl_compositor: WlCompositor, id: super::wl_region::WlRegion) {
+            let _ = (wl_compositor, id);
+        }
+    }
+
+    /// Calls the method of a request. False where the message is for another interface, or the
+    /// interface has no such request with these arguments: nothing is called then.
+    pub fn dispatch_request(
+        handler: &mut impl Requests,
+        tables: &waywire::Tables,
+        message: &impl waywire::Readable,
+    ) -> bool {
+        waywire::typed::is_for(tables, message, NAME) && request_of(handler, message).is_some()
+    }
+
+    fn request_of(handler: &mut impl Requests, message: &impl waywire::Readable) -> Option<()> {
+        let mut fields = waywire::typed::fields(message);
+        let target = WlCompositor(message.target());
+        match message.opcode() {
+            request::CREATE_SURFACE => handler.create_surface(
+                target,
+                super::wl_surface::WlSurface(fields.new_object()?),
+            ),
+            request::CREATE_REGION => handler.create_region(
+                target,
+                super::wl_region::WlRegion(fields.new_object()?),
+            ),
+            _ => return None,
+        }
+        Some(())
+    }
+}
+
+/// Memory that client and server share.
+pub mod wl_shm {
+    /// The name of the interface.
+    pub const NAME: &str = "wl_shm";
+
+    /// Its newest version.
+    pub const VERSION: u32 = 2;
+
+    /// Memory that client and server share.
+    #[derive(Clone, Copy, Debug, PartialEq, Eq, Hash)]
+    pub struct WlShm(pub waywire::Object);
+
+    impl waywire::Handle for WlShm {
+        const NAME: &'static str = NAME;
+        const VERSION: u32 = VERSION;
+
+        fn of(object: waywire::Object) -> Self {
+            WlShm(object)
+        }
+
+        fn object(self) -> waywire::Object {
+            self.0
+        }
+    }
+
+    /// The opcodes of the requests, and the versions that have them.
+    pub mod request {
+        pub const CREATE_POOL: u16 = 0;
+        pub const CREATE_POOL_SINCE: u32 = 1;
+        pub const RELEASE: u16 = 1;
+        pub const RELEASE_SINCE: u32 = 2;
+    }
+
+    /// The opcodes of the events, and the versions that have them.
+    pub mod event {
+        pub const FORMAT: u16 = 0;
+        pub const FORMAT_SINCE: u32 = 1;
+    }
+
+    /// A number that has no name here may come.
+    #[derive(Clone, Copy, Debug, PartialEq, Eq, Hash)]
+    pub struct Error(pub u32);
+
+    impl Error {
+        pub const INVALID_FORMAT: Error = Error(0);
+        pub const INVALID_STRIDE: Error = Error(1);
+        pub const INVALID_FD: Error = Error(2);
+    }
+
+    /// A number that has no name here may come.
+    #[derive(Clone, Copy, Debug, PartialEq, Eq, Hash)]
+    pub struct Format(pub u32);
+
+    impl Format {
+        pub const ARGB8888: Format = Format(0);
+        pub const XRGB8888: Format = Format(1);
+        pub const C8: Format = Format(538982467);
+        pub const RGB332: Format = Format(943867730);
+        pub const BGR233: Format = Format(944916290);
+        pub const XRGB4444: Format = Format(842093144);
+        pub const XBGR4444: Format = Format(842089048);
+        pub const RGBX4444: Format = Format(842094674);
+        pub const BGRX4444: Format = Format(842094658);
+        pub const ARGB4444: Format = Format(842093121);
+        pub const ABGR4444: Format = Format(842089025);
+        pub const RGBA4444: Format = Format(842088786);
+        pub const BGRA4444: Format = Format(842088770);
+        pub const XRGB1555: Format = Format(892424792);
+        pub const XBGR1555: Format = Format(892420696);
+        pub const RGBX5551: Format = Format(892426322);
+        pub const BGRX5551: Format = Format(892426306);
+        pub const ARGB1555: Format = Format(892424769);
+        pub const ABGR1555: Format = Format(892420673);
+        pub const RGBA5551: Format = Format(892420434);
+        pub const BGRA5551: Format = Format(892420418);
+        pub const RGB565: Format = Format(909199186);
+        pub const BGR565: Format = Format(909199170);
+        pub const RGB888: Format = Format(875710290);
+        pub const BGR888: Format = Format(875710274);
+        pub const XBGR8888: Format = Format(875709016);
+        pub const RGBX8888: Format = Format(875714642);
+        pub const BGRX8888: Format = Format(875714626);
+        pub const ABGR8888: Format = Format(875708993);
+        pub const RGBA8888: Format = Format(875708754);
+        pub const BGRA8888: Format = Format(875708738);
+        pub const XRGB2101010: Format = Format(808669784);
+        pub const XBGR2101010: Format = Format(808665688);
+        pub const RGBX1010102: Format = Format(808671314);
+        pub const BGRX1010102: Format = Format(808671298);
+        pub const ARGB2101010: Format = Format(808669761);
+        pub const ABGR2101010: Format = Format(808665665);
+        pub const RGBA1010102: Format = Format(808665426);
+        pub const BGRA1010102: Format = Format(808665410);
+        pub const YUYV: Format = Format(1448695129);
+        pub const YVYU: Format = Format(1431918169);
+        pub const UYVY: Format = Format(1498831189);
+        pub const VYUY: Format = Format(1498765654);
+        pub const AYUV: Format = Format(1448433985);
+        pub const NV12: Format = Format(842094158);
+        pub const NV21: Format = Format(825382478);
+        pub const NV16: Format = Format(909203022);
+        pub const NV61: Format = Format(825644622);
+        pub const YUV410: Format = Format(961959257);
+        pub const YVU410: Format = Format(961893977);
+        pub const YUV411: Format = Format(825316697);
+        pub const YVU411: Format = Format(825316953);
+        pub const YUV420: Format = Format(842093913);
+        pub const YVU420: Format = Format(842094169);
+        pub const YUV422: Format = Format(909202777);
+        pub const YVU422: Format = Format(909203033);
+        pub const YUV444: Format = Format(875713881);
+        pub const YVU444: Format = Format(875714137);
+        pub const R8: Format = Format(538982482);
+        pub const R16: Format = Format(540422482);
+        pub const RG88: Format = Format(943212370);
+        pub const GR88: Format = Format(943215175);
+        pub const RG1616: Format = Format(842221394);
+        pub const GR1616: Format = Format(842224199);
+        pub const XRGB16161616F: Format = Format(1211388504);
+        pub const XBGR16161616F: Format = Format(1211384408);
+        pub const ARGB16161616F: Format = Format(1211388481);
+        pub const ABGR16161616F: Format = Format(1211384385);
+        pub const XYUV8888: Format = Format(1448434008);
+        pub const VUY888: Format = Format(875713878);
+        pub const VUY101010: Format = Format(808670550);
+        pub const Y210: Format = Format(808530521);
+        pub const Y212: Format = Format(842084953);
+        pub const Y216: Format = Format(909193817);
+        pub const Y410: Format = Format(808531033);
+        pub const Y412: Format = Format(842085465);
+        pub const Y416: Format = Format(909194329);
+        pub const XVYU2101010: Format = Format(808670808);
+        pub const XVYU12_16161616: Format = Format(909334104);
+        pub const XVYU16161616: Format = Format(942954072);
+        pub const Y0L0: Format = Format(810299481);
+        pub const X0L0: Format = Format(810299480);
+        pub const Y0L2: Format = Format(843853913);
+        pub const X0L2: Format = Format(843853912);
+        pub const YUV420_8BIT: Format = Format(942691673);
+        pub const YUV420_10BIT: Format = Format(808539481);
+        pub const XRGB8888_A8: Format = Format(943805016);
+        pub const XBGR8888_A8: Format = Format(943800920);
+        pub const RGBX8888_A8: Format = Format(943806546);
+        pub const BGRX8888_A8: Format = Format(943806530);
+        pub const RGB888_A8: Format = Format(943798354);
+        pub const BGR888_A8: Format = Format(943798338);
+        pub const RGB565_A8: Format = Format(943797586);
+        pub const BGR565_A8: Format = Format(943797570);
+        pub const NV24: Format = Format(875714126);
+        pub const NV42: Format = Format(842290766);
+        pub const P210: Format = Format(808530512);
+        pub const P010: Format = Format(808530000);
+        pub const P012: Format = Format(842084432);
+        pub const P016: Format = Format(909193296);
+        pub const AXBXGXRX106106106106: Format = Format(808534593);
+        pub const NV15: Format = Format(892425806);
+        pub const Q410: Format = Format(808531025);
+        pub const Q401: Format = Format(825242705);
+        pub const XRGB16161616: Format = Format(942953048);
+        pub const XBGR16161616: Format = Format(942948952);
+        pub const ARGB16161616: Format = Format(942953025);
+        pub const ABGR16161616: Format = Format(942948929);
+    }
+
+    impl WlShm {
+        /// Makes a pool of the memory behind a descriptor.
+        pub fn create_pool(
+            self,
+            client: &mut waywire::Client,
+            fd: u32,
+            size: i32,
+        ) -> Result<super::wl_shm_pool::WlShmPool, waywire::SendError> {
+            let args = [waywire::Arg::NewId, waywire::Arg::Fd(fd), waywire::Arg::Int(size)];
+            waywire::typed::make(client, self.0, request::CREATE_POOL, &args)
+        }
+
+        /// The client is done with the object.
+        ///
+        /// It destroys the object. Since version 2.
+        pub fn release(self, client: &mut waywire::Client) -> Result<(), waywire::SendError> {
+            waywire::typed::send(client, self.0, request::RELEASE, &[])
+        }
+
+        /// A pixel format that buffers may have.
+        pub fn send_format(
+            self,
+            server: &mut waywire::Server,
+            format: Format,
+        ) -> Result<(), waywire::SendError> {
+            waywire::typed::send_at_server(
+                server,
+                self.0,
+                event::FORMAT,
+                &[waywire::Arg::Uint(format.0)],
+            )
+        }
+    }
+
+    /// What becomes of the events. A method that is not written does nothing.
+    pub trait Events {
+        /// A pixel format that buffers may have.
+        fn format(&mut self, wl_shm: WlShm, format: Format) {
+            let _ = (wl_shm, format);
+        }
+    }
+
+    /// Calls the method of an event. False where the message is for another interface, or the
+    /// interface has no such event with these arguments: nothing is called then.
+    pub fn dispatch_event(
+        handler: &mut impl Events,
+        tables: &waywire::Tables,
+        message: &impl waywire::Readable,
+    ) -> bool {
+        waywire::typed::is_for(tables, message, NAME) && event_of(handler, message).is_some()
+    }
+
+    fn event_of(handler: &mut impl Events, message: &impl waywire::Readable) -> Option<()> {
+        let mut fields = waywire::typed::fields(message);
+        let target = WlShm(message.target());
+        match message.opcode() {
+            event::FORMAT => handler.format(target, Format(fields.uint()?)),
+            _ => return None,
+        }
+        Some(())
+    }
+
+    /// What becomes of the requests. A method that is not written does nothing.
+    pub trait Requests {
+        /// Makes a pool of the memory behind a descriptor.
+        fn create_pool(
+            &mut self,
+            wl_shm: WlShm,
+            id: super::wl_shm_pool::WlShmPool,
+            fd: u32,
+            size: i32,
+        ) {
+            let _ = (wl_shm, id, fd, size);
+        }
+
+        /// The client is done with the object.
+        ///
+        /// It destroys the object. Since version 2.
+        fn release(&mut self, wl_shm: WlShm) {
+            let _ = wl_shm;
+        }
+    }
+
+    /// Calls the method of a request. False where the message is for another interface, or the
+    /// interface has no such request with these arguments: nothing is called then.
+    pub fn dispatch_request(
+        handler: &mut impl Requests,
+        tables: &waywire::Tables,
+        message: &impl waywire::Readable,
+    ) -> bool {
+        waywire::typed::is_for(tables, message, NAME) && request_of(handler, message).is_some()
+    }
+
+    fn request_of(handler: &mut impl Requests, message: &impl waywire::Readable) -> Option<()> {
+        let mut fields = waywire::typed::fields(message);
+        let target = WlShm(message.target());
+        match message.opcode() {
+            request::CREATE_POOL => handler.create_pool(
+                target,
+                super::wl_shm_pool::WlShmPool(fields.new_object()?),
+                fields.fd()?,
+                fields.int()?,
+            ),
+            request::RELEASE => handler.release(target),
+            _ => return None,
+        }
+        Some(())
+    }
+}
+
+/// Shared memory that buffers are made of.
+pub mod wl_shm_pool {
+    /// The name of the interface.
+    pub const NAME: &str = "wl_shm_pool";
+
+    /// Its newest version.
+    pub const VERSION: u32 = 2;
+
+    /// Shared memory that buffers are made of.
+    #[derive(Clone, Copy, Debug, PartialEq, Eq, Hash)]
+    pub struct WlShmPool(pub waywire::Object);
+
+    impl waywire::Handle for WlShmPool {
+        const NAME: &'static str = NAME;
+        const VERSION: u32 = VERSION;
+
+        fn of(object: waywire::Object) -> Self {
+            WlShmPool(object)
+        }
+
+        fn object(self) -> waywire::Object {
+            self.0
+        }
+    }
+
+    /// The opcodes of the requests, and the versions that have them.
+    pub mod request {
+        pub const CREATE_BUFFER: u16 = 0;
+        pub const CREATE_BUFFER_SINCE: u32 = 1;
+        pub const DESTROY: u16 = 1;
+        pub const DESTROY_SINCE: u32 = 1;
+        pub const RESIZE: u16 = 2;
+        pub const RESIZE_SINCE: u32 = 1;
+    }
+
+    impl WlShmPool {
+        /// Makes a buffer of a part of the pool.
+        pub fn create_buffer(
+            self,
+            client: &mut waywire::Client,
+            offset: i32,
+            width: i32,
+            height: i32,
+            stride: i32,
+            format: super::wl_shm::Format,
+        ) -> Result<super::wl_buffer::WlBuffer, waywire::SendError> {
+            let args = [
+                waywire::Arg::NewId,
+                waywire::Arg::Int(offset),
+                waywire::Arg::Int(width),
+                waywire::Arg::Int(height),
+                waywire::Arg::Int(stride),
+                waywire::Arg::Uint(format.0),
+            ];
+            waywire::typed::make(client, self.0, request::CREATE_BUFFER, &args)
+        }
+
+        /// Ends the pool; its buffers stay.
+        ///
+        /// It destroys the object.
+        pub fn destroy(self, client: &mut waywire::Client) -> Result<(), waywire::SendError> {
+            waywire::typed::send(client, self.0, request::DESTROY, &[])
+        }
+
+        /// Makes the pool larger.
+        pub fn resize(
+            self,
+            client: &mut waywire::Client,
+            size: i32,
+        ) -> Result<(), waywire::SendError> {
+            waywire::typed::send(client, self.0, request::RESIZE, &[waywire::Arg::Int(size)])
+        }
+    }
+
+    /// What becomes of the requests. A method that is not written does nothing.
+    pub trait Requests {
+        /// Makes a buffer of a part of the pool.
+        fn create_buffer(
+            &mut self,
+            wl_shm_pool: WlShmPool,
+            id: super::wl_buffer::WlBuffer,
+            offset: i32,
+            width: i32,
+            height: i32,
+            stride: i32,
+            format: super::wl_shm::Format,
+        ) {
+            let _ = (wl_shm_pool, id, offset, width, height, stride, format);
+        }
+
+        /// Ends the pool; its buffers stay.
+        ///
+        /// It destroys the object.
+        fn destroy(&mut self, wl_shm_pool: WlShmPool) {
+            let _ = wl_shm_pool;
+        }
+
+        /// Makes the pool larger.
+        fn resize(&mut self, wl_shm_pool: WlShmPool, size: i32) {
+            let _ = (wl_shm_pool, size);
+        }
+    }
+
+    /// Calls the method of a request. False where the message is for another interface, or the
+    /// interface has no such request with these arguments: nothing is called then.
+    pub fn dispatch_request(
+        handler: &mut impl Requests,
+        tables: &waywire::Tables,
+        message: &impl waywire::Readable,
+    ) -> bool {
+        waywire::typed::is_for(tables, message, NAME) && request_of(handler, message).is_some()
+    }
+
+    fn request_of(handler: &mut impl Requests, message: &impl waywire::Readable) -> Option<()> {
+        let mut fields = waywire::typed::fields(message);
+        let target = WlShmPool(message.target());
+        match message.opcode() {
+            request::CREATE_BUFFER => handler.create_buffer(
+                target,
+                super::wl_buffer::WlBuffer(fields.new_object()?),
+                fields.int()?,
+                fields.int()?,
+                fields.int()?,
+                fields.int()?,
+                super::wl_shm::Format(fields.uint()?),
+            ),
+            request::DESTROY => handler.destroy(target),
+            request::RESIZE => handler.resize(target, fields.int()?),
+            _ => return None,
+        }
+        Some(())
+    }
+}
+
+/// The content of a surface.
+pub mod wl_buffer {
+    /// The name of the interface.
+    pub const NAME: &str = "wl_buffer";
+
+    /// Its newest version.
+    pub const VERSION: u32 = 1;
+
+    /// The content of a surface.
+    #[derive(Clone, Copy, Debug, PartialEq, Eq, Hash)]
+    pub struct WlBuffer(pub waywire::Object);
+
+    impl waywire::Handle for WlBuffer {
+        const NAME: &'static str = NAME;
+        const VERSION: u32 = VERSION;
+
+        fn of(object: waywire::Object) -> Self {
+            WlBuffer(object)
+        }
+
+        fn object(self) -> waywire::Object {
+            self.0
+        }
+    }
+
+    /// The opcodes of the requests, and the versions that have them.
+    pub mod request {
+        pub const DESTROY: u16 = 0;
+        pub const DESTROY_SINCE: u32 = 1;
+    }
+
+    /// The opcodes of the events, and the versions that have them.
+    pub mod event {
+        pub const RELEASE: u16 = 0;
+        pub const RELEASE_SINCE: u32 = 1;
+    }
+
+    impl WlBuffer {
+        /// Ends the buffer.
+        ///
+        /// It destroys the object.
+        pub fn destroy(self, client: &mut waywire::Client) -> Result<(), waywire::SendError> {
+            waywire::typed::send(client, self.0, request::DESTROY, &[])
+        }
+
+        /// The server no longer reads the buffer.
+        pub fn send_release(self, server: &mut waywire::Server) -> Result<(), waywire::SendError> {
+            waywire::typed::send_at_server(server, self.0, event::RELEASE, &[])
+        }
+    }
+
+    /// What becomes of the events. A method that is not written does nothing.
+    pub trait Events {
+        /// The server no longer reads the buffer.
+        fn release(&mut self, wl_buffer: WlBuffer) {
+            let _ = wl_buffer;
+        }
+    }
+
+    /// Calls the method of an event. False where the message is for another interface, or the
+    /// interface has no such event with these arguments: nothing is called then.
+    pub fn dispatch_event(
+        handler: &mut impl Events,
+        tables: &waywire::Tables,
+        message: &impl waywire::Readable,
+    ) -> bool {
+        waywire::typed::is_for(tables, message, NAME) && event_of(handler, message).is_some()
+    }
+
+    fn event_of(handler: &mut impl Events, message: &impl waywire::Readable) -> Option<()> {
+        let target = WlBuffer(message.target());
+        match message.opcode() {
+            event::RELEASE => handler.release(target),
+            _ => return None,
+        }
+        Some(())
+    }
+
+    /// What becomes of the requests. A method that is not written does nothing.
+    pub trait Requests {
+        /// Ends the buffer.
+        ///
+        /// It destroys the object.
+        fn destroy(&mut self, wl_buffer: WlBuffer) {
+            let _ = wl_buffer;
+        }
+    }
+
+    /// Calls the method of a request. False where the message is for another interface, or the
+    /// interface has no such request with these arguments: nothing is called then.
+    pub fn dispatch_request(
+        handler: &mut impl Requests,
+        tables: &waywire::Tables,
+        message: &impl waywire::Readable,
+    ) -> bool {
+        waywire::typed::is_for(tables, message, NAME) && request_of(handler, message).is_some()
+    }
+
+    fn request_of(handler: &mut impl Requests, message: &impl waywire::Readable) -> Option<()> {
+        let target = WlBuffer(message.target());
+        match message.opcode() {
+            request::DESTROY => handler.destroy(target),
+            _ => return None,
+        }
+        Some(())
+    }
+}
+
+/// An area with content, which can be shown.
+pub mod wl_surface {
+    /// The name of the interface.
+    pub const NAME: &str = "wl_surface";
+
+    /// Its newest version.
+    pub const VERSION: u32 = 6;
+
+    /// An area with content, which can be shown.
+    #[derive(Clone, Copy, Debug, PartialEq, Eq, Hash)]
+    pub struct WlSurface(pub waywire::Object);
+
+    impl waywire::Handle for WlSurface {
+        const NAME: &'static str = NAME;
+        const VERSION: u32 = VERSION;
+
+        fn of(object: waywire::Object) -> Self {
+            WlSurface(object)
+        }
+
+        fn object(self) -> waywire::Object {
+            self.0
+        }
+    }
+
+    /// The opcodes of the requests, and the versions that have them.
+    pub mod request {
+        pub const DESTROY: u16 = 0;
+        pub const DESTROY_SINCE: u32 = 1;
+        pub const ATTACH: u16 = 1;
+        pub const ATTACH_SINCE: u32 = 1;
+        pub const DAMAGE: u16 = 2;
+        pub const DAMAGE_SINCE: u32 = 1;
+        pub const FRAME: u16 = 3;
+        pub const FRAME_SINCE: u32 = 1;
+        pub const SET_OPAQUE_REGION: u16 = 4;
+        pub const SET_OPAQUE_REGION_SINCE: u32 = 1;
+        pub const SET_INPUT_REGION: u16 = 5;
+        pub const SET_INPUT_REGION_SINCE: u32 = 1;
+        pub const COMMIT: u16 = 6;
+        pub const COMMIT_SINCE: u32 = 1;
+        pub const SET_BUFFER_TRANSFORM: u16 = 7;
+        pub const SET_BUFFER_TRANSFORM_SINCE: u32 = 2;
+        pub const SET_BUFFER_SCALE: u16 = 8;
+        pub const SET_BUFFER_SCALE_SINCE: u32 = 3;
+        pub const DAMAGE_BUFFER: u16 = 9;
+        pub const DAMAGE_BUFFER_SINCE: u32 = 4;
+        pub const OFFSET: u16 = 10;
+        pub const OFFSET_SINCE: u32 = 5;
+    }
+
+    /// The opcodes of the events, and the versions that have them.
+    pub mod event {
+        pub const ENTER: u16 = 0;
+        pub const ENTER_SINCE: u32 = 1;
+        pub const LEAVE: u16 = 1;
+        pub const LEAVE_SINCE: u32 = 1;
+        pub const PREFERRED_BUFFER_SCALE: u16 = 2;
+        pub const PREFERRED_BUFFER_SCALE_SINCE: u32 = 6;
+        pub const PREFERRED_BUFFER_TRANSFORM: u16 = 3;
+        pub const PREFERRED_BUFFER_TRANSFORM_SINCE: u32 = 6;
+    }
+
+    /// A number that has no name here may come.
+    #[derive(Clone, Copy, Debug, PartialEq, Eq, Hash)]
+    pub struct Error(pub u32);
+
+    impl Error {
+        pub const INVALID_SCALE: Error = Error(0);
+        pub const INVALID_TRANSFORM: Error = Error(1);
+        pub const INVALID_SIZE: Error = Error(2);
+        pub const INVALID_OFFSET: Error = Error(3);
+    }
+
+    impl WlSurface {
+        /// Ends the surface.
+        ///
+        /// It destroys the object.
+        pub fn destroy(self, client: &mut waywire::Client) -> Result<(), waywire::SendError> {
+            waywire::typed::send(client, self.0, request::DESTROY, &[])
+        }
+
+        /// Sets the buffer of the next commit.
+        pub fn attach(
+            self,
+            client: &mut waywire::Client,
+            buffer: Option<super::wl_buffer::WlBuffer>,
+            x: i32,
+            y: i32,
+        ) -> Result<(), waywire::SendError> {
+            let args = [
+                waywire::Arg::Object(buffer.map(|it| it.0)),
+                waywire::Arg::Int(x),
+                waywire::Arg::Int(y),
+            ];
+            waywire::typed::send(client, self.0, request::ATTACH, &args)
+        }
+
+        /// Marks a part as changed, in surface coordinates.
+        pub fn damage(
+            self,
+            client: &mut waywire::Client,
+            x: i32,
+            y: i32,
+            width: i32,
+            height: i32,
+        ) -> Result<(), waywire::SendError> {
+            let args = [
+                waywire::Arg::Int(x),
+                waywire::Arg::Int(y),
+                waywire::Arg::Int(width),
+                waywire::Arg::Int(height),
+            ];
+            waywire::typed::send(client, self.0, request::DAMAGE, &args)
+        }
+
+        /// Asks to be told when to draw the next frame.
+        pub fn frame(
+            self,
+            client: &mut waywire::Client,
+        ) -> Result<super::wl_callback::WlCallback, waywire::SendError> {
+            waywire::typed::make(client, self.0, request::FRAME, &[waywire::Arg::NewId])
+        }
+
+        /// Says which part hides what is behind it.
+        pub fn set_opaque_region(
+            self,
+            client: &mut waywire::Client,
+            region: Option<super::wl_region::WlRegion>,
+        ) -> Result<(), waywire::SendError> {
+            let args = [waywire::Arg::Object(region.map(|it| it.0))];
+            waywire::typed::send(client, self.0, request::SET_OPAQUE_REGION, &args)
+        }
+
+        /// Says which part takes input.
+        pub fn set_input_region(
+            self,
+            client: &mut waywire::Client,
+            region: Option<super::wl_region::WlRegion>,
+        ) -> Result<(), waywire::SendError> {
+            let args = [waywire::Arg::Object(region.map(|it| it.0))];
+            waywire::typed::send(client, self.0, request::SET_INPUT_REGION, &args)
+        }
+
+        /// Makes all that was set since the last commit take effect.
+        pub fn commit(self, client: &mut waywire::Client) -> Result<(), waywire::SendError> {
+            waywire::typed::send(client, self.0, request::COMMIT, &[])
+        }
+
+        /// Says how the buffer is turned.
+        ///
+        /// Since version 2.
+        pub fn set_buffer_transform(
+            self,
+            client: &mut waywire::Client,
+            transform: super::wl_output::Transform,
+        ) -> Result<(), waywire::SendError> {
+            waywire::typed::send(
+                client,
+                self.0,
+                request::SET_BUFFER_TRANSFORM,
+                &[waywire::Arg::Int(transform.0 as i32)],
+            )
+        }
+
+        /// Says how many pixels of the buffer one unit has.
+        ///
+        /// Since version 3.
+        pub fn set_buffer_scale(
+            self,
+            client: &mut waywire::Client,
+            scale: i32,
+        ) -> Result<(), waywire::SendError> {
+            waywire::typed::send(
+                client,
+                self.0,
+                request::SET_BUFFER_SCALE,
+                &[waywire::Arg::Int(scale)],
+            )
+        }
+
+        /// Marks a part as changed, in pixels of the buffer.
+        ///
+        /// Since version 4.
+        pub fn damage_buffer(
+            self,
+            client: &mut waywire::Client,
+            x: i32,
+            y: i32,
+            width: i32,
+            height: i32,
+        ) -> Result<(), waywire::SendError> {
+            let args = [
+                waywire::Arg::Int(x),
+                waywire::Arg::Int(y),
+                waywire::Arg::Int(width),
+                waywire::Arg::Int(height),
+            ];
+            waywire::typed::send(client, self.0, request::DAMAGE_BUFFER, &args)
+        }
+
+        /// Moves the content of the next commit.
+        ///
+        /// Since version 5.
+        pub fn offset(
+            self,
+            client: &mut waywire::Client,
+            x: i32,
+            y: i32,
+        ) -> Result<(), waywire::SendError> {
+            let args = [waywire::Arg::Int(x), waywire::Arg::Int(y)];
+            waywire::typed::send(client, self.0, request::OFFSET, &args)
+        }
+
+        /// The surface is shown on an output.
+        pub fn send_enter(
+            self,
+            server: &mut waywire::Server,
+            output: super::wl_output::WlOutput,
+        ) -> Result<(), waywire::SendError> {
+            waywire::typed::send_at_server(
+                server,
+                self.0,
+                event::ENTER,
+                &[waywire::Arg::Object(Some(output.0))],
+            )
+        }
+
+        /// The surface is no longer shown on an output.
+        pub fn send_leave(
+            self,
+            server: &mut waywire::Server,
+            output: super::wl_output::WlOutput,
+        ) -> Result<(), waywire::SendError> {
+            waywire::typed::send_at_server(
+                server,
+                self.0,
+                event::LEAVE,
+                &[waywire::Arg::Object(Some(output.0))],
+            )
+        }
+
+        /// The scale that suits the surface.
+        ///
+        /// Since version 6.
+        pub fn send_preferred_buffer_scale(
+            self,
+            server: &mut waywire::Server,
+            factor: i32,
+        ) -> Result<(), waywire::SendError> {
+            waywire::typed::send_at_server(
+                server,
+                self.0,
+                event::PREFERRED_BUFFER_SCALE,
+                &[waywire::Arg::Int(factor)],
+            )
+        }
+
+        /// The transform that suits the surface.
+        ///
+        /// Since version 6.
+        pub fn send_preferred_buffer_transform(
+            self,
+            server: &mut waywire::Server,
+            transform: u32,
+        ) -> Result<(), waywire::SendError> {
+            waywire::typed::send_at_server(
+                server,
+                self.0,
+                event::PREFERRED_BUFFER_TRANSFORM,
+                &[waywire::Arg::Uint(transform)],
+            )
+        }
+    }
+
+    /// What becomes of the events. A method that is not written does nothing.
+    pub trait Events {
+        /// The surface is shown on an output.
+        fn enter(&mut self, wl_surface: WlSurface, output: super::wl_output::WlOutput) {
+            let _ = (wl_surface, output);
+        }
+
+        /// The surface is no longer shown on an output.
+        fn leave(&mut self, wl_surface: WlSurface, output: super::wl_output::WlOutput) {
+            let _ = (wl_surface, output);
+        }
+
+        /// The scale that suits the surface.
+        ///
+        /// Since version 6.
+        fn preferred_buffer_scale(&mut self, wl_surface: WlSurface, factor: i32) {
+            let _ = (wl_surface, factor);
+        }
+
+        /// The transform that suits the surface.
+        ///
+        /// Since version 6.
+        fn preferred_buffer_transform(&mut self, wl_surface: WlSurface, transform: u32) {
+            let _ = (wl_surface, transform);
+        }
+    }
+
+    /// Calls the method of an event. False where the message is for another interface, or the
+    /// interface has no such event with these arguments: nothing is called then.
+    pub fn dispatch_event(
+        handler: &mut impl Events,
+        tables: &waywire::Tables,
+        message: &impl waywire::Readable,
+    ) -> bool {
+        waywire::typed::is_for(tables, message, NAME) && event_of(handler, message).is_some()
+    }
+
+    fn event_of(handler: &mut impl Events, message: &impl waywire::Readable) -> Option<()> {
+        let mut fields = waywire::typed::fields(message);
+        let target = WlSurface(message.target());
+        match message.opcode() {
+            event::ENTER => handler.enter(target, super::wl_output::WlOutput(fields.object()?)),
+            event::LEAVE => handler.leave(target, super::wl_output::WlOutput(fields.object()?)),
+            event::PREFERRED_BUFFER_SCALE => handler.preferred_buffer_scale(target, fields.int()?),
+            event::PREFERRED_BUFFER_TRANSFORM => handler.preferred_buffer_transform(
+                target,
+                fields.uint()?,
+            ),
+            _ => return None,
+        }
+        Some(())
+    }
+
+    /// What becomes of the requests. A method that is not written does nothing.
+    pub trait Requests {
+        /// Ends the surface.
+        ///
+        /// It destroys the object.
+        fn destroy(&mut self, wl_surface: WlSurface) {
+            let _ = wl_surface;
+        }
+
+        /// Sets the buffer of the next commit.
+        fn attach(
+            &mut self,
+            wl_surface: WlSurface,
+            buffer: Option<super::wl_buffer::WlBuffer>,
+            x: i32,
+            y: i32,
+        ) {
+            let _ = (wl_surface, buffer, x, y);
+        }
+
+        /// Marks a part as changed, in surface coordinates.
+        fn damage(&mut self, wl_surface: WlSurface, x: i32, y: i32, width: i32, height: i32) {
+            let _ = (wl_surface, x, y, width, height);
+        }
+
+        /// Asks to be told when to draw the next frame.
+        fn frame(&mut self, wl_surface: WlSurface, callback: super::wl_callback::WlCallback) {
+            let _ = (wl_surface, callback);
+        }
+
+        /// Says which part hides what is behind it.
+        fn set_opaque_region(
+            &mut self,
+            wl_surface: WlSurface,
+            region: Option<super::wl_region::WlRegion>,
+        ) {
+            let _ = (wl_surface, region);
+        }
+
+        /// Says which part takes input.
+        fn set_input_region(
+            &mut self,
+            wl_surface: WlSurface,
+            region: Option<super::wl_region::WlRegion>,
+        ) {
+            let _ = (wl_surface, region);
+        }
+
+        /// Makes all that was set since the last commit take effect.
+        fn commit(&mut self, wl_surface: WlSurface) {
+            let _ = wl_surface;
+        }
+
+        /// Says how the buffer is turned.
+        ///
+        /// Since version 2.
+        fn set_buffer_transform(
+            &mut self,
+            wl_surface: WlSurface,
+            transform: super::wl_output::Transform,
+        ) {
+            let _ = (wl_surface, transform);
+        }
+
+        /// Says how many pixels of the buffer one unit has.
+        ///
+        /// Since version 3.
+        fn set_buffer_scale(&mut self, wl_surface: WlSurface, scale: i32) {
+            let _ = (wl_surface, scale);
+        }
+
+        /// Marks a part as changed, in pixels of the buffer.
+        ///
+        /// Since version 4.
+        fn damage_buffer(
+            &mut self,
+            wl_surface: WlSurface,
+            x: i32,
+            y: i32,
+            width: i32,
+            height: i32,
+        ) {
+            let _ = (wl_surface, x, y, width, height);
+        }
+
+        /// Moves the content of the next commit.
+        ///
+        /// Since version 5.
+        fn offset(&mut self, wl_surface: WlSurface, x: i32, y: i32) {
+            let _ = (wl_surface, x, y);
+        }
+    }
+
+    /// Calls the method of a request. False where the message is for another interface, or the
+    /// interface has no such request with these arguments: nothing is called then.
+    pub fn dispatch_request(
+        handler: &mut impl Requests,
+        tables: &waywire::Tables,
+        message: &impl waywire::Readable,
+    ) -> bool {
+        waywire::typed::is_for(tables, message, NAME) && request_of(handler, message).is_some()
+    }
+
+    fn request_of(handler: &mut impl Requests, message: &impl waywire::Readable) -> Option<()> {
+        let mut fields = waywire::typed::fields(message);
+        let target = WlSurface(message.target());
+        match message.opcode() {
+            request::DESTROY => handler.destroy(target),
+            request::ATTACH => handler.attach(
+                target,
+                fields.nullable_object()?.map(super::wl_buffer::WlBuffer),
+                fields.int()?,
+                fields.int()?,
+            ),
+            request::DAMAGE => handler.damage(
+                target,
+                fields.int()?,
+                fields.int()?,
+                fields.int()?,
+                fields.int()?,
+            ),
+            request::FRAME => handler.frame(
+                target,
+                super::wl_callback::WlCallback(fields.new_object()?),
+            ),
+            request::SET_OPAQUE_REGION => handler.set_opaque_region(
+                target,
+                fields.nullable_object()?.map(super::wl_region::WlRegion),
+            ),
+            request::SET_INPUT_REGION => handler.set_input_region(
+                target,
+                fields.nullable_object()?.map(super::wl_region::WlRegion),
+            ),
+            request::COMMIT => handler.commit(target),
+            request::SET_BUFFER_TRANSFORM => handler.set_buffer_transform(
+                target,
+                super::wl_output::Transform(fields.int()? as u32),
+            ),
+            request::SET_BUFFER_SCALE => handler.set_buffer_scale(target, fields.int()?),
+            request::DAMAGE_BUFFER => handler.damage_buffer(
+                target,
+                fields.int()?,
+                fields.int()?,
+                fields.int()?,
+                fields.int()?,
+            ),
+            request::OFFSET => handler.offset(target, fields.int()?, fields.int()?),
+            _ => return None,
+        }
+        Some(())
+    }
+}
+
+/// An area made of rectangles.
+pub mod wl_region {
+    /// The name of the interface.
+    pub const NAME: &str = "wl_region";
+
+    /// Its newest version.
+    pub const VERSION: u32 = 1;
+
+    /// An area made of rectangles.
+    #[derive(Clone, Copy, Debug, PartialEq, Eq, Hash)]
+    pub struct WlRegion(pub waywire::Object);
+
+    impl waywire::Handle for WlRegion {
+        const NAME: &'static str = NAME;
+        const VERSION: u32 = VERSION;
+
+        fn of(object: waywire::Object) -> Self {
+            WlRegion(object)
+        }
+
+        fn object(self) -> waywire::Object {
+            self.0
+        }
+    }
+
+    /// The opcodes of the requests, and the versions that have them.
+    pub mod request {
+        pub const DESTROY: u16 = 0;
+        pub const DESTROY_SINCE: u32 = 1;
+        pub const ADD: u16 = 1;
+        pub const ADD_SINCE: u32 = 1;
+        pub const SUBTRACT: u16 = 2;
+        pub const SUBTRACT_SINCE: u32 = 1;
+    }
+
+    impl WlRegion {
+        /// Ends the region.
+        ///
+        /// It destroys the object.
+        pub fn destroy(self, client: &mut waywire::Client) -> Result<(), waywire::SendError> {
+            waywire::typed::send(client, self.0, request::DESTROY, &[])
+        }
+
+        /// Adds a rectangle.
+        pub fn add(
+            self,
+            client: &mut waywire::Client,
+            x: i32,
+            y: i32,
+            width: i32,
+            height: i32,
+        ) -> Result<(), waywire::SendError> {
+            let args = [
+                waywire::Arg::Int(x),
+                waywire::Arg::Int(y),
+                waywire::Arg::Int(width),
+                waywire::Arg::Int(height),
+            ];
+            waywire::typed::send(client, self.0, request::ADD, &args)
+        }
+
+        /// Takes a rectangle away.
+        pub fn subtract(
+            self,
+            client: &mut waywire::Client,
+            x: i32,
+            y: i32,
+            width: i32,
+            height: i32,
+        ) -> Result<(), waywire::SendError> {
+            let args = [
+                waywire::Arg::Int(x),
+                waywire::Arg::Int(y),
+                waywire::Arg::Int(width),
+                waywire::Arg::Int(height),
+            ];
+            waywire::typed::send(client, self.0, request::SUBTRACT, &args)
+        }
+    }
+
+    /// What becomes of the requests. A method that is not written does nothing.
+    pub trait Requests {
+        /// Ends the region.
+        ///
+        /// It destroys the object.
+        fn destroy(&mut self, wl_region: WlRegion) {
+            let _ = wl_region;
+        }
+
+        /// Adds a rectangle.
+        fn add(&mut self, wl_region: WlRegion, x: i32, y: i32, width: i32, height: i32) {
+            let _ = (wl_region, x, y, width, height);
+        }
+
+        /// Takes a rectangle away.
+        fn subtract(&mut self, wl_region: WlRegion, x: i32, y: i32, width: i32, height: i32) {
+            let _ = (wl_region, x, y, width, height);
+        }
+    }
+
+    /// Calls the method of a request. False where the message is for another interface, or the
+    /// interface has no such request with these arguments: nothing is called then.
+    pub fn dispatch_request(
+        handler: &mut impl Requests,
+        tables: &waywire::Tables,
+        message: &impl waywire::Readable,
+    ) -> bool {
+        waywire::typed::is_for(tables, message, NAME) && request_of(handler, message).is_some()
+    }
+
+    fn request_of(handler: &mut impl Requests, message: &impl waywire::Readable) -> Option<()> {
+        let mut fields = waywire::typed::fields(message);
+        let target = WlRegion(message.target());
+        match message.opcode() {
+            request::DESTROY => handler.destroy(target),
+            request::ADD => handler.add(
+                target,
+                fields.int()?,
+                fields.int()?,
+                fields.int()?,
+                fields.int()?,
+            ),
+            request::SUBTRACT => handler.subtract(
+                target,
+                fields.int()?,
+                fields.int()?,
+                fields.int()?,
+                fields.int()?,
+            ),
+            _ => return None,
+        }
+        Some(())
+    }
+}
+
+/// The input devices of one user.
+pub mod wl_seat {
+    /// The name of the interface.
+    pub const NAME: &str = "wl_seat";
+
+    /// Its newest version.
+    pub const VERSION: u32 = 9;
+
+    /// The input devices of one user.
+    #[derive(Clone, Copy, Debug, PartialEq, Eq, Hash)]
+    pub struct WlSeat(pub waywire::Object);
+
+    impl waywire::Handle for WlSeat {
+        const NAME: &'static str = NAME;
+        const VERSION: u32 = VERSION;
+
+        fn of(object: waywire::Object) -> Self {
+            WlSeat(object)
+        }
+
+        fn object(self) -> waywire::Object {
+            self.0
+        }
+    }
+
+    /// The opcodes of the requests, and the versions that have them.
+    pub mod request {
+        pub const GET_POINTER: u16 = 0;
+        pub const GET_POINTER_SINCE: u32 = 1;
+        pub const GET_KEYBOARD: u16 = 1;
+        pub const GET_KEYBOARD_SINCE: u32 = 1;
+        pub const GET_TOUCH: u16 = 2;
+        pub const GET_TOUCH_SINCE: u32 = 1;
+        pub const RELEASE: u16 = 3;
+        pub const RELEASE_SINCE: u32 = 5;
+    }
+
+    /// The opcodes of the events, and the versions that have them.
+    pub mod event {
+        pub const CAPABILITIES: u16 = 0;
+        pub const CAPABILITIES_SINCE: u32 = 1;
+        pub const NAME: u16 = 1;
+        pub const NAME_SINCE: u32 = 2;
+    }
+
+    /// Bits that can be joined by `|`.
+    #[derive(Clone, Copy, Debug, PartialEq, Eq, Hash)]
+    pub struct Capability(pub u32);
+
+    impl Capability {
+        pub const POINTER: Capability = Capability(1);
+        pub const KEYBOARD: Capability = Capability(2);
+        pub const TOUCH: Capability = Capability(4);
+
+        /// Whether it has all bits of the other.
+        pub fn contains(self, other: Capability) -> bool {
+            self.0 & other.0 == other.0
+        }
+    }
+
+    impl std::ops::BitOr for Capability {
+        type Output = Capability;
+
+        fn bitor(self, other: Capability) -> Capability {
+            Capability(self.0 | other.0)
+        }
+    }
+
+    /// A number that has no name here may come.
+    #[derive(Clone, Copy, Debug, PartialEq, Eq, Hash)]
+    pub struct Error(pub u32);
+
+    impl Error {
+        pub const MISSING_CAPABILITY: Error = Error(0);
+    }
+
+    impl WlSeat {
+        /// Makes the pointer.
+        pub fn get_pointer(
+            self,
+            client: &mut waywire::Client,
+        ) -> Result<super::wl_pointer::WlPointer, waywire::SendError> {
+            waywire::typed::make(client, self.0, request::GET_POINTER, &[waywire::Arg::NewId])
+        }
+
+        /// Makes the keyboard.
+        pub fn get_keyboard(
+            self,
+            client: &mut waywire::Client,
+        ) -> Result<super::wl_keyboard::WlKeyboard, waywire::SendError> {
+            waywire::typed::make(client, self.0, request::GET_KEYBOARD, &[waywire::Arg::NewId])
+        }
+
+        /// Makes the touch device.
+        pub fn get_touch(
+            self,
+            client: &mut waywire::Client,
+        ) -> Result<super::wl_touch::WlTouch, waywire::SendError> {
+            waywire::typed::make(client, self.0, request::GET_TOUCH, &[waywire::Arg::NewId])
+        }
+
+        /// The client is done with the object.
+        ///
+        /// It destroys the object. Since version 5.
+        pub fn release(self, client: &mut waywire::Client) -> Result<(), waywire::SendError> {
+            waywire::typed::send(client, self.0, request::RELEASE, &[])
+        }
+
+        /// Which devices there are now.
+        pub fn send_capabilities(
+            self,
+            server: &mut waywire::Server,
+            capabilities: Capability,
+        ) -> Result<(), waywire::SendError> {
+            waywire::typed::send_at_server(
+                server,
+                self.0,
+                event::CAPABILITIES,
+                &[waywire::Arg::Uint(capabilities.0)],
+            )
+        }
+
+        /// The name of the seat.
+        ///
+        /// Since version 2.
+        pub fn send_name(
+            self,
+            server: &mut waywire::Server,
+            name: impl AsRef<[u8]>,
+        ) -> Result<(), waywire::SendError> {
+            let args = [waywire::Arg::Str(Some(name.as_ref()))];
+            waywire::typed::send_at_server(server, self.0, event::NAME, &args)
+        }
+    }
+
+    /// What becomes of the events. A method that is not written does nothing.
+    pub trait Events {
+        /// Which devices there are now.
+        fn capabilities(&mut self, wl_seat: WlSeat, capabilities: Capability) {
+            let _ = (wl_seat, capabilities);
+        }
+
+        /// The name of the seat.
+        ///
+        /// Since version 2.
+        fn name(&mut self, wl_seat: WlSeat, name: &[u8]) {
+            let _ = (wl_seat, name);
+        }
+    }
+
+    /// Calls the method of an event. False where the message is for another interface, or the
+    /// interface has no such event with these arguments: nothing is called then.
+    pub fn dispatch_event(
+        handler: &mut impl Events,
+        tables: &waywire::Tables,
+        message: &impl waywire::Readable,
+    ) -> bool {
+        waywire::typed::is_for(tables, message, NAME) && event_of(handler, message).is_some()
+    }
+
+    fn event_of(handler: &mut impl Events, message: &impl waywire::Readable) -> Option<()> {
+        let mut fields = waywire::typed::fields(message);
+        let target = WlSeat(message.target());
+        match message.opcode() {
+            event::CAPABILITIES => handler.capabilities(target, Capability(fields.uint()?)),
+            event::NAME => handler.name(target, fields.string()?),
+            _ => return None,
+        }
+        Some(())
+    }
+
+    /// What becomes of the requests. A method that is not written does nothing.
+    pub trait Requests {
+        /// Makes the pointer.
+        fn get_pointer(&mut self, wl_seat: WlSeat, id: super::wl_pointer::WlPointer) {
+            let _ = (wl_seat, id);
+        }
+
+        /// Makes the keyboard.
+        fn get_keyboard(&mut self, wl_seat: WlSeat, id: super::wl_keyboard::WlKeyboard) {
+            let _ = (wl_seat, id);
+        }
+
+        /// Makes the touch device.
+        fn get_touch(&mut self, wl_seat: WlSeat, id: super::wl_touch::WlTouch) {
+            let _ = (wl_seat, id);
+        }
+
+        /// The client is done with the object.
+        ///
+        /// It destroys the object. Since version 5.
+        fn release(&mut self, wl_seat: WlSeat) {
+            let _ = wl_seat;
+        }
+    }
+
+    /// Calls the method of a request. False where the message is for another interface, or the
+    /// interface has no such request with these arguments: nothing is called then.
+    pub fn dispatch_request(
+        handler: &mut impl Requests,
+        tables: &waywire::Tables,
+        message: &impl waywire::Readable,
+    ) -> bool {
+        waywire::typed::is_for(tables, message, NAME) && request_of(handler, message).is_some()
+    }
+
+    fn request_of(handler: &mut impl Requests, message: &impl waywire::Readable) -> Option<()> {
+        let mut fields = waywire::typed::fields(message);
+        let target = WlSeat(message.target());
+        match message.opcode() {
+            request::GET_POINTER => handler.get_pointer(
+                target,
+                super::wl_pointer::WlPointer(fields.new_object()?),
+            ),
+            request::GET_KEYBOARD => handler.get_keyboard(
+                target,
+                super::wl_keyboard::WlKeyboard(fields.new_object()?),
+            ),
+            request::GET_TOUCH => handler.get_touch(
+                target,
+                super::wl_touch::WlTouch(fields.new_object()?),
+            ),
+            request::RELEASE => handler.release(target),
+            _ => return None,
+        }
+        Some(())
+    }
+}
+
+/// A mouse or the like.
+pub mod wl_pointer {
+    /// The name of the interface.
+    pub const NAME: &str = "wl_pointer";
+
+    /// Its newest version.
+    pub const VERSION: u32 = 9;
+
+    /// A mouse or the like.
+    #[derive(Clone, Copy, Debug, PartialEq, Eq, Hash)]
+    pub struct WlPointer(pub waywire::Object);
+
+    impl waywire::Handle for WlPointer {
+        const NAME: &'static str = NAME;
+        const VERSION: u32 = VERSION;
+
+        fn of(object: waywire::Object) -> Self {
+            WlPointer(object)
+        }
+
+        fn object(self) -> waywire::Object {
+            self.0
+        }
+    }
+
+    /// The opcodes of the requests, and the versions that have them.
+    pub mod request {
+        pub const SET_CURSOR: u16 = 0;
+        pub const SET_CURSOR_SINCE: u32 = 1;
+        pub const RELEASE: u16 = 1;
+        pub const RELEASE_SINCE: u32 = 3;
+    }
+
+    /// The opcodes of the events, and the versions that have them.
+    pub mod event {
+        pub const ENTER: u16 = 0;
+        pub const ENTER_SINCE: u32 = 1;
+        pub const LEAVE: u16 = 1;
+        pub const LEAVE_SINCE: u32 = 1;
+        pub const MOTION: u16 = 2;
+        pub const MOTION_SINCE: u32 = 1;
+        pub const BUTTON: u16 = 3;
+        pub const BUTTON_SINCE: u32 = 1;
+        pub const AXIS: u16 = 4;
+        pub const AXIS_SINCE: u32 = 1;
+        pub const FRAME: u16 = 5;
+        pub const FRAME_SINCE: u32 = 5;
+        pub const AXIS_SOURCE: u16 = 6;
+        pub const AXIS_SOURCE_SINCE: u32 = 5;
+        pub const AXIS_STOP: u16 = 7;
+        pub const AXIS_STOP_SINCE: u32 = 5;
+        pub const AXIS_DISCRETE: u16 = 8;
+        pub const AXIS_DISCRETE_SINCE: u32 = 5;
+        pub const AXIS_VALUE120: u16 = 9;
+        pub const AXIS_VALUE120_SINCE: u32 = 8;
+        pub const AXIS_RELATIVE_DIRECTION: u16 = 10;
+        pub const AXIS_RELATIVE_DIRECTION_SINCE: u32 = 9;
+    }
+
+    /// A number that has no name here may come.
+    #[derive(Clone, Copy, Debug, PartialEq, Eq, Hash)]
+    pub struct Error(pub u32);
+
+    impl Error {
+        pub const ROLE: Error = Error(0);
+    }
+
+    /// A number that has no name here may come.
+    #[derive(Clone, Copy, Debug, PartialEq, Eq, Hash)]
+    pub struct ButtonState(pub u32);
+
+    impl ButtonState {
+        pub const RELEASED: ButtonState = ButtonState(0);
+        pub const PRESSED: ButtonState = ButtonState(1);
+    }
+
+    /// A number that has no name here may come.
+    #[derive(Clone, Copy, Debug, PartialEq, Eq, Hash)]
+    pub struct Axis(pub u32);
+
+    impl Axis {
+        pub const VERTICAL_SCROLL: Axis = Axis(0);
+        pub const HORIZONTAL_SCROLL: Axis = Axis(1);
+    }
+
+    /// A number that has no name here may come.
+    #[derive(Clone, Copy, Debug, PartialEq, Eq, Hash)]
+    pub struct AxisSource(pub u32);
+
+    impl AxisSource {
+        pub const WHEEL: AxisSource = AxisSource(0);
+        pub const FINGER: AxisSource = AxisSource(1);
+        pub const CONTINUOUS: AxisSource = AxisSource(2);
+        /// Since version 6.
+        pub const WHEEL_TILT: AxisSource = AxisSource(3);
+    }
+
+    impl WlPointer {
+        /// Sets the surface that shows the pointer.
+        pub fn set_cursor(
+            self,
+            client: &mut waywire::Client,
+            serial: u32,
+            surface: Option<super::wl_surface::WlSurface>,
+            hotspot_x: i32,
+            hotspot_y: i32,
+        ) -> Result<(), waywire::SendError> {
+            let args = [
+                waywire::Arg::Uint(serial),
+                waywire::Arg::Object(surface.map(|it| it.0)),
+                waywire::Arg::Int(hotspot_x),
+                waywire::Arg::Int(hotspot_y),
+            ];
+            waywire::typed::send(client, self.0, request::SET_CURSOR, &args)
+        }
+
+        /// The client is done with the object.
+        ///
+        /// It destroys the object. Since version 3.
+        pub fn release(self, client: &mut waywire::Client) -> Result<(), waywire::SendError> {
+            waywire::typed::send(client, self.0, request::RELEASE, &[])
+        }
+
+        /// The pointer came onto a surface.
+        pub fn send_enter(
+            self,
+            server: &mut waywire::Server,
+            serial: u32,
+            surface: super::wl_surface::WlSurface,
+            surface_x: waywire::Fixed,
+            surface_y: waywire::Fixed,
+        ) -> Result<(), waywire::SendError> {
+            let args = [
+                waywire::Arg::Uint(serial),
+                waywire::Arg::Object(Some(surface.0)),
+                waywire::Arg::Fixed(surface_x),
+                waywire::Arg::Fixed(surface_y),
+            ];
+            waywire::typed::send_at_server(server, self.0, event::ENTER, &args)
+        }
+
+        /// The pointer left a surface.
+        pub fn send_leave(
+            self,
+            server: &mut waywire::Server,
+            serial: u32,
+            surface: super::wl_surface::WlSurface,
+        ) -> Result<(), waywire::SendError> {
+            let args = [waywire::Arg::Uint(serial), waywire::Arg::Object(Some(surface.0))];
+            waywire::typed::send_at_server(server, self.0, event::LEAVE, &args)
+        }
+
+        /// The pointer moved.
+        pub fn send_motion(
+            self,
+            server: &mut waywire::Server,
+            time: u32,
+            surface_x: waywire::Fixed,
+            surface_y: waywire::Fixed,
+        ) -> Result<(), waywire::SendError> {
+            let args = [
+                waywire::Arg::Uint(time),
+                waywire::Arg::Fixed(surface_x),
+                waywire::Arg::Fixed(surface_y),
+            ];
+            waywire::typed::send_at_server(server, self.0, event::MOTION, &args)
+        }
+
+        /// A button went down or up.
+        pub fn send_button(
+            self,
+            server: &mut waywire::Server,
+            serial: u32,
+            time: u32,
+            button: u32,
+            state: ButtonState,
+        ) -> Result<(), waywire::SendError> {
+            let args = [
+                waywire::Arg::Uint(serial),
+                waywire::Arg::Uint(time),
+                waywire::Arg::Uint(button),
+                waywire::Arg::Uint(state.0),
+            ];
+            waywire::typed::send_at_server(server, self.0, event::BUTTON, &args)
+        }
+
+        /// A scroll by a distance.
+        pub fn send_axis(
+            self,
+            server: &mut waywire::Server,
+            time: u32,
+            axis: Axis,
+            value: waywire::Fixed,
+        ) -> Result<(), waywire::SendError> {
+            let args = [
+                waywire::Arg::Uint(time),
+                waywire::Arg::Uint(axis.0),
+                waywire::Arg::Fixed(value),
+            ];
+            waywire::typed::send_at_server(server, self.0, event::AXIS, &args)
+        }
+
+        /// The end of events that belong together.
+        ///
+        /// Since version 5.
+        pub fn send_frame(self, server: &mut waywire::Server) -> Result<(), waywire::SendError> {
+            waywire::typed::send_at_server(server, self.0, event::FRAME, &[])
+        }
+
+        /// What the scroll comes from.
+        ///
+        /// Since version 5.
+        pub fn send_axis_source(
+            self,
+            server: &mut waywire::Server,
+            axis_source: AxisSource,
+        ) -> Result<(), waywire::SendError> {
+            waywire::typed::send_at_server(
+                server,
+                self.0,
+                event::AXIS_SOURCE,
+                &[waywire::Arg::Uint(axis_source.0)],
+            )
+        }
+
+        /// The scroll ended.
+        ///
+        /// Since version 5.
+        pub fn send_axis_stop(
+            self,
+            server: &mut waywire::Server,
+            time: u32,
+            axis: Axis,
+        ) -> Result<(), waywire::SendError> {
+            let args = [waywire::Arg::Uint(time), waywire::Arg::Uint(axis.0)];
+            waywire::typed::send_at_server(server, self.0, event::AXIS_STOP, &args)
+        }
+
+        /// A scroll by whole clicks of a wheel.
+        ///
+        /// Since version 5.
+        pub fn send_axis_discrete(
+            self,
+            server: &mut waywire::Server,
+            axis: Axis,
+            discrete: i32,
+        ) -> Result<(), waywire::SendError> {
+            let args = [waywire::Arg::Uint(axis.0), waywire::Arg::Int(discrete)];
+            waywire::typed::send_at_server(server, self.0, event::AXIS_DISCRETE, &args)
+        }
+
+        /// A scroll in 120ths of a click.
+        ///
+        /// Since version 8.
+        pub fn send_axis_value120(
+            self,
+            server: &mut waywire::Server,
+            axis: Axis,
+            value120: i32,
+        ) -> Result<(), waywire::SendError> {
+            let args = [waywire::Arg::Uint(axis.0), waywire::Arg::Int(value120)];
+            waywire::typed::send_at_server(server, self.0, event::AXIS_VALUE120, &args)
+        }
+
+        /// How the scroll relates to the finger's motion.
+        ///
+        /// Since version 9.
+        pub fn send_axis_relative_direction(
+            self,
+            server: &mut waywire::Server,
+            axis: u32,
+            direction: u32,
+        ) -> Result<(), waywire::SendError> {
+            let args = [waywire::Arg::Uint(axis), waywire::Arg::Uint(direction)];
+            waywire::typed::send_at_server(server, self.0, event::AXIS_RELATIVE_DIRECTION, &args)
+        }
+    }
+
+    /// What becomes of the events. A method that is not written does nothing.
+    pub trait Events {
+        /// The pointer came onto a surface.
+        fn enter(
+            &mut self,
+            wl_pointer: WlPointer,
+            serial: u32,
+            surface: super::wl_surface::WlSurface,
+            surface_x: waywire::Fixed,
+            surface_y: waywire::Fixed,
+        ) {
+            let _ = (wl_pointer, serial, surface, surface_x, surface_y);
+        }
+
+        /// The pointer left a surface.
+        fn leave(
+            &mut self,
+            wl_pointer: WlPointer,
+            serial: u32,
+            surface: super::wl_surface::WlSurface,
+        ) {
+            let _ = (wl_pointer, serial, surface);
+        }
+
+        /// The pointer moved.
+        fn motion(
+            &mut self,
+            wl_pointer: WlPointer,
+            time: u32,
+            surface_x: waywire::Fixed,
+            surface_y: waywire::Fixed,
+        ) {
+            let _ = (wl_pointer, time, surface_x, surface_y);
+        }
+
+        /// A button went down or up.
+        fn button(
+            &mut self,
+            wl_pointer: WlPointer,
+            serial: u32,
+            time: u32,
+            button: u32,
+            state: ButtonState,
+        ) {
+            let _ = (wl_pointer, serial, time, button, state);
+        }
+
+        /// A scroll by a distance.
+        fn axis(&mut self, wl_pointer: WlPointer, time: u32, axis: Axis, value: waywire::Fixed) {
+            let _ = (wl_pointer, time, axis, value);
+        }
+
+        /// The end of events that belong together.
+        ///
+        /// Since version 5.
+        fn frame(&mut self, wl_pointer: WlPointer) {
+            let _ = wl_pointer;
+        }
+
+        /// What the scroll comes from.
+        ///
+        /// Since version 5.
+        fn axis_source(&mut self, wl_pointer: WlPointer, axis_source: AxisSource) {
+            let _ = (wl_pointer, axis_source);
+        }
+
+        /// The scroll ended.
+        ///
+        /// Since version 5.
+        fn axis_stop(&mut self, wl_pointer: WlPointer, time: u32, axis: Axis) {
+            let _ = (wl_pointer, time, axis);
+        }
+
+        /// A scroll by whole clicks of a wheel.
+        ///
+        /// Since version 5.
+        fn axis_discrete(&mut self, wl_pointer: WlPointer, axis: Axis, discrete: i32) {
+            let _ = (wl_pointer, axis, discrete);
+        }
+
+        /// A scroll in 120ths of a click.
+        ///
+        /// Since version 8.
+        fn axis_value120(&mut self, wl_pointer: WlPointer, axis: Axis, value120: i32) {
+            let _ = (wl_pointer, axis, value120);
+        }
+
+        /// How the scroll relates to the finger's motion.
+        ///
+        /// Since version 9.
+        fn axis_relative_direction(&mut self, wl_pointer: WlPointer, axis: u32, direction: u32) {
+            let _ = (wl_pointer, axis, direction);
+        }
+    }
+
+    /// Calls the method of an event. False where the message is for another interface, or the
+    /// interface has no such event with these arguments: nothing is called then.
+    pub fn dispatch_event(
+        handler: &mut impl Events,
+        tables: &waywire::Tables,
+        message: &impl waywire::Readable,
+    ) -> bool {
+        waywire::typed::is_for(tables, message, NAME) && event_of(handler, message).is_some()
+    }
+
+    fn event_of(handler: &mut impl Events, message: &impl waywire::Readable) -> Option<()> {
+        let mut fields = waywire::typed::fields(message);
+        let target = WlPointer(message.target());
+        match message.opcode() {
+            event::ENTER => handler.enter(
+                target,
+                fields.uint()?,
+                super::wl_surface::WlSurface(fields.object()?),
+                fields.fixed()?,
+                fields.fixed()?,
+            ),
+            event::LEAVE => handler.leave(
+                target,
+                fields.uint()?,
+                super::wl_surface::WlSurface(fields.object()?),
+            ),
+            event::MOTION => handler.motion(
+                target,
+                fields.uint()?,
+                fields.fixed()?,
+                fields.fixed()?,
+            ),
+            event::BUTTON => handler.button(
+                target,
+                fields.uint()?,
+                fields.uint()?,
+                fields.uint()?,
+                ButtonState(fields.uint()?),
+            ),
+            event::AXIS => handler.axis(
+                target,
+                fields.uint()?,
+                Axis(fields.uint()?),
+                fields.fixed()?,
+            ),
+            event::FRAME => handler.frame(target),
+            event::AXIS_SOURCE => handler.axis_source(target, AxisSource(fields.uint()?)),
+            event::AXIS_STOP => handler.axis_stop(target, fields.uint()?, Axis(fields.uint()?)),
+            event::AXIS_DISCRETE => handler.axis_discrete(
+                target,
+                Axis(fields.uint()?),
+                fields.int()?,
+            ),
+            event::AXIS_VALUE120 => handler.axis_value120(
+                target,
+                Axis(fields.uint()?),
+                fields.int()?,
+            ),
+            event::AXIS_RELATIVE_DIRECTION => handler.axis_relative_direction(
+                target,
+                fields.uint()?,
+                fields.uint()?,
+            ),
+            _ => return None,
+        }
+        Some(())
+    }
+
+    /// What becomes of the requests. A method that is not written does nothing.
+    pub trait Requests {
+        /// Sets the surface that shows the pointer.
+        fn set_cursor(
+            &mut self,
+            wl_pointer: WlPointer,
+            serial: u32,
+            surface: Option<super::wl_surface::WlSurface>,
+            hotspot_x: i32,
+            hotspot_y: i32,
+        ) {
+            let _ = (wl_pointer, serial, surface, hotspot_x, hotspot_y);
+        }
+
+        /// The client is done with the object.
+        ///
+        /// It destroys the object. Since version 3.
+        fn release(&mut self, wl_pointer: WlPointer) {
+            let _ = wl_pointer;
+        }
+    }
+
+    /// Calls the method of a request. False where the message is for another interface, or the
+    /// interface has no such request with these arguments: nothing is called then.
+    pub fn dispatch_request(
+        handler: &mut impl Requests,
+        tables: &waywire::Tables,
+        message: &impl waywire::Readable,
+    ) -> bool {
+        waywire::typed::is_for(tables, message, NAME) && request_of(handler, message).is_some()
+    }
+
+    fn request_of(handler: &mut impl Requests, message: &impl waywire::Readable) -> Option<()> {
+        let mut fields = waywire::typed::fields(message);
+        let target = WlPointer(message.target());
+        match message.opcode() {
+            request::SET_CURSOR => handler.set_cursor(
+                target,
+                fields.uint()?,
+                fields.nullable_object()?.map(super::wl_surface::WlSurface),
+                fields.int()?,
+                fields.int()?,
+            ),
+            request::RELEASE => handler.release(target),
+            _ => return None,
+        }
+        Some(())
+    }
+}
+
+/// A keyboard.
+pub mod wl_keyboard {
+    /// The name of the interface.
+    pub const NAME: &str = "wl_keyboard";
+
+    /// Its newest version.
+    pub const VERSION: u32 = 9;
+
+    /// A keyboard.
+    #[derive(Clone, Copy, Debug, PartialEq, Eq, Hash)]
+    pub struct WlKeyboard(pub waywire::Object);
+
+    impl waywire::Handle for WlKeyboard {
+        const NAME: &'static str = NAME;
+        const VERSION: u32 = VERSION;
+
+        fn of(object: waywire::Object) -> Self {
+            WlKeyboard(object)
+        }
+
+        fn object(self) -> waywire::Object {
+            self.0
+        }
+    }
+
+    /// The opcodes of the requests, and the versions that have them.
+    pub mod request {
+        pub const RELEASE: u16 = 0;
+        pub const RELEASE_SINCE: u32 = 3;
+    }
+
+    /// The opcodes of the events, and the versions that have them.
+    pub mod event {
+        pub const KEYMAP: u16 = 0;
+        pub const KEYMAP_SINCE: u32 = 1;
+        pub const ENTER: u16 = 1;
+        pub const ENTER_SINCE: u32 = 1;
+        pub const LEAVE: u16 = 2;
+        pub const LEAVE_SINCE: u32 = 1;
+        pub const KEY: u16 = 3;
+        pub const KEY_SINCE: u32 = 1;
+        pub const MODIFIERS: u16 = 4;
+        pub const MODIFIERS_SINCE: u32 = 1;
+        pub const REPEAT_INFO: u16 = 5;
+        pub const REPEAT_INFO_SINCE: u32 = 4;
+    }
+
+    /// A number that has no name here may come.
+    #[derive(Clone, Copy, Debug, PartialEq, Eq, Hash)]
+    pub struct KeymapFormat(pub u32);
+
+    impl KeymapFormat {
+        pub const NO_KEYMAP: KeymapFormat = KeymapFormat(0);
+        pub const XKB_V1: KeymapFormat = KeymapFormat(1);
+    }
+
+    /// A number that has no name here may come.
+    #[derive(Clone, Copy, Debug, PartialEq, Eq, Hash)]
+    pub struct KeyState(pub u32);
+
+    impl KeyState {
+        pub const RELEASED: KeyState = KeyState(0);
+        pub const PRESSED: KeyState = KeyState(1);
+    }
+
+    impl WlKeyboard {
+        /// The client is done with the object.
+        ///
+        /// It destroys the object. Since version 3.
+        pub fn release(self, client: &mut waywire::Client) -> Result<(), waywire::SendError> {
+            waywire::typed::send(client, self.0, request::RELEASE, &[])
+        }
+
+        /// The keymap, behind a descriptor.
+        pub fn send_keymap(
+            self,
+            server: &mut waywire::Server,
+            format: KeymapFormat,
+            fd: u32,
+            size: u32,
+        ) -> Result<(), waywire::SendError> {
+            let args = [
+                waywire::Arg::Uint(format.0),
+                waywire::Arg::Fd(fd),
+                waywire::Arg::Uint(size),
+            ];
+            waywire::typed::send_at_server(server, self.0, event::KEYMAP, &args)
+        }
+
+        /// A surface got the keyboard, with these keys down.
+        pub fn send_enter(
+            self,
+            server: &mut waywire::Server,
+            serial: u32,
+            surface: super::wl_surface::WlSurface,
+            keys: impl AsRef<[u8]>,
+        ) -> Result<(), waywire::SendError> {
+            let args = [
+                waywire::Arg::Uint(serial),
+                waywire::Arg::Object(Some(surface.0)),
+                waywire::Arg::Array(keys.as_ref()),
+            ];
+            waywire::typed::send_at_server(server, self.0, event::ENTER, &args)
+        }
+
+        /// A surface lost the keyboard.
+        pub fn send_leave(
+            self,
+            server: &mut waywire::Server,
+            serial: u32,
+            surface: super::wl_surface::WlSurface,
+        ) -> Result<(), waywire::SendError> {
+            let args = [waywire::Arg::Uint(serial), waywire::Arg::Object(Some(surface.0))];
+            waywire::typed::send_at_server(server, self.0, event::LEAVE, &args)
+        }
+
+        /// A key went down or up.
+        pub fn send_key(
+            self,
+            server: &mut waywire::Server,
+            serial: u32,
+            time: u32,
+            key: u32,
+            state: KeyState,
+        ) -> Result<(), waywire::SendError> {
+            let args = [
+                waywire::Arg::Uint(serial),
+                waywire::Arg::Uint(time),
+                waywire::Arg::Uint(key),
+                waywire::Arg::Uint(state.0),
+            ];
+            waywire::typed::send_at_server(server, self.0, event::KEY, &args)
+        }
+
+        /// The modifiers and the group changed.
+        pub fn send_modifiers(
+            self,
+            server: &mut waywire::Server,
+            serial: u32,
+            mods_depressed: u32,
+            mods_latched: u32,
+            mods_locked: u32,
+            group: u32,
+        ) -> Result<(), waywire::SendError> {
+            let args = [
+                waywire::Arg::Uint(serial),
+                waywire::Arg::Uint(mods_depressed),
+                waywire::Arg::Uint(mods_latched),
+                waywire::Arg::Uint(mods_locked),
+                waywire::Arg::Uint(group),
+            ];
+            waywire::typed::send_at_server(server, self.0, event::MODIFIERS, &args)
+        }
+
+        /// How keys repeat: keys a second, and milliseconds before.
+        ///
+        /// Since version 4.
+        pub fn send_repeat_info(
+            self,
+            server: &mut waywire::Server,
+            rate: i32,
+            delay: i32,
+        ) -> Result<(), waywire::SendError> {
+            let args = [waywire::Arg::Int(rate), waywire::Arg::Int(delay)];
+            waywire::typed::send_at_server(server, self.0, event::REPEAT_INFO, &args)
+        }
+    }
+
+    /// What becomes of the events. A method that is not written does nothing.
+    pub trait Events {
+        /// The keymap, behind a descriptor.
+        fn keymap(&mut self, wl_keyboard: WlKeyboard, format: KeymapFormat, fd: u32, size: u32) {
+            let _ = (wl_keyboard, format, fd, size);
+        }
+
+        /// A surface got the keyboard, with these keys down.
+        fn enter(
+            &mut self,
+            wl_keyboard: WlKeyboard,
+            serial: u32,
+            surface: super::wl_surface::WlSurface,
+            keys: &[u8],
+        ) {
+            let _ = (wl_keyboard, serial, surface, keys);
+        }
+
+        /// A surface lost the keyboard.
+        fn leave(
+            &mut self,
+            wl_keyboard: WlKeyboard,
+            serial: u32,
+            surface: super::wl_surface::WlSurface,
+        ) {
+            let _ = (wl_keyboard, serial, surface);
+        }
+
+        /// A key went down or up.
+        fn key(
+            &mut self,
+            wl_keyboard: WlKeyboard,
+            serial: u32,
+            time: u32,
+            key: u32,
+            state: KeyState,
+        ) {
+            let _ = (wl_keyboard, serial, time, key, state);
+        }
+
+        /// The modifiers and the group changed.
+        fn modifiers(
+            &mut self,
+            wl_keyboard: WlKeyboard,
+            serial: u32,
+            mods_depressed: u32,
+            mods_latched: u32,
+            mods_locked: u32,
+            group: u32,
+        ) {
+            let _ = (wl_keyboard, serial, mods_depressed, mods_latched, mods_locked, group);
+        }
+
+        /// How keys repeat: keys a second, and milliseconds before.
+        ///
+        /// Since version 4.
+        fn repeat_info(&mut self, wl_keyboard: WlKeyboard, rate: i32, delay: i32) {
+            let _ = (wl_keyboard, rate, delay);
+        }
+    }
+
+    /// Calls the method of an event. False where the message is for another interface, or the
+    /// interface has no such event with these arguments: nothing is called then.
+    pub fn dispatch_event(
+        handler: &mut impl Events,
+        tables: &waywire::Tables,
+        message: &impl waywire::Readable,
+    ) -> bool {
+        waywire::typed::is_for(tables, message, NAME) && event_of(handler, message).is_some()
+    }
+
+    fn event_of(handler: &mut impl Events, message: &impl waywire::Readable) -> Option<()> {
+        let mut fields = waywire::typed::fields(message);
+        let target = WlKeyboard(message.target());
+        match message.opcode() {
+            event::KEYMAP => handler.keymap(
+                target,
+                KeymapFormat(fields.uint()?),
+                fields.fd()?,
+                fields.uint()?,
+            ),
+            event::ENTER => handler.enter(
+                target,
+                fields.uint()?,
+                super::wl_surface::WlSurface(fields.object()?),
+                fields.array()?,
+            ),
+            event::LEAVE => handler.leave(
+                target,
+                fields.uint()?,
+                super::wl_surface::WlSurface(fields.object()?),
+            ),
+            event::KEY => handler.key(
+                target,
+                fields.uint()?,
+                fields.uint()?,
+                fields.uint()?,
+                KeyState(fields.uint()?),
+            ),
+            event::MODIFIERS => handler.modifiers(
+                target,
+                fields.uint()?,
+                fields.uint()?,
+                fields.uint()?,
+                fields.uint()?,
+                fields.uint()?,
+            ),
+            event::REPEAT_INFO => handler.repeat_info(target, fields.int()?, fields.int()?),
+            _ => return None,
+        }
+        Some(())
+    }
+
+    /// What becomes of the requests. A method that is not written does nothing.
+    pub trait Requests {
+        /// The client is done with the object.
+        ///
+        /// It destroys the object. Since version 3.
+        fn release(&mut self, wl_keyboard: WlKeyboard) {
+            let _ = wl_keyboard;
+        }
+    }
+
+    /// Calls the method of a request. False where the message is for another interface, or the
+    /// interface has no such request with these arguments: nothing is called then.
+    pub fn dispatch_request(
+        handler: &mut impl Requests,
+        tables: &waywire::Tables,
+        message: &impl waywire::Readable,
+    ) -> bool {
+        waywire::typed::is_for(tables, message, NAME) && request_of(handler, message).is_some()
+    }
+
+    fn request_of(handler: &mut impl Requests, message: &impl waywire::Readable) -> Option<()> {
+        let target = WlKeyboard(message.target());
+        match message.opcode() {
+            request::RELEASE => handler.release(target),
+            _ => return None,
+        }
+        Some(())
+    }
+}
+
+/// A touch screen.
+pub mod wl_touch {
+    /// The name of the interface.
+    pub const NAME: &str = "wl_touch";
+
+    /// Its newest version.
+    pub const VERSION: u32 = 9;
+
+    /// A touch screen.
+    #[derive(Clone, Copy, Debug, PartialEq, Eq, Hash)]
+    pub struct WlTouch(pub waywire::Object);
+
+    impl waywire::Handle for WlTouch {
+        const NAME: &'static str = NAME;
+        const VERSION: u32 = VERSION;
+
+        fn of(object: waywire::Object) -> Self {
+            WlTouch(object)
+        }
+
+        fn object(self) -> waywire::Object {
+            self.0
+        }
+    }
+
+    /// The opcodes of the requests, and the versions that have them.
+    pub mod request {
+        pub const RELEASE: u16 = 0;
+        pub const RELEASE_SINCE: u32 = 3;
+    }
+
+    /// The opcodes of the events, and the versions that have them.
+    pub mod event {
+        pub const DOWN: u16 = 0;
+        pub const DOWN_SINCE: u32 = 1;
+        pub const UP: u16 = 1;
+        pub const UP_SINCE: u32 = 1;
+        pub const MOTION: u16 = 2;
+        pub const MOTION_SINCE: u32 = 1;
+        pub const FRAME: u16 = 3;
+        pub const FRAME_SINCE: u32 = 1;
+        pub const CANCEL: u16 = 4;
+        pub const CANCEL_SINCE: u32 = 1;
+        pub const SHAPE: u16 = 5;
+        pub const SHAPE_SINCE: u32 = 6;
+        pub const ORIENTATION: u16 = 6;
+        pub const ORIENTATION_SINCE: u32 = 6;
+    }
+
+    impl WlTouch {
+        /// The client is done with the object.
+        ///
+        /// It destroys the object. Since version 3.
+        pub fn release(self, client: &mut waywire::Client) -> Result<(), waywire::SendError> {
+            waywire::typed::send(client, self.0, request::RELEASE, &[])
+        }
+
+        /// A touch point came onto a surface.
+        pub fn send_down(
+            self,
+            server: &mut waywire::Server,
+            serial: u32,
+            time: u32,
+            surface: super::wl_surface::WlSurface,
+            id: i32,
+            x: waywire::Fixed,
+            y: waywire::Fixed,
+        ) -> Result<(), waywire::SendError> {
+            let args = [
+                waywire::Arg::Uint(serial),
+                waywire::Arg::Uint(time),
+                waywire::Arg::Object(Some(surface.0)),
+                waywire::Arg::Int(id),
+                waywire::Arg::Fixed(x),
+                waywire::Arg::Fixed(y),
+            ];
+            waywire::typed::send_at_server(server, self.0, event::DOWN, &args)
+        }
+
+        /// A touch point is gone.
+        pub fn send_up(
+            self,
+            server: &mut waywire::Server,
+            serial: u32,
+            time: u32,
+            id: i32,
+        ) -> Result<(), waywire::SendError> {
+            let args = [
+                waywire::Arg::Uint(serial),
+                waywire::Arg::Uint(time),
+                waywire::Arg::Int(id),
+            ];
+            waywire::typed::send_at_server(server, self.0, event::UP, &args)
+        }
+
+        /// A touch point moved.
+        pub fn send_motion(
+            self,
+            server: &mut waywire::Server,
+            time: u32,
+            id: i32,
+            x: waywire::Fixed,
+            y: waywire::Fixed,
+        ) -> Result<(), waywire::SendError> {
+            let args = [
+                waywire::Arg::Uint(time),
+                waywire::Arg::Int(id),
+                waywire::Arg::Fixed(x),
+                waywire::Arg::Fixed(y),
+            ];
+            waywire::typed::send_at_server(server, self.0, event::MOTION, &args)
+        }
+
+        /// The end of events that belong together.
+        pub fn send_frame(self, server: &mut waywire::Server) -> Result<(), waywire::SendError> {
+            waywire::typed::send_at_server(server, self.0, event::FRAME, &[])
+        }
+
+        /// The touch points now belong to somebody else.
+        pub fn send_cancel(self, server: &mut waywire::Server) -> Result<(), waywire::SendError> {
+            waywire::typed::send_at_server(server, self.0, event::CANCEL, &[])
+        }
+
+        /// The shape of a touch point.
+        ///
+        /// Since version 6.
+        pub fn send_shape(
+            self,
+            server: &mut waywire::Server,
+            id: i32,
+            major: waywire::Fixed,
+            minor: waywire::Fixed,
+        ) -> Result<(), waywire::SendError> {
+            let args = [
+                waywire::Arg::Int(id),
+                waywire::Arg::Fixed(major),
+                waywire::Arg::Fixed(minor),
+            ];
+            waywire::typed::send_at_server(server, self.0, event::SHAPE, &args)
+        }
+
+        /// The direction of a touch point.
+        ///
+        /// Since version 6.
+        pub fn send_orientation(
+            self,
+            server: &mut waywire::Server,
+            id: i32,
+            orientation: waywire::Fixed,
+        ) -> Result<(), waywire::SendError> {
+            let args = [waywire::Arg::Int(id), waywire::Arg::Fixed(orientation)];
+            waywire::typed::send_at_server(server, self.0, event::ORIENTATION, &args)
+        }
+    }
+
+    /// What becomes of the events. A method that is not written does nothing.
+    pub trait Events {
+        /// A touch point came onto a surface.
+        fn down(
+            &mut self,
+            wl_touch: WlTouch,
+            serial: u32,
+            time: u32,
+            surface: super::wl_surface::WlSurface,
+            id: i32,
+            x: waywire::Fixed,
+            y: waywire::Fixed,
+        ) {
+            let _ = (wl_touch, serial, time, surface, id, x, y);
+        }
+
+        /// A touch point is gone.
+        fn up(&mut self, wl_touch: WlTouch, serial: u32, time: u32, id: i32) {
+            let _ = (wl_touch, serial, time, id);
+        }
+
+        /// A touch point moved.
+        fn motion(
+            &mut self,
+            wl_touch: WlTouch,
+            time: u32,
+            id: i32,
+            x: waywire::Fixed,
+            y: waywire::Fixed,
+        ) {
+            let _ = (wl_touch, time, id, x, y);
+        }
+
+        /// The end of events that belong together.
+        fn frame(&mut self, wl_touch: WlTouch) {
+            let _ = wl_touch;
+        }
+
+        /// The touch points now belong to somebody else.
+        fn cancel(&mut self, wl_touch: WlTouch) {
+            let _ = wl_touch;
+        }
+
+        /// The shape of a touch point.
+        ///
+        /// Since version 6.
+        fn shape(
+            &mut self,
+            wl_touch: WlTouch,
+            id: i32,
+            major: waywire::Fixed,
+            minor: waywire::Fixed,
+        ) {
+            let _ = (wl_touch, id, major, minor);
+        }
+
+        /// The direction of a touch point.
+        ///
+        /// Since version 6.
+        fn orientation(&mut self, wl_touch: WlTouch, id: i32, orientation: waywire::Fixed) {
+            let _ = (wl_touch, id, orientation);
+        }
+    }
+
+    /// Calls the method of an event. False where the message is for another interface, or the
+    /// interface has no such event with these arguments: nothing is called then.
+    pub fn dispatch_event(
+        handler: &mut impl Events,
+        tables: &waywire::Tables,
+        message: &impl waywire::Readable,
+    ) -> bool {
+        waywire::typed::is_for(tables, message, NAME) && event_of(handler, message).is_some()
+    }
+
+    fn event_of(handler: &mut impl Events, message: &impl waywire::Readable) -> Option<()> {
+        let mut fields = waywire::typed::fields(message);
+        let target = WlTouch(message.target());
+        match message.opcode() {
+            event::DOWN => handler.down(
+                target,
+                fields.uint()?,
+                fields.uint()?,
+                super::wl_surface::WlSurface(fields.object()?),
+                fields.int()?,
+                fields.fixed()?,
+                fields.fixed()?,
+            ),
+            event::UP => handler.up(target, fields.uint()?, fields.uint()?, fields.int()?),
+            event::MOTION => handler.motion(
+                target,
+                fields.uint()?,
+                fields.int()?,
+                fields.fixed()?,
+                fields.fixed()?,
+            ),
+            event::FRAME => handler.frame(target),
+            event::CANCEL => handler.cancel(target),
+            event::SHAPE => handler.shape(target, fields.int()?, fields.fixed()?, fields.fixed()?),
+            event::ORIENTATION => handler.orientation(target, fields.int()?, fields.fixed()?),
+            _ => return None,
+        }
+        Some(())
+    }
+
+    /// What becomes of the requests. A method that is not written does nothing.
+    pub trait Requests {
+        /// The client is done with the object.
+        ///
+        /// It destroys the object. Since version 3.
+        fn release(&mut self, wl_touch: WlTouch) {
+            let _ = wl_touch;
+        }
+    }
+
+    /// Calls the method of a request. False where the message is for another interface, or the
+    /// interface has no such request with these arguments: nothing is called then.
+    pub fn dispatch_request(
+        handler: &mut impl Requests,
+        tables: &waywire::Tables,
+        message: &impl waywire::Readable,
+    ) -> bool {
+        waywire::typed::is_for(tables, message, NAME) && request_of(handler, message).is_some()
+    }
+
+    fn request_of(handler: &mut impl Requests, message: &impl waywire::Readable) -> Option<()> {
+        let target = WlTouch(message.target());
+        match message.opcode() {
+            request::RELEASE => handler.release(target),
+            _ => return None,
+        }
+        Some(())
+    }
+}
+
+/// A screen.
+pub mod wl_output {
+    /// The name of the interface.
+    pub const NAME: &str = "wl_output";
+
+    /// Its newest version.
+    pub const VERSION: u32 = 4;
+
+    /// A screen.
+    #[derive(Clone, Copy, Debug, PartialEq, Eq, Hash)]
+    pub struct WlOutput(pub waywire::Object);
+
+    impl waywire::Handle for WlOutput {
+        const NAME: &'static str = NAME;
+        const VERSION: u32 = VERSION;
+
+        fn of(object: waywire::Object) -> Self {
+            WlOutput(object)
+        }
+
+        fn object(self) -> waywire::Object {
+            self.0
+        }
+    }
+
+    /// The opcodes of the requests, and the versions that have them.
+    pub mod request {
+        pub const RELEASE: u16 = 0;
+        pub const RELEASE_SINCE: u32 = 3;
+    }
+
+    /// The opcodes of the events, and the versions that have them.
+    pub mod event {
+        pub const GEOMETRY: u16 = 0;
+        pub const GEOMETRY_SINCE: u32 = 1;
+        pub const MODE: u16 = 1;
+        pub const MODE_SINCE: u32 = 1;
+        pub const DONE: u16 = 2;
+        pub const DONE_SINCE: u32 = 2;
+        pub const SCALE: u16 = 3;
+        pub const SCALE_SINCE: u32 = 2;
+        pub const NAME: u16 = 4;
+        pub const NAME_SINCE: u32 = 4;
+        pub const DESCRIPTION: u16 = 5;
+        pub const DESCRIPTION_SINCE: u32 = 4;
+    }
+
+    /// A number that has no name here may come.
+    #[derive(Clone, Copy, Debug, PartialEq, Eq, Hash)]
+    pub struct Subpixel(pub u32);
+
+    impl Subpixel {
+        pub const UNKNOWN: Subpixel = Subpixel(0);
+        pub const NONE: Subpixel = Subpixel(1);
+        pub const HORIZONTAL_RGB: Subpixel = Subpixel(2);
+        pub const HORIZONTAL_BGR: Subpixel = Subpixel(3);
+        pub const VERTICAL_RGB: Subpixel = Subpixel(4);
+        pub const VERTICAL_BGR: Subpixel = Subpixel(5);
+    }
+
+    /// A number that has no name here may come.
+    #[derive(Clone, Copy, Debug, PartialEq, Eq, Hash)]
+    pub struct Transform(pub u32);
+
+    impl Transform {
+        pub const NORMAL: Transform = Transform(0);
+        pub const _90: Transform = Transform(1);
+        pub const _180: Transform = Transform(2);
+        pub const _270: Transform = Transform(3);
+        pub const FLIPPED: Transform = Transform(4);
+        pub const FLIPPED_90: Transform = Transform(5);
+        pub const FLIPPED_180: Transform = Transform(6);
+        pub const FLIPPED_270: Transform = Transform(7);
+    }
+
+    /// Bits that can be joined by `|`.
+    #[derive(Clone, Copy, Debug, PartialEq, Eq, Hash)]
+    pub struct Mode(pub u32);
+
+    impl Mode {
+        pub const CURRENT: Mode = Mode(1);
+        pub const PREFERRED: Mode = Mode(2);
+
+        /// Whether it has all bits of the other.
+        pub fn contains(self, other: Mode) -> bool {
+            self.0 & other.0 == other.0
+        }
+    }
+
+    impl std::ops::BitOr for Mode {
+        type Output = Mode;
+
+        fn bitor(self, other: Mode) -> Mode {
+            Mode(self.0 | other.0)
+        }
+    }
+
+    impl WlOutput {
+        /// The client is done with the object.
+        ///
+        /// It destroys the object. Since version 3.
+        pub fn release(self, client: &mut waywire::Client) -> Result<(), waywire::SendError> {
+            waywire::typed::send(client, self.0, request::RELEASE, &[])
+        }
+
+        /// Where the output is, and what it is.
+        pub fn send_geometry(
+            self,
+            server: &mut waywire::Server,
+            x: i32,
+            y: i32,
+            physical_width: i32,
+            physical_height: i32,
+            subpixel: Subpixel,
+            make: impl AsRef<[u8]>,
+            model: impl AsRef<[u8]>,
+            transform: Transform,
+        ) -> Result<(), waywire::SendError> {
+            let args = [
+                waywire::Arg::Int(x),
+                waywire::Arg::Int(y),
+                waywire::Arg::Int(physical_width),
+                waywire::Arg::Int(physical_height),
+                waywire::Arg::Int(subpixel.0 as i32),
+                waywire::Arg::Str(Some(make.as_ref())),
+                waywire::Arg::Str(Some(model.as_ref())),
+                waywire::Arg::Int(transform.0 as i32),
+            ];
+            waywire::typed::send_at_server(server, self.0, event::GEOMETRY, &args)
+        }
+
+        /// A mode, and whether it is set or preferred.
+        pub fn send_mode(
+            self,
+            server: &mut waywire::Server,
+            flags: Mode,
+            width: i32,
+            height: i32,
+            refresh: i32,
+        ) -> Result<(), waywire::SendError> {
+            let args = [
+                waywire::Arg::Uint(flags.0),
+                waywire::Arg::Int(width),
+                waywire::Arg::Int(height),
+                waywire::Arg::Int(refresh),
+            ];
+            waywire::typed::send_at_server(server, self.0, event::MODE, &args)
+        }
+
+        /// The end of events that belong together.
+        ///
+        /// Since version 2.
+        pub fn send_done(self, server: &mut waywire::Server) -> Result<(), waywire::SendError> {
+            waywire::typed::send_at_server(server, self.0, event::DONE, &[])
+        }
+
+        /// The scale of the output.
+        ///
+        /// Since version 2.
+        pub fn send_scale(
+            self,
+            server: &mut waywire::Server,
+            factor: i32,
+        ) -> Result<(), waywire::SendError> {
+            waywire::typed::send_at_server(
+                server,
+                self.0,
+                event::SCALE,
+                &[waywire::Arg::Int(factor)],
+            )
+        }
+
+        /// The name of the output.
+        ///
+        /// Since version 4.
+        pub fn send_name(
+            self,
+            server: &mut waywire::Server,
+            name: impl AsRef<[u8]>,
+        ) -> Result<(), waywire::SendError> {
+            let args = [waywire::Arg::Str(Some(name.as_ref()))];
+            waywire::typed::send_at_server(server, self.0, event::NAME, &args)
+        }
+
+        /// The output in words.
+        ///
+        /// Since version 4.
+        pub fn send_description(
+            self,
+            server: &mut waywire::Server,
+            description: impl AsRef<[u8]>,
+        ) -> Result<(), waywire::SendError> {
+            let args = [waywire::Arg::Str(Some(description.as_ref()))];
+            waywire::typed::send_at_server(server, self.0, event::DESCRIPTION, &args)
+        }
+    }
+
+    /// What becomes of the events. A method that is not written does nothing.
+    pub trait Events {
+        /// Where the output is, and what it is.
+        fn geometry(
+            &mut self,
+            wl_output: WlOutput,
+            x: i32,
+            y: i32,
+            physical_width: i32,
+            physical_height: i32,
+            subpixel: Subpixel,
+            make: &[u8],
+            model: &[u8],
+            transform: Transform,
+        ) {
+            let _ = (
+                wl_output,
+                x,
+                y,
+                physical_width,
+                physical_height,
+                subpixel,
+                make,
+                model,
+                transform,
+            );
+        }
+
+        /// A mode, and whether it is set or preferred.
+        fn mode(
+            &mut self,
+            wl_output: WlOutput,
+            flags: Mode,
+            width: i32,
+            height: i32,
+            refresh: i32,
+        ) {
+            let _ = (wl_output, flags, width, height, refresh);
+        }
+
+        /// The end of events that belong together.
+        ///
+        /// Since version 2.
+        fn done(&mut self, wl_output: WlOutput) {
+            let _ = wl_output;
+        }
+
+        /// The scale of the output.
+        ///
+        /// Since version 2.
+        fn scale(&mut self, wl_output: WlOutput, factor: i32) {
+            let _ = (wl_output, factor);
+        }
+
+        /// The name of the output.
+        ///
+        /// Since version 4.
+        fn name(&mut self, wl_output: WlOutput, name: &[u8]) {
+            let _ = (wl_output, name);
+        }
+
+        /// The output in words.
+        ///
+        /// Since version 4.
+        fn description(&mut self, wl_output: WlOutput, description: &[u8]) {
+            let _ = (wl_output, description);
+        }
+    }
+
+    /// Calls the method of an event. False where the message is for another interface, or the
+    /// interface has no such event with these arguments: nothing is called then.
+    pub fn dispatch_event(
+        handler: &mut impl Events,
+        tables: &waywire::Tables,
+        message: &impl waywire::Readable,
+    ) -> bool {
+        waywire::typed::is_for(tables, message, NAME) && event_of(handler, message).is_some()
+    }
+
+    fn event_of(handler: &mut impl Events, message: &impl waywire::Readable) -> Option<()> {
+        let mut fields = waywire::typed::fields(message);
+        let target = WlOutput(message.target());
+        match message.opcode() {
+            event::GEOMETRY => handler.geometry(
+                target,
+                fields.int()?,
+                fields.int()?,
+                fields.int()?,
+                fields.int()?,
+                Subpixel(fields.int()? as u32),
+                fields.string()?,
+                fields.string()?,
+                Transform(fields.int()? as u32),
+            ),
+            event::MODE => handler.mode(
+                target,
+                Mode(fields.uint()?),
+                fields.int()?,
+                fields.int()?,
+                fields.int()?,
+            ),
+            event::DONE => handler.done(target),
+            event::SCALE => handler.scale(target, fields.int()?),
+            event::NAME => handler.name(target, fields.string()?),
+            event::DESCRIPTION => handler.description(target, fields.string()?),
+            _ => return None,
+        }
+        Some(())
+    }
+
+    /// What becomes of the requests. A method that is not written does nothing.
+    pub trait Requests {
+        /// The client is done with the object.
+        ///
+        /// It destroys the object. Since version 3.
+        fn release(&mut self, wl_output: WlOutput) {
+            let _ = wl_output;
+        }
+    }
+
+    /// Calls the method of a request. False where the message is for another interface, or the
+    /// interface has no such request with these arguments: nothing is called then.
+    pub fn dispatch_request(
+        handler: &mut impl Requests,
+        tables: &waywire::Tables,
+        message: &impl waywire::Readable,
+    ) -> bool {
+        waywire::typed::is_for(tables, message, NAME) && request_of(handler, message).is_some()
+    }
+
+    fn request_of(handler: &mut impl Requests, message: &impl waywire::Readable) -> Option<()> {
+        let target = WlOutput(message.target());
+        match message.opcode() {
+            request::RELEASE => handler.release(target),
+            _ => return None,
+        }
+        Some(())
+    }
+}
+
+/// Makes surfaces parts of others.
+pub mod wl_subcompositor {
+    /// The name of the interface.
+    pub const NAME: &str = "wl_subcompositor";
+
+    /// Its newest version.
+    pub const VERSION: u32 = 1;
+
+    /// Makes surfaces parts of others.
+    #[derive(Clone, Copy, Debug, PartialEq, Eq, Hash)]
+    pub struct WlSubcompositor(pub waywire::Object);
+
+    impl waywire::Handle for WlSubcompositor {
+        const NAME: &'static str = NAME;
+        const VERSION: u32 = VERSION;
+
+        fn of(object: waywire::Object) -> Self {
+            WlSubcompositor(object)
+        }
+
+        fn object(self) -> waywire::Object {
+            self.0
+        }
+    }
+
+    /// The opcodes of the requests, and the versions that have them.
+    pub mod request {
+        pub const DESTROY: u16 = 0;
+        pub const DESTROY_SINCE: u32 = 1;
+        pub const GET_SUBSURFACE: u16 = 1;
+        pub const GET_SUBSURFACE_SINCE: u32 = 1;
+    }
+
+    /// A number that has no name here may come.
+    #[derive(Clone, Copy, Debug, PartialEq, Eq, Hash)]
+    pub struct Error(pub u32);
+
+    impl Error {
+        pub const BAD_SURFACE: Error = Error(0);
+    }
+
+    impl WlSubcompositor {
+        /// Ends the object.
+        ///
+        /// It destroys the object.
+        pub fn destroy(self, client: &mut waywire::Client) -> Result<(), waywire::SendError> {
+            waywire::typed::send(client, self.0, request::DESTROY, &[])
+        }
+
+        /// Makes a surface part of another.
+        pub fn get_subsurface(
+            self,
+            client: &mut waywire::Client,
+            surface: super::wl_surface::WlSurface,
+            parent: super::wl_surface::WlSurface,
+        ) -> Result<super::wl_subsurface::WlSubsurface, waywire::SendError> {
+            let args = [
+                waywire::Arg::NewId,
+                waywire::Arg::Object(Some(surface.0)),
+                waywire::Arg::Object(Some(parent.0)),
+            ];
+            waywire::typed::make(client, self.0, request::GET_SUBSURFACE, &args)
+        }
+    }
+
+    /// What becomes of the requests. A method that is not written does nothing.
+    pub trait Requests {
+        /// Ends the object.
+        ///
+        /// It destroys the object.
+        fn destroy(&mut self, wl_subcompositor: WlSubcompositor) {
+            let _ = wl_subcompositor;
+        }
+
+        /// Makes a surface part of another.
+        fn get_subsurface(
+            &mut self,
+            wl_subcompositor: WlSubcompositor,
+            id: super::wl_subsurface::WlSubsurface,
+            surface: super::wl_surface::WlSurface,
+            parent: super::wl_surface::WlSurface,
+        ) {
+            let _ = (wl_subcompositor, id, surface, parent);
+        }
+    }
+
+    /// Calls the method of a request. False where the message is for another interface, or the
+    /// interface has no such request with these arguments: nothing is called then.
+    pub fn dispatch_request(
+        handler: &mut impl Requests,
+        tables: &waywire::Tables,
+        message: &impl waywire::Readable,
+    ) -> bool {
+        waywire::typed::is_for(tables, message, NAME) && request_of(handler, message).is_some()
+    }
+
+    fn request_of(handler: &mut impl Requests, message: &impl waywire::Readable) -> Option<()> {
+        let mut fields = waywire::typed::fields(message);
+        let target = WlSubcompositor(message.target());
+        match message.opcode() {
+            request::DESTROY => handler.destroy(target),
+            request::GET_SUBSURFACE => handler.get_subsurface(
+                target,
+                super::wl_subsurface::WlSubsurface(fields.new_object()?),
+                super::wl_surface::WlSurface(fields.object()?),
+                super::wl_surface::WlSurface(fields.object()?),
+            ),
+            _ => return None,
+        }
+        Some(())
+    }
+}
+
+/// A surface that is part of another.
+pub mod wl_subsurface {
+    /// The name of the interface.
+    pub const NAME: &str = "wl_subsurface";
+
+    /// Its newest version.
+    pub const VERSION: u32 = 1;
+
+    /// A surface that is part of another.
+    #[derive(Clone, Copy, Debug, PartialEq, Eq, Hash)]
+    pub struct WlSubsurface(pub waywire::Object);
+
+    impl waywire::Handle for WlSubsurface {
+        const NAME: &'static str = NAME;
+        const VERSION: u32 = VERSION;
+
+        fn of(object: waywire::Object) -> Self {
+            WlSubsurface(object)
+        }
+
+        fn object(self) -> waywire::Object {
+            self.0
+        }
+    }
+
+    /// The opcodes of the requests, and the versions that have them.
+    pub mod request {
+        pub const DESTROY: u16 = 0;
+        pub const DESTROY_SINCE: u32 = 1;
+        pub const SET_POSITION: u16 = 1;
+        pub const SET_POSITION_SINCE: u32 = 1;
+        pub const PLACE_ABOVE: u16 = 2;
+        pub const PLACE_ABOVE_SINCE: u32 = 1;
+        pub const PLACE_BELOW: u16 = 3;
+        pub const PLACE_BELOW_SINCE: u32 = 1;
+        pub const SET_SYNC: u16 = 4;
+        pub const SET_SYNC_SINCE: u32 = 1;
+        pub const SET_DESYNC: u16 = 5;
+        pub const SET_DESYNC_SINCE: u32 = 1;
+    }
+
+    /// A number that has no name here may come.
+    #[derive(Clone, Copy, Debug, PartialEq, Eq, Hash)]
+    pub struct Error(pub u32);
+
+    impl Error {
+        pub const BAD_SURFACE: Error = Error(0);
+    }
+
+    impl WlSubsurface {
+        /// Takes the surface out of its parent.
+        ///
+        /// It destroys the object.
+        pub fn destroy(self, client: &mut waywire::Client) -> Result<(), waywire::SendError> {
+            waywire::typed::send(client, self.0, request::DESTROY, &[])
+        }
+
+        /// Sets where it is within its parent.
+        pub fn set_position(
+            self,
+            client: &mut waywire::Client,
+            x: i32,
+            y: i32,
+        ) -> Result<(), waywire::SendError> {
+            let args = [waywire::Arg::Int(x), waywire::Arg::Int(y)];
+            waywire::typed::send(client, self.0, request::SET_POSITION, &args)
+        }
+
+        /// Puts it above a sibling.
+        pub fn place_above(
+            self,
+            client: &mut waywire::Client,
+            sibling: super::wl_surface::WlSurface,
+        ) -> Result<(), waywire::SendError> {
+            waywire::typed::send(
+                client,
+                self.0,
+                request::PLACE_ABOVE,
+                &[waywire::Arg::Object(Some(sibling.0))],
+            )
+        }
+
+        /// Puts it below a sibling.
+        pub fn place_below(
+            self,
+            client: &mut waywire::Client,
+            sibling: super::wl_surface::WlSurface,
+        ) -> Result<(), waywire::SendError> {
+            waywire::typed::send(
+                client,
+                self.0,
+                request::PLACE_BELOW,
+                &[waywire::Arg::Object(Some(sibling.0))],
+            )
+        }
+
+        /// Commits take effect with the parent's.
+        pub fn set_sync(self, client: &mut waywire::Client) -> Result<(), waywire::SendError> {
+            waywire::typed::send(client, self.0, request::SET_SYNC, &[])
+        }
+
+        /// Commits take effect by themselves.
+        pub fn set_desync(self, client: &mut waywire::Client) -> Result<(), waywire::SendError> {
+            waywire::typed::send(client, self.0, request::SET_DESYNC, &[])
+        }
+    }
+
+    /// What becomes of the requests. A method that is not written does nothing.
+    pub trait Requests {
+        /// Takes the surface out of its parent.
+        ///
+        /// It destroys the object.
+        fn destroy(&mut self, wl_subsurface: WlSubsurface) {
+            let _ = wl_subsurface;
+        }
+
+        /// Sets where it is within its parent.
+        fn set_position(&mut self, wl_subsurface: WlSubsurface, x: i32, y: i32) {
+            let _ = (wl_subsurface, x, y);
+        }
+
+        /// Puts it above a sibling.
+        fn place_above(
+            &mut self,
+            wl_subsurface: WlSubsurface,
+            sibling: super::wl_surface::WlSurface,
+        ) {
+            let _ = (wl_subsurface, sibling);
+        }
+
+        /// Puts it below a sibling.
+        fn place_below(
+            &mut self,
+            wl_subsurface: WlSubsurface,
+            sibling: super::wl_surface::WlSurface,
+        ) {
+            let _ = (wl_subsurface, sibling);
+        }
+
+        /// Commits take effect with the parent's.
+        fn set_sync(&mut self, wl_subsurface: WlSubsurface) {
+            let _ = wl_subsurface;
+        }
+
+        /// Commits take effect by themselves.
+        fn set_desync(&mut self, wl_subsurface: WlSubsurface) {
+            let _ = wl_subsurface;
+        }
+    }
+
+    /// Calls the method of a request. False where the message is for another interface, or the
+    /// interface has no such request with these arguments: nothing is called then.
+    pub fn dispatch_request(
+        handler: &mut impl Requests,
+        tables: &waywire::Tables,
+        message: &impl waywire::Readable,
+    ) -> bool {
+        waywire::typed::is_for(tables, message, NAME) && request_of(handler, message).is_some()
+    }
+
+    fn request_of(handler: &mut impl Requests, message: &impl waywire::Readable) -> Option<()> {
+        let mut fields = waywire::typed::fields(message);
+        let target = WlSubsurface(message.target());
+        match message.opcode() {
+            request::DESTROY => handler.destroy(target),
+            request::SET_POSITION => handler.set_position(target, fields.int()?, fields.int()?),
+            request::PLACE_ABOVE => handler.place_above(
+                target,
+                super::wl_surface::WlSurface(fields.object()?),
+            ),
+            request::PLACE_BELOW => handler.place_below(
+                target,
+                super::wl_surface::WlSurface(fields.object()?),
+            ),
+            request::SET_SYNC => handler.set_sync(target),
+            request::SET_DESYNC => handler.set_desync(target),
+            _ => return None,
+        }
+        Some(())
+    }
+}
+
+/// Makes desktop windows; xdg\_shell took its place.
+pub mod wl_shell {
+    /// The name of the interface.
+    pub const NAME: &str = "wl_shell";
+
+    /// Its newest version.
+    pub const VERSION: u32 = 1;
+
+    /// Makes desktop windows; xdg\_shell took its place.
+    #[derive(Clone, Copy, Debug, PartialEq, Eq, Hash)]
+    pub struct WlShell(pub waywire::Object);
+
+    impl waywire::Handle for WlShell {
+        const NAME: &'static str = NAME;
+        const VERSION: u32 = VERSION;
+
+        fn of(object: waywire::Object) -> Self {
+            WlShell(object)
+        }
+
+        fn object(self) -> waywire::Object {
+            self.0
+        }
+    }
+
+    /// The opcodes of the requests, and the versions that have them.
+    pub mod request {
+        pub const GET_SHELL_SURFACE: u16 = 0;
+        pub const GET_SHELL_SURFACE_SINCE: u32 = 1;
+    }
+
+    /// A number that has no name here may come.
+    #[derive(Clone, Copy, Debug, PartialEq, Eq, Hash)]
+    pub struct Error(pub u32);
+
+    impl Error {
+        pub const ROLE: Error = Error(0);
+    }
+
+    impl WlShell {
+        /// Makes a surface a window.
+        pub fn get_shell_surface(
+            self,
+            client: &mut waywire::Client,
+            surface: super::wl_surface::WlSurface,
+        ) -> Result<super::wl_shell_surface::WlShellSurface, waywire::SendError> {
+            let args = [waywire::Arg::NewId, waywire::Arg::Object(Some(surface.0))];
+            waywire::typed::make(client, self.0, request::GET_SHELL_SURFACE, &args)
+        }
+    }
+
+    /// What becomes of the requests. A method that is not written does nothing.
+    pub trait Requests {
+        /// Makes a surface a window.
+        fn get_shell_surface(
+            &mut self,
+            wl_shell: WlShell,
+            id: super::wl_shell_surface::WlShellSurface,
+            surface: super::wl_surface::WlSurface,
+        ) {
+            let _ = (wl_shell, id, surface);
+        }
+    }
+
+    /// Calls the method of a request. False where the message is for another interface, or the
+    /// interface has no such request with these arguments: nothing is called then.
+    pub fn dispatch_request(
+        handler: &mut impl Requests,
+        tables: &waywire::Tables,
+        message: &impl waywire::Readable,
+    ) -> bool {
+        waywire::typed::is_for(tables, message, NAME) && request_of(handler, message).is_some()
+    }
+
+    fn request_of(handler: &mut impl Requests, message: &impl waywire::Readable) -> Option<()> {
+        let mut fields = waywire::typed::fields(message);
+        let target = WlShell(message.target());
+        match message.opcode() {
+            request::GET_SHELL_SURFACE => handler.get_shell_surface(
+                target,
+                super::wl_shell_surface::WlShellSurface(fields.new_object()?),
+                super::wl_surface::WlSurface(fields.object()?),
+            ),
+            _ => return None,
+        }
+        Some(())
+    }
+}
+
+/// A desktop window.
+pub mod wl_shell_surface {
+    /// The name of the interface.
+    pub const NAME: &str = "wl_shell_surface";
+
+    /// Its newest version.
+    pub const VERSION: u32 = 1;
+
+    /// A desktop window.
+    #[derive(Clone, Copy, Debug, PartialEq, Eq, Hash)]
+    pub struct WlShellSurface(pub waywire::Object);
+
+    impl waywire::Handle for WlShellSurface {
+        const NAME: &'static str = NAME;
+        const VERSION: u32 = VERSION;
+
+        fn of(object: waywire::Object) -> Self {
+            WlShellSurface(object)
+        }
+
+        fn object(self) -> waywire::Object {
+            self.0
+        }
+    }
+
+    /// The opcodes of the requests, and the versions that have them.
+    pub mod request {
+        pub const PONG: u16 = 0;
+        pub const PONG_SINCE: u32 = 1;
+        pub const MOVE: u16 = 1;
+        pub const MOVE_SINCE: u32 = 1;
+        pub const RESIZE: u16 = 2;
+        pub const RESIZE_SINCE: u32 = 1;
+        pub const SET_TOPLEVEL: u16 = 3;
+        pub const SET_TOPLEVEL_SINCE: u32 = 1;
+        pub const SET_TRANSIENT: u16 = 4;
+        pub const SET_TRANSIENT_SINCE: u32 = 1;
+        pub const SET_FULLSCREEN: u16 = 5;
+        pub const SET_FULLSCREEN_SINCE: u32 = 1;
+        pub const SET_POPUP: u16 = 6;
+        pub const SET_POPUP_SINCE: u32 = 1;
+        pub const SET_MAXIMIZED: u16 = 7;
+        pub const SET_MAXIMIZED_SINCE: u32 = 1;
+        pub const SET_TITLE: u16 = 8;
+        pub const SET_TITLE_SINCE: u32 = 1;
+        pub const SET_CLASS: u16 = 9;
+        pub const SET_CLASS_SINCE: u32 = 1;
+    }
+
+    /// The opcodes of the events, and the versions that have them.
+    pub mod event {
+        pub const PING: u16 = 0;
+        pub const PING_SINCE: u32 = 1;
+        pub const CONFIGURE: u16 = 1;
+        pub const CONFIGURE_SINCE: u32 = 1;
+        pub const POPUP_DONE: u16 = 2;
+        pub const POPUP_DONE_SINCE: u32 = 1;
+    }
+
+    /// Bits that can be joined by `|`.
+    #[derive(Clone, Copy, Debug, PartialEq, Eq, Hash)]
+    pub struct Resize(pub u32);
+
+    impl Resize {
+        pub const NONE: Resize = Resize(0);
+        pub const TOP: Resize = Resize(1);
+        pub const BOTTOM: Resize = Resize(2);
+        pub const LEFT: Resize = Resize(4);
+        pub const TOP_LEFT: Resize = Resize(5);
+        pub const BOTTOM_LEFT: Resize = Resize(6);
+        pub const RIGHT: Resize = Resize(8);
+        pub const TOP_RIGHT: Resize = Resize(9);
+        pub const BOTTOM_RIGHT: Resize = Resize(10);
+
+        /// Whether it has all bits of the other.
+        pub fn contains(self, other: Resize) -> bool {
+            self.0 & other.0 == other.0
+        }
+    }
+
+    impl std::ops::BitOr for Resize {
+        type Output = Resize;
+
+        fn bitor(self, other: Resize) -> Resize {
+            Resize(self.0 | other.0)
+        }
+    }
+
+    /// Bits that can be joined by `|`.
+    #[derive(Clone, Copy, Debug, PartialEq, Eq, Hash)]
+    pub struct Transient(pub u32);
+
+    impl Transient {
+        pub const INACTIVE: Transient = Transient(1);
+
+        /// Whether it has all bits of the other.
+        pub fn contains(self, other: Transient) -> bool {
+            self.0 & other.0 == other.0
+        }
+    }
+
+    impl std::ops::BitOr for Transient {
+        type Output = Transient;
+
+        fn bitor(self, other: Transient) -> Transient {
+            Transient(self.0 | other.0)
+        }
+    }
+
+    /// A number that has no name here may come.
+    #[derive(Clone, Copy, Debug, PartialEq, Eq, Hash)]
+    pub struct FullscreenMethod(pub u32);
+
+    impl FullscreenMethod {
+        pub const DEFAULT: FullscreenMethod = FullscreenMethod(0);
+        pub const SCALE: FullscreenMethod = FullscreenMethod(1);
+        pub const DRIVER: FullscreenMethod = FullscreenMethod(2);
+        pub const FILL: FullscreenMethod = FullscreenMethod(3);
+    }
+
+    impl WlShellSurface {
+        /// Answers a ping.
+        pub fn pong(
+            self,
+            client: &mut waywire::Client,
+            serial: u32,
+        ) -> Result<(), waywire::SendError> {
+            waywire::typed::send(client, self.0, request::PONG, &[waywire::Arg::Uint(serial)])
+        }
+
+        /// Lets the user move the window.
+        pub fn move_(
+            self,
+            client: &mut waywire::Client,
+            seat: super::wl_seat::WlSeat,
+            serial: u32,
+        ) -> Result<(), waywire::SendError> {
+            let args = [waywire::Arg::Object(Some(seat.0)), waywire::Arg::Uint(serial)];
+            waywire::typed::send(client, self.0, request::MOVE, &args)
+        }
+
+        /// Lets the user resize the window.
+        pub fn resize(
+            self,
+            client: &mut waywire::Client,
+            seat: super::wl_seat::WlSeat,
+            serial: u32,
+            edges: Resize,
+        ) -> Result<(), waywire::SendError> {
+            let args = [
+                waywire::Arg::Object(Some(seat.0)),
+                waywire::Arg::Uint(serial),
+                waywire::Arg::Uint(edges.0),
+            ];
+            waywire::typed::send(client, self.0, request::RESIZE, &args)
+        }
+
+        /// Makes it a window of its own.
+        pub fn set_toplevel(self, client: &mut waywire::Client) -> Result<(), waywire::SendError> {
+            waywire::typed::send(client, self.0, request::SET_TOPLEVEL, &[])
+        }
+
+        /// Makes it a window beside another.
+        pub fn set_transient(
+            self,
+            client: &mut waywire::Client,
+            parent: super::wl_surface::WlSurface,
+            x: i32,
+            y: i32,
+            flags: Transient,
+        ) -> Result<(), waywire::SendError> {
+            let args = [
+                waywire::Arg::Object(Some(parent.0)),
+                waywire::Arg::Int(x),
+                waywire::Arg::Int(y),
+                waywire::Arg::Uint(flags.0),
+            ];
+            waywire::typed::send(client, self.0, request::SET_TRANSIENT, &args)
+        }
+
+        /// Shows it over a whole output.
+        pub fn set_fullscreen(
+            self,
+            client: &mut waywire::Client,
+            method: FullscreenMethod,
+            framerate: u32,
+            output: Option<super::wl_output::WlOutput>,
+        ) -> Result<(), waywire::SendError> {
+            let args = [
+                waywire::Arg::Uint(method.0),
+                waywire::Arg::Uint(framerate),
+                waywire::Arg::Object(output.map(|it| it.0)),
+            ];
+            waywire::typed::send(client, self.0, request::SET_FULLSCREEN, &args)
+        }
+
+        /// Makes it a popup.
+        pub fn set_popup(
+            self,
+            client: &mut waywire::Client,
+            seat: super::wl_seat::WlSeat,
+            serial: u32,
+            parent: super::wl_surface::WlSurface,
+            x: i32,
+            y: i32,
+            flags: Transient,
+        ) -> Result<(), waywire::SendError> {
+            let args = [
+                waywire::Arg::Object(Some(seat.0)),
+                waywire::Arg::Uint(serial),
+                waywire::Arg::Object(Some(parent.0)),
+                waywire::Arg::Int(x),
+                waywire::Arg::Int(y),
+                waywire::Arg::Uint(flags.0),
+            ];
+            waywire::typed::send(client, self.0, request::SET_POPUP, &args)
+        }
+
+        /// Makes it as large as its output allows.
+        pub fn set_maximized(
+            self,
+            client: &mut waywire::Client,
+            output: Option<super::wl_output::WlOutput>,
+        ) -> Result<(), waywire::SendError> {
+            let args = [waywire::Arg::Object(output.map(|it| it.0))];
+            waywire::typed::send(client, self.0, request::SET_MAXIMIZED, &args)
+        }
+
+        /// Sets the title.
+        pub fn set_title(
+            self,
+            client: &mut waywire::Client,
+            title: impl AsRef<[u8]>,
+        ) -> Result<(), waywire::SendError> {
+            let args = [waywire::Arg::Str(Some(title.as_ref()))];
+            waywire::typed::send(client, self.0, request::SET_TITLE, &args)
+        }
+
+        /// Sets the class.
+        pub fn set_class(
+            self,
+            client: &mut waywire::Client,
+            class_: impl AsRef<[u8]>,
+        ) -> Result<(), waywire::SendError> {
+            let args = [waywire::Arg::Str(Some(class_.as_ref()))];
+            waywire::typed::send(client, self.0, request::SET_CLASS, &args)
+        }
+
+        /// Asks whether the client is alive.
+        pub fn send_ping(
+            self,
+            server: &mut waywire::Server,
+            serial: u32,
+        ) -> Result<(), waywire::SendError> {
+            waywire::typed::send_at_server(
+                server,
+                self.0,
+                event::PING,
+                &[waywire::Arg::Uint(serial)],
+            )
+        }
+
+        /// Suggests another size.
+        pub fn send_configure(
+            self,
+            server: &mut waywire::Server,
+            edges: Resize,
+            width: i32,
+            height: i32,
+        ) -> Result<(), waywire::SendError> {
+            let args = [
+                waywire::Arg::Uint(edges.0),
+                waywire::Arg::Int(width),
+                waywire::Arg::Int(height),
+            ];
+            waywire::typed::send_at_server(server, self.0, event::CONFIGURE, &args)
+        }
+
+        /// The popup is to be closed.
+        pub fn send_popup_done(
+            self,
+            server: &mut waywire::Server,
+        ) -> Result<(), waywire::SendError> {
+            waywire::typed::send_at_server(server, self.0, event::POPUP_DONE, &[])
+        }
+    }
+
+    /// What becomes of the events. A method that is not written does nothing.
+    pub trait Events {
+        /// Asks whether the client is alive.
+        fn ping(&mut self, wl_shell_surface: WlShellSurface, serial: u32) {
+            let _ = (wl_shell_surface, serial);
+        }
+
+        /// Suggests another size.
+        fn configure(
+            &mut self,
+            wl_shell_surface: WlShellSurface,
+            edges: Resize,
+            width: i32,
+            height: i32,
+        ) {
+            let _ = (wl_shell_surface, edges, width, height);
+        }
+
+        /// The popup is to be closed.
+        fn popup_done(&mut self, wl_shell_surface: WlShellSurface) {
+            let _ = wl_shell_surface;
+        }
+    }
+
+    /// Calls the method of an event. False where the message is for another interface, or the
+    /// interface has no such event with these arguments: nothing is called then.
+    pub fn dispatch_event(
+        handler: &mut impl Events,
+        tables: &waywire::Tables,
+        message: &impl waywire::Readable,
+    ) -> bool {
+        waywire::typed::is_for(tables, message, NAME) && event_of(handler, message).is_some()
+    }
+
+    fn event_of(handler: &mut impl Events, message: &impl waywire::Readable) -> Option<()> {
+        let mut fields = waywire::typed::fields(message);
+        let target = WlShellSurface(message.target());
+        match message.opcode() {
+            event::PING => handler.ping(target, fields.uint()?),
+            event::CONFIGURE => handler.configure(
+                target,
+                Resize(fields.uint()?),
+                fields.int()?,
+                fields.int()?,
+            ),
+            event::POPUP_DONE => handler.popup_done(target),
+            _ => return None,
+        }
+        Some(())
+    }
+
+    /// What becomes of the requests. A method that is not written does nothing.
+    pub trait Requests {
+        /// Answers a ping.
+        fn pong(&mut self, wl_shell_surface: WlShellSurface, serial: u32) {
+            let _ = (wl_shell_surface, serial);
+        }
+
+        /// Lets the user move the window.
+        fn move_(
+            &mut self,
+            wl_shell_surface: WlShellSurface,
+            seat: super::wl_seat::WlSeat,
+            serial: u32,
+        ) {
+            let _ = (wl_shell_surface, seat, serial);
+        }
+
+        /// Lets the user resize the window.
+        fn resize(
+            &mut self,
+            wl_shell_surface: WlShellSurface,
+            seat: super::wl_seat::WlSeat,
+            serial: u32,
+            edges: Resize,
+        ) {
+            let _ = (wl_shell_surface, seat, serial, edges);
+        }
+
+        /// Makes it a window of its own.
+        fn set_toplevel(&mut self, wl_shell_surface: WlShellSurface) {
+            let _ = wl_shell_surface;
+        }
+
+        /// Makes it a window beside another.
+        fn set_transient(
+            &mut self,
+            wl_shell_surface: WlShellSurface,
+            parent: super::wl_surface::WlSurface,
+            x: i32,
+            y: i32,
+            flags: Transient,
+        ) {
+            let _ = (wl_shell_surface, parent, x, y, flags);
+        }
+
+        /// Shows it over a whole output.
+        fn set_fullscreen(
+            &mut self,
+            wl_shell_surface: WlShellSurface,
+            method: FullscreenMethod,
+            framerate: u32,
+            output: Option<super::wl_output::WlOutput>,
+        ) {
+            let _ = (wl_shell_surface, method, framerate, output);
+        }
+
+        /// Makes it a popup.
+        fn set_popup(
+            &mut self,
+            wl_shell_surface: WlShellSurface,
+            seat: super::wl_seat::WlSeat,
+            serial: u32,
+            parent: super::wl_surface::WlSurface,
+            x: i32,
+            y: i32,
+            flags: Transient,
+        ) {
+            let _ = (wl_shell_surface, seat, serial, parent, x, y, flags);
+        }
+
+        /// Makes it as large as its output allows.
+        fn set_maximized(
+            &mut self,
+            wl_shell_surface: WlShellSurface,
+            output: Option<super::wl_output::WlOutput>,
+        ) {
+            let _ = (wl_shell_surface, output);
+        }
+
+        /// Sets the title.
+        fn set_title(&mut self, wl_shell_surface: WlShellSurface, title: &[u8]) {
+            let _ = (wl_shell_surface, title);
+        }
+
+        /// Sets the class.
+        fn set_class(&mut self, wl_shell_surface: WlShellSurface, class_: &[u8]) {
+            let _ = (wl_shell_surface, class_);
+        }
+    }
+
+    /// Calls the method of a request. False where the message is for another interface, or the
+    /// interface has no such request with these arguments: nothing is called then.
+    pub fn dispatch_request(
+        handler: &mut impl Requests,
+        tables: &waywire::Tables,
+        message: &impl waywire::Readable,
+    ) -> bool {
+        waywire::typed::is_for(tables, message, NAME) && request_of(handler, message).is_some()
+    }
+
+    fn request_of(handler: &mut impl Requests, message: &impl waywire::Readable) -> Option<()> {
+        let mut fields = waywire::typed::fields(message);
+        let target = WlShellSurface(message.target());
+        match message.opcode() {
+            request::PONG => handler.pong(target, fields.uint()?),
+            request::MOVE => handler.move_(
+                target,
+                super::wl_seat::WlSeat(fields.object()?),
+                fields.uint()?,
+            ),
+            request::RESIZE => handler.resize(
+                target,
+                super::wl_seat::WlSeat(fields.object()?),
+                fields.uint()?,
+                Resize(fields.uint()?),
+            ),
+            request::SET_TOPLEVEL => handler.set_toplevel(target),
+            request::SET_TRANSIENT => handler.set_transient(
+                target,
+                super::wl_surface::WlSurface(fields.object()?),
+                fields.int()?,
+                fields.int()?,
+                Transient(fields.uint()?),
+            ),
+            request::SET_FULLSCREEN => handler.set_fullscreen(
+                target,
+                FullscreenMethod(fields.uint()?),
+                fields.uint()?,
+                fields.nullable_object()?.map(super::wl_output::WlOutput),
+            ),
+            request::SET_POPUP => handler.set_popup(
+                target,
+                super::wl_seat::WlSeat(fields.object()?),
+                fields.uint()?,
+                super::wl_surface::WlSurface(fields.object()?),
+                fields.int()?,
+                fields.int()?,
+                Transient(fields.uint()?),
+            ),
+            request::SET_MAXIMIZED => handler.set_maximized(
+                target,
+                fields.nullable_object()?.map(super::wl_output::WlOutput),
+            ),
+            request::SET_TITLE => handler.set_title(target, fields.string()?),
+            request::SET_CLASS => handler.set_class(target, fields.string()?),
+            _ => return None,
+        }
+        Some(())
+    }
+}
+
+/// Mends the core protocol.
+pub mod wl_fixes {
+    /// The name of the interface.
+    pub const NAME: &str = "wl_fixes";
+
+    /// Its newest version.
+    pub const VERSION: u32 = 1;
+
+    /// Mends the core protocol.
+    #[derive(Clone, Copy, Debug, PartialEq, Eq, Hash)]
+    pub struct WlFixes(pub waywire::Object);
+
+    impl waywire::Handle for WlFixes {
+        const NAME: &'static str = NAME;
+        const VERSION: u32 = VERSION;
+
+        fn of(object: waywire::Object) -> Self {
+            WlFixes(object)
+        }
+
+        fn object(self) -> waywire::Object {
+            self.0
+        }
+    }
+
+    /// The opcodes of the requests, and the versions that have them.
+    pub mod request {
+        pub const DESTROY: u16 = 0;
+        pub const DESTROY_SINCE: u32 = 1;
+        pub const DESTROY_REGISTRY: u16 = 1;
+        pub const DESTROY_REGISTRY_SINCE: u32 = 1;
+    }
+
+    impl WlFixes {
+        /// Ends the object.
+        ///
+        /// It destroys the object.
+        pub fn destroy(self, client: &mut waywire::Client) -> Result<(), waywire::SendError> {
+            waywire::typed::send(client, self.0, request::DESTROY, &[])
+        }
+
+        /// Ends a registry.
+        pub fn destroy_registry(
+            self,
+            client: &mut waywire::Client,
+            registry: super::wl_registry::WlRegistry,
+        ) -> Result<(), waywire::SendError> {
+            let args = [waywire::Arg::Object(Some(registry.0))];
+            waywire::typed::send(client, self.0, request::DESTROY_REGISTRY, &args)
+        }
+    }
+
+    /// What becomes of the requests. A method that is not written does nothing.
+    pub trait Requests {
+        /// Ends the object.
+        ///
+        /// It destroys the object.
+        fn destroy(&mut self, wl_fixes: WlFixes) {
+            let _ = wl_fixes;
+        }
+
+        /// Ends a registry.
+        fn destroy_registry(
+            &mut self,
+            wl_fixes: WlFixes,
+            registry: super::wl_registry::WlRegistry,
+        ) {
+            let _ = (wl_fixes, registry);
+        }
+    }
+
+    /// Calls the method of a request. False where the message is for another interface, or the
+    /// interface has no such request with these arguments: nothing is called then.
+    pub fn dispatch_request(
+        handler: &mut impl Requests,
+        tables: &waywire::Tables,
+        message: &impl waywire::Readable,
+    ) -> bool {
+        waywire::typed::is_for(tables, message, NAME) && request_of(handler, message).is_some()
+    }
+
+    fn request_of(handler: &mut impl Requests, message: &impl waywire::Readable) -> Option<()> {
+        let mut fields = waywire::typed::fields(message);
+        let target = WlFixes(message.target());
+        match message.opcode() {
+            request::DESTROY => handler.destroy(target),
+            request::DESTROY_REGISTRY => handler.destroy_registry(
+                target,
+                super::wl_registry::WlRegistry(fields.object()?),
+            ),
+            _ => return None,
+        }
+        Some(())
+    }
+}

@@ -1,0 +1,175 @@
+//! Typed calls where no generated test has them: globals and binds, events for objects that are gone,
+//! messages of other interfaces. And what goes from end to end without a buffer between.
+
+use waywire::wayland::{
+    wl_compositor, wl_display, wl_output, wl_registry, wl_seat, wl_shm, wl_surface,
+};
+use waywire::{Amounts, Client, Handle, Incoming, Object, Server, Sizes, Tables};
+
+/// All that handlers were called with.
+#[derive(Default)]
+struct Seen(Vec<String>);
+
+impl wl_registry::Events for Seen {
+    fn global(
+        &mut self,
+        _registry: wl_registry::WlRegistry,
+        name: u32,
+        interface: &[u8],
+        version: u32,
+    ) {
+        self.0.push(format!("global {name} {} {version}", String::from_utf8_lossy(interface)));
+    }
+
+    fn global_remove(&mut self, _registry: wl_registry::WlRegistry, name: u32) {
+        self.0.push(format!("global_remove {name}"));
+    }
+}
+
+impl wl_registry::Requests for Seen {
+    fn bind(
+        &mut self,
+        _registry: wl_registry::WlRegistry,
+        name: u32,
+        interface: &[u8],
+        version: u32,
+        id: Object,
+    ) {
+        let interface = String::from_utf8_lossy(interface);
+        self.0.push(format!("bind {name} {interface} {version} {id:?}"));
+    }
+}
+
+impl wl_surface::Events for Seen {
+    fn enter(&mut self, surface: wl_surface::WlSurface, output: wl_output::WlOutput) {
+        self.0.push(format!("enter {:?} {:?}", surface.0, output.0));
+    }
+}
+
+impl wl_shm::Requests for Seen {}
+
+/// Two ends, and what passes between them without a buffer of its own.
+struct Pair {
+    tables: Tables,
+    client: Client,
+    server: Server,
+    registry: wl_registry::WlRegistry,
+}
+
+/// Copies the bytes of the first parts into the second, and says how many they were.
+fn copy(from: [&[u8]; 2], to: [&mut [u8]; 2]) -> usize {
+    let bytes = from.concat();
+    let [first, second] = to;
+    let here = bytes.len().min(first.len());
+    first[..here].copy_from_slice(&bytes[..here]);
+    second[..bytes.len() - here].copy_from_slice(&bytes[here..]);
+    bytes.len()
+}
+
+/// Passes all that waits at one end to the other.
+macro_rules! carry {
+    ($from:expr, $to:expr) => {
+        loop {
+            let waiting = $from.peek();
+            if waiting.is_empty() {
+                break;
+            }
+            let tokens = waiting.tokens().to_vec();
+            let count = copy(waiting.parts, $to.space());
+            let amounts = Amounts { bytes: count, tokens: tokens.len() };
+            assert_eq!($to.received(count, &tokens), Ok(amounts));
+            assert_eq!($from.sent(count), amounts);
+        }
+    };
+}
+
+impl Pair {
+    fn new(globals: &[&str]) -> Pair {
+        let tables = Tables::core().unwrap();
+        let mut client = Client::new(&tables, &Sizes::default()).unwrap();
+        let mut server = Server::new(&tables, &Sizes::default()).unwrap();
+        for interface in globals {
+            let place = tables.interface(interface).unwrap();
+            server.add_global(place, tables.version(place).unwrap()).unwrap();
+        }
+        let registry = wl_display::WlDisplay(client.display()).get_registry(&mut client).unwrap();
+        carry!(client, server);
+        assert!(server.next().unwrap().is_some());
+        server.announce().unwrap();
+        Pair { tables, client, server, registry }
+    }
+
+    /// The events that came, as the handler of registries and surfaces saw them.
+    fn events(&mut self) -> Vec<String> {
+        let mut seen = Seen::default();
+        carry!(self.server, self.client);
+        while let Some(incoming) = self.client.next().unwrap() {
+            let Incoming::Event(event) = incoming else { continue };
+            assert!(
+                wl_registry::dispatch_event(&mut seen, &self.tables, &event)
+                    || wl_surface::dispatch_event(&mut seen, &self.tables, &event)
+            );
+        }
+        seen.0
+    }
+
+    fn bind<T: Handle>(&mut self, name: u32) -> T {
+        let version = T::VERSION;
+        let bound: T = self.registry.bind(&mut self.client, name, version).unwrap();
+        let mut seen = Seen::default();
+        carry!(self.client, self.server);
+        let message = self.server.next().unwrap().unwrap();
+        assert!(wl_registry::dispatch_request(&mut seen, &self.tables, &message));
+        assert_eq!(seen.0, [format!("bind {name} {} {version} {:?}", T::NAME, bound.object())]);
+        bound
+    }
+}
+
+#[test]
+fn globals_come_and_are_bound() {
+    let mut pair = Pair::new(&["wl_seat", "wl_shm"]);
+    let seat = format!("global 1 wl_seat {}", wl_seat::VERSION);
+    assert_eq!(pair.events(), [seat, format!("global 2 wl_shm {}", wl_shm::VERSION)]);
+    pair.bind::<wl_seat::WlSeat>(1);
+    pair.server.withdraw(2).unwrap();
+    pair.server.announce().unwrap();
+    assert_eq!(pair.events(), ["global_remove 2"]);
+}
+
+#[test]
+fn an_event_may_name_an_object_that_is_gone() {
+    let mut pair = Pair::new(&["wl_compositor", "wl_output"]);
+    assert_eq!(pair.events().len(), 2);
+    let compositor: wl_compositor::WlCompositor = pair.bind(1);
+    let output: wl_output::WlOutput = pair.bind(2);
+    let surface = compositor.create_surface(&mut pair.client).unwrap();
+    carry!(pair.client, pair.server);
+    assert!(pair.server.next().unwrap().is_some());
+    surface.send_enter(&mut pair.server, output).unwrap();
+    output.release(&mut pair.client).unwrap();
+    assert_eq!(pair.events(), [format!("enter {:?} {:?}", surface.0, output.0)]);
+    assert!(pair.client.live(output.0).is_none());
+}
+
+#[test]
+fn a_message_of_another_interface_is_not_dispatched() {
+    let mut pair = Pair::new(&["wl_shm"]);
+    assert_eq!(pair.events().len(), 1);
+    let shm: wl_shm::WlShm = pair.bind(1);
+    shm.create_pool(&mut pair.client, 7, 4096).unwrap();
+    carry!(pair.client, pair.server);
+    let message = pair.server.next().unwrap().unwrap().into_owned();
+    assert_eq!(message.opcode, wl_shm::request::CREATE_POOL);
+    let mut seen = Seen::default();
+    assert!(!wl_registry::dispatch_request(&mut seen, &pair.tables, &message));
+    assert!(wl_shm::dispatch_request(&mut seen, &pair.tables, &message));
+    assert_eq!(seen.0, [""; 0]);
+}
+
+#[test]
+fn bits_are_joined() {
+    use wl_seat::Capability;
+    let both = Capability::POINTER | Capability::KEYBOARD;
+    assert_eq!(both, Capability(3));
+    assert!(both.contains(Capability::KEYBOARD) && !both.contains(Capability::TOUCH));
+}

@@ -1,0 +1,101 @@
+//! What the tests that tests/rust/every-typed-call writes share: a pair of ends with objects of any
+//! interface, and values at the corners of their types.
+
+#![allow(dead_code)]
+
+use std::sync::OnceLock;
+use waywire::wayland::wl_registry::WlRegistry;
+use waywire::{Client, Fixed, Handle, Incoming, Object, OwnedMessage, Server, Sizes, Tables};
+
+static TABLES: OnceLock<Tables> = OnceLock::new();
+
+pub const INTS: [i32; 3] = [i32::MIN, i32::MAX, 0];
+pub const UINTS: [u32; 3] = [0, u32::MAX, 1];
+pub const TEXTS: [&[u8]; 3] = [b"", b"a text of more than one word", b"\x01\xff\""];
+pub const NULLABLE_TEXTS: [Option<&[u8]>; 3] = [Some(TEXTS[0]), Some(TEXTS[1]), None];
+
+pub fn fixed(corner: usize) -> Fixed {
+    Fixed::from_raw([i32::MIN, i32::MAX, -1][corner])
+}
+
+/// The tables of all pairs, of which one has been made.
+pub fn tables() -> &'static Tables {
+    TABLES.get().unwrap()
+}
+
+/// Arguments as a text, to be compared.
+#[macro_export]
+macro_rules! said {
+    ($($it:expr),*) => {
+        [$(format!("{:?}", $it)),*].join(", ")
+    };
+}
+
+/// A client and a server with nothing between.
+pub struct Pair {
+    pub client: Client,
+    pub server: Server,
+    registry: WlRegistry,
+}
+
+impl Pair {
+    /// A pair over the core and the tables of all these texts.
+    pub fn new(texts: &[&[u8]]) -> Pair {
+        let tables = TABLES.get_or_init(|| {
+            texts.iter().fold(Tables::core().unwrap(), |tables, it| tables.read(it).unwrap())
+        });
+        let mut client = Client::new(tables, &Sizes::default()).unwrap();
+        let server = Server::new(tables, &Sizes::default()).unwrap();
+        let display = waywire::wayland::wl_display::WlDisplay(client.display());
+        let registry = display.get_registry(&mut client).unwrap();
+        let mut pair = Pair { client, server, registry };
+        assert_eq!(pair.request().target, display.0);
+        pair
+    }
+
+    /// An object of an interface, of its newest version, that both ends have.
+    pub fn handle<T: Handle>(&mut self) -> T {
+        T::of(self.object(T::NAME))
+    }
+
+    pub fn object(&mut self, interface: &str) -> Object {
+        match interface {
+            "wl_display" => return self.client.display(),
+            "wl_registry" => return self.registry.0,
+            _ => {}
+        }
+        let tables = tables();
+        let place = tables.interface(interface).unwrap();
+        let version = tables.version(place).unwrap();
+        let name = self.server.add_global(place, version).unwrap();
+        assert_eq!(self.server.announce(), Ok(1));
+        self.carry_to_client();
+        while self.client.next().unwrap().is_some() {}
+        let bound = self.client.bind(self.registry.0, name, interface, version).unwrap();
+        assert_eq!(self.request().target, self.registry.0);
+        bound
+    }
+
+    /// The request that was written, as the server reads it.
+    pub fn request(&mut self) -> OwnedMessage {
+        let (mut bytes, mut tokens) = ([0; 4096], [0; 28]);
+        let took = self.client.take(&mut bytes, &mut tokens);
+        assert_eq!(self.server.feed(&bytes[..took.bytes], &tokens[..took.tokens]), Ok(took));
+        self.server.next().unwrap().unwrap().into_owned()
+    }
+
+    fn carry_to_client(&mut self) {
+        let (mut bytes, mut tokens) = ([0; 4096], [0; 28]);
+        let took = self.server.take(&mut bytes, &mut tokens);
+        assert_eq!(self.client.feed(&bytes[..took.bytes], &tokens[..took.tokens]), Ok(took));
+    }
+
+    /// The event that was written, as the client reads it.
+    pub fn event(&mut self) -> OwnedMessage {
+        self.carry_to_client();
+        match self.client.next().unwrap() {
+            Some(Incoming::Event(event)) => event.into_owned(),
+            other => panic!("{other:?}"),
+        }
+    }
+}
