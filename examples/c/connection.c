@@ -158,9 +158,6 @@ static void drop(const waywire_report *report)
 {
 	for (size_t each = 0; each < report->token_count; each++)
 		close((int)report->tokens[each]);
-	for (size_t each = 0; each < report->arg_count; each++)
-		if (report->args[each].kind == WAYWIRE_FD)
-			close((int)report->args[each].u);
 }
 
 /* Calls what a report is for, and forgets its object where that is gone with it. */
