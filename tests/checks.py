@@ -3,6 +3,7 @@
 It puts tools/ and tools/dev/ on the path, so that a test imports their modules."""
 
 import filecmp
+import functools
 import glob
 import importlib.machinery
 import importlib.util
@@ -11,6 +12,8 @@ import shutil
 import subprocess
 import sys
 import tempfile
+import time
+import traceback
 import unittest
 
 sys.dont_write_bytecode = True
@@ -23,23 +26,73 @@ COMPILERS = (["gcc", "-std=c99", "-x", "c"], ["g++", "-std=c++11", "-x", "c++"],
              ["clang", "-std=c99", "-x", "c"], ["clang++", "-std=c++11", "-x", "c++"])
 STRICT = ["-Wall", "-Wextra", "-Wpedantic", "-Wconversion", "-Wshadow", "-Werror", "-fsyntax-only"]
 
-# The flag in /proc/net/unix of a socket that listens.
+# In /proc/net/unix, the flag of a socket that listens, and the state of one that is connected.
 ACCEPTS = 0x10000
+CONNECTED = "03"
+# How long a program may take until it is there, and how long anything may take that ends, in
+# seconds: many times what they take on a machine that has much else to do.
+COMES_UP = 120
+LONG = 900
 
 
 class Failed(Exception):
     """A test failed, and why."""
 
 
-class Skipped(Exception):
+class Skipped(unittest.SkipTest):
     """A test cannot run here, and why."""
+
+
+def asked_of_dpkg(*words):
+    """The lines that `dpkg-query` prints, none where the system has no such command."""
+    if not shutil.which("dpkg-query"):
+        return []
+    ran = subprocess.run(["dpkg-query", *words], capture_output=True, text=True, check=False)
+    return ran.stdout.splitlines()
+
+
+@functools.cache
+def is_whole(package):
+    """Whether a package is not there by half, by dpkg's state of it: where an installation was
+    ended, programs are there that do not run. A package that dpkg does not know is none of
+    dpkg's."""
+    states = asked_of_dpkg("-W", "-f=${db:Status-Abbrev}\n", package)
+    return all(it[1:] in ("i ", "n ", "c ") for it in states)
+
+
+@functools.cache
+def is_installed(command):
+    """Whether a program is there, and the package that brought it is whole."""
+    path = shutil.which(command)
+    if path is None:
+        return False
+    owners = [it.rpartition(": ")[0] for it in asked_of_dpkg("-S", os.path.realpath(path))]
+    return all(is_whole(it) for line in owners for it in line.split(", ") if " " not in it)
 
 
 def need(*commands):
     """Skips the test where one of the commands is not installed."""
     for command in commands:
-        if not shutil.which(command):
+        if not is_installed(command):
             raise Skipped(f"{command} is not installed")
+
+
+def can(what, *commands):
+    """Whether the commands are installed that a part of a test needs. Says which is not."""
+    lacking = [it for it in commands if not is_installed(it)]
+    if lacking:
+        print(f"skipped: {what}: {lacking[0]} is not installed")
+    return not lacking
+
+
+def has_come(test, seconds=COMES_UP):
+    """Waits until something is so, and returns whether it has come within so many seconds."""
+    end = time.monotonic() + seconds
+    while not test():
+        if time.monotonic() > end:
+            return False
+        time.sleep(0.05)
+    return True
 
 
 def ends_of(said):
@@ -50,22 +103,29 @@ def ends_of(said):
 def run(words, status=0, with_error=False, **kept):
     """Runs a command at the top of the repository, and returns its standard output, with its standard error
     behind it where that is asked for. It must end with this status."""
-    kept = {"cwd": TOP, "timeout": 120, **kept}
+    kept = {"cwd": TOP, "timeout": LONG, **kept}
     done = subprocess.run(words, capture_output=True, **kept)
     output, error = done.stdout.decode(errors="replace"), done.stderr.decode(errors="replace")
     if done.returncode != status:
-        raise Failed(f"{' '.join(words[-3:])}: status {done.returncode}\n{ends_of(output)}{ends_of(error)}")
+        how = f"status {done.returncode}" if done.returncode >= 0 else f"signal {-done.returncode}"
+        raise Failed(f"{' '.join(words[-3:])}: {how}\n{ends_of(output)}{ends_of(error)}")
     return output + error if with_error else output
+
+
+def sockets_at(path):
+    """The words of the lines of /proc/net/unix for the sockets at a path."""
+    with open("/proc/net/unix", encoding="utf-8") as sockets:
+        return [it for it in map(str.split, sockets) if it[-1] == path]
 
 
 def is_listening(path):
     """Whether a socket listens at a path: one that is bound and does not listen yet refuses a client."""
-    with open("/proc/net/unix", encoding="utf-8") as sockets:
-        for line in sockets:
-            words = line.split()
-            if words[-1] == path and int(words[3], 16) & ACCEPTS:
-                return True
-    return False
+    return any(int(it[3], 16) & ACCEPTS for it in sockets_at(path))
+
+
+def has_client(path):
+    """Whether a client is connected to a socket that listens at a path, and was accepted."""
+    return any(it[5] == CONNECTED for it in sockets_at(path))
 
 
 def module_of(path):
@@ -116,6 +176,13 @@ def counted(passed, failed):
     return int(failed > 0)
 
 
+def why_of(error):
+    """What an exception says. Where it is no test's own word, with its name and where it arose."""
+    if isinstance(error, (Failed, subprocess.TimeoutExpired)):
+        return str(error)
+    return f"{type(error).__name__}: {error}\n{traceback.format_exc().rstrip()}"
+
+
 def count_functions(tests, *given):
     """Runs functions as tests. Says which failed and which were skipped, and why; counts them."""
     passed = failed = 0
@@ -126,16 +193,23 @@ def count_functions(tests, *given):
             passed += 1
         except Skipped as why:
             print(f"skipped: {name}: {why}")
-        except (Failed, subprocess.TimeoutExpired) as why:
-            print(f"failed: {name}: {why}")
+        except Exception as why:
+            # Whatever ends a test, the others are run, and all are counted.
+            print(f"failed: {name}: {why_of(why)}")
             failed += 1
+        sys.stdout.flush()
     return counted(passed, failed)
 
 
 def count_cases(suite):
     """Runs the cases of `unittest`. Says which failed and which were skipped, and why; counts them."""
     result = unittest.TextTestRunner(stream=sys.stdout, verbosity=1).run(suite)
-    failed = len(result.failures) + len(result.errors)
+    wrong = [*result.failures, *result.errors]
+    for test, why in wrong:
+        print(f"failed: {test.id().removeprefix('__main__.')}: {why.rstrip().splitlines()[-1]}")
     for test, why in result.skipped:
         print(f"skipped: {test.id().removeprefix('__main__.')}: {why}")
-    return counted(result.testsRun - failed - len(result.skipped), failed)
+    # A class that is skipped was not run; a test fails by each of its parts.
+    lost = {getattr(it, "test_case", it).id() for it, _ in (*wrong, *result.skipped)
+            if isinstance(it, unittest.TestCase)}
+    return counted(result.testsRun - len(lost), len(wrong))

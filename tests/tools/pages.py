@@ -3,11 +3,10 @@
 import glob
 import os
 import re
-import shutil
 import subprocess
 import unittest
 
-from checks import TOP, module_of, read
+from checks import TOP, module_of, need, read
 
 
 class Pages(unittest.TestCase):
@@ -70,8 +69,7 @@ class Lint(unittest.TestCase):
         return found
 
     def lint(self, words, language, ending):
-        if not shutil.which(words[0]):
-            self.skipTest(f"{words[0]} is not installed (tools/dev/install-packages)")
+        need(words[0])
         command = [*words, *self.scripts(language, ending)]
         ran = subprocess.run(command, capture_output=True, text=True, cwd=TOP, check=False)
         self.assertEqual((ran.stdout + ran.stderr, ran.returncode), ("", 0))
