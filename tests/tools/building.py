@@ -1,13 +1,17 @@
-"""Programs compiled unproved and built: reports that are lent, `waywire` and `make`."""
+"""Programs compiled unproved and built: reports that are lent, `waywire` and `make`; and the
+installation and the waits of tests."""
 
 import contextlib
 import os
 import shutil
+import socket
 import subprocess
 import tempfile
 import unittest
+import unittest.mock
 
-from checks import TOP
+import checks
+from checks import LONG, TOP, need
 import crates
 
 
@@ -83,7 +87,7 @@ class Script(unittest.TestCase):
                 recording.write("> 0900000000000800\n")
             wanted = "broken: > message 3 at byte 52: F2 unknown object\n"
             # The second run has what the first one compiled, and needs no toolchain.
-            for kept in ({}, {"env": {"PATH": "/usr/bin:/bin"}, "timeout": 20}):
+            for kept in ({}, {"env": {"PATH": "/usr/bin:/bin"}}):
                 ran = self.ran(room, os.path.basename(file), **kept)
                 self.assertEqual((ran.stdout, ran.returncode), (wanted, 1), ran.stderr)
                 self.assertEqual(len(ran.stderr.splitlines()), 1)
@@ -91,7 +95,7 @@ class Script(unittest.TestCase):
             # A source that changed is compiled again.
             with open(f"{room}/crates/wl_wire/src/lib.rt", "a", encoding="utf-8") as source:
                 source.write("\n")
-            ran = self.ran(room, file, env={"PATH": "/usr/bin:/bin"}, timeout=20)
+            ran = self.ran(room, file, env={"PATH": "/usr/bin:/bin"})
             self.assertEqual((ran.stdout, ran.returncode), ("", 70))
 
 
@@ -127,6 +131,9 @@ echo "$3" >>"$ROOM/notes"
 """
     ARCHIVE = "crates/waywire_c/out/libwaywire_c.a"
 
+    def setUp(self):
+        need("make")
+
     @contextlib.contextmanager
     def room(self):
         with tempfile.TemporaryDirectory() as room:
@@ -145,7 +152,7 @@ echo "$3" >>"$ROOM/notes"
         """What a build says, and the crates that were proved, in order."""
         open(f"{room}/notes", "w", encoding="utf-8").close()
         env = {"PATH": f"{room}/bin:/usr/bin:/bin", "ROOM": room, "FAILS": "", "CI": "", **more}
-        how = {"capture_output": True, "text": True, "cwd": room, "timeout": 60, "check": False}
+        how = {"capture_output": True, "text": True, "cwd": room, "timeout": LONG, "check": False}
         ran = subprocess.run(words, env=env, **how)
         with open(f"{room}/notes", encoding="utf-8") as file:
             return ran, file.read().split()
@@ -212,3 +219,96 @@ echo "$3" >>"$ROOM/notes"
                 self.assertIn("not built", ran.stderr)
                 self.assertNotIn("wl_connection", proved)
                 self.assertFalse(os.path.exists(f"{room}/{made}"))
+
+
+class Sockets(unittest.TestCase):
+    def test_what_a_server_has(self):
+        """It listens, and then a client is connected, once it is accepted."""
+        with tempfile.TemporaryDirectory() as room, socket.socket(socket.AF_UNIX) as server:
+            def found():
+                return checks.is_listening(f"{room}/it"), checks.has_client(f"{room}/it")
+
+            server.bind(f"{room}/it")
+            self.assertEqual(found(), (False, False))
+            server.listen()
+            with socket.socket(socket.AF_UNIX) as client:
+                client.connect(f"{room}/it")
+                self.assertEqual(found(), (True, False))
+                with server.accept()[0]:
+                    self.assertEqual(found(), (True, True))
+            self.assertTrue(checks.has_come(lambda: found() == (True, False)))
+            self.assertFalse(checks.has_come(lambda: False, 0))
+
+
+class Packages(unittest.TestCase):
+    """`install-packages`, with stand-ins for apt-get and dpkg, whose state is a folder with a file
+    for each package that is whole."""
+
+    APT = """#!/bin/sh
+echo "apt $*" >>"$ROOM/notes"
+case "$* " in
+*"$FAILS "*) exit 100 ;;
+*download-only*) ;;
+*" install "*) for it; do [ -e "$ROOM/whole/$it" ] || : >"$ROOM/whole/$it"; done ;;
+esac
+"""
+    DPKG = """#!/bin/sh
+echo "dpkg $*" >>"$ROOM/notes"
+"""
+    DPKG_QUERY = """#!/bin/sh
+for it; do :; done
+if [ -e "$ROOM/whole/$it" ]; then printf 'ii '; else printf 'iU '; fi
+"""
+
+    def installed(self, *words, fails="nothing", whole=()):
+        """The status and the last line of an installation, and the commands that were run."""
+        with tempfile.TemporaryDirectory() as room:
+            for folder in ("bin", "whole"):
+                os.mkdir(f"{room}/{folder}")
+            texts = {"apt-get": self.APT, "dpkg": self.DPKG, "dpkg-query": self.DPKG_QUERY}
+            for name, text in texts.items():
+                with open(f"{room}/bin/{name}", "w", encoding="utf-8") as file:
+                    file.write(text)
+                os.chmod(f"{room}/bin/{name}", 0o755)
+            for name in whole:
+                open(f"{room}/whole/{name}", "w", encoding="utf-8").close()
+            env = {"PATH": f"{room}/bin:/usr/bin:/bin", "ROOM": room, "FAILS": fails}
+            command = [f"{TOP}/tools/dev/install-packages", *words]
+            how = {"capture_output": True, "text": True, "timeout": LONG, "check": False}
+            ran = subprocess.run(command, env=env, **how)
+            with open(f"{room}/notes", encoding="utf-8") as file:
+                return ran.returncode, ran.stdout.splitlines()[-1:], file.read().splitlines()
+
+    def test_groups_in_order(self):
+        """What was ended half way is mended first. Each group is fetched, and then unpacked."""
+        status, last, notes = self.installed()
+        self.assertEqual((status, last, notes[0]), (0, [], "dpkg --configure -a"))
+        self.assertIn(" update", notes[1])
+        self.assertEqual(sum(it.endswith(" update") for it in notes), 1)
+        for fetched, unpacked in zip(notes[2::2], notes[3::2]):
+            self.assertEqual(fetched.replace(" --download-only", ""), unpacked)
+        self.assertIn(" install gcc g++ ", notes[3])
+
+    def test_nothing_is_begun_too_late(self):
+        status, last, notes = self.installed("0", whole=("gcc", "weston"))
+        self.assertEqual((status, notes), (1, ["dpkg --configure -a"]))
+        self.assertTrue(last[0].startswith("not installed: g++ binutils "), last)
+        self.assertNotIn("weston", last[0])
+
+    def test_a_group_that_fails(self):
+        status, last, notes = self.installed(fails="zenity", whole=("foot",))
+        self.assertEqual((status, last), (1, ["not installed: zenity wlr-randr "]))
+        self.assertTrue(notes[-1].endswith(" install groff-base nodejs"), notes[-1])
+
+    def test_what_is_there(self):
+        """A package by halves is none, nor is its program."""
+        states = {"ii ": True, "hi ": True, "iU ": False, "iF ": False, "iHR": False}
+        for state, is_there in states.items():
+            said = {"-S": ["diversion by dash from: /bin/sh", "dash: /bin/sh"], "-W": [state]}
+            checks.is_whole.cache_clear()
+            asked = unittest.mock.patch.object(checks, "asked_of_dpkg", lambda way, *_: said[way])
+            with asked:
+                found = checks.is_installed.__wrapped__("sh"), checks.is_whole("dash")
+            self.assertEqual(found, (is_there, is_there), state)
+        checks.is_whole.cache_clear()
+        self.assertFalse(checks.is_installed("no-such-command"))
