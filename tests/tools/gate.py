@@ -1,13 +1,16 @@
-"""The tools that run proofs and tests: mutants, the timed gate and the quick look."""
+"""The tools that run proofs and tests: mutants, the timed gate, the quick look and all of it."""
 
 import contextlib
 import io
 import os
+import shutil
 import subprocess
 import sys
+import tempfile
 import unittest
 import unittest.mock
 
+import checks
 from checks import TOOLS, TOP, module_of, read
 import crates
 
@@ -53,6 +56,8 @@ class TimedGate(unittest.TestCase):
         ran = subprocess.run(command, stdout=subprocess.PIPE, text=True)
         self.assertEqual(ran.returncode, 3)
         self.assertIn("processor minutes in", ran.stdout.split("\n")[-2])
+        command[-1] = "kill -9 $$"
+        self.assertEqual(subprocess.run(command, stdout=subprocess.DEVNULL).returncode, 128 + 9)
 
     def test_other_processes_are_not_counted(self):
         self.assertIsNone(self.tool.part_of(f"/proc/{os.getpid()}"))
@@ -141,7 +146,7 @@ class Quick(unittest.TestCase):
         with (
             contextlib.redirect_stdout(io.StringIO()),
             unittest.mock.patch.object(self.tool, "run", run),
-            unittest.mock.patch.object(self.tool.shutil, "which", lambda _: "there"),
+            unittest.mock.patch.object(self.tool.checks, "is_installed", lambda _: True),
         ):
             count = self.tool.Count()
             part(count)
@@ -178,3 +183,118 @@ class Quick(unittest.TestCase):
         ran = subprocess.run(command, capture_output=True, text=True, check=False)
         self.assertEqual((ran.returncode, ran.stdout), (2, ""))
         self.assertIn("no_crate", ran.stderr)
+
+
+class All(unittest.TestCase):
+    """`./test all`, with a stand-in for each of its parts."""
+
+    PARTS = ["tests/check-layout", "tools/dev/timed-gate", "tests/check-program", "tests/compare",
+             "tests/refuse-memory", "tests/check-tools", "tests/check-c", "tests/check-stubs",
+             "tests/check-rust", "tests/check-picture"]
+
+    def said(self, **parts):
+        """The status and the output of a run, in which these parts, by the last words of their
+        names, are other scripts."""
+        with tempfile.TemporaryDirectory() as room:
+            shutil.copy(f"{TOP}/test", room)
+            for name in self.PARTS:
+                os.makedirs(f"{room}/{os.path.dirname(name)}", exist_ok=True)
+                script = parts.get(name.rpartition("-")[2], "echo '1 passed, 0 failed'")
+                with open(f"{room}/{name}", "w", encoding="utf-8") as file:
+                    file.write(f"#!/bin/sh\n{script}\n")
+                os.chmod(f"{room}/{name}", 0o755)
+            how = {"capture_output": True, "text": True, "check": False}
+            ran = subprocess.run([f"{room}/test", "all"], **how)
+        return ran.returncode, ran.stdout
+
+    def test_all_is_well(self):
+        status, said = self.said(c="""echo 'skipped: a compositor: weston is not installed'
+echo '3 passed, 0 failed'""")
+        self.assertEqual((status, said.splitlines()[-1]), (0, "12 passed, 0 failed"))
+        skipped = "tests/check-c: a compositor: weston is not installed\n"
+        self.assertIn(f"What was skipped:\n{skipped}", said)
+        self.assertNotIn("What failed:", said)
+
+    def failing(self, count, **parts):
+        """What is said at the end of what failed."""
+        status, said = self.said(**parts)
+        self.assertEqual((status, said.splitlines()[-1]), (1, f"{count} failed"))
+        return said.partition("What failed:\n")[2]
+
+    def test_layout(self):
+        said = self.failing("2 passed, 1", layout="""echo 'failed: layout of a: b.rt'
+echo '2 passed, 1 failed'
+exit 1""")
+        wanted = "tests/check-layout, 2 passed, 1 failed:\nfailed: layout of a: b.rt\n"
+        self.assertTrue(said.startswith(wanted), said)
+
+    def test_what_failed_and_why(self):
+        said = self.failing("10 passed, 1", c="""echo skipped: one: two
+printf 'failed: values: status 1\nvalues.c:7: no\n'
+echo skipped: three: four
+echo '1 passed, 1 failed'
+exit 1""")
+        lines = ["tests/check-c, 1 passed, 1 failed:", "failed: values: status 1", "values.c:7: no"]
+        self.assertEqual(said.splitlines()[:3], lines)
+        self.assertNotIn("three", said)
+
+    def test_an_exception(self):
+        said = self.failing("9 passed, 1", rust="exec python3 -c 'raise OSError(7, str(9))'")
+        wanted = "which ended with status 1 and has no count of what passed and failed:\nTraceback "
+        self.assertTrue(said.startswith(f"tests/check-rust, {wanted}"), said)
+        self.assertIn("OSError: [Errno 7] 9\n", said)
+
+    def test_a_signal(self):
+        for signal, name, is_memory in ((9, "KILL", True), (15, "TERM", False)):
+            said = self.failing("9 passed, 1", picture=f"kill -{signal} $$")
+            self.assertIn(f"tests/check-picture, which ended by signal {signal} ({name}) and", said)
+            self.assertEqual("for want of memory" in said, is_memory, said)
+
+    def test_a_status_that_no_count_explains(self):
+        said = self.failing("10 passed, 1", tools="echo '1 passed, 0 failed'; exit 3")
+        self.assertIn("tests/check-tools, which ended with status 3 though nothing of its", said)
+
+    def test_the_gate(self):
+        """A mutant that was not tried fails, and a proof that the system ended is told as that."""
+        def gate(*lines):
+            said = " ".join(f"'{it}'" for it in (*lines, "5 passed, 1 failed", "rt ci: 9"))
+            said = self.failing("14 passed, 1", gate=f"printf '%s\\n' {said}; exit 1")
+            head = "tools/dev/timed-gate, 5 passed, 1 failed:"
+            self.assertEqual(said.splitlines()[: 1 + len(lines)], [head, *lines])
+            self.assertIn("\nrt ci: 9\nin all: ", said)
+            return said
+
+        tried = "rt: must-fail a/b.edit: NOT TRIED: its check ended with status 3"
+        self.assertNotIn("for want of memory", gate(tried))
+        killed = "rt: the check was killed, most likely for memory: once more"
+        self.assertIn("for want of memory", gate(killed, "rt: c NOT PROVED"))
+
+    def test_an_exception_in_a_test(self):
+        """It is counted, and the tests behind it are run."""
+        def of_no_kind():
+            raise KeyError("here")
+
+        def one():
+            pass
+
+        with contextlib.redirect_stdout(io.StringIO()) as output:
+            self.assertEqual(checks.count_functions([of_no_kind, one]), 1)
+        self.assertIn("failed: of no kind: KeyError: 'here'\nTraceback", output.getvalue())
+        with self.assertRaisesRegex(checks.Failed, r"\Ash -c kill -9 \$\$: signal 9\n\Z"):
+            checks.run(["sh", "-c", "kill -9 $$"])
+        self.assertEqual(output.getvalue().splitlines()[-1], "1 passed, 1 failed")
+
+    def test_cases_are_named(self):
+        class Cases(unittest.TestCase):
+            def test_a(self):
+                raise KeyError("here")
+
+            def test_b(self):
+                checks.need("no-such-command")
+
+        with contextlib.redirect_stdout(io.StringIO()) as output:
+            checks.count_cases(unittest.defaultTestLoader.loadTestsFromTestCase(Cases))
+        lines = output.getvalue().splitlines()
+        whys = [it.rpartition(": ")[2] for it in lines if it.startswith(("failed: ", "skipped: "))]
+        self.assertEqual(whys, ["'here'", "no-such-command is not installed"])
+        self.assertEqual(lines[-1], "0 passed, 1 failed")
