@@ -121,7 +121,7 @@ install: all
 	ln -sf $(call from,$(BINDIR),$(DATADIR)/waywire/tools)/waywire-picture $(DESTDIR)$(BINDIR)
 	sed 's|@VERSION@|$(VERSION)|' tools/waywire-picture.1.in > $(DESTDIR)$(DATADIR)/man/man1/waywire-picture.1
 	if [ -x $(program) ]; then \
-		install -m 755 $(program) $(DESTDIR)$(BINDIR) && \
+		install -m 755 $(program) $(DESTDIR)$(BINDIR)/waywire && \
 		tools/man-page $(program) > $(DESTDIR)$(DATADIR)/man/man1/waywire.1 && \
 		chmod 644 $(DESTDIR)$(DATADIR)/man/man1/waywire.1; \
 	fi
