@@ -22,10 +22,14 @@ import time
 import unittest
 
 ROOT = os.path.dirname(os.path.dirname(os.path.dirname(os.path.realpath(__file__))))
+sys.dont_write_bytecode = True
+sys.path.insert(0, f"{ROOT}/tests")
+from checks import count_cases, has_come  # noqa: E402
+
 INSPECT = os.environ.get("INSPECT", f"{ROOT}/out/c/waywire-inspect").split()
 WAYWIRE = os.environ.get("WAYWIRE")
-# How long anything may take that ends, in seconds.
-LONG = 60
+# How long anything may take that ends, in seconds: many times what it takes.
+LONG = 300
 SYNC = "-> wl_display@1.sync(new id wl_callback@{})\n"
 # What is printed of a message for an object that never was, behind a sync.
 BROKEN = """-> unknown@9: opcode 0, 8 bytes, bytes 0900000000000800
@@ -51,6 +55,13 @@ def done(number):
 def closed(descriptors):
     for it in descriptors:
         os.close(it)
+
+
+def main():
+    """Runs the tests that the words name, or all. Says which are skipped, and counts them."""
+    loader, program = unittest.defaultTestLoader, sys.modules["__main__"]
+    named = loader.loadTestsFromNames(sys.argv[1:], program)
+    sys.exit(count_cases(named if sys.argv[1:] else loader.loadTestsFromModule(program)))
 
 
 class Inspected(unittest.TestCase):
@@ -611,11 +622,8 @@ class Failing(Inspected):
     def found(self):
         """The socket of a tool that cannot print its name."""
         path = f"{self.folder}/waywire-{self.tool.pid}"
-        for _ in range(600):
-            if os.path.exists(path):
-                return path
-            time.sleep(0.05)
-        raise AssertionError("it does not listen")
+        self.assertTrue(has_come(lambda: os.path.exists(path), LONG), "it does not listen")
+        return path
 
     def test_an_output_that_nobody_reads(self):
         """It stops what passes, and a signal stops the tool."""
@@ -736,4 +744,4 @@ while True: signal.pause()
 
 
 if __name__ == "__main__":
-    unittest.main()
+    main()

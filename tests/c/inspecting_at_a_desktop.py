@@ -1,25 +1,28 @@
 #!/usr/bin/env python3
-"""Tests of waywire-inspect between the programs of a desktop and sway without a screen, with a keyboard and a
-text in the clipboard: each is judged lawful to its end, with the installed tables.
+"""Tests of waywire-inspect between the programs of a desktop and sway without a screen, with a
+keyboard and a text in the clipboard: each is judged lawful to its end, with the installed tables.
 
     tests/c/inspecting_at_a_desktop.py [CLASS[.TEST]]..
 
-The environment is that of tests/c/inspecting.py. A program that is not installed is skipped."""
+The environment is that of tests/c/inspecting.py. A program that is not installed is skipped, and so
+is one that makes no connection."""
 import os
-import shutil
+import re
 import signal
 import subprocess
 import sys
-import time
 import unittest
 
 sys.dont_write_bytecode = True
 sys.path.insert(0, os.path.dirname(os.path.realpath(__file__)))
-from inspecting import LONG, WAYWIRE  # noqa: E402
+from inspecting import LONG, WAYWIRE, main  # noqa: E402
 import inspecting_at_sway  # noqa: E402
+from checks import has_come, need  # noqa: E402
 
-# How long a program that does not end by itself runs, in seconds.
+# How long a program that has drawn, and does not end by itself, runs on, in seconds. That it is
+# lawful holds of whatever it does in that time.
 A_WHILE = 4
+DRAWN = r"-> wl_surface@\d+\.commit\("
 # The programs, by what draws them.
 PROGRAMS = {
     "gtk3": (["zenity", "--info", "--text=grüße"], ["gtk3-demo"], ["gtk3-widget-factory"]),
@@ -45,27 +48,41 @@ class Desktop(inspecting_at_sway.Sway):
 
     def setUp(self):
         super().setUp()
-        self.need("wtype")
+        need("wtype")
         self.copy("a text")
+        if not has_come(lambda: self.pasted() == b"a text"):
+            self.skipTest("wl-copy has not come up")
         # A keyboard, for as long as the test runs.
         other = subprocess.Popen(["wtype", "-s", str(1000 * LONG), "x"], env=self.quiet())
         self.addCleanup(self.end_all, [other])
         self.env.update(GDK_BACKEND="wayland", QT_QPA_PLATFORM="wayland", NO_AT_BRIDGE="1", HOME=self.folder,
                         GSK_RENDERER="cairo", XDG_CACHE_HOME=self.folder, XDG_CONFIG_HOME=self.folder)
 
-    def verdicts_of(self, *command):
-        """The verdict of each client that a program starts, and the last lines before it. The program `waywire`
-        gives the same of what was recorded."""
+    def pasted(self):
+        """The text in the clipboard."""
+        words = ["wl-paste", "--no-newline"]
+        how = {"env": self.quiet(), "capture_output": True, "timeout": LONG, "check": False}
+        return subprocess.run(words, **how).stdout
+
+    def verdicts_of(self, *command, until=DRAWN):
+        """The verdict of each client that a program starts, and the last lines before it. It runs
+        until the tool has said this of it, and then for a while. The program `waywire` gives the
+        same verdicts of what was recorded."""
         said, error = f"{self.folder}/said", f"{self.folder}/error"
+        for path in (said, error):
+            open(path, "wb").close()
         options = ["--output", said, "--record", self.recorded]
         with open(error, "wb") as file:
             self.start(*options, *command, stdout=file, stderr=file, stdin=subprocess.DEVNULL)
+        self.comes_up((said, error), " ".join(command))
+        # Not all that is lawful draws: what has not after so long is judged as it is.
+        has_come(lambda: re.search(until, self.read(said)) or self.tool.poll() is not None)
         try:
             self.tool.wait(A_WHILE)
         except subprocess.TimeoutExpired:
             self.tool.send_signal(signal.SIGINT)
             self.tool.wait(LONG)
-        lines = self.read(said).splitlines() if os.path.exists(said) else []
+        lines = self.read(said).splitlines()
         words = ("lawful", "broken: ", "not judged from request", "unjudged")
         verdicts = [it.split(" ", 1)[1] if it.startswith("#") else it for it in lines
                     if it.split(" ", 1)[-1 if it.startswith("#") else 0].startswith(words)
@@ -83,16 +100,24 @@ class Desktop(inspecting_at_sway.Sway):
             self.assertEqual(sorted(checked), sorted(verdicts))
 
     def programs(self, kind):
-        """Runs all programs of a kind that are installed, and skips where none is."""
-        found = [it for it in PROGRAMS[kind] if shutil.which(it[0])]
-        if not found:
-            self.skipTest(f"{PROGRAMS[kind][0][0]} is not installed")
-        for command in found:
+        """Runs all programs of a kind that are installed and come up. Says which are skipped, and
+        skips where all are."""
+        skipped = []
+        for command in PROGRAMS[kind]:
             with self.subTest(command[0]):
-                verdicts, last = self.verdicts_of(*command)
+                try:
+                    need(command[0])
+                    verdicts, last = self.verdicts_of(*command)
+                except unittest.SkipTest as why:
+                    skipped.append(str(why))
+                    continue
                 self.assertTrue(verdicts, last)
                 for verdict in verdicts:
                     self.assertTrue(verdict.startswith("lawful: "), last)
+        if len(skipped) == len(PROGRAMS[kind]):
+            self.skipTest("; ".join(skipped))
+        for why in skipped:
+            print(f"\nskipped: {kind}: {why}")
 
     def test_gtk3(self):
         self.programs("gtk3")
@@ -121,19 +146,20 @@ class Desktop(inspecting_at_sway.Sway):
     def test_primary_selection(self):
         """A text is copied and pasted by the tool itself, also as primary selection."""
         for words in ([], ["--primary"]):
-            copying, _ = self.verdicts_of("wl-copy", *words, "one")
+            offers = r"\.set_(primary_)?selection\("
+            copying, _ = self.verdicts_of("wl-copy", *words, "one", until=offers)
             pasting, last = self.verdicts_of("wl-paste", *words, "--no-newline")
             self.assertEqual([it.split(":")[0] for it in (*copying, *pasting)], ["lawful"] * 2, last)
 
     def test_wf_recorder(self):
         """sway sends wl_output.done to an output of version 1, which has no such event."""
-        self.need("wf-recorder")
-        verdicts, last = self.verdicts_of("wf-recorder", "-f", f"{self.folder}/film.mkv")
-        time.sleep(0.1)
+        need("wf-recorder")
+        command = ["wf-recorder", "-f", f"{self.folder}/film.mkv"]
+        verdicts, last = self.verdicts_of(*command, until=r"(?m)^(#\d+ )?broken: ")
         self.assertTrue(verdicts and verdicts[0].startswith("broken: < message "), last)
         self.assertTrue(verdicts[0].endswith("F3 unknown message"), last)
         self.assertIn("<- wl_output@", last)
 
 
 if __name__ == "__main__":
-    unittest.main()
+    main()

@@ -5,23 +5,21 @@ an object for each selection that it offers.
     tests/c/inspecting_at_sway.py [CLASS[.TEST]]..
 
 The environment is that of tests/c/inspecting.py. `wtype` is the keyboard."""
-import contextlib
 import functools
 import os
 import pwd
 import re
 import shutil
-import socket
 import subprocess
 import sys
 import tempfile
 import time
-import unittest
 
 sys.dont_write_bytecode = True
 sys.path.insert(0, os.path.dirname(os.path.realpath(__file__)))
-from inspecting import LONG  # noqa: E402
+from inspecting import LONG, main  # noqa: E402
 import real_clients  # noqa: E402
+from checks import has_come, need  # noqa: E402
 
 CONFIGURATION = "xwayland disable\noutput * bg #000000 solid_color\n"
 # All of a text is selected, copied, and pasted twice.
@@ -33,7 +31,7 @@ class Sway(real_clients.RealClients):
 
     def setUp(self):
         super().setUp()
-        self.need("sway", "wl-copy", "wl-paste")
+        need("sway", "wl-copy", "wl-paste")
         # sway does not run as root.
         self.room = self.enterContext(tempfile.TemporaryDirectory(prefix="sway-"))
         user = pwd.getpwnam("nobody") if os.getuid() == 0 else None
@@ -45,26 +43,9 @@ class Sway(real_clients.RealClients):
         env = {**self.env, "XDG_RUNTIME_DIR": self.room, "HOME": self.room, "WLR_BACKENDS": "headless",
                "WLR_LIBINPUT_NO_DEVICES": "1", "WLR_RENDERER": "pixman"}
         env.pop("WAYLAND_DISPLAY")
-        self.log = self.enterContext(open(f"{self.folder}/sway.log", "wb"))
-        words = ["sway", "--config", f"{self.room}/config"]
-        self.sway = subprocess.Popen(words, env=env, stdout=self.log, stderr=self.log, **as_user)
-        self.addCleanup(self.end_all, [self.sway])
         self.env["WAYLAND_DISPLAY"] = f"{self.room}/wayland-1"
-        for _ in range(600):
-            with socket.socket(socket.AF_UNIX) as tried, contextlib.suppress(OSError):
-                tried.connect(self.env["WAYLAND_DISPLAY"])
-                return
-            time.sleep(0.05)
-        raise AssertionError("sway does not listen")
-
-    def end_all(self, programs):
-        for it in programs:
-            it.terminate()
-            try:
-                it.wait(20)
-            except subprocess.TimeoutExpired:
-                it.kill()
-                it.wait()
+        words = ["sway", "--config", f"{self.room}/config"]
+        self.start_compositor(words, self.env["WAYLAND_DISPLAY"], env, **as_user)
 
     def quiet(self):
         """How others run beside the inspected client, which alone says its messages."""
@@ -77,30 +58,33 @@ class Sway(real_clients.RealClients):
 
     def again_until(self, path, does, *wanted):
         """Does something until the tool has said lines of all these forms."""
-        for _ in range(20):
+        def said_all():
             does()
             time.sleep(0.5)
-            said = self.read(path)
-            if all(re.search(it, said) for it in wanted):
-                return
-        self.fail(f"not all of {wanted} came: {said[-1000:]}")
+            return all(re.search(it, self.read(path)) for it in wanted)
+        if not has_come(said_all, LONG):
+            self.fail(f"not all of {wanted} came: {self.read(path)[-1000:]}")
 
     def runs(self, *words):
         """What runs a command to its end."""
-        return functools.partial(subprocess.run, words, env=self.quiet(), check=True, timeout=LONG,
+        return functools.partial(subprocess.run, words, env=self.quiet(), check=False, timeout=LONG,
                                  stdout=subprocess.DEVNULL)
 
     def test_wl_paste(self):
         """The id of each offer is that of the one before it, which the client has destroyed."""
+        offer = "zwlr_data_control_offer_v1@4278190080"
+
+        def ended(path):
+            return self.read(path).count(f"-> {offer}.destroy()")
+
         def copies(path):
-            for text in ("one", "two", "three", "four"):
+            for text in ("one", "two", "three", "four", "five"):
+                before = ended(path)
                 self.copy(text)
-                time.sleep(0.5)
-            offer = "zwlr_data_control_offer_v1@4278190080"
-            self.again_until(path, lambda: self.copy("five"), rf"\(new id {offer}\)", rf"-> {offer}\.receive\(",
-                             rf"-> {offer}\.destroy\(\)")
+                self.comes_true(lambda: ended(path) > before)
+            self.assertIn(f"-> {offer}.receive(", self.read(path))
         said = self.inspected("wl-paste", "--watch", "sh", "-c", "cat >/dev/null", meanwhile=copies, least=10)
-        self.assertGreater(said.count("(new id zwlr_data_control_offer_v1@4278190080)"), 3)
+        self.assertGreater(said.count(f"(new id {offer})"), 3)
 
     def test_wl_copy(self):
         def pastes(path):
@@ -110,7 +94,7 @@ class Sway(real_clients.RealClients):
 
     def test_gtk(self):
         """It is offered what another client has copied, and copies and pastes its own."""
-        self.need("zenity", "wtype")
+        need("zenity", "wtype")
         self.env["GDK_BACKEND"] = "wayland"
         self.copy("another")
         def types(path):
@@ -122,4 +106,4 @@ class Sway(real_clients.RealClients):
 
 
 if __name__ == "__main__":
-    unittest.main()
+    main()

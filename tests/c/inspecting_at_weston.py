@@ -4,18 +4,14 @@
     tests/c/inspecting_at_weston.py [CLASS[.TEST]]..
 
 The environment is that of tests/c/inspecting.py."""
-import contextlib
 import os
-import socket
-import subprocess
 import sys
-import time
-import unittest
 
 sys.dont_write_bytecode = True
 sys.path.insert(0, os.path.dirname(os.path.realpath(__file__)))
-from inspecting import GONE, LONG  # noqa: E402
+from inspecting import GONE, LONG, main  # noqa: E402
 import real_clients  # noqa: E402
+from checks import need  # noqa: E402
 
 
 class Weston(real_clients.RealClients):
@@ -23,26 +19,10 @@ class Weston(real_clients.RealClients):
 
     def setUp(self):
         super().setUp()
-        self.need("weston", "weston-simple-shm")
+        need("weston", "weston-simple-shm")
         self.env["WAYLAND_DISPLAY"] = "weston"
         words = ["weston", "--backend=headless-backend.so", "--socket=weston", "--idle-time=0"]
-        self.log = self.enterContext(open(f"{self.folder}/weston.log", "wb"))
-        self.weston = subprocess.Popen(words, env=self.env, stdout=self.log, stderr=self.log)
-        self.addCleanup(self.end_weston)
-        for _ in range(600):
-            with socket.socket(socket.AF_UNIX) as tried, contextlib.suppress(OSError):
-                tried.connect(f"{self.folder}/weston")
-                return
-            time.sleep(0.05)
-        raise AssertionError("weston does not listen")
-
-    def end_weston(self):
-        self.weston.terminate()
-        try:
-            self.weston.wait(20)
-        except subprocess.TimeoutExpired:
-            self.weston.kill()
-            self.weston.wait()
+        self.weston = self.start_compositor(words, f"{self.folder}/weston", self.env)
 
     def test_simple_shm(self):
         self.inspected("weston-simple-shm")
@@ -64,4 +44,4 @@ class Weston(real_clients.RealClients):
 
 
 if __name__ == "__main__":
-    unittest.main()
+    main()

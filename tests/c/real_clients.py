@@ -1,16 +1,31 @@
 """Real clients that waywire-inspect stands between and their compositor: what they say of their messages is
 what the tool prints."""
+import collections
+import contextlib
 import glob
 import re
-import shutil
 import signal
+import socket
+import subprocess
 import time
 
 from inspecting import LONG, ROOT, Inspected
+from checks import COMES_UP, has_come, joined_tables, need
+import table_text
+
+# The status of the tool whose command has made no connection.
+NO_CONNECTION = 125
+# How a client names an object that it has destroyed.
+ZOMBIE = "[zombie]"
+# The opcodes of events, by the names of their interfaces and their own.
+OPCODES = {(interface.name, it.name): opcode
+           for interface in table_text.read_more(table_text.core_tables(), joined_tables())
+           for opcode, it in enumerate(interface.event)}
 
 
 class RealClients(Inspected):
-    """Clients of libwayland, which WAYLAND_DEBUG makes say each message. A subclass starts a compositor."""
+    """Clients of libwayland, which WAYLAND_DEBUG makes say each message. A subclass starts a
+    compositor. What of the distribution does not come up is skipped."""
 
     # How clients end by SIGINT; of others it is not known.
     STATUS = {"weston-simple-shm": 0, "weston-flower": 128 + signal.SIGINT}
@@ -20,10 +35,32 @@ class RealClients(Inspected):
                        r"(\w+|\[zombie\])[@#](\d+)\.(\w+|\[event \d+\])\(")
     LINE = re.compile(r"(->|<-) (\w+)@(\d+)\.(\w+)\(")
 
-    def need(self, *commands):
-        for it in commands:
-            if not shutil.which(it):
-                self.skipTest(f"{it} is not installed")
+    def start_compositor(self, words, path, env, **kept):
+        """Starts a compositor, which is ended with the test, and waits until a client can connect
+        to it at a path."""
+        log = self.enterContext(open(f"{self.folder}/{words[0]}.log", "wb"))
+        started = subprocess.Popen(words, env=env, stdout=log, stderr=log, **kept)
+        self.addCleanup(self.end_all, [started])
+
+        def takes_clients():
+            with socket.socket(socket.AF_UNIX) as tried, contextlib.suppress(OSError):
+                tried.connect(path)
+                return True
+
+        has_come(lambda: started.poll() is not None or takes_clients())
+        if started.poll() is not None or not takes_clients():
+            said = self.read(log.name)[-300:]
+            self.skipTest(f"{words[0]} has not come up within {COMES_UP} s: {said!r}")
+        return started
+
+    def end_all(self, programs):
+        for it in programs:
+            it.terminate()
+            try:
+                it.wait(20)
+            except subprocess.TimeoutExpired:
+                it.kill()
+                it.wait()
 
     def parted(self, lines, form):
         """The requests, and the events of wl_display and others, each an interface, an id and a name."""
@@ -36,50 +73,81 @@ class RealClients(Inspected):
                 (own if found[2] == "wl_display" else others).append(found.groups()[1:])
         return requests, own, others
 
+    def as_they_came(self, told, printed):
+        """What the client has told of events, in the order in which they came. Of an event for an
+        object that it has destroyed it tells as it reads that, and of the others as it acts on
+        them, some time later."""
+        zombies = collections.Counter(it for it in told if it[0] == ZOMBIE)
+        others, came = collections.deque(it for it in told if it[0] != ZOMBIE), []
+        zombie_of = {it: (ZOMBIE, it[1], f"[event {OPCODES.get(it[::2])}]") for it in printed}
+        for it in printed:
+            if others and others[0] == it:
+                others.popleft()
+            elif zombies[zombie_of[it]]:
+                zombies[zombie_of[it]] -= 1
+            else:
+                break
+            came.append(it)
+        # One may have been read behind others that were not acted on any more.
+        unread = zombies - collections.Counter(zombie_of[it] for it in printed[len(came):])
+        return [*came, *others, *unread.elements()]
+
     def same(self, told, printed, which):
         """One list begins with the other. The client's own word ends with what it wrote and did not
-        send, or lacks what came and it did not read any more."""
+        send, or lacks what came and it did not read any more: much, where it had to wait."""
         length = min(len(told), len(printed))
-        told[:length] = [its if it[:2] == ("[zombie]", its[1]) else it for it, its in zip(told, printed)]
         self.assertEqual(told[:length], printed[:length], which)
-        self.assertLess(max(len(told), len(printed)) - length, 32, which)
+        self.assertLess(max(len(told), len(printed)) - length, 1000, which)
 
     def start_at_files(self, *words, until=lambda said: len(said.splitlines()) > 40):
-        """Starts the tool with files for what it says, and waits until a client has said so much."""
+        """Starts the tool with files for what it says, and waits until a client has said so much. A
+        client that says nothing has not come up."""
         paths = [f"{self.folder}/{it}" for it in ("said", "error")]
         with open(paths[0], "wb") as said, open(paths[1], "wb") as error:
             self.start(*words, stdout=said, stderr=error)
-        self.comes_true(lambda: until(self.read(paths[0])))
+        self.comes_up(paths, " ".join(words))
+        self.comes_true(lambda: until(self.read(paths[0])) or self.tool.poll() is not None)
+        # What comes a little later is looked at, too.
+        time.sleep(1)
         return paths
 
+    def comes_up(self, paths, name):
+        """Waits until the tool has said something of a client. One that makes no connection is
+        skipped."""
+        has_come(lambda: self.read(paths[0]) or self.tool.poll() is not None)
+        if not self.read(paths[0]):
+            self.assertIn(self.tool.poll(), (None, NO_CONNECTION), self.read(paths[1]))
+            error = self.read(paths[1])[-300:]
+            self.skipTest(f"{name} has not come up within {COMES_UP} s: {error!r}")
+
     def comes_true(self, test):
-        """Waits until something is so, and then a little longer."""
-        for _ in range(10 * LONG):
-            if test():
-                break
-            time.sleep(0.1)
-        time.sleep(1)
+        self.assertTrue(has_come(test, LONG), f"it has not come within {LONG} s")
 
     def read(self, path):
-        with open(path, encoding="utf-8") as file:
+        with open(path, encoding="utf-8", errors="replace") as file:
             return file.read()
 
     def inspected(self, *command, meanwhile=lambda path: None, least=20, **kept):
         """Runs a client for a while: it says each message, and so does the tool; and what was recorded has
         the same verdict. `meanwhile` is given the path of what the tool says. Returns that."""
-        self.need(command[0])
+        need(command[0])
         self.env["WAYLAND_DEBUG"] = "1"
         paths = self.start_at_files("--record", self.recorded, *command, **kept)
         meanwhile(paths[0])
-        self.finish(signal.SIGINT, self.STATUS.get(command[0]))
+        self.finish(signal.SIGINT, None)
+        # The tool tells one again to end that has not ended after two seconds, and then kills it.
+        usual, status = self.STATUS.get(command[0]), self.tool.returncode
+        late = (128 + signal.SIGTERM, 128 + signal.SIGKILL)
+        self.assertTrue(usual is None or status in (usual, *late), status)
         said, error = (self.read(it) for it in paths)
         told, printed = self.parted(error.splitlines(), self.DEBUG), self.parted(said.splitlines(), self.LINE)
         # libwayland says nothing of an event for an object that nobody listens to.
         heard = {it[:2] for it in told[2]}
-        others = [it for it in printed[2] if it[:2] in heard or ("[zombie]", it[1]) in heard]
+        others = [it for it in printed[2] if it[:2] in heard or (ZOMBIE, it[1]) in heard]
         self.assertGreater(len(told[0]), least)
-        for which, *lists in zip(("requests", "events of wl_display", "events"), told, (*printed[:2], others)):
-            self.same(*lists, which)
+        self.same(told[0], printed[0], "requests")
+        self.same(told[1], printed[1], "events of wl_display")
+        self.same(self.as_they_came(told[2], others), others, "events")
         verdict = said.splitlines()[-1]
         self.assertTrue(verdict.startswith("lawful: "), verdict)
         self.checked(self.recorded, said.splitlines(), "--tables", self.all_tables())
