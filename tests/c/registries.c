@@ -1,16 +1,25 @@
-/* Many open registries cost little: 100,000 of them take less than 40 MB, and what destroys an object takes no
- * longer beside them, nor an announce that owes nothing. A request that makes or destroys a registry, with the
- * announce after it, takes at most three times what it takes beside ten. */
+/* Many open registries cost little.
+ *
+ *     registries             100,000 of them take less than 40 MB
+ *     registries WORK OPEN   does a work beside so many, all of it in `measured`, and prints how
+ *                            often: what it takes in instructions is counted from outside
+ *
+ * The works: an object is made and destroyed; an announce owes nothing; a registry is made; one is
+ * destroyed and another made; an event is told, of a global that is added and withdrawn. Behind
+ * each request that makes or destroys a registry comes an announce. */
 #include "must.h"
 
+#include <string.h>
 #include <sys/resource.h>
-#include <time.h>
 
 #define COUNT 100000
+#define TIMES 200
+#define GLOBALS 30
 
-static const waywire_sizes sizes = { 65536, 64, 65536, 64 };
+static const waywire_sizes sizes = { 65536, 64, 65536, 64, 0 };
+static const waywire_tables *tables;
 static waywire_server *server;
-static uint32_t next_id = 2;
+static uint32_t next_id, fixes, compositor;
 
 static void request(const uint32_t *words, size_t count)
 {
@@ -27,85 +36,17 @@ static uint32_t get_registry(void)
 	return next_id++;
 }
 
-static uint32_t bind_compositor(uint32_t registry, uint32_t name)
+static uint32_t bind(uint32_t registry, uint32_t name, const char *interface)
 {
-	uint32_t words[10] = { registry, 40 << 16 | WAYWIRE_WL_REGISTRY_REQUEST_BIND, name, 14 };
-	memcpy(words + 4, WAYWIRE_WL_COMPOSITOR_NAME, 14);
-	words[8] = 1;
-	words[9] = next_id;
-	request(words, 10);
+	size_t length = strlen(interface) + 1;
+	uint32_t words[10] = { registry, 0, name, (uint32_t)length };
+	uint32_t end = 4 + (uint32_t)(length + 3) / 4;
+	words[1] = 4 * (end + 2) << 16 | WAYWIRE_WL_REGISTRY_REQUEST_BIND;
+	memcpy(words + 4, interface, length);
+	words[end] = 1;
+	words[end + 1] = next_id;
+	request(words, end + 2);
 	return next_id++;
-}
-
-static double nanoseconds(void)
-{
-	struct timespec now;
-	clock_gettime(CLOCK_MONOTONIC, &now);
-	return 1e9 * (double)now.tv_sec + (double)now.tv_nsec;
-}
-
-/* The nanoseconds in which a region is made and destroyed: the fewest of many. */
-static double destroys(uint32_t compositor)
-{
-	unsigned char bytes[64];
-	waywire_amounts taken;
-	double least = 1e9;
-	for (int each = 0; each < 200; each++) {
-		uint32_t create[] = { compositor, 12 << 16 | WAYWIRE_WL_COMPOSITOR_REQUEST_CREATE_REGION, next_id };
-		uint32_t destroy[] = { next_id, 8 << 16 | WAYWIRE_WL_REGION_REQUEST_DESTROY };
-		double from = nanoseconds();
-		request(create, 3);
-		request(destroy, 2);
-		double took = nanoseconds() - from;
-		if (took < least)
-			least = took;
-		MUST(!waywire_server_take(server, bytes, sizeof bytes, NULL, 0, &taken) && taken.bytes == 12);
-	}
-	return least;
-}
-
-/* Tells each registry all that it is owed, and then gives the nanoseconds of an announce: the fewest of many. */
-static double announces(void)
-{
-	static unsigned char bytes[65536];
-	waywire_amounts taken;
-	size_t count;
-	double least = 1e9;
-	do {
-		MUST(!waywire_server_announce(server, &count));
-		MUST(!waywire_server_take(server, bytes, sizeof bytes, NULL, 0, &taken));
-	} while (count);
-	for (int each = 0; each < 200; each++) {
-		double from = nanoseconds();
-		for (int again = 0; again < 10; again++)
-			MUST(!waywire_server_announce(server, &count) && !count);
-		double took = (nanoseconds() - from) / 10;
-		if (took < least)
-			least = took;
-	}
-	return least;
-}
-
-static long kilobytes(void)
-{
-	struct rusage usage;
-	MUST(!getrusage(RUSAGE_SELF, &usage));
-	return usage.ru_maxrss;
-}
-
-/* ---- requests that make or destroy registries, with an announce after each */
-
-#define GLOBALS 30
-#define FEW 10
-
-static uint32_t fixes;
-
-/* The nanoseconds of this process alone. */
-static double own_nanoseconds(void)
-{
-	struct timespec now;
-	clock_gettime(CLOCK_PROCESS_CPUTIME_ID, &now);
-	return 1e9 * (double)now.tv_sec + (double)now.tv_nsec;
 }
 
 /* Announces and takes all that waits. Returns how many events were announced. */
@@ -119,44 +60,70 @@ static size_t announce(void)
 	return count;
 }
 
-/* Makes a server that advertises wl_fixes and others, and has one registry, through which its client has bound
- * wl_fixes. */
-static void make_server(const waywire_tables *tables)
+static uint16_t place_of(const char *interface)
 {
-	uint16_t place, compositor;
-	uint32_t name;
-	next_id = 2;
-	MUST(!waywire_server_new(tables, &sizes, &server));
-	MUST(!waywire_tables_interface(tables, WAYWIRE_WL_COMPOSITOR_NAME, &compositor));
-	MUST(!waywire_tables_interface(tables, WAYWIRE_WL_FIXES_NAME, &place));
-	MUST(!waywire_server_add_global(server, place, 1, &name));
-	for (int each = 1; each < GLOBALS; each++)
-		MUST(!waywire_server_add_global(server, compositor, 1, NULL));
-	uint32_t registry = get_registry();
-	MUST(announce() == GLOBALS);
-	uint32_t words[9] = { registry, 36 << 16 | WAYWIRE_WL_REGISTRY_REQUEST_BIND, name, 9 };
-	memcpy(words + 4, WAYWIRE_WL_FIXES_NAME, 9);
-	words[7] = 1;
-	words[8] = fixes = next_id++;
-	request(words, 9);
+	uint16_t place;
+	MUST(!waywire_tables_interface(tables, interface, &place));
+	return place;
 }
 
-/* The nanoseconds of each of so many requests that make a registry. */
-static double opens(int count)
+/* Makes a server that advertises wl_fixes and wl_compositor, and so many globals in all. Its client
+ * has bound these two through its one registry. */
+static void make_server(size_t globals)
 {
-	double from = own_nanoseconds();
-	for (int each = 0; each < count; each++) {
+	uint32_t of_fixes, of_compositor;
+	next_id = 2;
+	MUST(!waywire_server_new(tables, &sizes, &server));
+	MUST(!waywire_server_add_global(server, place_of(WAYWIRE_WL_FIXES_NAME), 1, &of_fixes));
+	MUST(!waywire_server_add_global(server, place_of(WAYWIRE_WL_COMPOSITOR_NAME), 1, &of_compositor));
+	for (size_t each = 2; each < globals; each++)
+		MUST(!waywire_server_add_global(server, place_of(WAYWIRE_WL_COMPOSITOR_NAME), 1, NULL));
+	uint32_t registry = get_registry();
+	MUST(announce() == globals);
+	fixes = bind(registry, of_fixes, WAYWIRE_WL_FIXES_NAME);
+	compositor = bind(registry, of_compositor, WAYWIRE_WL_COMPOSITOR_NAME);
+}
+
+/* ---- the works, beside `open` registries whose ids begin at `first`; each returns how often */
+
+static size_t destroys(uint32_t first, uint32_t open)
+{
+	(void)first, (void)open;
+	for (int each = 0; each < TIMES; each++) {
+		uint32_t create[] = { compositor, 12 << 16 | WAYWIRE_WL_COMPOSITOR_REQUEST_CREATE_REGION,
+			next_id };
+		uint32_t destroy[] = { next_id, 8 << 16 | WAYWIRE_WL_REGION_REQUEST_DESTROY };
+		request(create, 3);
+		request(destroy, 2);
+		MUST(announce() == 0);
+	}
+	return TIMES;
+}
+
+static size_t announces(uint32_t first, uint32_t open)
+{
+	size_t count;
+	(void)first, (void)open;
+	for (int each = 0; each < TIMES; each++)
+		MUST(!waywire_server_announce(server, &count) && !count);
+	return TIMES;
+}
+
+static size_t opens(uint32_t first, uint32_t open)
+{
+	(void)first, (void)open;
+	for (int each = 0; each < TIMES; each++) {
 		get_registry();
 		MUST(announce() == GLOBALS);
 	}
-	return (own_nanoseconds() - from) / count;
+	return TIMES;
 }
 
-/* The nanoseconds of a pair of requests, of which one destroys the oldest of `open` registries, whose ids begin at
- * `first`, and one makes another. */
-static double replaces(uint32_t first, uint32_t open, uint32_t pairs)
+/* The oldest is destroyed, and another is made. So often that the slots of those that ended are
+ * taken out at least once. */
+static size_t replaces(uint32_t first, uint32_t open)
 {
-	double from = own_nanoseconds();
+	uint32_t pairs = open < 1000 ? 1000 : open + open / 10;
 	for (uint32_t each = 0; each < pairs; each++) {
 		uint32_t id = first + each % open;
 		uint32_t destroy[] = { fixes, 12 << 16 | WAYWIRE_WL_FIXES_REQUEST_DESTROY_REGISTRY, id };
@@ -166,89 +133,85 @@ static double replaces(uint32_t first, uint32_t open, uint32_t pairs)
 		request(get, 3);
 		MUST(announce() == GLOBALS);
 	}
-	return (own_nanoseconds() - from) / pairs;
+	return pairs;
 }
 
-/* The nanoseconds of each event where a global is added and withdrawn that all of `open` registries are told of. */
-static double tells(const waywire_tables *tables, size_t open)
+/* All registries are told, the client's first one too. */
+static size_t tells(uint32_t first, uint32_t open)
 {
-	uint16_t compositor;
 	uint32_t name;
-	MUST(!waywire_tables_interface(tables, WAYWIRE_WL_COMPOSITOR_NAME, &compositor));
-	double from = own_nanoseconds();
-	MUST(!waywire_server_add_global(server, compositor, 1, &name));
 	size_t told = 0, removed = 0, count;
+	(void)first;
+	MUST(!waywire_server_add_global(server, place_of(WAYWIRE_WL_COMPOSITOR_NAME), 1, &name));
 	while ((count = announce()))
 		told += count;
 	MUST(!waywire_server_withdraw(server, name));
 	while ((count = announce()))
 		removed += count;
-	MUST(told == open && removed == open);
-	return (own_nanoseconds() - from) / (double)(told + removed);
+	MUST(told == open + 1 && removed == open + 1);
+	return told + removed;
 }
 
-/* What requests cost beside few registries and beside many. The least of several runs are taken beside few. */
-static void requests_cost_the_same(const waywire_tables *tables)
+static const struct {
+	const char *name;
+	size_t (*done)(uint32_t first, uint32_t open);
+} works[] = {
+	{ "destroys", destroys }, { "announces", announces }, { "opens", opens }, { "replaces", replaces },
+	{ "tells", tells },
+};
+
+__attribute__((noinline)) size_t measured(size_t work, uint32_t first, uint32_t open);
+
+size_t measured(size_t work, uint32_t first, uint32_t open)
 {
-	double opened = 1e9, replaced = 1e9, told = 1e9;
-	for (int each = 0; each < 20; each++) {
-		make_server(tables);
-		uint32_t first = next_id;
-		opens(FEW);
-		double took = replaces(first, FEW, 1000);
-		if (took < replaced)
-			replaced = took;
-		took = tells(tables, FEW + 1);
-		if (took < told)
-			told = took;
-		waywire_server_free(server);
-		make_server(tables);
-		opens(FEW);
-		took = opens(100);
-		if (took < opened)
-			opened = took;
-		waywire_server_free(server);
-	}
-	for (uint32_t open = COUNT / 10; open <= COUNT; open *= 10) {
-		make_server(tables);
-		uint32_t first = next_id;
-		double opened_beside = opens((int)open);
-		/* So many that the slots of those that ended are taken out at least once. */
-		double replaced_beside = replaces(first, open, open + open / 10);
-		double told_beside = tells(tables, open + 1);
-		fprintf(stderr, "registries: beside %u and an announce after each, a registry is made in %.0f ns, beside %d in "
-			"%.0f; one is destroyed and another made in %.0f ns, and in %.0f; an event is told in %.0f ns, and in "
-			"%.0f\n", open, opened_beside, FEW, opened, replaced_beside, replaced, told_beside, told);
-		MUST(opened_beside < 3 * opened);
-		MUST(replaced_beside < 3 * replaced);
-		MUST(told_beside < 3 * told);
-		waywire_server_free(server);
-	}
+	return works[work].done(first, open);
 }
 
-int main(void)
+/* Does a work beside so many registries, which have been told of all globals. */
+static void measure(const char *name, uint32_t open)
 {
-	waywire_tables *tables;
-	uint16_t place;
-	uint32_t name;
-	MUST(!waywire_tables_core(&tables) && !waywire_server_new(tables, &sizes, &server));
-	MUST(!waywire_tables_interface(tables, WAYWIRE_WL_COMPOSITOR_NAME, &place));
-	MUST(!waywire_server_add_global(server, place, 1, &name));
-	uint32_t compositor = bind_compositor(get_registry(), name);
-	double alone = destroys(compositor), announces_alone = announces();
+	size_t work = 0;
+	while (work < sizeof works / sizeof *works && strcmp(works[work].name, name))
+		work++;
+	MUST(work < sizeof works / sizeof *works && open);
+	make_server(GLOBALS);
+	uint32_t first = next_id;
+	for (uint32_t each = 0; each < open; each++) {
+		get_registry();
+		MUST(announce() == GLOBALS);
+	}
+	printf("%zu\n", measured(work, first, open));
+	waywire_server_free(server);
+}
+
+static long kilobytes(void)
+{
+	struct rusage usage;
+	MUST(!getrusage(RUSAGE_SELF, &usage));
+	return usage.ru_maxrss;
+}
+
+static void take_little_memory(void)
+{
+	make_server(2);
 	long before = kilobytes();
 	for (int each = 0; each < COUNT; each++)
 		get_registry();
 	long took = kilobytes() - before;
-	double beside = destroys(compositor), announces_beside = announces();
-	fprintf(stderr, "registries: %ld KB; an object is destroyed in %.0f ns, and in %.0f beside them; an announce that "
-		"owes nothing takes %.1f ns, and %.1f\n", took, alone, beside, announces_alone, announces_beside);
+	fprintf(stderr, "registries: %ld KB\n", took);
 	MUST(took < 40000);
-	MUST(beside < 10 * alone);
-	MUST(announces_beside < 10 * announces_alone);
 	waywire_server_free(server);
-	requests_cost_the_same(tables);
-	waywire_tables_free(tables);
-	printf("registries: ok\n");
+}
+
+int main(int count, char **words)
+{
+	waywire_tables *core;
+	MUST(!waywire_tables_core(&core));
+	tables = core;
+	if (count > 2)
+		measure(words[1], (uint32_t)strtoul(words[2], NULL, 10));
+	else
+		take_little_memory();
+	waywire_tables_free(core);
 	return 0;
 }
