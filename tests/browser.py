@@ -10,9 +10,8 @@ import signal
 import subprocess
 import sys
 import tempfile
-import time
 
-from checks import Failed, Skipped
+from checks import COMES_UP, LONG, Failed, Skipped, has_come, is_installed
 
 NAMES = ("chromium", "chromium-browser", "google-chrome")
 # Gives the browser its two pipes as descriptors 3 and 4, and becomes it.
@@ -26,10 +25,11 @@ os.execvp(sys.argv[3], sys.argv[3:])
 
 
 class Browser:
-    """A browser with one page. What its console says is kept in `said`, what goes wrong in `wrong`."""
+    """A browser with one page. What its console says is kept in `said`, what goes wrong in `wrong`.
+    It is skipped where it is not installed, or does not come up."""
 
     def __init__(self, width=1400, height=900):
-        name = next(filter(shutil.which, NAMES), None)
+        name = next(filter(is_installed, NAMES), None)
         if name is None:
             raise Skipped("chromium is not installed")
         self.folder = tempfile.mkdtemp(prefix="waywire-browser-")
@@ -47,16 +47,31 @@ class Browser:
         self.number, self.rest, self.said, self.wrong, self.fetched = 0, b"", [], [], []
         self.session = None
         try:
-            page = next(it for it in self.ask("Target.getTargets")["targetInfos"] if it["type"] == "page")
-            found = self.ask("Target.attachToTarget", targetId=page["targetId"], flatten=True)
-            self.session = found["sessionId"]
-            for part in ("Page", "Runtime", "Log", "Network"):
-                self.ask(f"{part}.enable")
-            self.ask("Emulation.setDeviceMetricsOverride", width=width, height=height, deviceScaleFactor=1,
-                     mobile=False)
+            self.come_up(width, height)
+        except (Failed, OSError) as why:
+            self.close()
+            raise Skipped(f"{name} has not come up: {why}") from None
         except BaseException:
             self.close()
             raise
+
+    def come_up(self, width, height):
+        """Waits until there is a page, and lets it say what happens in it."""
+        pages = []
+
+        def has_page():
+            targets = self.ask("Target.getTargets", COMES_UP)["targetInfos"]
+            pages.extend(it["targetId"] for it in targets if it["type"] == "page")
+            return pages
+
+        if not has_come(has_page):
+            raise Failed(f"no page within {COMES_UP} s")
+        found = self.ask("Target.attachToTarget", COMES_UP, targetId=pages[0], flatten=True)
+        self.session = found["sessionId"]
+        for part in ("Page", "Runtime", "Log", "Network"):
+            self.ask(f"{part}.enable", COMES_UP)
+        self.ask("Emulation.setDeviceMetricsOverride", COMES_UP, width=width, height=height,
+                 deviceScaleFactor=1, mobile=False)
 
     def __enter__(self):
         return self
@@ -101,7 +116,7 @@ class Browser:
         elif found.get("method") == "Network.requestWillBeSent":
             self.fetched.append(parts["request"]["url"])
 
-    def ask(self, method, wait=60, **parts):
+    def ask(self, method, wait=LONG, **parts):
         """Calls a method of the browser, and returns its result."""
         self.number += 1
         words = {"id": self.number, "method": method, "params": parts}
@@ -126,13 +141,10 @@ class Browser:
             raise Failed(f"{code}: {detail.get('exception', {}).get('description', detail['text'])}")
         return found["result"].get("value")
 
-    def wait_for(self, code, seconds=20):
+    def wait_for(self, code):
         """Waits until an expression is true."""
-        end = time.monotonic() + seconds
-        while not self.run(code):
-            if time.monotonic() > end:
-                raise Failed(f"{code} has not come within {seconds} seconds: {self.wrong}")
-            time.sleep(0.02)
+        if not has_come(lambda: self.run(code)):
+            raise Failed(f"{code} has not come within {COMES_UP} seconds: {self.wrong}")
 
     def busy(self):
         """The seconds that the main threads of pages have taken of a processor, whatever else runs beside them."""

@@ -3,6 +3,9 @@
 import json
 import random
 import struct
+import sys
+
+import checks
 
 # Runs a command, and writes the most memory that it took at one time, in KB.
 MEASURE = """
@@ -132,3 +135,16 @@ def long_recording(count, windows=6):
                                       message(1, 1, words(callback + each)), message(buffer, 0)])
         made += 7 * windows
         turn += 1
+
+
+def long_page(folder, inspector):
+    """Makes the page of a long recording in a folder. Returns its path, and the most memory that
+    this took, in MB."""
+    path, made, report = (f"{folder}/{it}" for it in ("long.rec", "long.html", "report"))
+    with open(path, "w", encoding="ascii") as file:
+        file.writelines(long_recording(100_000))
+    tool = [sys.executable, f"{checks.TOOLS}/waywire-picture", path, "-o", made]
+    command = [*tool, "--inspector", inspector]
+    checks.run(["/usr/bin/env", "python3", "-c", MEASURE, report, *command])
+    with open(report, encoding="ascii") as file:
+        return made, int(file.read()) / 1024
