@@ -3,9 +3,8 @@
 import os
 import subprocess
 import tempfile
-import time
 
-from checks import Failed, is_listening, need
+from checks import COMES_UP, LONG, Failed, Skipped, has_client, has_come, is_listening, need
 
 # What is played at a window of weston-simple-shm, which draws until it is asked to close.
 DRAWN = "motion 20 20\nbutton 272\nkey 30\nclose\n"
@@ -16,11 +15,19 @@ TYPED = "motion 40 40\nkey 35\nkey 23\nkey 28\n"
 def started(words, path, said):
     """A compositor that listens at a path."""
     process = subprocess.Popen(words, stdout=said, stderr=said)
-    for _ in range(400):
-        if is_listening(path) or process.poll() is not None:
-            break
-        time.sleep(0.05)
+    has_come(lambda: is_listening(path) or process.poll() is not None)
     return process
+
+
+def ran(words, path, **kept):
+    """A client that has ended, and what it said. It is skipped where it has not come up."""
+    client = subprocess.Popen(words, stdout=subprocess.PIPE, stderr=subprocess.PIPE, **kept)
+    try:
+        if not has_come(lambda: has_client(path) or client.poll() is not None):
+            raise Skipped(f"{words[0]} has made no connection within {COMES_UP} s")
+        return client, *client.communicate(timeout=LONG)
+    finally:
+        client.kill()
 
 
 def played(words, script, *client):
@@ -35,8 +42,8 @@ def played(words, script, *client):
             env = {**os.environ, "XDG_RUNTIME_DIR": folder, "WAYLAND_DISPLAY": "wayland-test", "HOME": folder,
                    "GDK_BACKEND": "wayland", "NO_AT_BRIDGE": "1"}
             try:
-                ran = subprocess.run(client, env=env, capture_output=True, timeout=60, check=False)
-                status = server.wait(20)
+                ended, text, error = ran(client, path, env=env)
+                status = server.wait(LONG)
             except subprocess.TimeoutExpired as late:
                 said.seek(0)
                 raise Failed(f"{late.cmd[0]} does not end: the compositor says {said.read()[-600:]!r}") from None
@@ -44,17 +51,18 @@ def played(words, script, *client):
                 server.kill()
             said.seek(0)
             output = said.read().decode()
-        if ran.returncode or status or os.path.exists(path):
-            raise Failed(f"status {ran.returncode} of {client[0]}, {status} of the compositor\n"
-                         f"{ran.stderr[-600:].decode()}{output[-600:]}")
-        return ran.stdout.decode(), output
+        if ended.returncode or status or os.path.exists(path):
+            raise Failed(f"status {ended.returncode} of {client[0]}, {status} of the compositor\n"
+                         f"{error[-600:].decode()}{output[-600:]}")
+        return text.decode(), output
 
 
 def serves_a_client_of_weston(*words):
-    """It draws frames until it is asked to close."""
+    """It draws frames until it is asked to close: another picture wherever it is told that the one
+    before was shown, which is before all that the script has."""
     need("weston-simple-shm")
     _, output = played(words, DRAWN, "weston-simple-shm")
-    if output.count("a picture of ") < 3:
+    if output.count("a picture of ") < 2:
         raise Failed(f"the compositor says {output[-600:]!r}")
 
 

@@ -91,7 +91,7 @@ int main(void)
 	must(ww_xdg_toplevel_set_title(client, toplevel, "waywire"));
 	must(waywire_wl_surface_commit(client, surface));
 	while (!configured)
-		if (connection_dispatch(&connection, 20000) <= 0)
+		if (connection_dispatch(&connection, 120000) <= 0)
 			err(1, "the compositor");
 
 	waywire_object buffer = make_buffer();

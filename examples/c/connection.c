@@ -204,7 +204,7 @@ static int next(struct connection *connection, waywire_report *report)
 		status = waywire_client_next(link->client, report);
 	} else {
 		/* What was written before is on its way, so that there is room for what this one asks for. */
-		if (bound_objects(connection) || link_drain(link, 5000) < 0)
+		if (bound_objects(connection) || link_drain(link, 120000) < 0)
 			return -1;
 		status = waywire_server_next(link->server, report);
 	}
@@ -253,7 +253,7 @@ int connection_roundtrip(struct connection *connection)
 		return -1;
 	connection_listen(connection, callback, waywire_wl_callback_event_dispatcher, &events, &done);
 	while (!done && came > 0)
-		came = connection_dispatch(connection, 20000);
+		came = connection_dispatch(connection, 120000);
 	struct known *it = find(connection, callback);
 	if (it) /* no answer came */
 		forget(it);

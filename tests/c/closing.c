@@ -81,7 +81,7 @@ static void broken(const void *bytes, size_t length)
 	send_with_descriptors(client, bytes, length);
 	MUST(link_fill(&link) == 1 && count_open() == before + LINK_DESCRIPTORS);
 	MUST(waywire_is_fault(waywire_server_next(link.server, &report)));
-	MUST(!link_drain(&link, 1000) && recv(client, told, sizeof told, MSG_DONTWAIT) >= 20);
+	MUST(!link_drain(&link, 120000) && recv(client, told, sizeof told, MSG_DONTWAIT) >= 20);
 	end_server(&link);
 	MUST(count_open() == before - 1);
 	close(client);

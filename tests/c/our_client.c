@@ -277,7 +277,7 @@ static void heard(const waywire_report *report)
 
 static void read_all(void)
 {
-	MUST(link_wait(&link_to, 20000) > 0);
+	MUST(link_wait(&link_to, 120000) > 0);
 	for (;;) {
 		waywire_report report;
 		waywire_status status = waywire_client_next(link_to.client, &report);

@@ -341,7 +341,7 @@ int main(void)
 	add("wl_compositor", 4);
 	add("wl_shm", 1);
 	add("wl_seat", 5);
-	while (!ended && link_wait(&link_to, 20000) > 0)
+	while (!ended && link_wait(&link_to, 120000) > 0)
 		serve();
 	MUST(ended && !link_flush(&link_to));
 	MUST(pools == ROUNDS && keyboards == 2 * ROUNDS);
