@@ -185,6 +185,34 @@ class Quick(unittest.TestCase):
         self.assertIn("no_crate", ran.stderr)
 
 
+class OfTheInspector(unittest.TestCase):
+    """What check-c makes of the tests that it runs as programs of their own."""
+
+    def inspected(self, tool, said):
+        """What is told of a run that says this."""
+        with (
+            contextlib.redirect_stdout(io.StringIO()) as output,
+            unittest.mock.patch.object(tool, "run", lambda *_, **__: said),
+        ):
+            try:
+                tool.inspecting(None, file="a.py")
+            except checks.Skipped as why:
+                return f"all: {why}"
+        return output.getvalue()
+
+    def test_what_is_skipped_is_told(self):
+        tool = module_of("tests/check-c")
+        self.assertEqual(self.inspected(tool, "..\n2 passed, 0 failed\n"), "")
+        skipped = "\nskipped: a.b: no foot\n"
+        self.assertEqual(self.inspected(tool, f"{skipped}2 passed, 0 failed\n"), skipped[1:])
+        said = self.inspected(tool, f"{skipped}0 passed, 0 failed\n")
+        self.assertEqual(said, "all: a.b: no foot")
+        late = "sway has not come up within 120 s: ''"
+        said = self.inspected(tool, f"\nskipped: a.b: {late}\n0 passed, 0 failed\n")
+        self.assertEqual(said, f"all: a.b: {late}")
+        self.assertEqual(self.inspected(tool, "1 passed, 0 failed\n"), f"all: {late}")
+
+
 class All(unittest.TestCase):
     """`./test all`, with a stand-in for each of its parts."""
 
