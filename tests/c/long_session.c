@@ -1,5 +1,6 @@
 /* Passes ten gigabytes of a session to an inspector, which takes no more memory at its end than behind the
- * first 65 megabytes, when the allocator has kept what it keeps. */
+ * first 65 megabytes, when the allocator has kept what it keeps; and then pieces behind a message that breaks
+ * a rule, of which it keeps none. */
 #include "must.h"
 
 #include <malloc.h>
@@ -50,9 +51,24 @@ static bool is_lawful(waywire_inspector *inspector)
 	size_t length;
 	bool broken;
 	MUST(!waywire_inspector_verdict(inspector, &line, &length, &broken));
-	if (broken)
-		fprintf(stderr, "%.*s", (int)length, line);
 	return !broken;
+}
+
+/* Passes a request that breaks a rule, and then four megabytes each way, of which nothing is kept. */
+static void pass_behind_the_end(waywire_inspector *inspector)
+{
+	static const unsigned char piece[4096];
+	const uint32_t unknown_object[] = { 99, 8 << 16 };
+	size_t taken;
+	pass(inspector, WAYWIRE_FROM_CLIENT, unknown_object, sizeof unknown_object);
+	MUST(!is_lawful(inspector));
+	taken = mallinfo2().uordblks;
+	for (int passed = 0; passed < 1000; passed++) {
+		pass(inspector, WAYWIRE_FROM_CLIENT, piece, sizeof piece);
+		pass(inspector, WAYWIRE_FROM_SERVER, piece, sizeof piece);
+	}
+	MUST(mallinfo2().uordblks <= taken);
+	MUST(!is_lawful(inspector));
 }
 
 int main(void)
@@ -78,6 +94,7 @@ int main(void)
 	}
 	MUST(mallinfo2().uordblks <= taken); /* before the line of the verdict, which grows with its numbers */
 	MUST(is_lawful(inspector));
+	pass_behind_the_end(inspector);
 	waywire_inspector_free(inspector);
 	waywire_tables_free(tables);
 	return 0;
