@@ -36,7 +36,7 @@ use Rattle.wl_sigs.proofs.FirstWords.{some_same, declared_least}
 use Rattle.wl_sigs.proofs.Grown.{length_grown}
 use Rattle.wl_sigs.proofs.GrownStays.{stays, message_stays}
 use Rattle.wl_sigs.proofs.GrownValid.{NoLineBreaks, of_contained, grown_keeps}
-use Rattle.wl_sigs.proofs.AddedLines.{line_least}
+use Rattle.wl_sigs.proofs.FirstLineWords.{line_least}
 
 -- what was found breaks no rule of valid tables
 none_breaks : (tables : List Interface) (written : List WrittenInterface) → first_line_broken tables written ≡ None

@@ -13,7 +13,7 @@ use Rattle.wl_sigs.proofs.Lookups.{found, signature_from}
 use Rattle.wl_sigs.proofs.JoinedLookup.{in_front}
 use Rattle.wl_sigs.proofs.Grown.{grown_messages}
 use Rattle.wl_sigs.proofs.Gathering.{said_of}
-use Rattle.wl_sigs.proofs.AddedLines.{stands_at}
+use Rattle.wl_sigs.proofs.FirstLineWords.{stands_at}
 
 -- an interface of the tables in the extended ones
 pub record Stays (tables : List Interface) (written : List WrittenInterface) (place : ℕ) (i : Interface) : Type 0 where

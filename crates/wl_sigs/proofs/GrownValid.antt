@@ -47,7 +47,7 @@ use Rattle.wl_sigs.proofs.FirstWords.{some_same}
 use Rattle.wl_sigs.proofs.Grown.{Grows, from_grown, grown_at, length_grown, grown_messages}
 use Rattle.wl_sigs.proofs.Gathering.{length_gathered, said_of, fixed_unsaid}
 use Rattle.wl_sigs.proofs.Unsaid.{unsaid_grown}
-use Rattle.wl_sigs.proofs.AddedLines.{stands_at, listed_at, line_least}
+use Rattle.wl_sigs.proofs.FirstLineWords.{stands_at, listed_at, line_least}
 
 -- no line of the text breaks a rule
 abbrev pub NoLineBreaks : List Interface → List WrittenInterface → Type 0

@@ -16,7 +16,10 @@ pub mod FirstWords
 mod Grown
 mod LikeInterface
 mod LeastRule
+mod Clashes
 mod AddedLines
+mod ExtensionLines
+mod FirstLineWords
 mod Gathering
 mod Unsaid
 mod Bodies

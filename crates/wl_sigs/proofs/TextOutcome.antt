@@ -13,7 +13,7 @@ use Rattle.wl_sigs.specs.FirstLineBroken.{ExtendsRightly, IsFirstBrokenLine}
 use Rattle.wl_sigs.specs.Outcome.{extended_unless, outcome_of, outcome}
 use Rattle.wl_sigs.specs.Tables.{Interface}
 use Rattle.wl_sigs.specs.Valid.{Valid}
-use Rattle.wl_sigs.proofs.AddedLines.{first_line}
+use Rattle.wl_sigs.proofs.FirstLineWords.{first_line}
 use Rattle.wl_sigs.proofs.ExtendedValid.{extends_rightly, extended_valid, valid_line_unbroken}
 
 abbrev Told : List Interface → List ℕ → List Interface → Type 0
