@@ -7,6 +7,7 @@ use Rattle.std.proofs.lemmas.Bool.{leb-true, ltb-true, eqb-true}
 use Rattle.std.proofs.lemmas.List.Elements.{All-weaker}
 use Rattle.wl_wire.specs.declared.kind.Kind.{Kind}
 use Rattle.wl_wire.specs.declared.kind.Iface.{Iface}
+use Rattle.wl_sigs.specs.Places.{PlacesFit}
 use Rattle.wl_sigs.proofs.FirstPlaces.{first_place-within, first_place-le}
 use Rattle.wl_sigs.proofs.Lookups.{found}
 use Rattle.std.specs.Option.{option_map_or}
@@ -485,15 +486,15 @@ joined_valid tables written valid none =
 -- the places of joined tables fit a number of 16 bits
 pub places_fit : (tables : List Interface) (written : List WrittenInterface)
     → length tables + length written ≤ 1024 → (place : List ℕ → Option ℕ)
-    → ((name : List ℕ) → place name ≡ first_place (all_names tables written) name) → (name : List ℕ)
-    → unwrap_or (place name) (length tables + length written) < 65536
-places_fit tables written few place are name =
-    rw (are name) (below (first_place (all_names tables written) name) refl)
+    → ((name : List ℕ) → place name ≡ first_place (all_names tables written) name)
+    → PlacesFit place (length tables + length written)
+places_fit tables written few place are =
+    (omega (arith, few), λ name. rw (are name) (below name (first_place (all_names tables written) name) refl))
   where
-    below : (o : Option ℕ) → first_place (all_names tables written) name ≡ o
+    below : (name : List ℕ) (o : Option ℕ) → first_place (all_names tables written) name ≡ o
         → unwrap_or o (length tables + length written) < 65536
-    below None is = omega (arith, few)
-    below (Some p) is =
+    below name None is = omega (arith, few)
+    below name (Some p) is =
         let within = first_place-within (all_names tables written) name p is in
         omega (arith, few, within, length_names tables written)
 

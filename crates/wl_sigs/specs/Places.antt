@@ -1,5 +1,5 @@
 -- Maps from names to places.
-use Rattle.std.specs.Prelude.{◌≡◌, ℕ, List, Option, Some}
+use Rattle.std.specs.Prelude.{◌≡◌, ℕ, ◌<◌, List, Option, Some, unwrap_or}
 use Rattle.std.specs.BTreeMap.{BTreeMap, get_by}
 use Rattle.std.specs.Cmp.Lexicographic.{slice_cmp}
 use Rattle.std.specs.Ordering.{nat_cmp, ordering_then}
@@ -27,3 +27,8 @@ ArePlaces place tables written =
 abbrev pub AreFirst : Option (List ℕ → Option ℕ) → List (List ℕ) → Type 0
 AreFirst places names =
     (place : List ℕ → Option ℕ) → places ≡ Some place → (name : List ℕ) → place name ≡ first_place names name
+
+-- Each name's place fits a number of 16 bits, and so does the one past all, for which names stand
+-- that have none.
+abbrev pub PlacesFit : (List ℕ → Option ℕ) → ℕ → Type 0
+PlacesFit place past = (past < 65536) × ((name : List ℕ) → unwrap_or (place name) past < 65536)

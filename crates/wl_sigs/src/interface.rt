@@ -1,7 +1,7 @@
 //! An interface and its messages.
 ghost use Rattle.wl_sigs.specs.Joined.{message_placed, interface_placed};
 ghost use Rattle.wl_sigs.specs.NameHash.{name_hash};
-ghost use Rattle.wl_sigs.specs.Places.{place_in};
+ghost use Rattle.wl_sigs.specs.Places.{PlacesFit, place_in};
 ghost use Rattle.wl_sigs.specs.Extended.{grown_by, unsaid};
 ghost use Rattle.std.specs.Prelude.{◌||◌, false};
 ghost use Rattle.std.specs.Option.{option_map_or};
@@ -206,8 +206,7 @@ impl<A: Allocator + Clone + Drop> Entry<A> {
         past: usize,
         more: Option<&WrittenInterface<'n, A>>,
     ) -> Result<Self, AllocError>
-        requires places { (name : List ℕ) → unwrap_or (place_in places.now name) past < 65536 }
-        requires past { past < 65536 }
+        requires { PlacesFit (place_in places.now) past }
         ensures { IfOk result (λ i. i
             ≡ grown_by (place_in places.now) past self.now (option_copied more.entry)) }
     {
@@ -256,8 +255,7 @@ impl<A: Allocator + Clone + Drop> Entry<A> {
         past: usize,
         interface: &WrittenInterface<'n, A>,
     ) -> Result<Self, AllocError>
-        requires places { (name : List ℕ) → unwrap_or (place_in places.now name) past < 65536 }
-        requires past { past < 65536 }
+        requires { PlacesFit (place_in places.now) past }
         ensures { IfOk result (λ i. i ≡ interface_placed (place_in places.now) past interface.now) }
     {
         Ok(Entry {
@@ -291,8 +289,7 @@ fn grown_signatures<'n, A: Allocator + Clone + Drop>(
     signatures: &[Signature<A>],
     messages: &[WrittenMessage<'n, A>],
 ) -> Result<Vec<Signature<A>, A>, AllocError>
-    requires places { (name : List ℕ) → unwrap_or (place_in places.now name) past < 65536 }
-    requires past { past < 65536 }
+    requires { PlacesFit (place_in places.now) past }
     ensures { IfOk result (λ v. v.items ≡ signatures.now
         ++ map (message_placed (place_in places.now) past) messages.now) }
 {
@@ -309,8 +306,7 @@ fn placed_signatures<'n, A: Allocator + Clone + Drop>(
     past: usize,
     messages: &[WrittenMessage<'n, A>],
 ) -> Result<Vec<Signature<A>, A>, AllocError>
-    requires places { (name : List ℕ) → unwrap_or (place_in places.now name) past < 65536 }
-    requires past { past < 65536 }
+    requires { PlacesFit (place_in places.now) past }
     ensures { IfOk result (λ v. v.items
         ≡ map (message_placed (place_in places.now) past) messages.now) }
 {

@@ -2,7 +2,7 @@
 ghost use Rattle.std.specs.Prelude.{◌≡◌, ◌≤◌, ◌<◌, ℕ, List, IfOk, length, map, take, unwrap_or};
 ghost use Rattle.wl_sigs.specs.Joined.{kind_placed};
 ghost use Rattle.wl_sigs.specs.Stored.{kinds_listed};
-ghost use Rattle.wl_sigs.specs.Places.{place_in};
+ghost use Rattle.wl_sigs.specs.Places.{PlacesFit, place_in};
 
 use crate::front::Front;
 use crate::places::{Places, place_in};
@@ -58,8 +58,7 @@ impl<A: Allocator + Clone + Drop> Kinds<A> {
         past: usize,
         kinds: &[WrittenKind<'n>],
     ) -> Result<Self, AllocError>
-        requires places { (name : List ℕ) → unwrap_or (place_in places.now name) past < 65536 }
-        requires past { past < 65536 }
+        requires { PlacesFit (place_in places.now) past }
         ensures { IfOk result (λ kept.
             kinds_listed kept ≡ map (kind_placed (place_in places.now) past) kinds.now) }
     {
@@ -81,8 +80,7 @@ fn few_placed<'n, A: Allocator>(
     past: usize,
     kinds: &[WrittenKind<'n>],
 ) -> Front<Kind, FEW_KINDS>
-    requires places { (name : List ℕ) → unwrap_or (place_in places.now name) past < 65536 }
-    requires past { past < 65536 }
+    requires fit { PlacesFit (place_in places.now) past }
     requires few { length kinds.now ≤ 4 }
     ensures { result ≡ map (kind_placed (place_in places.now) past) kinds.now }
 {
@@ -99,8 +97,7 @@ fn many_placed<'n, A: Allocator + Clone + Drop>(
     past: usize,
     kinds: &[WrittenKind<'n>],
 ) -> Result<Vec<Kind, A>, AllocError>
-    requires places { (name : List ℕ) → unwrap_or (place_in places.now name) past < 65536 }
-    requires past { past < 65536 }
+    requires { PlacesFit (place_in places.now) past }
     ensures { IfOk result (λ v. v.items ≡ map (kind_placed (place_in places.now) past) kinds.now) }
 {
     let mut placed = Vec::with_capacity(alloc.clone()?, kinds.len())?;
@@ -112,8 +109,7 @@ fn many_placed<'n, A: Allocator + Clone + Drop>(
 
 // The kind of an argument with the place of its interface, or `past` where its name has none.
 fn kind_placed<'n, A: Allocator>(places: &Places<'n, A>, past: usize, k: &WrittenKind<'n>) -> Kind
-    requires places { (name : List ℕ) → unwrap_or (place_in places.now name) past < 65536 }
-    requires past { past < 65536 }
+    requires { PlacesFit (place_in places.now) past }
     ensures { result ≡ kind_placed (place_in places.now) past k.now }
 {
     let iface = match k.iface {

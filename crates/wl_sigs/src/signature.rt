@@ -3,7 +3,7 @@ ghost use Rattle.std.specs.Prelude.{◌≡◌, ℕ, ◌<◌, ◌&&◌, List, IfO
 ghost use Rattle.wl_sigs.specs.Joined.{destroys_of, message_placed};
 ghost use Rattle.std.specs.List.{list_any};
 ghost use Rattle.wl_sigs.specs.Extending.{is_object_of, is_server_object_of};
-ghost use Rattle.wl_sigs.specs.Places.{place_in};
+ghost use Rattle.wl_sigs.specs.Places.{PlacesFit, place_in};
 ghost use Rattle.wl_sigs.specs.Tables.{destroys_one, destroys_target, has_server_object};
 ghost use Rattle.wl_sigs.specs.Written.{message_written};
 
@@ -166,8 +166,7 @@ impl<A: Allocator + Clone + Drop> Signature<A> {
         past: usize,
         message: &WrittenMessage<'n, A>,
     ) -> Result<Self, AllocError>
-        requires places { (name : List ℕ) → unwrap_or (place_in places.now name) past < 65536 }
-        requires past { past < 65536 }
+        requires { PlacesFit (place_in places.now) past }
         ensures { IfOk result (λ s. s ≡ message_placed (place_in places.now) past message.now) }
     {
         Ok(Signature {

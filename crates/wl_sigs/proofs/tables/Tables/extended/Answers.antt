@@ -1,6 +1,5 @@
-use Rattle.std.proofs.Common.{◌≡◌, ◌+◌, ◌++◌, ◌∷◌, ◌<◌, ℕ, [], length, map, take, refl, sym, ap, subst, ◌∙◌, List}
+use Rattle.std.proofs.Common.{◌≡◌, ◌+◌, ◌++◌, ◌∷◌, ℕ, [], length, map, take, refl, sym, ap, subst, ◌∙◌, List}
 use Rattle.std.proofs.Common.{Option, append-nil, arith}
-use Rattle.std.specs.Prelude.{unwrap_or}
 use Rattle.std.proofs.Math.Path.{fun_ext, ap₂}
 use Rattle.std.proofs.Math.Seq.{take-length}
 use Rattle.wl_interface_text.specs.Text.{WrittenInterface}
@@ -8,15 +7,15 @@ use Rattle.wl_sigs.specs.Tables.{Interface}
 use Rattle.wl_sigs.specs.Valid.{Valid}
 use Rattle.wl_sigs.specs.Joined.{interface_placed}
 use Rattle.wl_sigs.specs.Extended.{Gathered, all_grown, grown_by, whole_of}
-use Rattle.wl_sigs.specs.Places.{place_in}
+use Rattle.wl_sigs.specs.Places.{PlacesFit, place_in}
 use Rattle.wl_sigs.proofs.JoinedLookup.{length_names}
 use Rattle.wl_sigs.proofs.JoinedValid.{places_fit, placed_more}
 use Rattle.wl_sigs.proofs.Bodies.{few_whole, grown-next, whole_by}
 use Rattle.wl_sigs.proofs.Got.{got}
 use Rattle.wl_sigs.proofs.tables.Tables.extended.Goals as goal
 
-pub grown-requires-clause-places : goal.grown-requires-clause-places
-grown-requires-clause-places g c = λ name.
+pub grown-requires : goal.grown-requires
+grown-requires g c =
     let tables = c.args.self.now in
     let more = c.args.gathered.now in
     let place = place_in c.args.places.now in
@@ -24,22 +23,10 @@ grown-requires-clause-places g c = λ name.
     let declared = c.as_slice-declared.ensures.value ∙ ap (λ (x : Gathered). x.declared) c.gathered.view_is in
     let few = few_whole tables more c.requires.valid in
     let past = ap₂ (λ (m n : ℕ). m + n) (ap length entries) (ap length declared) in
-    subst (λ (n : ℕ). unwrap_or (place name) n < 65536) (sym past)
-    (places_fit tables more.declared few place c.requires.places name)
+    subst (PlacesFit place) (sym past) (places_fit tables more.declared few place c.requires.places)
 
-pub grown-requires-clause-past : goal.grown-requires-clause-past
-grown-requires-clause-past g c =
-    let tables = c.args.self.now in
-    let more = c.args.gathered.now in
-    let entries = c.as_slice-entries.ensures.value ∙ c.self.view_is in
-    let declared = c.as_slice-declared.ensures.value ∙ ap (λ (x : Gathered). x.declared) c.gathered.view_is in
-    let few = few_whole tables more c.requires.valid in
-    let fits : length tables + length more.declared < 65536 = omega (arith, few) in
-    let past = ap₂ (λ (m n : ℕ). m + n) (ap length entries) (ap length declared) in
-    subst (λ (n : ℕ). n < 65536) (sym past) fits
-
-pub placed-requires-clause-places : goal.placed-requires-clause-places
-placed-requires-clause-places g c = λ name.
+pub placed-requires : goal.placed-requires
+placed-requires g c =
     let tables = c.args.self.now in
     let more = c.args.gathered.now in
     let place = place_in c.args.places.now in
@@ -47,19 +34,7 @@ placed-requires-clause-places g c = λ name.
     let declared = c.as_slice-declared.ensures.value ∙ ap (λ (x : Gathered). x.declared) c.gathered.view_is in
     let few = few_whole tables more c.requires.valid in
     let past = ap₂ (λ (m n : ℕ). m + n) (ap length entries) (ap length declared) in
-    subst (λ (n : ℕ). unwrap_or (place name) n < 65536) (sym past)
-    (places_fit tables more.declared few place c.requires.places name)
-
-pub placed-requires-clause-past : goal.placed-requires-clause-past
-placed-requires-clause-past g c =
-    let tables = c.args.self.now in
-    let more = c.args.gathered.now in
-    let entries = c.as_slice-entries.ensures.value ∙ c.self.view_is in
-    let declared = c.as_slice-declared.ensures.value ∙ ap (λ (x : Gathered). x.declared) c.gathered.view_is in
-    let few = few_whole tables more c.requires.valid in
-    let fits : length tables + length more.declared < 65536 = omega (arith, few) in
-    let past = ap₂ (λ (m n : ℕ). m + n) (ap length entries) (ap length declared) in
-    subst (λ (n : ℕ). n < 65536) (sym past) fits
+    subst (PlacesFit place) (sym past) (places_fit tables more.declared few place c.requires.places)
 
 pub loop-place-preserved : goal.loop-place-preserved
 loop-place-preserved g c =
