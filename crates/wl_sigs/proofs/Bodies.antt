@@ -24,7 +24,7 @@ use Rattle.wl_sigs.specs.Broken.{makes_forbidden, message_rule, messages_broken,
 use Rattle.wl_sigs.specs.Broken.{interfaces_broken, ended_of}
 use Rattle.wl_sigs.specs.FirstBroken.{written_of}
 use Rattle.wl_sigs.specs.Extended.{Gathered, one_more, gathered_from, interface_grown, grown_by}
-use Rattle.wl_sigs.specs.Extended.{all_grown, grown, whole_of, extended_by, extend_first, first_named}
+use Rattle.wl_sigs.specs.Extended.{all_grown, grown, whole_of, with_extension, extend_first, first_named}
 use Rattle.wl_sigs.specs.Extending.{extension_broken, extensions_broken, by_name, behind_names}
 use Rattle.wl_sigs.specs.Extending.{added_broken, messages_or_declared_broken}
 use Rattle.wl_sigs.specs.BrokenLines.{named_since, added_here}
@@ -263,13 +263,13 @@ extend_none more (x ∷ xs) none =
 
     by_test : (t : Bool) → cond t (Some 0) (option_map suc (position (λ i. bytes_eq i.name more.name) xs)) ≡ None
         → (position (λ i. bytes_eq i.name more.name) xs ≡ None → extend_first more xs ≡ xs)
-        → cond t (extended_by more x ∷ xs) (x ∷ extend_first more xs) ≡ x ∷ xs
+        → cond t (with_extension x more ∷ xs) (x ∷ extend_first more xs) ≡ x ∷ xs
     by_test true e rest = cc e
     by_test false e rest = ap (λ (l : List WrittenInterface). x ∷ l) (rest (rest_none _ e))
 
 pub extend_some : (more : WrittenInterface) (xs : List WrittenInterface) (p : ℕ) (i : WrittenInterface)
     → position (λ i. bytes_eq i.name more.name) xs ≡ Some p → i ≡ get_or xs p i
-    → extend_first more xs ≡ insert (remove xs p) p (extended_by more i)
+    → extend_first more xs ≡ insert (remove xs p) p (with_extension i more)
 extend_some more [] p i at is = cc at
 extend_some more (x ∷ xs) p i at is =
     by_test (bytes_eq x.name more.name) p
@@ -280,10 +280,10 @@ extend_some more (x ∷ xs) p i at is =
         → cond t (Some 0) (option_map suc (position (λ i. bytes_eq i.name more.name) xs)) ≡ Some p
         → i ≡ get_or (x ∷ xs) p i
         → ((k : ℕ) → position (λ i. bytes_eq i.name more.name) xs ≡ Some k → i ≡ get_or xs k i
-        → extend_first more xs ≡ insert (remove xs k) k (extended_by more i))
-        → cond t (extended_by more x ∷ xs) (x ∷ extend_first more xs)
-        ≡ insert (remove (x ∷ xs) p) p (extended_by more i)
-    by_test true zero e is rest = ap (λ (y : WrittenInterface). extended_by more y ∷ xs) (sym is)
+        → extend_first more xs ≡ insert (remove xs k) k (with_extension i more))
+        → cond t (with_extension x more ∷ xs) (x ∷ extend_first more xs)
+        ≡ insert (remove (x ∷ xs) p) p (with_extension i more)
+    by_test true zero e is rest = ap (λ (y : WrittenInterface). with_extension y more ∷ xs) (sym is)
     by_test true (suc p) e is rest = cc e
     by_test false zero e is rest = absurd (no_zero (position (λ i. bytes_eq i.name more.name) xs) e)
       where

@@ -11,7 +11,7 @@ use Rattle.std.proofs.lemmas.Slice.Eq.{bytes_eq-Decides}
 use Rattle.wl_sigs.specs.Tables.{Interface}
 use Rattle.wl_interface_text.specs.Text.{WrittenInterface}
 use Rattle.wl_sigs.specs.Broken.{Broken, broken_at, earlier}
-use Rattle.wl_sigs.specs.Extended.{Gathered, unsaid, greater, extended_by, extend_first, first_named}
+use Rattle.wl_sigs.specs.Extended.{Gathered, unsaid, greater, with_extension, extend_first, first_named}
 use Rattle.wl_sigs.specs.Extended.{one_more, gathered_from, gathered}
 use Rattle.wl_sigs.specs.Extending.{is_fixed_name, version_rule, extend_rule, extensions_broken}
 use Rattle.wl_sigs.proofs.FirstBrokenLine.{earlier_none}
@@ -26,7 +26,7 @@ greater_is a b = by_test (nat_lt a b) refl
 -- an element is left as it is, or extended
 abbrev KeptOr : WrittenInterface → List WrittenInterface → ℕ → WrittenInterface → Type 0
 KeptOr more xs p w =
-    (slice_get xs p ≡ Some w) ⊎ ((slice_get xs p ≡ Some (extended_by more w)) × (w.name ≡ more.name))
+    (slice_get xs p ≡ Some w) ⊎ ((slice_get xs p ≡ Some (with_extension w more)) × (w.name ≡ more.name))
 
 extended_at : (more : WrittenInterface) (xs : List WrittenInterface) (p : ℕ) (w : WrittenInterface)
     → slice_get xs p ≡ Some w → KeptOr more (extend_first more xs) p w
@@ -36,11 +36,11 @@ extended_at more (x ∷ xs) p w at = by_test (bytes_eq x.name more.name) refl p 
   where
     by_test : (t : Bool) → bytes_eq x.name more.name ≡ t → (p : ℕ) → slice_get (x ∷ xs) p ≡ Some w
         → ((k : ℕ) → slice_get xs k ≡ Some w → KeptOr more (extend_first more xs) k w)
-        → KeptOr more (cond t (extended_by more x ∷ xs) (x ∷ extend_first more xs)) p w
+        → KeptOr more (cond t (with_extension x more ∷ xs) (x ∷ extend_first more xs)) p w
     by_test true named zero at rest =
         let same : x ≡ w = cc at in
         inr (
-          ap (λ (v : WrittenInterface). Some (extended_by more v)) same,
+          ap (λ (v : WrittenInterface). Some (with_extension v more)) same,
           sym (ap (λ (v : WrittenInterface). v.name) same) ∙ (bytes_eq-Decides x.name more.name).0 named,
         )
     by_test true named (suc p) at rest = inl at
@@ -53,14 +53,14 @@ length_extended more [] = refl
 length_extended more (x ∷ xs) = by_test (bytes_eq x.name more.name) (length_extended more xs)
   where
     by_test : (t : Bool) → length (extend_first more xs) ≡ length xs
-        → length (cond t (extended_by more x ∷ xs) (x ∷ extend_first more xs)) ≡ suc (length xs)
+        → length (cond t (with_extension x more ∷ xs) (x ∷ extend_first more xs)) ≡ suc (length xs)
     by_test true rest = refl
     by_test false rest = ap suc rest
 
 -- one more declaration or extension
 added_kept : (g : Gathered) (next : WrittenInterface) (p : ℕ) (w : WrittenInterface) → slice_get g.added p ≡ Some w
     → (slice_get (one_more g next).added p ≡ Some w)
-    ⊎ ((slice_get (one_more g next).added p ≡ Some (extended_by next w)) × (w.name ≡ next.name) × (next.extends ≡ true))
+    ⊎ ((slice_get (one_more g next).added p ≡ Some (with_extension w next)) × (w.name ≡ next.name) × (next.extends ≡ true))
 added_kept g next p w at = by_tests next.extends (is_some (first_named next.name g.added)) refl
   where
     by_tests : (e t : Bool) → next.extends ≡ e
@@ -69,7 +69,7 @@ added_kept g next p w at = by_tests next.extends (is_some (first_named next.name
         p ≡ Some w)
         ⊎ ((slice_get (cond e (cond t (record g { added = extend_first next g.added })
         (record g { declared = extend_first next g.declared })) (record g { declared = g.declared ++ next ∷ [] })).added
-        p ≡ Some (extended_by next w)) × (w.name ≡ next.name) × (next.extends ≡ true))
+        p ≡ Some (with_extension w next)) × (w.name ≡ next.name) × (next.extends ≡ true))
     by_tests true true is = elim (extended_at next g.added p w at) [
       | inl same ↦ inl same
       | inr more ↦ inr (more.0, more.1, is)
@@ -109,7 +109,7 @@ later_from g [] p w at = (w, at, record { name = refl; version = omega arith })
 later_from g (next ∷ written) p w at = elim (added_kept g next p w at) [
   | inl same ↦ later_from (one_more g next) written p w same
   | inr more ↦
-      let it = later_from (one_more g next) written p (extended_by next w) more.0 in
+      let it = later_from (one_more g next) written p (with_extension w next) more.0 in
       let up = greater_is w.version next.version in
       let on = it.2.version in
       (it.0, it.1, record { name = it.2.name; version = omega (arith, up, on) })

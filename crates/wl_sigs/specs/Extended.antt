@@ -23,8 +23,8 @@ greater version other = if nat_lt version other then other else version
 
 -- The interface with what an extension of it says: that version, and those messages behind its own.
 -- No version is lowered: where that would be, the extension breaks V8.
-abbrev pub extended_by : WrittenInterface → WrittenInterface → WrittenInterface
-extended_by more i = record i {
+abbrev pub with_extension : WrittenInterface → WrittenInterface → WrittenInterface
+with_extension i more = record i {
   version = greater i.version more.version;
   requests = i.requests ++ more.requests;
   events = i.events ++ more.events;
@@ -34,7 +34,7 @@ extended_by more i = record i {
 abbrev pub extend_first : WrittenInterface → List WrittenInterface → List WrittenInterface
 extend_first more [] = []
 extend_first more (i ∷ rest) =
-    if bytes_eq i.name more.name then extended_by more i ∷ rest else i ∷ extend_first more rest
+    if bytes_eq i.name more.name then with_extension i more ∷ rest else i ∷ extend_first more rest
 
 -- the first interface of this name, if there is one
 abbrev pub first_named : List ℕ → List WrittenInterface → Option WrittenInterface

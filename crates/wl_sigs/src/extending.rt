@@ -1,7 +1,7 @@
 //! What a text says of each interface: of its own, and of those of the tables that it extends.
 ghost use Rattle.std.specs.Prelude.{◌≡◌, ◌++◌, IfOk, option_map, option_copied, position, bytes_eq};
 ghost use Rattle.wl_sigs.specs.BrokenLines.{broken};
-ghost use Rattle.wl_sigs.specs.Extended.{extended_by, extend_first, first_named, one_more};
+ghost use Rattle.wl_sigs.specs.Extended.{with_extension, extend_first, first_named, one_more};
 ghost use Rattle.wl_sigs.specs.Extended.{gathered_from, greater};
 ghost use Rattle.wl_sigs.specs.Extending.{is_fixed_name, version_rule, extend_rule};
 ghost use Rattle.wl_sigs.specs.Extending.{extension_broken, extensions_broken};
@@ -130,11 +130,11 @@ fn greater(version: u32, other: u32) -> u32
 }
 
 // The interface with what an extension of it says.
-fn extended_by<'n, A: Allocator>(
+fn with_extension<'n, A: Allocator>(
     interface: WrittenInterface<'n, A>,
     more: WrittenInterface<'n, A>,
 ) -> Result<WrittenInterface<'n, A>, AllocError>
-    ensures { IfOk result (λ extended. extended ≡ extended_by more.entry interface.entry) }
+    ensures { IfOk result (λ extended. extended ≡ with_extension interface.entry more.entry) }
 {
     Ok(WrittenInterface {
         line: interface.line,
@@ -157,7 +157,7 @@ fn extend_first<'n, A: Allocator>(
     match place_named(all.as_slice(), more.name) {
         Some(place) => {
             let interface = all.remove(place);
-            let extended = extended_by(interface, more)?;
+            let extended = with_extension(interface, more)?;
             all.insert(place, extended)?;
             Ok(all)
         }
