@@ -1,9 +1,9 @@
 -- What the loops over texts that extend do at each step.
 use Rattle.std.proofs.Common.{◌≡◌, ℕ, zero, suc, ◌+◌, ◌<◌, ◌≤◌, true, false, cond, List, [], ◌∷◌, ◌++◌, length}
 use Rattle.std.proofs.Common.{get_or, take, map, refl, sym, ap, ◌∙◌, subst, Some, None, Option, Bool}
-use Rattle.std.proofs.Common.{slice_get, add-zero, not, ◌&&◌, ◌||◌, nat_le, nat_lt, arith}
+use Rattle.std.proofs.Common.{slice_get, add-zero, not, ◌||◌, nat_lt, arith}
 use Rattle.std.proofs.Math.Path.{ap₂}
-use Rattle.std.specs.List.{list_all, list_any, count_by, insert, remove, position_or_len}
+use Rattle.std.specs.List.{list_any, insert, remove, position_or_len}
 use Rattle.std.proofs.lemmas.Bool.{ltb-true, ltb-false, lt-ltb}
 use Rattle.wl_sigs.proofs.TestedRules.{not_lt}
 use Rattle.std.specs.Prelude.{option_map, position, bytes_eq}
@@ -11,27 +11,21 @@ use Rattle.std.proofs.lemmas.List.Folds.{find-append}
 use Rattle.std.specs.Option.{option_map_or, option_or}
 use Rattle.std.proofs.lemmas.List.{take_more, length-take-le, map-append, map_more}
 use Rattle.wl_interface_text.specs.Text.{WrittenMessage, WrittenInterface}
-use Rattle.wl_sigs.specs.declared.signature.Side.{Side}
-use Rattle.wl_sigs.specs.declared.signature.Side.TheVariants.{Request, Event}
-use Rattle.wl_sigs.specs.Rules.{is_name, is_empty}
-use Rattle.wl_sigs.specs.Tables.{MessageSignature, Interface, messages_of, has_destroying_event}
+use Rattle.wl_sigs.specs.Tables.{MessageSignature, Interface, has_destroying_event}
 use Rattle.wl_sigs.specs.Tables.{destroys_target}
 use Rattle.wl_sigs.specs.Joined.{all_names, first_place, message_placed, interface_placed}
 use Rattle.wl_sigs.specs.Valid.{Valid}
-use Rattle.wl_sigs.specs.Broken.{Broken, is_first, makes_object, makes_unnamed, names_missing, most_new}
-use Rattle.wl_sigs.specs.Broken.{names_objects, is_race_free, makes_server_object, most_by_server}
-use Rattle.wl_sigs.specs.Broken.{makes_forbidden, message_rule, messages_broken, earlier, broken_at}
+use Rattle.wl_sigs.specs.Broken.{Broken, messages_broken, earlier, broken_at}
 use Rattle.wl_sigs.specs.Broken.{interfaces_broken, ended_of}
-use Rattle.wl_sigs.specs.FirstBroken.{written_of}
 use Rattle.wl_sigs.specs.Extended.{Gathered, one_more, gathered_from, interface_grown, grown_by}
 use Rattle.wl_sigs.specs.Extended.{all_grown, grown, whole_of, with_extension, extend_first, first_named}
-use Rattle.wl_sigs.specs.Extending.{extension_broken, extensions_broken, by_name, behind_names}
+use Rattle.wl_sigs.specs.Extending.{extension_broken, extensions_broken}
 use Rattle.wl_sigs.specs.Extending.{added_broken, messages_or_declared_broken}
-use Rattle.wl_sigs.specs.BrokenLines.{named_since, added_here}
+use Rattle.wl_sigs.specs.BrokenLines.{added_here}
 use Rattle.wl_sigs.proofs.FirstBrokenLine.{earlier_nothing, earlier_assoc, messages_broken-push}
 use Rattle.wl_sigs.proofs.JoinedLookup.{placing_message, length_joined}
 use Rattle.wl_sigs.proofs.JoinedValid.{destroying}
-use Rattle.wl_sigs.proofs.Grown.{names_behind, names_grown, length_grown}
+use Rattle.wl_sigs.proofs.Grown.{names_grown, length_grown}
 
 -- one more declaration or extension
 pub gathered_push : (g : Gathered) (xs : List WrittenInterface) (x : WrittenInterface)
@@ -155,63 +149,6 @@ ended-next tables written added k x within is =
     ∙ map-append has_destroying_event before (grown_by place past x (slice_get added k) ∷ [])
     ∙ ap (λ (b : Bool). map has_destroying_event before ++ b ∷ []) (ended_with tables written x (slice_get added k))
 
--- a message's rule by what it takes from its interface
-abbrev rule_with : (List ℕ → Option ℕ) → List Bool → Side → (List ℕ → Option ℕ) → ℕ → WrittenMessage → Bool → ℕ
-    → Option ℕ
-rule_with place ended side first opcode m race version =
-    cond (not (is_name m.name && is_first first m.name opcode)) (Some 1)
-    (cond (not (nat_lt opcode 256 && nat_le (length m.kinds) 20)) (Some 3)
-    (cond (not (nat_le (count_by makes_object m.kinds) (most_new side))) (Some 4)
-    (cond (not (list_all (λ k. not (makes_unnamed k)) m.kinds)) (Some 5)
-    (cond (not (names_objects side m)) (Some 6)
-    (cond (not race) (Some 7)
-    (cond (not (nat_le 1 m.since && nat_le m.since version)) (Some 8)
-    (cond (not (list_all (λ k. not (names_missing place k)) m.kinds)) (Some 9)
-    (cond (not (nat_le (count_by makes_server_object m.kinds) (most_by_server side)
-    && list_all (λ k. not (makes_forbidden place ended k)) m.kinds)) (Some 11) None))))))))
-
-race_like : (place : List ℕ → Option ℕ) (ended : List Bool) (w v : WrittenInterface) (side : Side) (m : WrittenMessage)
-    → is_empty w.requests ≡ is_empty v.requests → is_race_free place ended w side m ≡ is_race_free place ended v side m
-race_like place ended w v Request m same = refl
-race_like place ended w v Event m same = ap (λ (b : Bool). not m.destroys || b) same
-
-pub rule_like : (place : List ℕ → Option ℕ) (ended : List Bool) (w v : WrittenInterface) (side : Side)
-    (first : List ℕ → Option ℕ) (opcode : ℕ) (m : WrittenMessage) → w.version ≡ v.version
-    → is_empty w.requests ≡ is_empty v.requests
-    → message_rule place ended w side first opcode m ≡ message_rule place ended v side first opcode m
-rule_like place ended w v side first opcode m version empty =
-    ap₂ (rule_with place ended side first opcode m) (race_like place ended w v side m empty) version
-
--- messages by their names
-abbrev pub bare_of : MessageSignature → WrittenMessage
-bare_of m = named_since m.name m.since
-
-abbrev pub bare_written : WrittenMessage → WrittenMessage
-bare_written m = named_since m.name m.since
-
-pub empty_like : (old : List MessageSignature) (more : List WrittenMessage)
-    → is_empty (map bare_of old ++ map bare_written more) ≡ is_empty (map by_name old ++ more)
-empty_like [] [] = refl
-empty_like [] (m ∷ more) = refl
-empty_like (x ∷ old) more = refl
-
-names_bare : (ms : List MessageSignature) → map (λ n. n.name) (map bare_of ms) ≡ map (λ n. n.name) ms
-names_bare [] = refl
-names_bare (m ∷ ms) = ap (λ (names : List (List ℕ)). m.name ∷ names) (names_bare ms)
-
-names_written : (ms : List WrittenMessage) → map (λ n. n.name) (map bare_written ms) ≡ map (λ n. n.name) ms
-names_written [] = refl
-names_written (m ∷ ms) = ap (λ (names : List (List ℕ)). m.name ∷ names) (names_written ms)
-
-pub names_like : (i : Interface) (more : WrittenInterface) (side : Side)
-    → map (λ n. n.name) (map bare_of (messages_of side i) ++ map bare_written (written_of side more))
-    ≡ map (λ n. n.name) (written_of side (behind_names i more))
-names_like i more side =
-    map-append (λ (n : WrittenMessage). n.name) (map bare_of (messages_of side i))
-    (map bare_written (written_of side more))
-    ∙ ap₂ (λ (xs ys : List (List ℕ)). xs ++ ys) (names_bare (messages_of side i)) (names_written (written_of side more))
-    ∙ sym (names_behind i more side)
-
 -- names
 pub named_in_front : (name : List ℕ) (a b : List WrittenInterface) (i : WrittenInterface)
     → first_named name a ≡ Some i → first_named name (a ++ b) ≡ Some i
@@ -299,14 +236,6 @@ extend_some more (x ∷ xs) p i at is =
             let same : suc k ≡ suc p = cc e in
             let one : k ≡ p = omega (arith, same) in
             ap Some one
-
--- all messages of an interface by their names
-pub written_all : (all : WrittenInterface) (i : Interface) (more : WrittenInterface) (side : Side)
-    → all.requests ≡ map bare_of i.requests ++ map bare_written more.requests
-    → all.events ≡ map bare_of i.events ++ map bare_written more.events
-    → written_of side all ≡ map bare_of (messages_of side i) ++ map bare_written (written_of side more)
-written_all all i more Request requests events = requests
-written_all all i more Event requests events = events
 
 -- what reading finds behind these tables, by places that are looked up
 pub others_by : (tables : List Interface) (g : Gathered) (entries : List Interface) (added declared : List WrittenInterface)

@@ -109,12 +109,34 @@ interfaces_broken-next place ended n is k i within same =
     let pushed = interfaces_broken-push place ended n (take k is) i in
     rw (take_more is k i within, ← same) (rw len at pushed)
 
--- a message that keeps the rules from V6 on
-pub later_none : (place : List ℕ → Option ℕ) (ended : List Bool) (i : WrittenInterface) (side : Side)
-    (m : WrittenMessage) → names_objects side m ≡ true → is_race_free place ended i side m ≡ true
-    → nat_le 1 m.since && nat_le m.since i.version ≡ true
-    → list_all (λ k. not (names_missing place k)) m.kinds ≡ true
-    → nat_le (count_by makes_server_object m.kinds) (most_by_server side)
-    && list_all (λ k. not (makes_forbidden place ended k)) m.kinds ≡ true
-    → later_rule place ended i side m ≡ None
-later_none place ended i side m objects free since there right = rw (objects, free, since, there, right) refl
+-- what the tests of a message from V6 on find
+module _ (place : List ℕ → Option ℕ) (ended : List Bool) (i : WrittenInterface) (side : Side) (m : WrittenMessage) where
+  pub later_six : names_objects side m ≡ false → later_rule place ended i side m ≡ Some 6
+  later_six objects = rw objects refl
+
+  pub later_seven : names_objects side m ≡ true → is_race_free place ended i side m ≡ false
+      → later_rule place ended i side m ≡ Some 7
+  later_seven objects free = rw (objects, free) refl
+
+  pub later_eight : names_objects side m ≡ true → is_race_free place ended i side m ≡ true
+      → nat_le 1 m.since && nat_le m.since i.version ≡ false → later_rule place ended i side m ≡ Some 8
+  later_eight objects free since = rw (objects, free, since) refl
+
+  pub later_nine : names_objects side m ≡ true → is_race_free place ended i side m ≡ true
+      → nat_le 1 m.since && nat_le m.since i.version ≡ true
+      → list_all (λ k. not (names_missing place k)) m.kinds ≡ false → later_rule place ended i side m ≡ Some 9
+  later_nine objects free since there = rw (objects, free, since, there) refl
+
+  pub later_eleven : names_objects side m ≡ true → is_race_free place ended i side m ≡ true
+      → nat_le 1 m.since && nat_le m.since i.version ≡ true
+      → list_all (λ k. not (names_missing place k)) m.kinds ≡ true
+      → nat_le (count_by makes_server_object m.kinds) (most_by_server side)
+      && list_all (λ k. not (makes_forbidden place ended k)) m.kinds ≡ false → later_rule place ended i side m ≡ Some 11
+  later_eleven objects free since there right = rw (objects, free, since, there, right) refl
+
+  pub later_none : names_objects side m ≡ true → is_race_free place ended i side m ≡ true
+      → nat_le 1 m.since && nat_le m.since i.version ≡ true
+      → list_all (λ k. not (names_missing place k)) m.kinds ≡ true
+      → nat_le (count_by makes_server_object m.kinds) (most_by_server side)
+      && list_all (λ k. not (makes_forbidden place ended k)) m.kinds ≡ true → later_rule place ended i side m ≡ None
+  later_none objects free since there right = rw (objects, free, since, there, right) refl

@@ -5,7 +5,7 @@ use Rattle.std.proofs.Common.{Bool, bytes_eq, arith}
 use Rattle.std.specs.Prelude.{nat_lt, map, option_map, ◌||◌}
 use Rattle.std.specs.List.{position_or_len, list_any}
 use Rattle.std.specs.Option.{option_map_or}
-use Rattle.std.proofs.lemmas.List.{map_more, length-append, length-map, length-take-le}
+use Rattle.std.proofs.lemmas.List.{take_more, length-append, length-take-le}
 use Rattle.std.proofs.lemmas.List.Folds.{position_or_len_push}
 use Rattle.std.proofs.lemmas.List.Sums.{prefix_len-le-length}
 use Rattle.std.proofs.lemmas.Bool.Decides.{nat_tests}
@@ -119,23 +119,20 @@ place_in-get m hash name is =
     ap (λ h. get_by (λ y. ordering_then (nat_cmp h y.0) (slice_cmp nat_cmp name.now y.1.now)) m) is
 
 -- the step of a loop over names
-pub places-next : (names : List (Bor (List ℕ))) (k : ℕ) (d : Bor (List ℕ)) (old new : List ℕ → Option ℕ)
-    → k < length names
-    → ((q : List ℕ) → old q ≡ first_place (map (λ n. n.now) (take k names)) q)
-    → ((q : List ℕ) → new q ≡ with_name (old q) (bytes_eq (get_or names k d).now q) k)
-    → (q : List ℕ) → new q ≡ first_place (map (λ n. n.now) (take (k + 1) names)) q
-places-next names k d old new within before after q =
-    let len : length (map (λ (n : Bor (List ℕ)). n.now) (take k names)) ≡ k =
-    omega (
-      arith,
-      length-map (take k names) (λ (n : Bor (List ℕ)). n.now),
-      length-take-le k names
-          (omega (arith, within)),
-    ) in
-    let pushed = first_place-push (map (λ (n : Bor (List ℕ)). n.now) (take k names)) (get_or names k d).now q in
-    after q ∙ rw (before q, map_more (λ (n : Bor (List ℕ)). n.now) names k d within)
-    (sym (pushed ∙ ap (with_name (first_place (map (λ (n : Bor (List ℕ)). n.now) (take k names)) q)
-    (bytes_eq (get_or names k d).now q)) len))
+pub places-next : (names : List (List ℕ)) (k : ℕ) (name : List ℕ) (old new : List ℕ → Option ℕ)
+    → k < length names → name ≡ get_or names k name
+    → ((q : List ℕ) → old q ≡ first_place (take k names) q)
+    → ((q : List ℕ) → new q ≡ with_name (old q) (bytes_eq name q) k)
+    → (q : List ℕ) → new q ≡ first_place (take (k + 1) names) q
+places-next names k name old new within is before after q =
+    let len : length (take k names) ≡ k = length-take-le k names (omega (arith, within)) in
+    let more : take (k + 1) names ≡ take k names ++ name ∷ [] =
+    take_more names k name within ∙ ap (λ (n : List ℕ). take k names ++ n ∷ []) (sym is) in
+    after q
+    ∙ ap (λ (o : Option ℕ). with_name o (bytes_eq name q) k) (before q)
+    ∙ ap (with_name (first_place (take k names) q) (bytes_eq name q)) (sym len)
+    ∙ sym (first_place-push (take k names) name q)
+    ∙ sym (ap (λ (l : List (List ℕ)). first_place l q) more)
 
 -- where a name has a first place, no earlier place has it
 stops_here : (passes : Bool) (n : ℕ) → passes ≡ true → cond (not passes) (1 + n) 0 ≤ 0

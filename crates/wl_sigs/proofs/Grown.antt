@@ -1,10 +1,11 @@
 -- What stands where in the tables with what a text adds to them.
 use Rattle.std.proofs.Common.{◌≡◌, ℕ, zero, suc, ◌+◌, ◌⊎◌, inl, inr, List, [], ◌∷◌, ◌++◌, length}
 use Rattle.std.proofs.Common.{map, refl, sym, ap, ◌∙◌, subst, Some, None, Option, slice_get, arith}
-use Rattle.std.specs.Prelude.{option_map}
+use Rattle.std.specs.Prelude.{option_map, true, false, ◌&&◌}
 use Rattle.std.proofs.lemmas.List.{map-append, length-append, length-map}
 use Rattle.wl_sigs.specs.declared.signature.Side.{Side}
 use Rattle.wl_sigs.specs.declared.signature.Side.TheVariants.{Request, Event}
+use Rattle.wl_sigs.specs.Rules.{is_empty}
 use Rattle.wl_sigs.specs.Tables.{MessageSignature, Interface, interface_at, messages_of}
 use Rattle.wl_interface_text.specs.Text.{WrittenMessage, WrittenInterface}
 use Rattle.wl_sigs.specs.Joined.{all_names, first_place, message_placed}
@@ -78,6 +79,15 @@ pub grown_messages : (place : List ℕ → Option ℕ) (past : ℕ) (i : Interfa
     ≡ messages_of side i ++ map (message_placed place past) (written_of side more)
 grown_messages place past i more Request = refl
 grown_messages place past i more Event = refl
+
+pub empty_behind : (i : Interface) (more : WrittenInterface)
+    → is_empty (behind_names i more).requests ≡ is_empty i.requests && is_empty more.requests
+empty_behind i more = by_cases i.requests more.requests
+  where
+    by_cases : (old : List MessageSignature) (new : List WrittenMessage)
+        → is_empty (map by_name old ++ new) ≡ is_empty old && is_empty new
+    by_cases [] new = refl
+    by_cases (m ∷ old) new = refl
 
 pub written_behind : (i : Interface) (more : WrittenInterface) (side : Side)
     → written_of side (behind_names i more) ≡ map by_name (messages_of side i) ++ written_of side more

@@ -1,16 +1,17 @@
 -- Broken lines as the code has them.
-use Rattle.std.specs.Prelude.{ℕ, List, [], Bool, false, Option, Some, None}
+use Rattle.std.specs.Prelude.{◌≡◌, ℕ, List, Bool, not, Option, Some, None}
 use Rattle.wl_sigs.specs.declared.rules.BrokenLine.{BrokenLine}
+use Rattle.wl_sigs.specs.declared.rules.Owner.{Owner}
 use Rattle.wl_sigs.specs.declared.signature.Side.TheVariants.{Request, Event}
+use Rattle.wl_sigs.specs.Rules.{is_empty}
 use Rattle.wl_sigs.specs.Tables.{Interface}
-use Rattle.wl_interface_text.specs.Text.{WrittenMessage, WrittenInterface}
+use Rattle.wl_interface_text.specs.Text.{WrittenInterface}
 use Rattle.wl_sigs.specs.Broken.{Broken, earlier}
 use Rattle.wl_sigs.specs.Extending.{added_side_broken}
 
--- a message of which only the name and the since number are known
-abbrev pub named_since : List ℕ → ℕ → WrittenMessage
-named_since name since =
-    record { line = 0; name = name; since = since; kinds = []; destroys = false }
+-- what the rules of a message ask of its interface is so of this one
+abbrev pub IsOwner : Owner → WrittenInterface → Type 0
+IsOwner owner i = (i.version ≡ owner.version) × (is_empty i.requests ≡ not owner.has_requests)
 
 -- the first broken line of what is added to an interface at a place, if something may be said of it
 abbrev pub added_here : List Interface → (List ℕ → Option ℕ) → List Bool → ℕ → Interface

@@ -1,9 +1,9 @@
 //! The rules of valid tables, at the lines that add messages to interfaces of the tables.
 ghost use Rattle.std.specs.Prelude.{◌≡◌, ℕ, ◌≤◌, ◌++◌, List, length, map, IfOk, option_map, Some};
 ghost use Rattle.std.specs.Prelude.{option_copied};
-ghost use Rattle.wl_sigs.specs.BrokenLines.{broken, named_since, added_here};
+ghost use Rattle.wl_sigs.specs.BrokenLines.{IsOwner, broken, added_here};
 ghost use Rattle.wl_sigs.specs.FirstBroken.{written_of};
-ghost use Rattle.wl_sigs.specs.Extending.{clash_rule, lesser, added_side_broken};
+ghost use Rattle.wl_sigs.specs.Extending.{behind_names, clash_rule, lesser, added_side_broken};
 ghost use Rattle.wl_sigs.specs.Extending.{added_broken, has_argument, is_object_of};
 ghost use Rattle.wl_sigs.specs.Extending.{is_server_object_of};
 ghost use Rattle.wl_sigs.specs.Places.{place_in};
@@ -11,12 +11,22 @@ ghost use Rattle.wl_sigs.specs.Tables.{Interface, interface_at, max_messages, me
 ghost use Rattle.wl_sigs.specs.declared.signature.Side.{Side};
 ghost use Rattle.wl_sigs.specs.declared.signature.Side.TheVariants.{Request, Event};
 
+use crate::hashed::HashedName;
 use crate::interface::Entry;
 use crate::places::{Places, places_of};
-use crate::rules::{BrokenLine, broken_at, earlier, is_first, message_names, message_rule};
-use crate::signature::Side;
+use crate::rules::{BrokenLine, Owner, broken_at, earlier, is_first_name, message_rule};
+use crate::signature::{Side, Signature};
 use std::alloc::{AllocError, Allocator};
 use wl_interface_text::{WrittenInterface, WrittenMessage};
+
+/// What the rules ask of all interfaces: those of the tables, the first places of the names of all,
+/// and which an event may end.
+#[derive(Drop)]
+pub(crate) struct Known<'k, 'n, A: Allocator> {
+    pub(crate) interfaces: &'n [Entry<A>],
+    pub(crate) places: &'k Places<'n, A>,
+    pub(crate) ended: &'k [bool],
+}
 
 // Whether a request has an object of the interface at this place.
 fn is_argument<A: Allocator>(interfaces: &[Entry<A>], place: usize) -> bool
@@ -63,42 +73,23 @@ fn lesser(rule: Option<u8>, other: Option<u8>) -> Option<u8>
     }
 }
 
-// A message by its name.
-fn by_name<'n, A: Allocator + Clone>(
+// The names of the messages of a side, and of those that are added behind them.
+fn names_behind<'n, A: Allocator + Clone + Drop>(
     alloc: &A,
-    name: &'n [u8],
-    since: u32,
-) -> Result<WrittenMessage<'n, A>, AllocError>
-    ensures { IfOk result (λ message. message ≡ named_since name.now since) }
+    signatures: &'n [Signature<A>],
+    messages: &[WrittenMessage<'n, A>],
+) -> Result<Vec<HashedName<'n>, A>, AllocError>
+    ensures { IfOk result (λ names. names.items
+        ≡ map (λ m. m.name) signatures.now ++ map (λ m. m.name) messages.now) }
 {
-    Ok(WrittenMessage {
-        line: 0,
-        name,
-        since,
-        kinds: Vec::new(alloc.clone()?),
-        destroys: false,
-    })
-}
-
-// The messages that an interface has and those that are added, by their names.
-fn all_by_name<'n, A: Allocator + Clone + Drop>(
-    alloc: &A,
-    entry: &'n Entry<A>,
-    more: &WrittenInterface<'n, A>,
-    side: Side,
-) -> Result<Vec<WrittenMessage<'n, A>, A>, AllocError>
-    ensures { IfOk result (λ all. all.items
-        ≡ map (λ m. named_since m.name m.since) (messages_of side entry.now)
-        ++ map (λ m. named_since m.name m.since) (written_of side more.now)) }
-{
-    let mut messages = Vec::new(alloc.clone()?);
-    for signature in entry.messages(side) {
-        messages.push(by_name(alloc, signature.name(), signature.since())?)?;
+    let mut names = Vec::with_capacity(alloc.clone()?, signatures.len() + messages.len())?;
+    for signature in signatures {
+        names.push(HashedName::new(signature.name()))?;
     }
-    for message in messages_of(more, side) {
-        messages.push(by_name(alloc, message.name, message.since)?)?;
+    for message in messages {
+        names.push(HashedName::new(message.name))?;
     }
-    Ok(messages)
+    Ok(names)
 }
 
 // The messages of a side.
@@ -114,88 +105,98 @@ fn messages_of<'w, 'n, A: Allocator>(
     }
 }
 
+// What the rules of an added message ask of its interface.
+#[tactic(auto, using(crate::proofs::Grown::empty_behind))]
+fn owner_with<'n, A: Allocator>(
+    entry: &Entry<A>,
+    more: &WrittenInterface<'n, A>,
+    side: Side,
+) -> Owner
+    ensures { (result.side ≡ side) × IsOwner result (behind_names entry.now more.now) }
+{
+    let has_none = entry.messages(Side::Request).is_empty() && more.requests.is_empty();
+    Owner {
+        side,
+        version: more.version,
+        has_requests: !has_none,
+    }
+}
+
 // The first line that adds a message of this side to an interface and breaks a rule.
-fn added_side_broken<'n, A: Allocator + Clone + Drop>(
+fn added_side_broken<'k, 'n, A: Allocator + Clone + Drop>(
     alloc: &A,
-    interfaces: &'n [Entry<A>],
-    places: &Places<'n, A>,
-    ended: &[bool],
+    known: &Known<'k, 'n, A>,
     here: usize,
     entry: &'n Entry<A>,
     more: &WrittenInterface<'n, A>,
     side: Side,
 ) -> Result<Option<BrokenLine>, AllocError>
     requires { length (messages_of side entry.now) ≤ max_messages }
-    ensures { IfOk result (λ found. option_map broken found ≡ added_side_broken interfaces.now
-        (place_in places.now) ended.now here entry.now more.now side) }
+    ensures { IfOk result (λ found. option_map broken found
+        ≡ added_side_broken known.now.interfaces.now (place_in known.now.places.now)
+        known.now.ended.now here entry.now more.now side) }
 {
+    let signatures = entry.messages(side);
     let messages = messages_of(more, side);
     if messages.is_empty() {
         return Ok(None);
     }
-    let all = WrittenInterface {
-        line: more.line,
-        extends: more.extends,
-        name: more.name,
-        version: more.version,
-        requests: all_by_name(alloc, entry, more, Side::Request)?,
-        events: all_by_name(alloc, entry, more, Side::Event)?,
-    };
-    let names = message_names(alloc, messages_of(&all, side))?;
+    let names = names_behind(alloc, signatures, messages)?;
     let opcodes = places_of(alloc, names.as_slice())?;
-    let from = entry.messages(side).len();
+    let owner = owner_with(entry, more, side);
     let mut first = None;
     for (index, message) in messages.iter().enumerate() {
-        let opcode = from + index;
-        let is_first_named = is_first(&opcodes, message.name, opcode);
-        let rule = message_rule(places, ended, &all, side, is_first_named, opcode, message);
-        let rule = lesser(rule, clash_rule(interfaces, here, entry, side, message));
+        let opcode = signatures.len() + index;
+        let is_named = is_first_name(&opcodes, message.name, opcode);
+        let rule = message_rule(known.places, known.ended, owner, is_named, opcode, message);
+        let rule = lesser(
+            rule,
+            clash_rule(known.interfaces, here, entry, side, message),
+        );
         first = earlier(first, broken_at(message.line, rule));
     }
     Ok(first)
 }
 
 // The first line that adds a message to the interface at a place and breaks a rule.
-fn added_here<'n, A: Allocator + Clone + Drop>(
+fn added_here<'k, 'n, A: Allocator + Clone + Drop>(
     alloc: &A,
-    interfaces: &'n [Entry<A>],
-    places: &Places<'n, A>,
-    ended: &[bool],
+    known: &Known<'k, 'n, A>,
     here: usize,
     entry: &'n Entry<A>,
     more: Option<&WrittenInterface<'n, A>>,
 ) -> Result<Option<BrokenLine>, AllocError>
     requires { (side : Side) → length (messages_of side entry.now) ≤ max_messages }
-    ensures { IfOk result (λ found. option_map broken found ≡ added_here interfaces.now
-        (place_in places.now) ended.now here entry.now (option_copied more.entry)) }
+    ensures { IfOk result (λ found. option_map broken found
+        ≡ added_here known.now.interfaces.now (place_in known.now.places.now)
+        known.now.ended.now here entry.now (option_copied more.entry)) }
 {
     let Some(more) = more else {
         return Ok(None);
     };
-    let side = Side::Request;
-    let requests = added_side_broken(alloc, interfaces, places, ended, here, entry, more, side)?;
-    let side = Side::Event;
-    let events = added_side_broken(alloc, interfaces, places, ended, here, entry, more, side)?;
+    let requests = added_side_broken(alloc, known, here, entry, more, Side::Request)?;
+    let events = added_side_broken(alloc, known, here, entry, more, Side::Event)?;
     Ok(earlier(requests, events))
 }
 
 /// The first line that adds a message to one of these interfaces and breaks a rule.
-pub(crate) fn added_broken<'n, A: Allocator + Clone + Drop>(
+pub(crate) fn added_broken<'k, 'n, A: Allocator + Clone + Drop>(
     alloc: &A,
-    interfaces: &'n [Entry<A>],
-    places: &Places<'n, A>,
-    ended: &[bool],
+    known: &Known<'k, 'n, A>,
     added: &[WrittenInterface<'n, A>],
 ) -> Result<Option<BrokenLine>, AllocError>
-    requires { (place : ℕ) (i : Interface) (side : Side) → interface_at interfaces.now place ≡ Some i
+    requires { (place : ℕ) (i : Interface) (side : Side)
+        → interface_at known.now.interfaces.now place ≡ Some i
         → length (messages_of side i) ≤ max_messages }
     ensures { IfOk result (λ found. option_map broken found
-        ≡ added_broken interfaces.now (place_in places.now) ended.now 0 interfaces.now added.now) }
+        ≡ added_broken known.now.interfaces.now (place_in known.now.places.now)
+        known.now.ended.now 0 known.now.interfaces.now added.now) }
 {
+    let interfaces = known.interfaces;
     let mut first = None;
     for (here, entry) in interfaces.iter().enumerate() {
         let more = added.get(here);
-        let found = added_here(alloc, interfaces, places, ended, here, entry, more)?;
+        let found = added_here(alloc, known, here, entry, more)?;
         first = earlier(first, found);
     }
     Ok(first)

@@ -190,13 +190,14 @@ fn one_more<'n, A: Allocator>(
     }
 }
 
-/// What is said with further declarations and extensions, one after another; and the first extension
-/// that breaks a rule by itself.
+/// What is said with further declarations and extensions, one after another; and the first
+/// extension that breaks a rule by itself.
 pub(crate) fn gather<'n, A: Allocator>(
     gathered: Gathered<'n, A>,
     written: Vec<WrittenInterface<'n, A>, A>,
 ) -> Result<(Gathered<'n, A>, Option<BrokenLine>), AllocError>
-    ensures gathers { IfOk result (λ all. all.0 ≡ gathered_from gathered.entry written.entry.items) }
+    ensures gathers { IfOk result (λ all. all.0
+        ≡ gathered_from gathered.entry written.entry.items) }
     ensures first { IfOk result (λ all. option_map broken all.1
         ≡ extensions_broken gathered.entry written.entry.items) }
 {

@@ -15,10 +15,10 @@ ghost use Rattle.wl_sigs.specs.Written.{message_written, interface_written};
 
 use crate::core_interfaces::{CoreInterface, CoreMessage};
 use crate::hash::name_hash;
+use crate::hashed::HashedName;
 use crate::name::Name;
 use crate::places::Places;
 use crate::signature::{Destroys, Side, Signature};
-use crate::wanted::WantedName;
 use std::alloc::{AllocError, Allocator, Global};
 use std::fmt::{self, Debug, Formatter};
 use std::marker::Model;
@@ -73,8 +73,15 @@ impl<A: Allocator> Entry<A> {
         self.name.as_slice()
     }
 
+    /// Its name, with the hash that is kept.
+    pub(crate) fn hashed_name(&self) -> HashedName<'_>
+        ensures { result ≡ self.now.name }
+    {
+        HashedName::with_hash(self.name(), self.hash)
+    }
+
     /// Whether this is its name. Names are compared only where their hashes are equal.
-    pub(crate) fn has_name(&self, wanted: &WantedName<'_>) -> bool
+    pub(crate) fn has_name(&self, wanted: &HashedName<'_>) -> bool
         ensures { result ≡ bytes_eq self.now.name wanted.now }
     {
         self.hash == wanted.hash() && self.name() == wanted.name()
@@ -156,7 +163,8 @@ impl<A: Allocator> Entry<A> {
     /// Whether an event destroys its target, of these and of what is added to it.
     pub(crate) fn is_ended_with(&self, more: Option<&WrittenInterface<'_, A>>) -> bool
         ensures { result ≡ (has_destroying_event self.now
-            || option_map_or (λ w. list_any (λ m. m.destroys) w.events) (option_copied more.entry) false) }
+            || option_map_or (λ w. list_any (λ m. m.destroys) w.events) (option_copied more.entry)
+            false) }
     {
         let Some(more) = more else {
             return self.has_destroying_event();
@@ -215,7 +223,7 @@ impl<A: Allocator + Clone + Drop> Entry<A> {
         };
         Ok(Entry {
             name: Name::from_slice(alloc, self.name())?,
-            hash: name_hash(self.name()),
+            hash: self.hash,
             version: more.version,
             requests: grown_signatures(
                 alloc,

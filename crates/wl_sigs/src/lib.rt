@@ -11,6 +11,7 @@ pub mod event;
 mod extending;
 mod front;
 mod hash;
+mod hashed;
 mod interface;
 mod kinds;
 mod laws;
@@ -21,7 +22,6 @@ mod rules;
 pub mod samples;
 mod signature;
 mod tables;
-mod wanted;
 
 pub use laws::{
     first_broken_is_first, found_by_its_name, opcodes_are_of_their_names, places_and_opcodes_stay,

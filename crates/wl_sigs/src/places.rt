@@ -1,10 +1,11 @@
 //! The first places of names.
-ghost use Rattle.std.specs.Prelude.{◌≡◌, ℕ, List, map, Some, None, IfOk, OnOk, option_copied};
+ghost use Rattle.std.specs.Prelude.{◌≡◌, ℕ, List, Some, None, IfOk, OnOk, option_copied};
 ghost use Rattle.std.specs.Prelude.{if◌then◌else◌, is_some, bytes_eq};
 ghost use Rattle.wl_sigs.specs.Joined.{first_place};
 ghost use Rattle.wl_sigs.specs.Places.{place_in};
 
 use crate::hash::name_hash;
+use crate::hashed::HashedName;
 use std::alloc::{AllocError, Allocator};
 use std::collections::BTreeMap;
 
@@ -15,14 +16,14 @@ pub(crate) type Places<'n, A> = BTreeMap<(u64, &'n [u8]), usize, A>;
 /// The first place of each of the names.
 pub(crate) fn places_of<'n, A: Allocator + Clone + Drop>(
     alloc: &A,
-    names: &[&'n [u8]],
+    names: &[HashedName<'n>],
 ) -> Result<Places<'n, A>, AllocError>
     ensures { IfOk result (λ places. (name : List ℕ)
-        → place_in places name ≡ first_place (map (λ n. n.now) names.now) name) }
+        → place_in places name ≡ first_place names.now name) }
 {
     let mut places = BTreeMap::new(alloc.clone()?);
-    for (place, name) in names.iter().enumerate() {
-        let key = (name_hash(name), *name);
+    for (place, hashed) in names.iter().enumerate() {
+        let key = (hashed.hash(), hashed.name());
         // A name that stands again keeps its first place: to write that back takes no memory.
         if let Some(earlier) = places.insert(key, place)? {
             places.insert(key, earlier)?;

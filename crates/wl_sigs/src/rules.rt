@@ -12,10 +12,12 @@ ghost use Rattle.wl_sigs.specs.Broken.{makes_forbidden, makes_server_object, mos
 ghost use Rattle.wl_sigs.specs.Broken.{later_rule, comes_first};
 ghost use Rattle.wl_sigs.specs.Joined.{first_place};
 ghost use Rattle.wl_sigs.specs.Places.{place_in, AreFirst};
-ghost use Rattle.wl_sigs.specs.BrokenLines.{broken};
+ghost use Rattle.wl_sigs.specs.BrokenLines.{IsOwner, broken};
 ghost use Rattle.wl_sigs.specs.Rules.{is_name, is_name_byte, is_empty, is_fixed_place};
 ghost use Rattle.wl_sigs.specs.Tables.{max_interfaces};
+ghost use Rattle.wl_interface_text.specs.Text as text;
 
+use crate::hashed::HashedName;
 use crate::places::{Places, place_in, places_of};
 use crate::signature::Side;
 use std::alloc::{AllocError, Allocator};
@@ -24,7 +26,7 @@ use wl_interface_text::{
 };
 
 /// The most bytes that the name of an interface or a message has.
-const MAX_NAME_LEN: usize = 256;
+pub(crate) const MAX_NAME_LEN: usize = 256;
 
 /// The most interfaces that tables have.
 const MAX_INTERFACES: usize = 1024;
@@ -46,6 +48,14 @@ pub(crate) struct BrokenLine {
     pub(crate) rule: u8,
 }
 
+/// What the rules of a message ask of its interface, and the side that the message is of.
+#[derive(Clone, Copy)]
+pub(crate) struct Owner {
+    pub(crate) side: Side,
+    pub(crate) version: u32,
+    pub(crate) has_requests: bool,
+}
+
 fn is_name_byte(byte: u8) -> bool
     ensures { result ≡ is_name_byte byte }
 {
@@ -64,18 +74,25 @@ fn is_name(name: &[u8]) -> bool
     name.len() >= 1 && name.len() <= MAX_NAME_LEN && are_name_bytes(name)
 }
 
-/// Whether a name stands first at a place.
-pub(crate) fn is_first<'n, A: Allocator>(
-    places: &Places<'n, A>,
-    name: &'n [u8],
-    here: usize,
-) -> bool
+// Whether a name stands first at a place.
+fn is_first<'n, A: Allocator>(places: &Places<'n, A>, name: &'n [u8], here: usize) -> bool
     ensures { result ≡ is_first (place_in places.now) name.now here }
 {
     match place_in(places, name) {
         Some(first) => first == here,
         None => false,
     }
+}
+
+/// Whether bytes are a name that stands first at a place.
+pub(crate) fn is_first_name<'n, A: Allocator>(
+    places: &Places<'n, A>,
+    name: &'n [u8],
+    here: usize,
+) -> bool
+    ensures { result ≡ (is_name name.now && is_first (place_in places.now) name.now here) }
+{
+    is_name(name) && is_first(places, name, here)
 }
 
 fn makes_object(k: &WrittenKind) -> bool
@@ -245,7 +262,7 @@ fn interface_rule<'n, A: Allocator>(
 ) -> Option<u8>
     ensures { result ≡ interface_rule (place_in places.now) here interface.now }
 {
-    if !(is_name(interface.name) && is_first(places, interface.name, here)) {
+    if !is_first_name(places, interface.name, here) {
         Some(1)
     } else if here >= MAX_INTERFACES {
         Some(3)
@@ -286,31 +303,27 @@ fn names_objects<'t, A: Allocator>(side: Side, message: &WrittenMessage<'t, A>) 
 fn is_race_free<'n, A: Allocator>(
     places: &Places<'n, A>,
     ended: &[bool],
-    interface: &WrittenInterface<'n, A>,
-    side: Side,
+    owner: Owner,
     message: &WrittenMessage<'n, A>,
 ) -> bool
-    ensures { result ≡ is_race_free (place_in places.now) ended.now interface.now side message.now }
+    ensures { (i : text.WrittenInterface) → IsOwner owner i
+        → result ≡ is_race_free (place_in places.now) ended.now i owner.side message.now }
 {
-    match side {
+    match owner.side {
         Side::Request => none_ended(places, ended, message.kinds.as_slice()),
-        Side::Event => !message.destroys || interface.requests.is_empty(),
+        Side::Event => !message.destroys || !owner.has_requests,
     }
 }
 
 // Whether a message came with a version of its interface, from 1 on.
-fn is_since_a_version<'n, A: Allocator>(
-    interface: &WrittenInterface<'n, A>,
-    message: &WrittenMessage<'n, A>,
-) -> bool
-    ensures { result ≡ (nat_le 1 message.now.since
-        && nat_le message.now.since interface.now.version) }
+fn is_since_a_version<'n, A: Allocator>(version: u32, message: &WrittenMessage<'n, A>) -> bool
+    ensures { result ≡ (nat_le 1 message.now.since && nat_le message.now.since version) }
 {
-    message.since >= 1 && message.since <= interface.version
+    message.since >= 1 && message.since <= version
 }
 
-// Whether the new objects of the server stand as V11 asks.
-fn makes_rightly<'n, A: Allocator>(
+// Whether V11 allows the new objects of the server.
+fn allows_server_objects<'n, A: Allocator>(
     places: &Places<'n, A>,
     ended: &[bool],
     side: Side,
@@ -326,53 +339,54 @@ fn makes_rightly<'n, A: Allocator>(
 fn later_rule<'n, A: Allocator>(
     places: &Places<'n, A>,
     ended: &[bool],
-    interface: &WrittenInterface<'n, A>,
-    side: Side,
+    owner: Owner,
     message: &WrittenMessage<'n, A>,
 ) -> Option<u8>
-    ensures { result ≡ later_rule (place_in places.now) ended.now interface.now side message.now }
+    ensures { (i : text.WrittenInterface) → IsOwner owner i
+        → result ≡ later_rule (place_in places.now) ended.now i owner.side message.now }
 {
     let kinds = message.kinds.as_slice();
-    if !names_objects(side, message) {
+    if !names_objects(owner.side, message) {
         Some(6)
-    } else if !is_race_free(places, ended, interface, side, message) {
+    } else if !is_race_free(places, ended, owner, message) {
         Some(7)
-    } else if !is_since_a_version(interface, message) {
+    } else if !is_since_a_version(owner.version, message) {
         Some(8)
     } else if !none_missing(places, kinds) {
         Some(9)
-    } else if !makes_rightly(places, ended, side, kinds) {
+    } else if !allows_server_objects(places, ended, owner.side, kinds) {
         Some(11)
     } else {
         None
     }
 }
 
-/// The least rule that a message of an interface breaks.
+/// The least rule that a message of an interface breaks, where it is told whether it has a name
+/// and is the first of that.
 pub(crate) fn message_rule<'n, A: Allocator>(
     places: &Places<'n, A>,
     ended: &[bool],
-    interface: &WrittenInterface<'n, A>,
-    side: Side,
-    is_first_named: bool,
+    owner: Owner,
+    is_named: bool,
     opcode: usize,
     message: &WrittenMessage<'n, A>,
 ) -> Option<u8>
-    ensures { (first : List ℕ → Option ℕ) → is_first_named ≡ is_first first message.now.name opcode
-        → result ≡ message_rule (place_in places.now) ended.now interface.now side first opcode
+    ensures { (i : text.WrittenInterface) (first : List ℕ → Option ℕ) → IsOwner owner i
+        → is_named ≡ (is_name message.now.name && is_first first message.now.name opcode)
+        → result ≡ message_rule (place_in places.now) ended.now i owner.side first opcode
         message.now }
 {
     let kinds = message.kinds.as_slice();
-    if !(is_name(message.name) && is_first_named) {
+    if !is_named {
         Some(1)
     } else if !(opcode < MAX_MESSAGES && kinds.len() <= MAX_ARGS) {
         Some(3)
-    } else if count_new(kinds) > most_new(side) {
+    } else if count_new(kinds) > most_new(owner.side) {
         Some(4)
     } else if !none_unnamed(kinds) {
         Some(5)
     } else {
-        later_rule(places, ended, interface, side, message)
+        later_rule(places, ended, owner, message)
     }
 }
 
@@ -410,7 +424,7 @@ fn has_message<'n, A: Allocator>(messages: &[WrittenMessage<'n, A>], name: &[u8]
     messages.iter().any(|message| message.name == name)
 }
 
-// Whether a message of a side is the first of its name, by the map of `opcodes_of`.
+// Whether a message of a side has a name and is the first of that, by the map of `opcodes_of`.
 fn is_first_message<'n, A: Allocator>(
     opcodes: &Option<Places<'n, A>>,
     messages: &[WrittenMessage<'n, A>],
@@ -419,11 +433,26 @@ fn is_first_message<'n, A: Allocator>(
 ) -> bool
     requires stands { option_map (λ m. m.name) (slice_get messages.now opcode) ≡ Some name.now }
     requires first { AreFirst (option_map place_in opcodes.now) (map (λ m. m.name) messages.now) }
-    ensures { result ≡ is_first (first_place (map (λ m. m.name) messages.now)) name.now opcode }
+    ensures { result ≡ (is_name name.now
+        && is_first (first_place (map (λ m. m.name) messages.now)) name.now opcode) }
 {
+    if !is_name(name) {
+        return false;
+    }
     match opcodes {
         Some(opcodes) => is_first(opcodes, name, opcode),
         None => !has_message(&messages[..opcode], name),
+    }
+}
+
+// What the rules of a message of a side ask of its interface.
+fn owner_of<A: Allocator>(interface: &WrittenInterface<'_, A>, side: Side) -> Owner
+    ensures { (result.side ≡ side) × IsOwner result interface.now }
+{
+    Owner {
+        side,
+        version: interface.version,
+        has_requests: !interface.requests.is_empty(),
     }
 }
 
@@ -440,18 +469,11 @@ fn side_broken<'n, A: Allocator + Clone + Drop>(
         ≡ side_broken (place_in places.now) ended.now interface.now side messages.now) }
 {
     let opcodes = opcodes_of(alloc, messages)?;
+    let owner = owner_of(interface, side);
     let mut first = None;
     for (opcode, message) in messages.iter().enumerate() {
-        let is_first_named = is_first_message(&opcodes, messages, opcode, message.name);
-        let rule = message_rule(
-            places,
-            ended,
-            interface,
-            side,
-            is_first_named,
-            opcode,
-            message,
-        );
+        let is_named = is_first_message(&opcodes, messages, opcode, message.name);
+        let rule = message_rule(places, ended, owner, is_named, opcode, message);
         first = earlier(first, broken_at(message.line, rule));
     }
     Ok(first)
@@ -473,17 +495,16 @@ fn opcodes_of<'n, A: Allocator + Clone + Drop>(
     Ok(Some(opcodes))
 }
 
-/// The names of messages.
-pub(crate) fn message_names<'n, A: Allocator + Clone + Drop>(
+// The names of messages.
+fn message_names<'n, A: Allocator + Clone + Drop>(
     alloc: &A,
     messages: &[WrittenMessage<'n, A>],
-) -> Result<Vec<&'n [u8], A>, AllocError>
-    ensures { IfOk result (λ names. map (λ n. n.now) names.items
-        ≡ map (λ m. m.name) messages.now) }
+) -> Result<Vec<HashedName<'n>, A>, AllocError>
+    ensures { IfOk result (λ names. names.items ≡ map (λ m. m.name) messages.now) }
 {
     let mut names = Vec::with_capacity(alloc.clone()?, messages.len())?;
     for message in messages {
-        names.push(message.name)?;
+        names.push(HashedName::new(message.name))?;
     }
     Ok(names)
 }

@@ -18,22 +18,18 @@ ghost use Rattle.wl_sigs.specs.Places.{place_in, ArePlaces};
 ghost use Rattle.wl_sigs.specs.Outcome.{outcome};
 ghost use Rattle.wl_interface_text.specs.declared.fault.TableFault.TheVariants.{Memory};
 
-use crate::added::added_broken;
+use crate::added::{Known, added_broken};
 use crate::core_interfaces::{CORE, CoreInterface};
 use crate::extending::{Gathered, gather};
+use crate::hashed::HashedName;
 use crate::interface::Entry;
 use crate::places::{Places, places_of};
-use crate::rules::{BrokenLine, earlier, interfaces_broken};
+use crate::rules::{BrokenLine, MAX_NAME_LEN, earlier, interfaces_broken};
 use crate::signature::{Side, Signature};
-use crate::wanted::WantedName;
 use std::alloc::{AllocError, Allocator, Global};
 use std::marker::Model;
 use wl_interface_text::{TableFault, WrittenInterface, read_interfaces};
 use wl_wire::Iface;
-
-/// How long a name may be that is looked up by its hash, which takes time for each of its bytes. No
-/// name of tables is longer.
-const HASHED_NAME: usize = 256;
 
 /// Signature tables: interfaces, each at its place, with the signatures of their messages.
 ///
@@ -259,7 +255,12 @@ impl<A: Allocator + Clone + Drop> Tables<A> {
         let declared = gathered.declared.as_slice();
         let all_ended = self.all_ended(gathered)?;
         let ended = all_ended.as_slice();
-        let of_added = added_broken(alloc, entries, places, ended, added)?;
+        let known = Known {
+            interfaces: entries,
+            places,
+            ended,
+        };
+        let of_added = added_broken(alloc, &known, added)?;
         let of_declared = interfaces_broken(alloc, places, ended, entries.len(), declared)?;
         Ok(earlier(of_added, of_declared))
     }
@@ -293,17 +294,16 @@ impl<A: Allocator + Clone + Drop> Tables<A> {
     fn all_names<'n>(
         &'n self,
         written: &[WrittenInterface<'n, A>],
-    ) -> Result<Vec<&'n [u8], A>, AllocError>
-        ensures { IfOk result (λ names.
-            map (λ n. n.now) names.items ≡ all_names self.now written.now) }
+    ) -> Result<Vec<HashedName<'n>, A>, AllocError>
+        ensures { IfOk result (λ names. names.items ≡ all_names self.now written.now) }
     {
         let alloc = self.interfaces.allocator();
         let mut names = Vec::new(alloc.clone()?);
         for entry in &self.interfaces {
-            names.push(entry.name())?;
+            names.push(entry.hashed_name())?;
         }
         for interface in written {
-            names.push(interface.name)?;
+            names.push(HashedName::new(interface.name))?;
         }
         Ok(names)
     }
@@ -342,14 +342,15 @@ impl<A: Allocator + Clone + Drop> Tables<A> {
     }
 }
 
-// Longer than any name of tables, a name isn't hashed: its length alone tells it apart.
+// The place of the first interface of this name. No table has a name that is longer than
+// `MAX_NAME_LEN`, so such a name is not hashed.
 fn place_in<A: Allocator>(entries: &[Entry<A>], name: &[u8]) -> Option<usize>
     ensures place { result ≡ position (λ i. bytes_eq i.name name.now) entries.now }
     ensures within { IfSome result (λ place. place < length entries.now) }
 {
-    if name.len() > HASHED_NAME {
+    if name.len() > MAX_NAME_LEN {
         return entries.iter().position(|entry| entry.name() == name);
     }
-    let wanted = WantedName::new(name);
+    let wanted = HashedName::new(name);
     entries.iter().position(|entry| entry.has_name(&wanted))
 }

@@ -10,9 +10,9 @@ use Rattle.wl_sigs.proofs.added.added_broken.Goals as goal
 
 pub loop-here-preserved : goal.loop-here-preserved
 loop-here-preserved g c =
-    let tables = c.args.interfaces.now in
-    let place = place_in c.args.places.now in
-    let ended = c.args.ended.now in
+    let tables = c.args.known.now.interfaces.now in
+    let place = place_in c.args.known.now.places.now in
+    let ended = c.args.known.now.ended.now in
     let x = c.index-interfaces-here.result in
     c.earlier-first.ensures
     ∙ ap₂ (λ (a b : Option Broken). earlier a b) c.loop-here.invariant

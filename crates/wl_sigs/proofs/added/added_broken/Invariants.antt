@@ -7,4 +7,5 @@ use Rattle.wl_sigs.proofs.added.added_broken.Given as goal
 
 abbrev pub invariant-loop-here : goal.invariant-loop-here
 invariant-loop-here g l = option_map broken l.first
-    ≡ added_broken l.interfaces (place_in l.places) l.ended 0 (take l.here l.interfaces) l.added
+    ≡ added_broken l.known.interfaces.now (place_in l.known.places.now) l.known.ended.now 0
+    (take l.here l.interfaces) l.added

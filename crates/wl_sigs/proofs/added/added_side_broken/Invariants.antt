@@ -1,4 +1,4 @@
-use Rattle.std.proofs.Common.{◌≡◌, ◌++◌, length, take}
+use Rattle.std.proofs.Common.{◌≡◌, length, take}
 use Rattle.std.specs.Prelude.{option_map}
 use Rattle.wl_sigs.specs.Broken.{messages_broken}
 use Rattle.wl_sigs.specs.BrokenLines.{broken}
@@ -9,5 +9,5 @@ use Rattle.wl_sigs.proofs.added.added_side_broken.Given as goal
 
 abbrev pub invariant-loop-index : goal.invariant-loop-index
 invariant-loop-index g l =
-    option_map broken l.first ≡ messages_broken (added_rule l.interfaces (place_in l.places) l.ended l.here l.entry
-    l.more l.side) (length (messages_of l.side l.entry)) (take l.index l.messages)
+    option_map broken l.first ≡ messages_broken (added_rule l.known.interfaces.now (place_in l.known.places.now)
+    l.known.ended.now l.here l.entry l.more l.side) (length (messages_of l.side l.entry)) (take l.index l.messages)

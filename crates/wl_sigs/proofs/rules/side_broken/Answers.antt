@@ -1,9 +1,11 @@
 use Rattle.std.proofs.Common.{◌≡◌, length, map, take, sym, ap, ◌∙◌, arith, Some}
-use Rattle.std.specs.Prelude.{option_map}
+use Rattle.std.specs.Prelude.{option_map, ◌&&◌}
 use Rattle.std.proofs.lemmas.Option.{slice_get-get_or}
 use Rattle.std.proofs.Math.Seq.{take-length}
 use Rattle.wl_interface_text.specs.Text.{WrittenMessage}
+use Rattle.wl_sigs.specs.declared.signature.Side.{Side}
 use Rattle.wl_sigs.specs.Joined.{first_place}
+use Rattle.wl_sigs.specs.Rules.{is_name}
 use Rattle.wl_sigs.specs.Broken.{is_first, message_rule, messages_broken}
 use Rattle.wl_sigs.specs.Places.{place_in}
 use Rattle.wl_sigs.proofs.FirstBrokenLine.{messages_broken-next}
@@ -19,8 +21,12 @@ loop-opcode-preserved g c =
     ap (λ (m : WrittenMessage). m.line) c.message.view_is in
     let name : c.message.inside.name.now ≡ c.index-messages-opcode.result.name =
     ap (λ (m : WrittenMessage). m.name) c.message.view_is in
-    let here = c.message_rule-rule.ensures first
-    (c.is_first_message-is_first_named.ensures ∙ ap (λ n. is_first first n c.loop-opcode.opcode) name) in
+    let place = place_in c.args.places.now in
+    let owner = c.owner_of-owner.ensures in
+    let here = c.message_rule-rule.ensures c.args.interface.now first owner.1
+    (c.is_first_message-is_named.ensures ∙ ap (λ n. is_name n && is_first first n c.loop-opcode.opcode) name)
+    ∙ ap (λ (s : Side). message_rule place c.args.ended.now c.args.interface.now s first c.loop-opcode.opcode
+    c.index-messages-opcode.result) owner.0 in
     c.earlier-first.ensures ∙ rw (c.loop-opcode.invariant, c.broken_at.ensures, here, line) (sym next)
 
 pub returns : goal.returns
@@ -32,8 +38,8 @@ returns g c =
     let whole : take c.loop-opcode.opcode messages ≡ messages = rw all (take-length messages) in
     c.loop-opcode.invariant ∙ ap (messages_broken rule 0) whole
 
-pub is_first_message-is_first_named-requires-clause-stands : goal.is_first_message-is_first_named-requires-clause-stands
-is_first_message-is_first_named-requires-clause-stands g c =
+pub is_first_message-is_named-requires-clause-stands : goal.is_first_message-is_named-requires-clause-stands
+is_first_message-is_named-requires-clause-stands g c =
     let at = slice_get-get_or c.args.messages.now c.loop-opcode.opcode c.index-messages-opcode.result
     c.loop-opcode-test.true in
     let name : c.index-messages-opcode.result.name ≡ c.message.inside.name.now =

@@ -8,5 +8,5 @@ use Rattle.wl_sigs.proofs.rules.side_broken.Given as goal
 
 abbrev pub invariant-loop-opcode : goal.invariant-loop-opcode
 invariant-loop-opcode g l =
-    option_map broken l.first ≡ messages_broken (message_rule (place_in l.places) l.ended l.interface l.side
+    option_map broken l.first ≡ messages_broken (message_rule (place_in l.places) l.ended l.interface l.fn.side
     (first_place (map (λ m. m.name) l.messages))) 0 (take l.opcode l.messages)

@@ -1,39 +1,47 @@
-//! A name that is looked for.
+//! Names with their hashes.
 ghost use Rattle.std.specs.Prelude.{◌≡◌};
 ghost use Rattle.wl_sigs.specs.NameHash.{name_hash};
 
 use crate::hash::name_hash;
 use std::marker::Model;
 
-/// A name that is looked for among others, with its hash.
+/// A name with its hash.
 #[derive(Drop)]
-pub(crate) struct WantedName<'n> {
+pub(crate) struct HashedName<'n> {
     name: &'n [u8],
     hash: u64,
 }
 
-impl<'n> Model for WantedName<'n> {
+impl<'n> Model for HashedName<'n> {
     ghost use Rattle.std.specs.Prelude.{◌≡◌, ℕ, List};
     ghost use Rattle.wl_sigs.specs.NameHash.{name_hash};
 
     ghost Value = { List ℕ };
 
-    ghost view = { λ w. w.name.now };
+    ghost view = { λ n. n.name.now };
 
-    ghost invariant = { λ w. w.hash ≡ name_hash w.name.now };
+    ghost invariant = { λ n. n.hash ≡ name_hash n.name.now };
 }
 
-impl<'n> WantedName<'n> {
-    pub(crate) fn new(name: &'n [u8]) -> WantedName<'n>
+impl<'n> HashedName<'n> {
+    pub(crate) fn new(name: &'n [u8]) -> HashedName<'n>
         ensures { result ≡ name.now }
     {
-        WantedName {
+        HashedName {
             name,
             hash: name_hash(name),
         }
     }
 
-    pub(crate) fn name(&self) -> &[u8]
+    /// A name whose hash is known.
+    pub(crate) fn with_hash(name: &'n [u8], hash: u64) -> HashedName<'n>
+        requires { hash ≡ name_hash name.now }
+        ensures { result ≡ name.now }
+    {
+        HashedName { name, hash }
+    }
+
+    pub(crate) fn name(&self) -> &'n [u8]
         ensures { result.now ≡ self.now }
     {
         self.name
