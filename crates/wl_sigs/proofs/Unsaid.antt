@@ -1,7 +1,8 @@
 -- Tables to which nothing is added.
 use Rattle.std.proofs.Common.{◌≡◌, ℕ, ◌+◌, List, [], ◌∷◌, ◌++◌, length, map, refl, sym, ap, ◌∙◌, None}
-use Rattle.std.proofs.Common.{Option, Bool, false, append-nil}
-use Rattle.std.specs.List.{All}
+use Rattle.std.proofs.Common.{Option, Bool, true, false, not, append-nil}
+use Rattle.std.specs.List.{All, list_all}
+use Rattle.std.proofs.lemmas.List.Sums.{AllPass-from_list_all}
 use Rattle.wl_sigs.specs.declared.signature.Side.{Side}
 use Rattle.wl_sigs.specs.Tables.{MessageSignature, Interface}
 use Rattle.wl_interface_text.specs.Text.{WrittenInterface}
@@ -70,3 +71,38 @@ broken_alone tables written none =
     (none_broken_alone (gathered tables []) written none)
     ∙ ap (messages_or_declared_broken tables) (declares_alone tables written none)
     ∙ others_alone tables written
+
+-- of a text that extends nothing, nothing need be kept of what it adds
+abbrev pub declaring : List WrittenInterface → Gathered
+declaring written = record { added = []; declared = written }
+
+none_extends : (written : List WrittenInterface) → list_all (λ (i : WrittenInterface). not i.extends) written ≡ true
+    → All (λ (i : WrittenInterface). i.extends ≡ false) written
+none_extends written none = λ k d lt.
+    is_false _ (AllPass-from_list_all (λ (i : WrittenInterface). not i.extends) written none k d lt)
+  where
+    is_false : (t : Bool) → not t ≡ true → t ≡ false
+    is_false true e = cc e
+    is_false false e = refl
+
+whole_declaring : (tables : List Interface) (written : List WrittenInterface)
+    → whole_of tables (declaring written) ≡ joined tables written
+whole_declaring [] written = refl
+whole_declaring (i ∷ tables) written = refl
+
+broken_declaring : (tables : List Interface) (written : List WrittenInterface)
+    → messages_or_declared_broken tables (declaring written) ≡ first_broken tables written
+broken_declaring [] written = refl
+broken_declaring (i ∷ tables) written = refl
+
+pub extended_declaring : (tables : List Interface) (written : List WrittenInterface)
+    → list_all (λ (i : WrittenInterface). not i.extends) written ≡ true
+    → whole_of tables (declaring written) ≡ extended tables written
+extended_declaring tables written none =
+    whole_declaring tables written ∙ sym (extended_alone tables written (none_extends written none))
+
+pub first_declaring : (tables : List Interface) (written : List WrittenInterface)
+    → list_all (λ (i : WrittenInterface). not i.extends) written ≡ true
+    → messages_or_declared_broken tables (declaring written) ≡ first_line_broken tables written
+first_declaring tables written none =
+    broken_declaring tables written ∙ sym (broken_alone tables written (none_extends written none))

@@ -1,5 +1,7 @@
 //! What a text says of each interface: of its own, and of those of the tables that it extends.
 ghost use Rattle.std.specs.Prelude.{◌≡◌, ◌++◌, IfOk, option_map, option_copied, position, bytes_eq};
+ghost use Rattle.std.specs.Prelude.{not};
+ghost use Rattle.std.specs.List.{list_all};
 ghost use Rattle.wl_sigs.specs.BrokenLines.{broken};
 ghost use Rattle.wl_sigs.specs.Extended.{with_extension, extend_first, first_named, one_more};
 ghost use Rattle.wl_sigs.specs.Extended.{gathered_from, greater};
@@ -188,6 +190,13 @@ fn one_more<'n, A: Allocator>(
             declared: extend_first(declared, next)?,
         }),
     }
+}
+
+/// Whether none of these is an extension.
+pub(crate) fn none_extends<A: Allocator>(written: &[WrittenInterface<'_, A>]) -> bool
+    ensures { result ≡ list_all (λ i. not i.extends) written.now }
+{
+    written.iter().all(|interface| !interface.extends)
 }
 
 /// What is said with further declarations and extensions, one after another; and the first

@@ -332,7 +332,11 @@ fn allows_server_objects<'n, A: Allocator>(
     ensures { result ≡ (nat_le (count_by makes_server_object kinds.now) (most_by_server side)
         && list_all (λ k. not (makes_forbidden (place_in places.now) ended.now k)) kinds.now) }
 {
-    count_by_server(kinds) <= most_by_server(side) && none_forbidden(places, ended, kinds)
+    let made = count_by_server(kinds);
+    if made == 0 {
+        return true;
+    }
+    made <= most_by_server(side) && none_forbidden(places, ended, kinds)
 }
 
 // The least rule from V6 on that a message of an interface breaks.

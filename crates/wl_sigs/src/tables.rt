@@ -10,9 +10,9 @@ ghost use Rattle.wl_sigs.specs.Rules.{has_server_objects, is_ended_by_event, is_
 ghost use Rattle.wl_sigs.specs.Valid.{Valid};
 ghost use Rattle.wl_sigs.specs.Written.{interface_written};
 ghost use Rattle.wl_sigs.specs.Joined.{all_names};
-ghost use Rattle.wl_sigs.specs.Broken.{ended_of};
-ghost use Rattle.wl_sigs.specs.Extended.{gathered, grown, whole_of};
-ghost use Rattle.wl_sigs.specs.Extending.{messages_or_declared_broken};
+ghost use Rattle.wl_sigs.specs.Broken.{earlier, ended_of};
+ghost use Rattle.wl_sigs.specs.Extended.{extended, gathered, grown, whole_of};
+ghost use Rattle.wl_sigs.specs.Extending.{first_line_broken, messages_or_declared_broken};
 ghost use Rattle.wl_sigs.specs.BrokenLines.{broken};
 ghost use Rattle.wl_sigs.specs.Places.{place_in, ArePlaces};
 ghost use Rattle.wl_sigs.specs.Outcome.{outcome};
@@ -20,7 +20,7 @@ ghost use Rattle.wl_interface_text.specs.declared.fault.TableFault.TheVariants.{
 
 use crate::added::{Known, added_broken};
 use crate::core_interfaces::{CORE, CoreInterface};
-use crate::extending::{Gathered, gather};
+use crate::extending::{Gathered, gather, none_extends};
 use crate::hashed::HashedName;
 use crate::interface::Entry;
 use crate::places::{Places, places_of};
@@ -205,13 +205,36 @@ impl<A: Allocator + Clone + Drop> Tables<A> {
         ensures valid { IfOk result (λ tables. Valid tables) }
     {
         let written = read_interfaces(self.interfaces.allocator(), text)?;
-        let (gathered, of_extensions) = gather(self.unsaid()?, written)?;
+        let (gathered, of_extensions) = self.gathered(written)?;
         let places = self.places(gathered.declared.as_slice())?;
         let of_others = self.first_broken(&places, &gathered)?;
         if let Some(BrokenLine { line, rule }) = earlier(of_extensions, of_others) {
             return Err(TableFault::BadTable { line, rule });
         }
         Ok(self.extended(&places, &gathered)?)
+    }
+
+    // What a text says, and its first extension that breaks a rule by itself. Of a text without
+    // extensions, nothing is kept for these interfaces.
+    fn gathered<'n>(
+        &'n self,
+        written: Vec<WrittenInterface<'n, A>, A>,
+    ) -> Result<(Gathered<'n, A>, Option<BrokenLine>), AllocError>
+        ensures whole { IfOk result (λ all.
+            whole_of self.now all.0 ≡ extended self.now written.entry.items) }
+        ensures first { IfOk result (λ all.
+            earlier (option_map broken all.1) (messages_or_declared_broken self.now all.0)
+            ≡ first_line_broken self.now written.entry.items) }
+    {
+        if !none_extends(written.as_slice()) {
+            return gather(self.unsaid()?, written);
+        }
+        let added = Vec::new(self.interfaces.allocator().clone()?);
+        let gathered = Gathered {
+            added,
+            declared: written,
+        };
+        Ok((gathered, None))
     }
 
     // What a text says that says nothing of these interfaces, and declares none.
