@@ -13,7 +13,6 @@ use Rattle.wl_sigs.specs.Extended.{Gathered, grown}
 use Rattle.wl_sigs.specs.Extending.{clash_rule, by_name, behind_names, added_rule}
 use Rattle.wl_sigs.specs.Extending.{added_side_broken, added_broken}
 use Rattle.wl_sigs.specs.FirstLineBroken.{Clashes}
-use Rattle.wl_sigs.proofs.Lookups.{found}
 use Rattle.wl_sigs.proofs.JoinedLookup.{placing_message}
 use Rattle.wl_sigs.proofs.ValidKeeps.{behind}
 use Rattle.wl_sigs.proofs.TestedRules.{message_says, MessageBroken}

@@ -1,6 +1,6 @@
 -- What the loops over texts that extend do at each step.
 use Rattle.std.proofs.Common.{◌≡◌, ℕ, zero, suc, ◌+◌, ◌<◌, ◌≤◌, true, false, cond, List, [], ◌∷◌, ◌++◌, length}
-use Rattle.std.proofs.Common.{get_or, take, map, refl, sym, ap, ◌∙◌, subst, Some, None, Option, Bool}
+use Rattle.std.proofs.Common.{get_or, take, map, refl, sym, ap, ◌∙◌, Some, None, Option, Bool}
 use Rattle.std.proofs.Common.{slice_get, add-zero, not, ◌||◌, nat_lt, arith}
 use Rattle.std.proofs.Math.Path.{ap₂}
 use Rattle.std.specs.List.{list_any, insert, remove, position_or_len}
@@ -9,13 +9,13 @@ use Rattle.wl_sigs.proofs.TestedRules.{not_lt}
 use Rattle.std.specs.Prelude.{option_map, position, bytes_eq}
 use Rattle.std.proofs.lemmas.List.Folds.{find-append}
 use Rattle.std.specs.Option.{option_map_or, option_or}
-use Rattle.std.proofs.lemmas.List.{take_more, length-take-le, map-append, map_more}
+use Rattle.std.proofs.lemmas.List.{take_more, length-take-le, map-append}
 use Rattle.wl_interface_text.specs.Text.{WrittenMessage, WrittenInterface}
 use Rattle.wl_sigs.specs.Tables.{MessageSignature, Interface, has_destroying_event}
 use Rattle.wl_sigs.specs.Tables.{destroys_target}
-use Rattle.wl_sigs.specs.Joined.{all_names, first_place, message_placed, interface_placed}
+use Rattle.wl_sigs.specs.Joined.{all_names, first_place, interface_placed}
 use Rattle.wl_sigs.specs.Valid.{Valid}
-use Rattle.wl_sigs.specs.Broken.{Broken, messages_broken, earlier, broken_at}
+use Rattle.wl_sigs.specs.Broken.{messages_broken, earlier, broken_at}
 use Rattle.wl_sigs.specs.Broken.{interfaces_broken, ended_of}
 use Rattle.wl_sigs.specs.Extended.{Gathered, one_more, gathered_from, interface_grown, grown_by}
 use Rattle.wl_sigs.specs.Extended.{all_grown, grown, whole_of, with_extension, extend_first, first_named}

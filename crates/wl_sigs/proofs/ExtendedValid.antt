@@ -1,10 +1,9 @@
 -- Tables and a text make valid tables exactly where no line of the text breaks a rule.
-use Rattle.std.proofs.Common.{◌≡◌, ℕ, ◌<◌, ◌≤◌, inl, inr, true, false, List, [], length, refl, sym, ap}
+use Rattle.std.proofs.Common.{◌≡◌, ℕ, ◌<◌, ◌≤◌, inl, inr, true, false, List, length, refl, sym, ap}
 use Rattle.std.proofs.Common.{◌∙◌, subst, Some, None, Option, Bool, slice_get, ◌+◌, arith}
 use Rattle.std.specs.Prelude.{◌↔◌}
-use Rattle.std.specs.List.{All, Contains, list_any}
+use Rattle.std.specs.List.{Contains, list_any}
 use Rattle.std.proofs.lemmas.Option.{slice_get_within}
-use Rattle.wl_wire.specs.declared.kind.Kind.{Kind}
 use Rattle.wl_wire.specs.declared.kind.Kind.TheVariants as kinds
 use Rattle.wl_wire.specs.declared.kind.Iface.{Iface}
 use Rattle.wl_sigs.specs.declared.signature.Side.{Side}
@@ -14,7 +13,7 @@ use Rattle.wl_sigs.specs.Tables.{messages_of, has_destroying_event, destroys_tar
 use Rattle.wl_sigs.specs.Valid.{IsBind, IsFixedPlace, Valid}
 use Rattle.wl_interface_text.specs.Text.{WrittenInterface}
 use Rattle.wl_sigs.specs.Joined.{all_names, first_place}
-use Rattle.wl_sigs.specs.Broken.{Broken, first_broken}
+use Rattle.wl_sigs.specs.Broken.{Broken}
 use Rattle.wl_sigs.specs.FirstBroken.{MessageBreaks, message_misnamed, message_named_again}
 use Rattle.wl_sigs.specs.FirstBroken.{message_beyond, too_many_arguments, event_makes}
 use Rattle.wl_sigs.specs.FirstBroken.{request_makes_two, new_without_interface, object_of_any}
@@ -22,11 +21,11 @@ use Rattle.wl_sigs.specs.FirstBroken.{event_destroys, object_of_ended, since_bel
 use Rattle.wl_sigs.specs.FirstBroken.{since_above_version, interface_missing}
 use Rattle.wl_sigs.specs.FirstBroken.{request_has_server_object, event_has_two_server_objects}
 use Rattle.wl_sigs.specs.FirstBroken.{server_object_of_ended, server_object_of_fixed}
-use Rattle.wl_sigs.specs.Extended.{Gathered, gathered, grown, extended}
-use Rattle.wl_sigs.specs.Extending.{extensions_broken, messages_or_declared_broken, first_line_broken}
+use Rattle.wl_sigs.specs.Extended.{gathered, grown, extended}
+use Rattle.wl_sigs.specs.Extending.{first_line_broken}
 use Rattle.wl_sigs.specs.FirstLineBroken.{AddsMessage, Clashes, request_of_ended, ends_argument}
-use Rattle.wl_sigs.specs.FirstLineBroken.{ends_server_object, DeclaresExtension, ExtensionBreaks}
-use Rattle.wl_sigs.specs.FirstLineBroken.{ExtendsRightly, LineBreaks, by_declared, by_added, by_clash}
+use Rattle.wl_sigs.specs.FirstLineBroken.{ends_server_object}
+use Rattle.wl_sigs.specs.FirstLineBroken.{ExtendsRightly, by_declared, by_added, by_clash}
 use Rattle.wl_sigs.specs.FirstLineBroken.{by_extension}
 use Rattle.wl_sigs.proofs.Lookups.{found, signature_from}
 use Rattle.wl_sigs.proofs.JoinedValid.{joined_valid, any_at}

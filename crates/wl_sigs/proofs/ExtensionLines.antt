@@ -1,5 +1,5 @@
 -- The first line of an extension that breaks a rule by itself.
-use Rattle.std.proofs.Common.{◌≡◌, ℕ, ◌+◌, ◌⊎◌, inl, inr, true, false, cond, List, [], ◌∷◌, ◌++◌}
+use Rattle.std.proofs.Common.{◌≡◌, ℕ, ◌⊎◌, inl, inr, true, false, cond, List, [], ◌∷◌, ◌++◌}
 use Rattle.std.proofs.Common.{refl, sym, ap, ◌∙◌, subst, Some, None, Option, Bool, nat_lt, bytes_eq}
 use Rattle.std.proofs.Common.{◌||◌, codes, arith}
 use Rattle.std.proofs.lemmas.Bool.{ltb-true, ltb-false}
@@ -11,7 +11,6 @@ use Rattle.wl_sigs.specs.Extending.{is_fixed_name, version_rule, extend_rule, ex
 use Rattle.wl_sigs.specs.FirstLineBroken.{IsFixedName, names_display, names_registry}
 use Rattle.wl_sigs.specs.FirstLineBroken.{names_callback, names_fixes, ExtensionBreaks}
 use Rattle.wl_sigs.specs.FirstLineBroken.{extends_fixed, lowers_version, extends_unknown}
-use Rattle.wl_sigs.proofs.Lookups.{found}
 use Rattle.wl_sigs.proofs.FirstLine.{IsLeast, like, Either, of_either, one_line, later_not_before}
 use Rattle.wl_sigs.proofs.LeastRule.{IsLeastRule, some_rule}
 

@@ -15,7 +15,6 @@ use Rattle.wl_sigs.specs.Extending.{behind_names, first_line_broken}
 use Rattle.wl_sigs.specs.FirstLineBroken.{ExtensionBreaks, AddsMessage, Clashes, LineBreaks}
 use Rattle.wl_sigs.specs.FirstLineBroken.{by_declared, by_added, by_clash, by_extension}
 use Rattle.wl_sigs.specs.FirstLineBroken.{IsFirstBrokenLine}
-use Rattle.wl_sigs.proofs.Lookups.{found}
 use Rattle.wl_sigs.proofs.JoinedLookup.{in_front, placing, placing_message}
 use Rattle.wl_sigs.proofs.ValidKeeps.{behind}
 use Rattle.wl_sigs.proofs.FirstLine.{NotBefore, IsLeast, like, Either, of_either}

@@ -1,7 +1,6 @@
 -- The broken line of a text's own interfaces that is found is the first that breaks a rule, in the
 -- words of the rules, and its rule the least there.
 use Rattle.std.proofs.Common.{◌≡◌, ℕ, ◌+◌, List, length, map, refl, sym, ap, ◌∙◌, subst, Some}
-use Rattle.std.proofs.Common.{slice_get}
 use Rattle.std.specs.Prelude.{option_map}
 use Rattle.wl_sigs.specs.Tables.{MessageSignature, Interface, interface_at, message_of}
 use Rattle.wl_interface_text.specs.Text.{WrittenInterface}

@@ -1,16 +1,16 @@
 -- What lines of a text make of what was said before.
-use Rattle.std.proofs.Common.{◌≡◌, ℕ, zero, suc, ◌+◌, ◌<◌, ◌≤◌, ◌⊎◌, inl, inr, true, false, cond, List, []}
-use Rattle.std.proofs.Common.{◌∷◌, ◌++◌, length, map, refl, sym, ap, ◌∙◌, subst, Some, None, Option}
-use Rattle.std.proofs.Common.{Bool, slice_get, get_or, nat_lt, bytes_eq, append-nil, append_assoc, arith}
+use Rattle.std.proofs.Common.{◌≡◌, ℕ, zero, suc, ◌≤◌, ◌⊎◌, inl, inr, true, false, cond, List, []}
+use Rattle.std.proofs.Common.{◌∷◌, ◌++◌, length, map, refl, sym, ap, ◌∙◌, Some, None}
+use Rattle.std.proofs.Common.{Bool, slice_get, nat_lt, bytes_eq, append-nil, append_assoc, arith}
 use Rattle.std.specs.Prelude.{option_map, is_some}
 use Rattle.std.specs.List.{All}
-use Rattle.std.proofs.lemmas.Bool.{ltb-true, ltb-false}
+use Rattle.std.proofs.lemmas.Bool.{ltb-true}
 use Rattle.std.proofs.lemmas.List.{length-map}
 use Rattle.std.proofs.lemmas.Option.{slice_get-map}
 use Rattle.std.proofs.lemmas.Slice.Eq.{bytes_eq-Decides}
 use Rattle.wl_sigs.specs.Tables.{Interface}
 use Rattle.wl_interface_text.specs.Text.{WrittenInterface}
-use Rattle.wl_sigs.specs.Broken.{Broken, broken_at, earlier}
+use Rattle.wl_sigs.specs.Broken.{broken_at, earlier}
 use Rattle.wl_sigs.specs.Extended.{Gathered, unsaid, greater, with_extension, extend_first, first_named}
 use Rattle.wl_sigs.specs.Extended.{one_more, gathered_from, gathered}
 use Rattle.wl_sigs.specs.Extending.{is_fixed_name, version_rule, extend_rule, extensions_broken}

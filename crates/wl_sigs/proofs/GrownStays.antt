@@ -1,14 +1,13 @@
 -- What a text leaves as it is of the tables that it extends.
-use Rattle.std.proofs.Common.{◌≡◌, ℕ, zero, suc, ◌+◌, ◌<◌, ◌≤◌, ◌⊎◌, inl, inr, List, [], ◌∷◌, ◌++◌, length}
-use Rattle.std.proofs.Common.{map, refl, sym, ap, ◌∙◌, subst, Some, None, slice_get, arith}
+use Rattle.std.proofs.Common.{◌≡◌, ℕ, ◌≤◌, List, length}
+use Rattle.std.proofs.Common.{map, refl, Some}
 use Rattle.wl_sigs.specs.declared.signature.Side.{Side}
-use Rattle.wl_sigs.specs.declared.signature.Side.TheVariants.{Request, Event}
 use Rattle.wl_sigs.specs.Tables.{MessageSignature, Interface, interface_at, messages_of, message_of}
 use Rattle.wl_sigs.specs.Tables.{signature_at}
 use Rattle.wl_interface_text.specs.Text.{WrittenInterface}
 use Rattle.wl_sigs.specs.Joined.{all_names, first_place, message_placed}
 use Rattle.wl_sigs.specs.FirstBroken.{written_of}
-use Rattle.wl_sigs.specs.Extended.{Gathered, interface_grown, gathered, grown, extended}
+use Rattle.wl_sigs.specs.Extended.{interface_grown, gathered, extended}
 use Rattle.wl_sigs.proofs.Lookups.{found, signature_from}
 use Rattle.wl_sigs.proofs.JoinedLookup.{in_front}
 use Rattle.wl_sigs.proofs.Grown.{grown_messages}

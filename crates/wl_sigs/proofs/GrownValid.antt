@@ -1,9 +1,9 @@
 -- Tables to which a text adds messages keep the rules, where no line of it breaks one.
 use Rattle.std.proofs.Common.{◌≡◌, ◌≢◌, ℕ, zero, suc, ◌+◌, ◌-◌, ◌<◌, ◌≤◌, ◌⊎◌, inl, inr, true, false}
 use Rattle.std.proofs.Common.{List, [], ◌∷◌, ◌++◌, length, map, refl, sym, ap, ◌∙◌, subst, Some, None}
-use Rattle.std.proofs.Common.{Option, Bool, slice_get, get_or, nat_le, codes, append-nil, arith}
-use Rattle.std.specs.List.{All, Contains, list_any}
-use Rattle.std.proofs.lemmas.Bool.{leb-true, leb-false, cases_lt}
+use Rattle.std.proofs.Common.{Bool, slice_get, arith}
+use Rattle.std.specs.List.{All, Contains}
+use Rattle.std.proofs.lemmas.Bool.{cases_lt}
 use Rattle.std.proofs.Math.Nat.{eq-or-lt_of_le}
 use Rattle.std.proofs.lemmas.List.{length-append, length-map}
 use Rattle.std.proofs.lemmas.List.Elements.{All-weaker}
@@ -22,7 +22,6 @@ use Rattle.wl_sigs.specs.Valid.{AreSmall, MakeFewObjects, IsBind, UnnamedNewInBi
 use Rattle.wl_sigs.specs.Valid.{NoAnyInRequests, SincesAreInRange, ArgumentEndsInFixesAlone, Valid}
 use Rattle.wl_interface_text.specs.Text.{WrittenMessage, WrittenInterface}
 use Rattle.wl_sigs.specs.Joined.{all_names, first_place, message_placed, destroys_of}
-use Rattle.wl_sigs.specs.Broken.{ended_of}
 use Rattle.wl_sigs.specs.FirstBroken.{written_of, MessageBreaks, message_misnamed, message_named_again}
 use Rattle.wl_sigs.specs.FirstBroken.{message_beyond, too_many_arguments, event_makes}
 use Rattle.wl_sigs.specs.FirstBroken.{request_makes_two, new_without_interface, object_of_any}
@@ -30,14 +29,14 @@ use Rattle.wl_sigs.specs.FirstBroken.{event_destroys, object_of_ended, since_bel
 use Rattle.wl_sigs.specs.FirstBroken.{since_above_version, interface_missing}
 use Rattle.wl_sigs.specs.FirstBroken.{request_has_server_object, event_has_two_server_objects}
 use Rattle.wl_sigs.specs.FirstBroken.{server_object_of_ended, server_object_of_fixed}
-use Rattle.wl_sigs.specs.Extended.{Gathered, unsaid, interface_grown, gathered, grown, extended}
-use Rattle.wl_sigs.specs.Extending.{is_fixed_name, extensions_broken, first_line_broken}
+use Rattle.wl_sigs.specs.Extended.{unsaid, interface_grown, gathered, grown, extended}
+use Rattle.wl_sigs.specs.Extending.{is_fixed_name, extensions_broken}
 use Rattle.wl_sigs.specs.FirstLineBroken.{AddsMessage, Clashes, request_of_ended, ends_argument}
 use Rattle.wl_sigs.specs.FirstLineBroken.{ends_server_object, LineBreaks, by_added, by_clash}
 use Rattle.wl_sigs.proofs.Lookups.{found, signature_from}
 use Rattle.wl_sigs.proofs.JoinedLookup.{in_either, either_interface, mapped_at, length_joined}
 use Rattle.wl_sigs.proofs.JoinedValid.{KeepsInFront, IsThereIn, any_at, last_at, none_left}
-use Rattle.wl_sigs.proofs.ValidKeeps.{any_true, behind}
+use Rattle.wl_sigs.proofs.ValidKeeps.{any_true}
 use Rattle.wl_sigs.proofs.PlacedKinds.{NotEndedIn}
 use Rattle.wl_sigs.proofs.ServerObjects.{MadeRightly}
 use Rattle.wl_sigs.proofs.RulesDecide.{decides_name}
@@ -47,7 +46,7 @@ use Rattle.wl_sigs.proofs.FirstWords.{some_same}
 use Rattle.wl_sigs.proofs.Grown.{Grows, from_grown, grown_at, length_grown, grown_messages}
 use Rattle.wl_sigs.proofs.Gathering.{length_gathered, said_of, fixed_unsaid}
 use Rattle.wl_sigs.proofs.Unsaid.{unsaid_grown}
-use Rattle.wl_sigs.proofs.FirstLineWords.{stands_at, listed_at, line_least}
+use Rattle.wl_sigs.proofs.FirstLineWords.{stands_at, listed_at}
 
 -- no line of the text breaks a rule
 abbrev pub NoLineBreaks : List Interface → List WrittenInterface → Type 0

@@ -1,12 +1,12 @@
 -- The least rule that something breaks, and the first line of messages that break rules.
 use Rattle.std.proofs.Common.{◌≡◌, ℕ, ◌+◌, ◌≤◌, ◌⊎◌, inl, inr, true, false, cond, List, refl, sym}
-use Rattle.std.proofs.Common.{ap, ◌∙◌, subst, Some, None, Option, Bool, slice_get, nat_lt, arith}
+use Rattle.std.proofs.Common.{◌∙◌, Some, None, Option, Bool, slice_get, nat_lt, arith}
 use Rattle.std.proofs.lemmas.Bool.{ltb-true, ltb-false}
 use Rattle.wl_interface_text.specs.Text.{WrittenMessage}
-use Rattle.wl_sigs.specs.Broken.{Broken, messages_broken}
+use Rattle.wl_sigs.specs.Broken.{messages_broken}
 use Rattle.wl_sigs.specs.Extending.{lesser}
-use Rattle.wl_sigs.proofs.FirstLine.{Tested, Breaks, failing, Ascends, fails_first, some_fails}
-use Rattle.wl_sigs.proofs.FirstLine.{NotBefore, IsLeast, InMessages, messages_least, later_not_before}
+use Rattle.wl_sigs.proofs.FirstLine.{Tested, failing, Ascends, fails_first, some_fails}
+use Rattle.wl_sigs.proofs.FirstLine.{IsLeast, InMessages, messages_least, later_not_before}
 use Rattle.wl_sigs.proofs.TestedRules.{Says}
 
 -- the rule is broken, and none that is less

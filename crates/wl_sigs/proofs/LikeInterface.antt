@@ -1,11 +1,10 @@
 -- Which rules a message breaks does not hang on more of its interface than the names of its
 -- messages, how many requests it has, and its version.
-use Rattle.std.proofs.Common.{◌≡◌, ℕ, List, length, map, refl, sym, ap, ◌∙◌, Some, slice_get, arith}
+use Rattle.std.proofs.Common.{◌≡◌, ℕ, List, length, map, ap, ◌∙◌, arith}
 use Rattle.std.specs.Prelude.{option_map}
 use Rattle.std.proofs.lemmas.Option.{slice_get-map}
 use Rattle.wl_sigs.specs.declared.signature.Side.{Side}
-use Rattle.wl_sigs.specs.declared.signature.Side.TheVariants.{Request, Event}
-use Rattle.wl_sigs.specs.Tables.{MessageSignature, Interface, messages_of, message_of}
+use Rattle.wl_sigs.specs.Tables.{MessageSignature, Interface, messages_of}
 use Rattle.wl_sigs.specs.FirstBroken.{MessageBreaks, message_misnamed, message_named_again}
 use Rattle.wl_sigs.specs.FirstBroken.{message_beyond, too_many_arguments, event_makes}
 use Rattle.wl_sigs.specs.FirstBroken.{request_makes_two, new_without_interface, object_of_any}

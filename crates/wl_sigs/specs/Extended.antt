@@ -1,8 +1,8 @@
 -- What a text says of each interface: of its own, and of those of the tables that it extends.
-use Rattle.std.specs.Prelude.{ℕ, List, [], ◌∷◌, ◌++◌, map, length, bytes_eq, Bool, true, false}
+use Rattle.std.specs.Prelude.{ℕ, List, [], ◌∷◌, ◌++◌, map, length, bytes_eq, true}
 use Rattle.std.specs.Prelude.{if◌then◌else◌, is_some, nat_lt, Option, Some, None}
 use Rattle.std.specs.List.{find}
-use Rattle.wl_sigs.specs.Tables.{MessageSignature, Interface}
+use Rattle.wl_sigs.specs.Tables.{Interface}
 use Rattle.wl_interface_text.specs.Text.{WrittenInterface}
 use Rattle.wl_sigs.specs.Joined.{all_names, first_place, message_placed, joined}
 

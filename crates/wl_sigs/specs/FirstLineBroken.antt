@@ -1,6 +1,6 @@
 -- Which line of a text that extends interfaces breaks which rule of valid tables, in the words of
 -- the rules, and what it means that a line is the first that breaks one.
-use Rattle.std.specs.Prelude.{◌≡◌, ℕ, ◌+◌, ◌<◌, ◌≤◌, ◌⊎◌, List, ◌∷◌, ◌++◌, length, codes, Bool, true}
+use Rattle.std.specs.Prelude.{◌≡◌, ℕ, ◌+◌, ◌<◌, ◌≤◌, List, ◌∷◌, ◌++◌, length, codes, Bool, true}
 use Rattle.std.specs.Prelude.{slice_get, Some, None}
 use Rattle.std.specs.List.{Contains}
 use Rattle.wl_wire.specs.declared.kind.Kind.TheVariants as kinds

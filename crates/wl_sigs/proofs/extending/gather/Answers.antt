@@ -1,10 +1,8 @@
-use Rattle.std.proofs.Common.{◌≡◌, refl, sym, ap, ◌∙◌, rules, map-id, Option}
+use Rattle.std.proofs.Common.{sym, ap, ◌∙◌, rules, map-id, Option}
 use Rattle.std.proofs.Math.Path.{ap₂}
-use Rattle.std.specs.Prelude.{option_map}
 use Rattle.std.proofs.lemmas.Iterator.Consumers.{YieldsList-end}
 use Rattle.std.proofs.lemmas.Iterator.Adapters.{YieldsList-from_vec}
 use Rattle.wl_sigs.specs.Broken.{Broken, earlier}
-use Rattle.wl_sigs.specs.BrokenLines.{broken}
 use Rattle.wl_sigs.specs.Extended.{Gathered, one_more}
 use Rattle.wl_sigs.specs.Extending.{extension_broken}
 use Rattle.wl_sigs.proofs.Bodies.{gathered_push, extensions_push}

@@ -1,12 +1,11 @@
-use Rattle.std.proofs.Common.{◌≡◌, ◌++◌, ◌∷◌, [], List, Bool, Option, length, map, take, false, sym, ap, ◌∙◌, ◌||◌, append-nil, arith}
+use Rattle.std.proofs.Common.{◌≡◌, ◌++◌, ◌∷◌, [], List, Bool, Option, length, take, false, sym, ap, ◌∙◌, ◌||◌, append-nil, arith}
 use Rattle.std.proofs.Math.Path.{ap₂}
 use Rattle.std.proofs.Math.Seq.{take-length}
 use Rattle.std.specs.List.{list_any}
 use Rattle.std.specs.Option.{option_map_or}
 use Rattle.wl_interface_text.specs.Text.{WrittenInterface}
-use Rattle.wl_sigs.specs.Joined.{all_names, first_place}
 use Rattle.wl_sigs.specs.Tables.{has_destroying_event}
-use Rattle.wl_sigs.specs.Extended.{Gathered, all_grown}
+use Rattle.wl_sigs.specs.Extended.{Gathered}
 use Rattle.wl_sigs.proofs.Bodies.{ended-next}
 use Rattle.wl_sigs.proofs.Got.{got}
 use Rattle.wl_sigs.proofs.tables.Tables.all_ended.Goals as goal

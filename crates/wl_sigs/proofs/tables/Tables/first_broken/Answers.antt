@@ -1,11 +1,9 @@
-use Rattle.std.proofs.Common.{◌≡◌, length, sym, ap, ◌∙◌, subst, List, Option, Some, arith}
+use Rattle.std.proofs.Common.{◌≡◌, length, ap, ◌∙◌, subst, List, Option, Some, arith}
 use Rattle.std.proofs.Math.Path.{fun_ext, ap₂}
-use Rattle.wl_interface_text.specs.Text.{WrittenInterface}
 use Rattle.wl_sigs.specs.Tables.{Interface, interface_at}
 use Rattle.wl_sigs.specs.Valid.{Valid}
-use Rattle.wl_sigs.specs.Joined.{all_names, first_place}
-use Rattle.wl_sigs.specs.Broken.{Broken, earlier, ended_of}
-use Rattle.wl_sigs.specs.Extended.{Gathered, grown}
+use Rattle.wl_sigs.specs.Broken.{Broken, earlier}
+use Rattle.wl_sigs.specs.Extended.{Gathered}
 use Rattle.wl_sigs.specs.Places.{place_in}
 use Rattle.wl_sigs.proofs.Bodies.{others_by}
 use Rattle.wl_sigs.proofs.tables.Tables.first_broken.Goals as goal

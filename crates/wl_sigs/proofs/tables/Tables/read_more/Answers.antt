@@ -1,4 +1,3 @@
-use Rattle.std.proofs.Common.{◌≡◌}
 use Rattle.wl_sigs.specs.Valid.{Valid}
 use Rattle.wl_sigs.proofs.ReadTables.{still_valid}
 use Rattle.wl_sigs.proofs.tables.Tables.read_more.Goals as goal
