@@ -9,6 +9,8 @@ use Rattle.std.specs.declared.result.Result.TheVariants.{Ok, Err}
 use Rattle.wl_wire.specs.declared.fixed.Fixed as fixed
 use Rattle.wl_wire.specs.declared.kind.Kind.{Kind}
 use Rattle.wl_wire.specs.declared.kind.Kind.TheVariants as kinds
+use Rattle.wl_wire.specs.declared.value.ValueRef.{ValueRef}
+use Rattle.wl_wire.specs.declared.value.ValueRef.TheVariants as spelled_as
 use Rattle.wl_wire.specs.Word.{number_at, signed}
 use Rattle.wl_wire.specs.Argument.{Argument, units, reshaped, Int, Uint, Fixed, Str, Obj, New}
 use Rattle.wl_wire.specs.Argument.{NewNamed, Array, Fd}
@@ -162,6 +164,21 @@ is_fd _ = false
 
 abbrev pub place_behind : ParsedArg → ℕ → ℕ
 place_behind parsed place = if is_fd parsed then place + 1 else place
+
+-- a value by where it lies, as its spelling alone tells: its text starts at `start`, and `place`
+-- descriptors stand before it
+abbrev pub located : ℕ → ℕ → ValueRef → ParsedArg
+located start place (spelled_as.Int z) = parsed_as.Int z
+located start place (spelled_as.Uint n) = parsed_as.Uint n
+located start place (spelled_as.Fixed z) = parsed_as.Fixed z
+located start place (spelled_as.Str None) = parsed_as.Null
+located start place (spelled_as.Str (Some text)) = parsed_as.Str (length text.now) start
+located start place (spelled_as.Obj id) = parsed_as.NoObject id
+located start place (spelled_as.New id) = parsed_as.New id
+located start place (spelled_as.NewNamed iface version id) =
+    parsed_as.Bound (length iface.now) start version id
+located start place (spelled_as.Array bytes) = parsed_as.Array (length bytes.now) start
+located start place spelled_as.Fd = parsed_as.Fd place
 
 -- a number, and its kind, that the first four bytes are
 pub data IsParsedNumber : Kind → List ℕ → ParsedArg → Type 0 where

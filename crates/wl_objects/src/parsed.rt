@@ -2,13 +2,13 @@
 ghost use Rattle.std.specs.Prelude.{◌≡◌, ◌≤◌, ◌+◌, ℕ, List, [], IfOk, IfSome, drop, length};
 ghost use Rattle.std.specs.Prelude.{option_map, slice_get, take};
 ghost use Rattle.wl_wire.specs.Argument.{Obj, lent};
-ghost use Rattle.wl_wire.specs.Reading.{number_at, reading, signed};
+ghost use Rattle.wl_wire.specs.Reading.{reading};
 ghost use Rattle.wl_sigs.specs.Tables.{max_args};
 ghost use Rattle.wl_objects.specs.Reading.{arguments_at, forgiving, value_or_fault, forgiving_kind};
 ghost use Rattle.wl_objects.specs.Reading.{named, object_fault, value_fault};
 ghost use Rattle.wl_objects.specs.Parsed.{AreParsed, Lies, parsed_argument, made_of, made_of_one};
 ghost use Rattle.wl_objects.specs.Parsed.{made_unless, parsed_object, one_in, parsed_in};
-ghost use Rattle.wl_objects.specs.Parsed.{parsed_one, body_part, IsParsedNumber};
+ghost use Rattle.wl_objects.specs.Parsed.{parsed_one, body_part, located, IsParsedNumber};
 ghost use Rattle.wl_objects.specs.Parsed.{place_behind, placed_of, spelled_in, whole_in};
 
 use crate::args::in_state;
@@ -16,7 +16,6 @@ use crate::argument::Named;
 use crate::error::Fault;
 use crate::lookup::Lookup;
 use crate::reading::{iface_of, new_fault, new_id_as, object_fault};
-use byteorder::{ByteOrder, LittleEndian};
 use std::fmt::{self, Debug, Formatter};
 use std::marker::Model;
 use std::mem::size_of;
@@ -283,20 +282,11 @@ impl<'a, L: Lookup> Parser<'a, L> {
             (value_fault (forgiving self.now.forgives (L.reader self.now.lookup.now)) place kind
             (lent value.entry)) }
     {
+        let text = start + 4;
         match value {
-            ValueRef::Int(number) => Ok(ParsedArg::Int(number)),
-            ValueRef::Uint(number) => Ok(ParsedArg::Uint(number)),
-            ValueRef::Fixed(number) => Ok(ParsedArg::Fixed(number)),
-            ValueRef::Str(string) => match string {
-                None => Ok(ParsedArg::Null),
-                Some(text) => Ok(ParsedArg::Str {
-                    len: text.len() as u32,
-                    start: start + 4,
-                }),
-            },
             ValueRef::Obj(id) => {
                 if id == 0 {
-                    return Ok(ParsedArg::NoObject { id });
+                    return Ok(located(value, text, descriptors));
                 }
                 let entry = self.lookup.object(id);
                 if !self.forgives {
@@ -310,24 +300,15 @@ impl<'a, L: Lookup> Parser<'a, L> {
                 if let Some(fault) = new_fault(place, new_id_as(self.lookup, kind, id)) {
                     return Err(fault);
                 }
-                Ok(ParsedArg::New { id })
+                Ok(located(value, text, descriptors))
             }
-            ValueRef::NewNamed { iface, version, id } => {
+            ValueRef::NewNamed { id, .. } => {
                 if let Some(fault) = new_fault(place, self.lookup.new_id(id)) {
                     return Err(fault);
                 }
-                Ok(ParsedArg::Bound {
-                    len: iface.len() as u32,
-                    start: start + 4,
-                    version,
-                    id,
-                })
+                Ok(located(value, text, descriptors))
             }
-            ValueRef::Array(bytes) => Ok(ParsedArg::Array {
-                len: bytes.len() as u32,
-                start: start + 4,
-            }),
-            ValueRef::Fd => Ok(ParsedArg::Fd { place: descriptors }),
+            _ => Ok(located(value, text, descriptors)),
         }
     }
 }
@@ -339,31 +320,45 @@ fn read_number(kind: Kind, body: &[u8], start: usize) -> Option<ParsedArg>
     ensures { IfSome result (λ number. (start + 4 ≤ length body.now)
         × IsParsedNumber kind (drop start body.now) number) }
 {
-    if body.len() - start < 4 {
-        return None;
-    }
     match kind {
-        Kind::Int => Some(ParsedArg::Int(int_at(body, start))),
-        Kind::Uint => Some(ParsedArg::Uint(word_at(body, start))),
-        Kind::Fixed => Some(ParsedArg::Fixed(Fixed::from_raw(int_at(body, start)))),
+        Kind::Int | Kind::Uint | Kind::Fixed => match read_ref(kind, bytes_from(body, start)) {
+            Ok((value, _)) => Some(located(value, start, 0)),
+            Err(_) => None,
+        },
         _ => None,
     }
 }
 
-/// The number that the four bytes from a place on are.
-fn word_at(body: &[u8], start: usize) -> u32
-    requires { start + 4 ≤ length body.now }
-    ensures { result ≡ number_at (drop start body.now) }
+/// A value by where it lies, as its spelling alone tells: its text, if it has one, starts at
+/// `text`, and `descriptors` stand before it in the message.
+#[inline(always)]
+fn located(value: ValueRef<'_>, text: usize, descriptors: usize) -> ParsedArg
+    requires { (bytes : List ℕ) × Lies bytes (lent value) }
+    ensures { result ≡ located text descriptors value.entry }
 {
-    LittleEndian::read_u32(bytes_from(body, start))
-}
-
-/// The signed number that the four bytes from a place on are.
-fn int_at(body: &[u8], start: usize) -> i32
-    requires { start + 4 ≤ length body.now }
-    ensures { result ≡ signed (number_at (drop start body.now)) }
-{
-    LittleEndian::read_i32(bytes_from(body, start))
+    match value {
+        ValueRef::Int(number) => ParsedArg::Int(number),
+        ValueRef::Uint(number) => ParsedArg::Uint(number),
+        ValueRef::Fixed(number) => ParsedArg::Fixed(number),
+        ValueRef::Str(None) => ParsedArg::Null,
+        ValueRef::Str(Some(string)) => ParsedArg::Str {
+            len: string.len() as u32,
+            start: text,
+        },
+        ValueRef::Obj(id) => ParsedArg::NoObject { id },
+        ValueRef::New(id) => ParsedArg::New { id },
+        ValueRef::NewNamed { iface, version, id } => ParsedArg::Bound {
+            len: iface.len() as u32,
+            start: text,
+            version,
+            id,
+        },
+        ValueRef::Array(bytes) => ParsedArg::Array {
+            len: bytes.len() as u32,
+            start: text,
+        },
+        ValueRef::Fd => ParsedArg::Fd { place: descriptors },
+    }
 }
 
 /// How many descriptors stand before what follows an argument.
