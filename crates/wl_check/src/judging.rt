@@ -20,7 +20,8 @@ use crate::session_state::Output;
 use std::alloc::{AllocError, Allocator};
 use wl_message::Limit;
 use wl_objects::{
-    Fault, NewObject, ParsedArgs, REGISTRY, Received, Values, is_bind, is_delete_id, receive,
+    Fault, Messages, NewObject, ParsedArgs, REGISTRY, Received, Values, is_bind, is_delete_id,
+    receive,
 };
 use wl_recording::Direction;
 use wl_sigs::event::wl_registry::GLOBAL;
@@ -110,7 +111,8 @@ fn judge_message<A: Allocator>(
     };
     let taken = known.taken(direction);
     let waiting = count(frame.tokens.saturating_sub(taken));
-    let received = receive(args, tables, side, &lookup, header, body, waiting);
+    let messages = Messages { tables, side };
+    let received = receive(args, messages, &lookup, header, body, waiting);
     let message = match received {
         Ok(message) => message,
         Err(fault) => return Ok(Err(fault)),

@@ -13,7 +13,7 @@ use crate::meaning::meaning_of;
 use crate::outline::Outline;
 use wl_connection::Endpoint;
 use wl_message::Frame;
-use wl_objects::{Entry, Fault, ParsedArgs, Table, TableLookup, receive};
+use wl_objects::{Entry, Fault, Messages, ParsedArgs, Table, TableLookup, receive};
 use wl_sigs::{Side, Tables};
 
 /// An event that was read and not yet taken: what is reported of it, and what it changes. It lends
@@ -64,15 +64,11 @@ fn pending_of<T: Table>(
 {
     let header = frame.header;
     let lookup = TableLookup { table };
-    let received = receive(
-        args,
+    let messages = Messages {
         tables,
-        Side::Event,
-        &lookup,
-        header,
-        frame.body,
-        frame.tokens,
-    );
+        side: Side::Event,
+    };
+    let received = receive(args, messages, &lookup, header, frame.body, frame.tokens);
     let message = match received {
         Ok(message) => message,
         Err(fault) => return Err(fault),

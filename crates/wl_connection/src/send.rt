@@ -23,8 +23,8 @@ use crate::receive::MAX_TOKENS;
 use crate::shared::Core;
 use wl_object_map::DISPLAY_ID;
 use wl_objects::{
-    Arg, BindMessage, CallMessage, CheckedCall, Object, SendError, Table, TableError, check_call,
-    take_tokens,
+    Arg, BindMessage, CallMessage, CheckedCall, Messages, Object, SendError, Table, TableError,
+    check_call, take_tokens,
 };
 use wl_sigs::event::wl_display::{DELETE_ID, ERROR};
 use wl_sigs::{Destroys, Side};
@@ -290,7 +290,11 @@ impl<'t, T: Table> Core<'t, T> {
             return Err(SendError::Failed);
         }
         let limit = self.outbox.limit().bytes;
-        let call = check_call(self.tables, side, &self.table, target, opcode, args, limit)?;
+        let messages = Messages {
+            tables: self.tables,
+            side,
+        };
+        let call = check_call(messages, &self.table, target, opcode, args, limit)?;
         self.write_checked(side, target, opcode, args, call)
     }
 }

@@ -16,9 +16,9 @@ ghost use Rattle.wl_objects.specs.Writing.{suits, tokens_of, wired, wrong_place,
 
 use crate::argument::Arg;
 use crate::error::SendError;
-use crate::messages::is_hidden;
+use crate::messages::{Messages, is_hidden};
 use wl_object_map::{Entry, Object, State, Table};
-use wl_sigs::{Side, Signature, Tables};
+use wl_sigs::Signature;
 use wl_wire::{HEADER_LEN, Iface, Kind, has_nul};
 
 /// A call that passed its checks.
@@ -48,8 +48,7 @@ struct Measured {
 /// limit of a message's bytes, else the target's entry, the message's signature and what its
 /// arguments come to. Takes no memory.
 pub fn check_call<'t, T: Table>(
-    tables: &'t Tables,
-    side: Side,
+    messages: Messages<'t>,
     table: &T,
     target: Object,
     opcode: u16,
@@ -57,8 +56,8 @@ pub fn check_call<'t, T: Table>(
     limit: u16,
 ) -> Result<CheckedCall<'t>, SendError>
     requires { 8 ≤ limit }
-    ensures answer { signature_in result
-        ≡ checked limit tables.now side (T.view table.now) target opcode (given args.now) }
+    ensures answer { signature_in result ≡ checked limit messages.entry.tables.now
+        messages.entry.side (T.view table.now) target opcode (given args.now) }
     ensures entry { IfOk result (λ call. look (T.view table.now) target.id ≡ Some call.entry) }
     ensures len { IfOk result
         (λ call. (id : ℕ) → call.len ≡ message_len (on_wire id args.now)) }
@@ -72,8 +71,9 @@ pub fn check_call<'t, T: Table>(
     ensures few { IfOk result (λ _. length args.now ≤ max_args) }
     // Always so, and known because the table and the tables were asked.
     ensures sound { Sound (T.view table.now) }
-    ensures valid { IfOk result (λ _. Valid tables.now) }
+    ensures valid { IfOk result (λ _. Valid messages.entry.tables.now) }
 {
+    let Messages { tables, side } = messages;
     let entry = match live_row(table, target) {
         Some(entry) => entry,
         None => return Err(SendError::Stale),

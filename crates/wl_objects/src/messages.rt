@@ -1,9 +1,16 @@
-//! The messages that have a meaning of their own.
+//! The messages of a side, and those that have a meaning of their own.
 ghost use Rattle.std.specs.Prelude.{◌≡◌};
 ghost use Rattle.wl_objects.specs.Messages.{is_error, is_delete_id, is_bind, is_hidden};
 
-use wl_sigs::{Side, event, request};
+use wl_sigs::{Side, Tables, event, request};
 use wl_wire::Iface;
+
+/// The messages that one side writes, as these tables have them.
+#[derive(Clone, Copy)]
+pub struct Messages<'t> {
+    pub tables: &'t Tables,
+    pub side: Side,
+}
 
 /// The place of wl_display in all tables.
 pub const DISPLAY: Iface = Iface(0);

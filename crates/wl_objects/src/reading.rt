@@ -13,11 +13,11 @@ ghost use Rattle.wl_objects.specs.contracts.parsed.ParsedArgs.{the_row};
 
 use crate::error::Fault;
 use crate::lookup::{Lookup, NewId};
-use crate::messages::is_error;
+use crate::messages::{Messages, is_error};
 use crate::parsed::{ParsedArgs, Parser};
 use crate::values::Values;
 use wl_object_map::{Entry, Object};
-use wl_sigs::{Side, Signature, Tables};
+use wl_sigs::Signature;
 use wl_wire::{Header, Iface, Kind};
 
 /// A message that was read: nothing is wrong with it, and nothing has changed yet.
@@ -57,8 +57,7 @@ impl<'t, 'a> Received<'t, 'a> {
 #[inline(always)]
 pub fn receive<'t: 'a, 'a, L: Lookup>(
     args: &'a mut ParsedArgs,
-    tables: &'t Tables,
-    side: Side,
+    messages: Messages<'t>,
     lookup: &L,
     header: Header,
     body: &'a [u8],
@@ -66,17 +65,19 @@ pub fn receive<'t: 'a, 'a, L: Lookup>(
 ) -> Result<Received<'t, 'a>, Fault>
     ensures* kept { sem 𝓛 (Rests the_row args.entry
         (λ after. IfOk result (λ m. after ≡ m.args.now))) }
-    ensures answer { received_in result
-        ≡ received tables.now side (L.reader lookup.now) header body.now waiting }
+    ensures answer { received_in result ≡ received messages.entry.tables.now messages.entry.side
+        (L.reader lookup.now) header body.now waiting }
     ensures args { IfOk result
         (λ m. AreParsed (L.reader lookup.now) body.now m.args.now (received_of m).values) }
     ensures body { IfOk result (λ m. m.body.now ≡ body.now) }
     ensures tokens { IfOk result (λ m. m.tokens ≡ descriptors m.signature.now.kinds) }
-    ensures error { IfOk result (λ m. m.is_error ≡ is_error side m.entry.iface header.opcode) }
+    ensures error { IfOk result (λ m. m.is_error
+        ≡ is_error messages.entry.side m.entry.iface header.opcode) }
     // Always so, and known because the tables were asked and the header was given.
-    ensures valid { IfOk result (λ _. Valid tables.now) }
+    ensures valid { IfOk result (λ _. Valid messages.entry.tables.now) }
     ensures header { IsHeader header }
 {
+    let Messages { tables, side } = messages;
     let entry = match lookup.object(header.object) {
         Some(entry) => entry,
         None => return Err(Fault::UnknownObject),

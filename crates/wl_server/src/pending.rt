@@ -19,7 +19,7 @@ use crate::outline::Outline;
 use wl_connection::{DELETE_ID_LEN, Endpoint};
 use wl_message::Frame;
 use wl_objects::{
-    Entry, Fault, NextError, Object, ParsedArg, ParsedArgs, Received, Table, TableLookup,
+    Entry, Fault, Messages, NextError, Object, ParsedArg, ParsedArgs, Received, Table, TableLookup,
     made_by_message, receive,
 };
 use wl_sigs::{Destroys, Side, Tables};
@@ -112,15 +112,11 @@ fn pending_of<T: Table>(
 {
     let header = frame.header;
     let lookup = TableLookup { table };
-    let received = receive(
-        args,
+    let messages = Messages {
         tables,
-        Side::Request,
-        &lookup,
-        header,
-        frame.body,
-        frame.tokens,
-    );
+        side: Side::Request,
+    };
+    let received = receive(args, messages, &lookup, header, frame.body, frame.tokens);
     let message = match received {
         Ok(message) => message,
         Err(fault) => return Err(fault),
