@@ -40,8 +40,8 @@ impl<'a, E: Playable + Drop> Stage for AtEnd<'a, E> {
         self.play_other(verb, &mut words, reply)
     }
 
-    fn show(&self, text: &mut String) -> Result<(), AllocError> {
-        show_table(text, self.end.table())?;
+    fn write_state(&self, text: &mut String) -> Result<(), AllocError> {
+        write_table(text, self.end.table())?;
         let room = self.end.in_room();
         let goes = self.end.goes(usize::MAX, usize::MAX);
         write!(text, "in {} {}, ", room.bytes, room.tokens)?;
@@ -72,12 +72,12 @@ impl<'a, E: Playable + Drop> AtEnd<'a, E> {
                 let goes = self.end.goes(words.size()?, words.size()?);
                 Ok(write_amount(reply, goes.bytes, goes.tokens)?)
             }
-            _ => Ok(self.tell(verb, reply)?),
+            _ => Ok(self.query(verb, reply)?),
         }
     }
 
     /// Appends what is asked for by one word.
-    fn tell(&self, verb: &str, reply: &mut String) -> Result<(), AllocError> {
+    fn query(&self, verb: &str, reply: &mut String) -> Result<(), AllocError> {
         match verb {
             "room" => {
                 let room = self.end.in_room();
@@ -207,7 +207,7 @@ fn write_live(
 }
 
 /// Appends the objects of a table: of the first 200 ids, and how many there are.
-pub fn show_table<T: Table>(text: &mut String, table: &T) -> Result<(), AllocError> {
+pub fn write_table<T: Table>(text: &mut String, table: &T) -> Result<(), AllocError> {
     let (used, births, count) = (table.used(), table.births(), table.len());
     write!(text, "used {used}, births {births}, objects {count}: ")?;
     for id in 1..201u32 {

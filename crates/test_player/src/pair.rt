@@ -36,7 +36,7 @@ impl<'a, 't, T: Table + Drop> Stage for AtPair<'a, 't, T> {
         }
     }
 
-    fn show(&self, text: &mut String) -> Result<(), AllocError> {
+    fn write_state(&self, text: &mut String) -> Result<(), AllocError> {
         let drained = yes_or_no(self.pair.drained());
         let pieces = self.pair.recording().pieces().len();
         write!(
@@ -66,7 +66,7 @@ impl<'a, 't, T: Table + Drop> AtPair<'a, 't, T> {
         }
         let mut words = Words::of(call);
         let verb = words.word()?;
-        self.tell(verb, &mut words, reply)
+        self.query(verb, &mut words, reply)
     }
 
     /// Makes a move again and again in one run: how often, and the call.
@@ -79,7 +79,7 @@ impl<'a, 't, T: Table + Drop> AtPair<'a, 't, T> {
     }
 
     /// Appends what is asked for.
-    fn tell(&self, verb: &str, words: &mut Words<'_>, reply: &mut String) -> Result<(), Trouble> {
+    fn query(&self, verb: &str, words: &mut Words<'_>, reply: &mut String) -> Result<(), Trouble> {
         match verb {
             "text" => self.write_text(words.size()?, reply)?,
             "check" => self.check(words.size().unwrap_or(usize::MAX), reply)?,

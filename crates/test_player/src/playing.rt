@@ -133,7 +133,7 @@ fn play_once<S: Stage>(
         return answer(stage, turn, reply);
     }
     let mut before = String::new(props.alloc);
-    stage.show(&mut before)?;
+    stage.write_state(&mut before)?;
     answer(stage, turn, reply)?;
     if props.memory.has_refused() {
         played.met = true;
@@ -161,7 +161,7 @@ fn is_kept<S: Stage>(
         };
     }
     let mut after = String::new(props.alloc);
-    stage.show(&mut after)?;
+    stage.write_state(&mut after)?;
     reply.clear();
     // a reading of pieces keeps what was read
     if after.as_str() != before && !is_reading {

@@ -32,11 +32,11 @@ impl<'a, A: Allocator + Clone + Drop> Stage for AtRecording<'a, A> {
             "anew" => self.begin(reply),
             "parse" => self.parse(words.rest(), reply),
             "limit" => self.go_by(&mut words, reply),
-            verb => self.tell(verb, reply),
+            verb => self.query(verb, reply),
         }
     }
 
-    fn show(&self, text: &mut String) -> Result<(), AllocError> {
+    fn write_state(&self, text: &mut String) -> Result<(), AllocError> {
         write!(text, "{} pieces", self.recording.pieces().len())
     }
 }
@@ -89,7 +89,7 @@ impl<'a, A: Allocator + Clone + Drop> AtRecording<'a, A> {
     }
 
     /// Appends what is asked for by one word.
-    fn tell(&self, verb: &str, reply: &mut String) -> Result<(), Trouble> {
+    fn query(&self, verb: &str, reply: &mut String) -> Result<(), Trouble> {
         match verb {
             "pieces" => write!(reply, "{}", self.recording.pieces().len())?,
             "text" => self.write_text(reply)?,

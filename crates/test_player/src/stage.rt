@@ -15,7 +15,7 @@ pub trait Stage {
     fn play(&mut self, call: &str, reply: &mut String) -> Result<(), Trouble>;
 
     /// Appends what can be seen of the value, which a call that is refused memory must not change.
-    fn show(&self, text: &mut String) -> Result<(), AllocError>;
+    fn write_state(&self, text: &mut String) -> Result<(), AllocError>;
 }
 
 /// What every scene is played with.

@@ -103,12 +103,12 @@ fn sweep_all(rt: &HostRuntime) -> io::Result<bool> {
     all = report(rt, "at a client", born_at_client(props))? && all;
     all = report(rt, "at a server", born_at_server(props))? && all;
     println!(rt; "runs")?;
-    all = tell_runs(rt, props)? && all;
+    all = print_runs(rt, props)? && all;
     Ok(all)
 }
 
 /// Plays the runs, and prints how they and their moves went. Whether all went well.
-fn tell_runs(rt: &HostRuntime, props: Props<'_>) -> io::Result<bool> {
+fn print_runs(rt: &HostRuntime, props: Props<'_>) -> io::Result<bool> {
     match judge_runs(props) {
         Ok(tallies) => {
             let mut all = report(rt, "recorded lawfully", Ok(tallies.runs))?;
