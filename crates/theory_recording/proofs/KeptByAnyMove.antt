@@ -16,6 +16,7 @@ use Rattle.wl_objects.specs.Writing.{Given}
 use Rattle.wl_objects.specs.Messages.{checked}
 use Rattle.wl_connection.specs.Core.{Core}
 use Rattle.wl_connection.specs.Receiving.{Found}
+use Rattle.wl_connection.specs.Roles.{front_left}
 use Rattle.wl_connection.specs.Sending.{after_checked, with_following}
 use Rattle.wl_message.specs.declared.amounts.Amounts.{Amounts}
 use Rattle.wl_server.specs.declared.globals.GlobalError.{GlobalError}
@@ -92,12 +93,12 @@ full_tables s f true = refl
 full_tables s f false = following_tables _ _ _
 
 found_tables : (s : server.State) (r : Result (Option Found) Fault)
-    → fixed (requests.state_found s r).core ≡ fixed s.core
+    → fixed (front_left requests.server_role s r).core ≡ fixed s.core
 found_tables s (Err fault) = refl
 found_tables s (Ok None) = refl
 found_tables s (Ok (Some f)) = full_tables s f (requests.is_out_full s.core f)
 
-next_tables : (s : server.State) (b : Bool) → fixed (cond b s (requests.state_found s (requests.request s))).core
+next_tables : (s : server.State) (b : Bool) → fixed (cond b s (front_left requests.server_role s (requests.request s))).core
     ≡ fixed s.core
 next_tables s true = refl
 next_tables s false = found_tables s (requests.request s)

@@ -7,8 +7,9 @@ use Rattle.wl_sigs.specs.declared.signature.Side.TheVariants.{Event as event_sid
 use Rattle.wl_objects.specs.Reading.{Reported}
 use Rattle.wl_connection.specs.Receiving.{Found, found, is_none}
 use Rattle.wl_client.specs.State.{State}
-use Rattle.wl_client.specs.Reports.{report, answer_found, client_role}
+use Rattle.wl_client.specs.Reports.{report, client_role}
 use Rattle.wl_connection.specs.Reads.{HasReport}
+use Rattle.wl_connection.specs.Roles.{front_answer}
 use Rattle.wl_connection.proofs.Roles.{answers}
 use Rattle.wl_client.specs.Streams.{client_reading}
 
@@ -20,4 +21,4 @@ some_arguments (x ∷ args) h = refl
 -- a message that is found is reported
 pub has_one : (state : State) (f : Found) → state.core.failed ≡ false → found state.core event_side ≡ Ok (Some f)
     → HasReport client_reading state
-has_one state f s e = (report state.core f, answers client_role state s ∙ ap (answer_found state.core) e)
+has_one state f s e = (report state.core f, answers client_role state s ∙ ap (front_answer client_role state.core) e)

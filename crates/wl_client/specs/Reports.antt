@@ -23,7 +23,7 @@ use Rattle.wl_objects.specs.Messages.{after, after_delete_id, ended_id}
 use Rattle.wl_connection.specs.Core.{Core, with_view, with_failure}
 use Rattle.wl_connection.specs.Outcomes.{AnswersOrMemory, answers_with}
 use Rattle.wl_connection.specs.Receiving.{Found, found, reported, own_tokens, past_found, is_none}
-use Rattle.wl_connection.specs.Roles.{Role, front_answer, role_answer, front_left, role_after}
+use Rattle.wl_connection.specs.Roles.{Role, role_answer, role_after}
 use Rattle.wl_client.specs.State.{State, Global, is_named, global_of, with_core}
 use Rattle.wl_object_map.specs.View.{lives}
 use Rattle.wl_connection.specs.Core.{max_globals}
@@ -197,16 +197,10 @@ client_role = record {
   is_last = is_last;
 }
 
-abbrev pub answer_found : Core → Result (Option Found) Fault → Result (Option Report) NextError
-answer_found core front = front_answer client_role core front
-
 -- What `next` returns: what the first message is, nothing where none is whole, or why it cannot be
 -- read.
 abbrev pub next_answer : State → Result (Option Report) NextError
 next_answer state = role_answer client_role state
-
-abbrev pub state_found : State → Result (Option Found) Fault → State
-state_found state front = front_left client_role state front
 
 -- What `next` leaves.
 abbrev pub after_next : State → State

@@ -24,11 +24,12 @@ use Rattle.wl_message.specs.Cut.{message_size}
 use Rattle.wl_connection.specs.Core.{Core, past, with_view}
 use Rattle.wl_connection.specs.Receiving.{Found, is_none}
 use Rattle.wl_connection.specs.Outcomes.{answers_with, unless_memory}
+use Rattle.wl_connection.specs.Roles.{front_answer, front_left}
 use Rattle.wl_connection.proofs.Frames.{same-body, same-tokens}
 use Rattle.wl_connection.proofs.ReceivedMessage.{some_reported}
 use Rattle.wl_server.specs.State.{State, Global, Registry, RiseFrom, with_core, untold}
 use Rattle.wl_server.specs.Requests.{Report, report, request, made_by_request, is_out_full, next_answer}
-use Rattle.wl_server.specs.Requests.{after_next, answer_found, state_found, state_past}
+use Rattle.wl_server.specs.Requests.{after_next, server_role, state_past}
 use Rattle.wl_server.specs.Requests.{registries_after, needs_memory, request_opens, IsServerNext}
 use Rattle.wl_server.specs.Requests.{IsLentNext}
 use Rattle.wl_server.specs.declared.pending.PendingRequest.{PendingRequest}
@@ -66,12 +67,12 @@ held-opened view (Some m) id h = ap is_some (look-opened_at view m.id m.iface m.
 -- ---- what is answered and left, by the step in front
 
 answer-by : (core : Core) (f : Found) (b : Bool) → is_out_full core f ≡ b
-    → report_of_step (step_found core (Ok (Some f))) ≡ answer_found core (Ok (Some f))
+    → report_of_step (step_found core (Ok (Some f))) ≡ front_answer server_role core (Ok (Some f))
 answer-by core f true e = rw (e) refl
 answer-by core f false e = rw (e) refl
 
 answer-found : (core : Core) (x : Result (Option Found) Fault)
-    → report_of_step (step_found core x) ≡ answer_found core x
+    → report_of_step (step_found core x) ≡ front_answer server_role core x
 answer-found core (Err fault) = refl
 answer-found core (Ok None) = refl
 answer-found core (Ok (Some f)) = answer-by core f (is_out_full core f) refl
@@ -79,13 +80,13 @@ answer-found core (Ok (Some f)) = answer-by core f (is_out_full core f) refl
 pub answer-checked : (state : State) → next_answer state ≡ report_of_step (checked_front state)
 answer-checked state = by_failed state.core.failed
   where
-    by_failed : (b : Bool) → (if b then Err errors.Failed else answer_found state.core (request state))
+    by_failed : (b : Bool) → (if b then Err errors.Failed else front_answer server_role state.core (request state))
         ≡ report_of_step (if b then Err errors.Failed else front_step state)
     by_failed true = refl
     by_failed false = sym (answer-found state.core (request state))
 
 left-by : (state : State) (f : Found) (b : Bool) → is_out_full state.core f ≡ b
-    → after_front state (step_found state.core (Ok (Some f))) ≡ state_found state (Ok (Some f))
+    → after_front state (step_found state.core (Ok (Some f))) ≡ front_left server_role state (Ok (Some f))
 left-by state f true e = rw (e) refl
 left-by state f false e = rw (e) (after-past state f)
   where
@@ -103,7 +104,7 @@ left-by state f false e = rw (e) (after-past state f)
         by_case (Arg place) = refl
 
 left-found : (state : State) (x : Result (Option Found) Fault)
-    → after_front state (step_found state.core x) ≡ state_found state x
+    → after_front state (step_found state.core x) ≡ front_left server_role state x
 left-found state (Err fault) = refl
 left-found state (Ok None) = refl
 left-found state (Ok (Some f)) = left-by state f (is_out_full state.core f) refl
@@ -111,7 +112,7 @@ left-found state (Ok (Some f)) = left-by state f (is_out_full state.core f) refl
 pub left-checked : (state : State) → after_next state ≡ after_front state (checked_front state)
 left-checked state = by_failed state.core.failed
   where
-    by_failed : (b : Bool) → (if b then state else state_found state (request state))
+    by_failed : (b : Bool) → (if b then state else front_left server_role state (request state))
         ≡ after_front state (if b then Err errors.Failed else front_step state)
     by_failed true = refl
     by_failed false = sym (left-found state (request state))
@@ -146,7 +147,7 @@ no-memory state = by_failed state.core.failed
 -- so what is left after an error is what the error leaves
 pub leaves-err : (state : State) (why : NextError) → Err why ≡ checked_front state
     → with_core state (core_told state.core why) ≡ unless_memory state (after_next state)
-    (let it : Result (Option Report) NextError = Err why in it)
+    (let answer : Result (Option Report) NextError = Err why in answer)
 leaves-err state errors.Memory e = absurd (no-memory state (sym e))
 leaves-err state errors.Failed e = after-is state (Err errors.Failed) e
 leaves-err state errors.OutFull e = after-is state (Err errors.OutFull) e
@@ -188,7 +189,7 @@ is_made (Some m) h = refl
 
 -- a request that opens an object
 pub opens-one : (state : State) (step : Step) → Ok (Some step) ≡ checked_front state → step.made ≢ None
-    → IsLentNext state (let it : Result (Option Report) NextError = Err errors.Memory in it)
+    → IsLentNext state (let answer : Result (Option Report) NextError = Err errors.Memory in answer)
 opens-one state step e m =
     let f = found-by state step e in
     let answer : next_answer state ≡ Ok (Some step.report) = sym (answer-is state (Ok (Some step)) e) in
@@ -209,13 +210,13 @@ made-some core f m none = m (ap (made core.tables f.message.entry.version f.mess
     ∙ made-nothing core.tables f.message.entry.version f.message.signature.kinds)
 
 pub needs-some : (state : State) (step : Step) → Ok (Some step) ≡ checked_front state → needs_memory step.report ≡ true
-    → IsServerNext state (let it : Result (Option Report) NextError = Err errors.Memory in it)
+    → IsServerNext state (let answer : Result (Option Report) NextError = Err errors.Memory in answer)
 needs-some state step e n =
     let answer : next_answer state ≡ Ok (Some step.report) = sym (answer-is state (Ok (Some step)) e) in
     inr (refl, ap (answers_with needs_memory) answer ∙ n, subst IsOk (sym answer) (search rules))
 
 pub memory-wanted : (state : State) (step : Step) → Ok (Some step) ≡ checked_front state → step.made ≢ None
-    → IsServerNext state (let it : Result (Option Report) NextError = Err errors.Memory in it)
+    → IsServerNext state (let answer : Result (Option Report) NextError = Err errors.Memory in answer)
 memory-wanted state step e m =
     let f = found-by state step e in
     let some : f.0.message.values ≢ [] = made-some state.core f.0 (λ none. m (ap (λ (s : Step). s.made) f.2 ∙ none)) in
@@ -264,7 +265,7 @@ pub err-left : (core now : Core) (globals : List Global) (rs : List Registry) (w
     → Err why ≡ checked_front (whole_state core globals rs) → now ≡ core_told core why
     → whole_state now globals rs ≡ unless_memory (whole_state core globals rs)
     (after_next (whole_state core globals rs))
-    (let it : Result (Option Report) NextError = Err why in it)
+    (let answer : Result (Option Report) NextError = Err why in answer)
 err-left core now globals rs why e n = ap (λ (k : Core). whole_state k globals rs) n
     ∙ leaves-err (whole_state core globals rs) why e
 
@@ -285,6 +286,6 @@ taken-left core now globals rs ms step e n m = (λ i. whole_state (n i) globals 
 
 -- what is reported of it
 pub step-answer : (state : State) (step : Step) (report : Report) → Ok (Some step) ≡ checked_front state
-    → report ≡ step.report → (let it : Result (Option Report) NextError = Ok (Some report) in it) ≡ next_answer state
-step-answer state step report e r = ap (λ (x : Report). let it : Result (Option Report) NextError = Ok (Some x) in it) r
+    → report ≡ step.report → (let answer : Result (Option Report) NextError = Ok (Some report) in answer) ≡ next_answer state
+step-answer state step report e r = ap (λ (x : Report). let answer : Result (Option Report) NextError = Ok (Some x) in answer) r
     ∙ answer-is state (Ok (Some step)) e

@@ -20,7 +20,7 @@ use Rattle.wl_objects.specs.Messages.{Received, NewObject, made, is_bind, after}
 use Rattle.wl_connection.specs.Core.{Core, with_view}
 use Rattle.wl_connection.specs.Outcomes.{AnswersOrMemory, answers_with}
 use Rattle.wl_connection.specs.Receiving.{Found, found, reported, past_found, is_none}
-use Rattle.wl_connection.specs.Roles.{Role, front_answer, role_answer, front_left, role_after}
+use Rattle.wl_connection.specs.Roles.{Role, role_answer, role_after}
 use Rattle.wl_connection.specs.Sending.{with_following, with_error_event, delete_id_len}
 use Rattle.wl_server.specs.State.{State, Global, Registry, global_of, untold, with_core}
 use Rattle.wl_server.specs.Registries.{with_registry, without_registry, registry_birth}
@@ -171,16 +171,10 @@ server_role = record {
   is_last = is_last;
 }
 
-abbrev pub answer_found : Core → Result (Option Found) Fault → Result (Option Report) NextError
-answer_found core front = front_answer server_role core front
-
 -- What `next` returns: what the first message is, nothing where none is whole, or why it cannot be
 -- read.
 abbrev pub next_answer : State → Result (Option Report) NextError
 next_answer state = role_answer server_role state
-
-abbrev pub state_found : State → Result (Option Found) Fault → State
-state_found state front = front_left server_role state front
 
 -- What `next` leaves.
 abbrev pub after_next : State → State

@@ -14,6 +14,7 @@ use Rattle.wl_objects.specs.declared.error.Fault.{Fault}
 use Rattle.wl_sigs.specs.declared.signature.Side.TheVariants.{Event as event_side}
 use Rattle.wl_connection.specs.Core.{Core}
 use Rattle.wl_connection.specs.Receiving.{Found, found}
+use Rattle.wl_connection.specs.Roles.{front_answer}
 use Rattle.wl_connection.specs.Outcomes.{AnswersOrMemory, answers_with, unless_memory, refusal_in, some_object}
 use Rattle.wl_client.specs.State as client
 use Rattle.wl_client.specs.Reports as events
@@ -190,13 +191,13 @@ nexts {S = S} {R = R} f needs answer before after now result never (inr k) h =
 
 -- ---- what a client's and a server's read answers
 
-client_found : (core : Core) (r : Result (Option Found) Fault) → events.answer_found core r ≡ Err errors.Memory → ⊥
+client_found : (core : Core) (r : Result (Option Found) Fault) → front_answer events.client_role core r ≡ Err errors.Memory → ⊥
 client_found core (Err fault) h = cc h
 client_found core (Ok None) h = cc h
 client_found core (Ok (Some f)) h = cc h
 
 client_at : (core : Core) (r : Result (Option Found) Fault) (b : Bool)
-    → cond b (Err errors.Failed) (events.answer_found core r) ≡ Err errors.Memory → ⊥
+    → cond b (Err errors.Failed) (front_answer events.client_role core r) ≡ Err errors.Memory → ⊥
 client_at core r true h = cc h
 client_at core r false h = client_found core r h
 
@@ -208,13 +209,13 @@ server_full : (core : Core) (f : Found) (b : Bool)
 server_full core f true h = cc h
 server_full core f false h = cc h
 
-server_found : (core : Core) (r : Result (Option Found) Fault) → requests.answer_found core r ≡ Err errors.Memory → ⊥
+server_found : (core : Core) (r : Result (Option Found) Fault) → front_answer requests.server_role core r ≡ Err errors.Memory → ⊥
 server_found core (Err fault) h = cc h
 server_found core (Ok None) h = cc h
 server_found core (Ok (Some f)) h = server_full core f (requests.is_out_full core f) h
 
 server_at : (core : Core) (r : Result (Option Found) Fault) (b : Bool)
-    → cond b (Err errors.Failed) (requests.answer_found core r) ≡ Err errors.Memory → ⊥
+    → cond b (Err errors.Failed) (front_answer requests.server_role core r) ≡ Err errors.Memory → ⊥
 server_at core r true h = cc h
 server_at core r false h = server_found core r h
 

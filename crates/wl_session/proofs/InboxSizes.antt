@@ -17,6 +17,7 @@ use Rattle.wl_objects.specs.Writing.{Given}
 use Rattle.wl_objects.specs.Messages.{checked}
 use Rattle.wl_connection.specs.Core.{Core}
 use Rattle.wl_connection.specs.Receiving.{Found, found}
+use Rattle.wl_connection.specs.Roles.{front_left}
 use Rattle.wl_connection.specs.Outcomes.{unless_memory}
 use Rattle.wl_connection.specs.Sending.{after_send, after_checked, with_following, following, with_sent}
 use Rattle.wl_sigs.specs.declared.signature.Side.TheVariants.{Event as event_side}
@@ -60,13 +61,13 @@ pub announce_box : (state : server.State) (count : ℕ) → AsLarge (after_annou
 announce_box state count = dues_box state.core (take count (owed state))
 
 found_box : (state : client.State) (r : Result (Option Found) Fault)
-    → AsLarge (events.state_found state r).core.inbox state.core.inbox
+    → AsLarge (front_left events.client_role state r).core.inbox state.core.inbox
 found_box state (Err fault) = record { bytes = refl; tokens = refl }
 found_box state (Ok None) = same_size state.core.inbox
 found_box state (Ok (Some f)) = record { bytes = refl; tokens = refl }
 
 next_client : (state : client.State) (b : Bool) → AsLarge
-    (cond b state (events.state_found state (found state.core event_side))).core.inbox state.core.inbox
+    (cond b state (front_left events.client_role state (found state.core event_side))).core.inbox state.core.inbox
 next_client state true = same_size state.core.inbox
 next_client state false = found_box state (found state.core event_side)
 
@@ -80,13 +81,13 @@ request_box state false f = let k = following_box (requests.destroys_it f.messag
     in record { bytes = k.bytes; tokens = k.tokens }
 
 read_box : (state : server.State) (r : Result (Option Found) Fault)
-    → AsLarge (requests.state_found state r).core.inbox state.core.inbox
+    → AsLarge (front_left requests.server_role state r).core.inbox state.core.inbox
 read_box state (Err fault) = record { bytes = refl; tokens = refl }
 read_box state (Ok None) = same_size state.core.inbox
 read_box state (Ok (Some f)) = request_box state (requests.is_out_full state.core f) f
 
 next_server : (state : server.State) (b : Bool) → AsLarge
-    (cond b state (requests.state_found state (requests.request state))).core.inbox state.core.inbox
+    (cond b state (front_left requests.server_role state (requests.request state))).core.inbox state.core.inbox
 next_server state true = same_size state.core.inbox
 next_server state false = read_box state (requests.request state)
 
