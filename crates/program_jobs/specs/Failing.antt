@@ -49,9 +49,9 @@ IsSocketFailure kind CannotWrite = ⊥
 
 -- what a call of the socket gave, or why it failed, which the kind of its error decides
 abbrev pub IsCalled : {T : Type 0} → Result T Error → Result T Failure → Type 0
-IsCalled (Ok given) (Ok it) = it ≡ given
+IsCalled (Ok given) (Ok job) = job ≡ given
 IsCalled (Ok given) (Err why) = ⊥
-IsCalled (Err error) (Ok it) = ⊥
+IsCalled (Err error) (Ok job) = ⊥
 IsCalled (Err error) (Err why) = IsSocketFailure (error_kind error) why
 
 -- the exit status

@@ -95,8 +95,8 @@ NamesFile (Socket path) name = ⊥
 
 -- the job reads a text of tables, whose file has this name
 abbrev pub NamesTables : Job → List ℕ → Type 0
-NamesTables (Trace tables limit file) name = IsSomeAnd tables (λ it. string_bytes it ≡ name)
-NamesTables (Check tables limit file) name = IsSomeAnd tables (λ it. string_bytes it ≡ name)
+NamesTables (Trace tables limit file) name = IsSomeAnd tables (λ path. string_bytes path ≡ name)
+NamesTables (Check tables limit file) name = IsSomeAnd tables (λ path. string_bytes path ≡ name)
 NamesTables (Demo piece) name = ⊥
 NamesTables (Socket path) name = ⊥
 
@@ -158,7 +158,7 @@ IsRefused job known_tables known Memory = Unit {0}
 
 -- why a file of this name, if any is named, gives no tables
 abbrev pub IsTablesRefusal : {A : Type 0} → Option (String A) → Option (List ℕ) → Failure → Type 0
-IsTablesRefusal named known (CannotRead name) = IsSomeAnd named (λ it. string_bytes it ≡ name.now)
+IsTablesRefusal named known (CannotRead name) = IsSomeAnd named (λ path. string_bytes path ≡ name.now)
 IsTablesRefusal named known TooLong = IsSome named × IsTooLong known
 IsTablesRefusal named known (BadTablesLine n) = IsSome named × GivesNone known (texts.BadLine n)
 IsTablesRefusal named known (BreaksRule n rule) =

@@ -23,7 +23,7 @@ use Rattle.program_jobs.specs.Writing.{AppendsFront}
 
 -- what stops a file from being opened
 abbrev pub IsOpenFailure : List ℕ → ErrorKind → Failure → Type 0
-IsOpenFailure name kind (CannotRead it) = (kind ≢ OutOfMemory) × (it.now ≡ name)
+IsOpenFailure name kind (CannotRead named) = (kind ≢ OutOfMemory) × (named.now ≡ name)
 IsOpenFailure name kind Memory = kind ≡ OutOfMemory
 IsOpenFailure name kind TooLong = ⊥
 IsOpenFailure name kind (BadLine line) = ⊥

@@ -147,11 +147,11 @@ call_mortal p w asked told s target opcode given signature c k there = by_what s
         let same : k.fits_it.signature ≡ signature = cc (k.fits_it.there, signed) in
         let a = argument_is p.client.core.tables Request m k.fits_it n (valid_client p w asked told s)
         (ap (λ (x : sigs.MessageSignature). x.destroys) same ∙ d) in
-        let live : LiveAt p.client.core.view a.1.it =
+        let live : LiveAt p.client.core.view a.1.object =
         (subst (λ (l : List (Arg Known)). Each (LiveAt p.client.core.view) (objects l)) a.1.are k.live).0 in
         subst (λ (l : List (Arg Known)). IfThere Mortal (object_at l n)) (sym a.1.are)
-        (subst (λ (z : ℕ). IfThere Mortal (object_at (Obj (Some a.1.it) ∷ []) z)) (sym a.0)
-        (registry_mortal p w asked told s a.1.it live a.1.registers))
+        (subst (λ (z : ℕ). IfThere Mortal (object_at (Obj (Some a.1.object) ∷ []) z)) (sym a.0)
+        (registry_mortal p w asked told s a.1.object live a.1.registers))
 
 pub client_can : (p : PairState) (w : World) (asked : List (Message Known)) (told : List (Coming Known))
     (s : StandsBy p w asked told) (target : Object) (opcode : ℕ) (given : List Given)

@@ -94,16 +94,16 @@ born_ends m what e = ap (option_map born_of) e ∙ sym (ended_map born_of what m
 -- ---- the argument of a request that destroys it
 
 pub record IsArgument (args : List (Arg Known)) : Type 0 where
-  pub it : Known
-  pub are : args ≡ Obj (Some it) ∷ []
-  pub some : 0 < it.id
-  pub registers : it.born.iface.0 ≡ 1
+  pub object : Known
+  pub are : args ≡ Obj (Some object) ∷ []
+  pub some : 0 < object.id
+  pub registers : object.born.iface.0 ≡ 1
 
 argument_by : (tables : List Interface) (version : ℕ) (args : List (Arg Known))
     → SuitKinds tables version (fixed.object registry ∷ []) args → IsArgument args
 argument_by tables version [] a = absurd a
 argument_by tables version (Obj (Some x) ∷ []) a =
-    record { it = x; are = refl; some = a.0.1.0; registers = sym (eqb-true 1 x.born.iface.0 a.0.1.1) }
+    record { object = x; are = refl; some = a.0.1.0; registers = sym (eqb-true 1 x.born.iface.0 a.0.1.1) }
 argument_by tables version (Obj None ∷ []) a = absurd (let no = a.0.0.1 refl in cc no)
 argument_by tables version (arg ∷ []) a = absurd a.0.0
 argument_by tables version (x ∷ y ∷ more) a = absurd a.1
@@ -164,7 +164,7 @@ ends_as tables side m f v =
     by_what Nothing d = record { flag = refl; same = tt }
     by_what Target d = record { flag = refl; same = refl }
     by_what (ends_arg k) d = let a = argument_is tables side m f k v d
-        in ends_argument m.target m.args k a.0 a.1.it a.1.are
+        in ends_argument m.target m.args k a.0 a.1.object a.1.are
 
 -- what is so of a message's target and of its objects is so of what it ends
 pub ends_have : (P : Known → Type 0) (tables : List Interface) (side : Side) (m : Message Known)

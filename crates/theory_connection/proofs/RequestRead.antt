@@ -194,10 +194,10 @@ ends_rightly st m n entry f v s h hs = subst (EndsRightly f.signature.destroys
     by_what Target d = record { ends = record { flag = refl; same = refl }; birth = sym (ap number_of_birth s) }
     by_what (ends_arg k) d =
         let a = argument_is st.core.tables request_side m f k v d in
-        let there : ThereRow (server_rows st.core.view) a.1.it =
+        let there : ThereRow (server_rows st.core.view) a.1.object =
         (subst (λ (l : List (Arg Known)). Each (ThereRow (server_rows st.core.view)) (objects l)) a.1.are hs).0
         in
-        ends_named st.core m.target m.args k a.1.it st.core.inbox.tokens a.0 a.1.are a.1.some there
+        ends_named st.core m.target m.args k a.1.object st.core.inbox.tokens a.0 a.1.are a.1.some there
 
 -- reading a request leaves the server so
 pub left_is : (st : server.State) (m : Message Known) (n : ℕ) (entry : Entry)

@@ -52,15 +52,15 @@ in_map f x (z ∷ xs) h = elim h [ inl p ↦ inl (ap f p) | inr p ↦ inr (in_ma
 
 -- what stands under an image
 record From {X Y : Type 0} (f : X → Y) (y : Y) (xs : List X) : Type 0 where
-  it : X
-  there : In it xs
-  is : f it ≡ y
+  item : X
+  there : In item xs
+  is : f item ≡ y
 
 from_map : {X Y : Type 0} (f : X → Y) (y : Y) (xs : List X) → In y (map f xs) → From f y xs
 from_map f y [] h = absurd h
 from_map f y (x ∷ xs) h = elim h [
-  | inl p ↦ record { it = x; there = inl refl; is = sym p }
-  | inr p ↦ (let k = from_map f y xs p in record { it = k.it; there = inr k.there; is = k.is })
+  | inl p ↦ record { item = x; there = inl refl; is = sym p }
+  | inr p ↦ (let k = from_map f y xs p in record { item = k.item; there = inr k.there; is = k.is })
 ]
 
 each_in : {X : Type 0} (P : X → Type 0) (x : X) (xs : List X) → Each P xs → In x xs → P x
@@ -70,25 +70,25 @@ each_in P x (z ∷ xs) h i = elim i [ inl p ↦ subst P (sym p) h.0 | inr p ↦ 
 -- a list whose image is parted at one of its items
 record Parted {X Y : Type 0} (f : X → Y) (xs : List X) (before : List Y) (y : Y) (after : List Y) : Type 0 where
   front : List X
-  it : X
+  item : X
   rest : List X
-  whole : xs ≡ front ++ it ∷ rest
-  it_is : f it ≡ y
+  whole : xs ≡ front ++ item ∷ rest
+  item_is : f item ≡ y
   rest_is : map f rest ≡ after
 
 parted : {X Y : Type 0} (f : X → Y) (xs : List X) (before : List Y) (y : Y) (after : List Y)
     → map f xs ≡ before ++ y ∷ after → Parted f xs before y after
 parted f [] [] y after h = absurd (cc h)
 parted f [] (b ∷ before) y after h = absurd (cc h)
-parted f (x ∷ xs) [] y after h = record { front = []; it = x; rest = xs; whole = refl; it_is = cc h; rest_is = cc h }
+parted f (x ∷ xs) [] y after h = record { front = []; item = x; rest = xs; whole = refl; item_is = cc h; rest_is = cc h }
 parted f (x ∷ xs) (b ∷ before) y after h =
     let k = parted f xs before y after (cc h) in
     record {
       front = x ∷ k.front;
-      it = k.it;
+      item = k.item;
       rest = k.rest;
       whole = ap (λ (l : List _). x ∷ l) k.whole;
-      it_is = k.it_is;
+      item_is = k.item_is;
       rest_is = k.rest_is;
     }
 
@@ -343,7 +343,7 @@ module _ (p : PairState) (w : World) (asked : List (Message Known)) (told : List
   delete_known : (x : Born) → DeleteComes w x → (k : Known) × (In (Delete k) (all_tells told) × (k.born ≡ x))
   delete_known x h =
       let f = from_map (recoming born_of) (delete_of x) told (subst (In (delete_of x)) s.events.in_world h) in
-      by_coming f.it f.there f.is
+      by_coming f.item f.there f.is
     where
       by_coming : (c : Coming Known) → In c told → recoming born_of c ≡ delete_of x
           → (k : Known) × (In (Delete k) (all_tells told) × (k.born ≡ x))
@@ -365,7 +365,7 @@ module _ (p : PairState) (w : World) (asked : List (Message Known)) (told : List
   make_known : (x : Born) → MakeComes w x → (k : Known) × (In (Make k) (all_asks asked) × (k.born ≡ x))
   make_known x h =
       let f = from_map (renamed born_of) h.request asked (subst (In h.request) s.requests.in_world h.there) in
-      let m = f.it in
+      let m = f.item in
       let e : option_map born_of (made_in m.args) ≡ Some x =
       sym (made_map born_of m.args) ∙ ap (λ (r : Message Born). made_in r.args) f.is ∙ h.makes in
       let k = map_some born_of (made_in m.args) x e in
@@ -383,7 +383,7 @@ module _ (p : PairState) (w : World) (asked : List (Message Known)) (told : List
   destroy_known : (x : Born) → DestroyComes w x → (k : Known) × (In (Destroy k) (all_asks asked) × (k.born ≡ x))
   destroy_known x h =
       let f = from_map (renamed born_of) h.request asked (subst (In h.request) s.requests.in_world h.there) in
-      let m = f.it in
+      let m = f.item in
       let e : option_map born_of m.ends ≡ Some x = ap (λ (r : Message Born). r.ends) f.is ∙ h.ends in
       let k = map_some born_of m.ends x e in
       (k.0, (in_asks (Destroy k.0) m asked f.there (asked_destroy k.0 m k.1), k.2))
@@ -536,7 +536,7 @@ module _ (p : PairState) (w : World) (asked : List (Message Known)) (told : List
   last_deleted before after x h c i n =
       let t = parted (recoming born_of) told before (delete_of x) after (sym s.events.in_world ∙ h) in
       let f = from_map (recoming born_of) c t.rest (subst (In c) (sym t.rest_is) i) in
-      at_delete t.front t.it t.rest t.whole t.it_is f.it f.there (subst (NamesBirth x) (sym f.is) n)
+      at_delete t.front t.item t.rest t.whole t.item_is f.item f.there (subst (NamesBirth x) (sym f.is) n)
     where
       at_name : (front rest : List (Coming Known)) (k : Known) → told ≡ front ++ delete_of k ∷ rest → k.born ≡ x
           → (t : Tell) (j : Known) → (t ≡ Name j) ⊎ (t ≡ Delete j) → In t (all_tells rest) → j.born ≡ x → ⊥
@@ -563,16 +563,16 @@ module _ (p : PairState) (w : World) (asked : List (Message Known)) (told : List
         | inl a ↦ at_name front rest k e b (Name m.target) m.target (inl refl)
             (tells_in (Name m.target) (Event m) rest i (inl refl)) a
         | inr a ↦ (let f = from_map born_of x (objects m.args) (subst (In x) (objects_map born_of m.args) a) in
-            at_name front rest k e b (Name f.it) f.it (inl refl)
-            (tells_in (Name f.it) (Event m) rest i
-            (inr (in_left (Name f.it) (map Name (objects m.args)) (ends m.ends)
-            (in_map Name f.it (objects m.args) f.there)))) f.is)
+            at_name front rest k e b (Name f.item) f.item (inl refl)
+            (tells_in (Name f.item) (Event m) rest i
+            (inr (in_left (Name f.item) (map Name (objects m.args)) (ends m.ends)
+            (in_map Name f.item (objects m.args) f.there)))) f.is)
       ]
       at_coming front rest k e b (delete_of y) i n =
           at_name front rest k e b (Delete y) y (inr refl) (tells_in (Delete y) (delete_of y) rest i (inl refl)) n
 
-      at_delete : (front : List (Coming Known)) (it : Coming Known) (rest : List (Coming Known))
-          → told ≡ front ++ it ∷ rest → recoming born_of it ≡ delete_of x → (d : Coming Known) → In d rest
+      at_delete : (front : List (Coming Known)) (item : Coming Known) (rest : List (Coming Known))
+          → told ≡ front ++ item ∷ rest → recoming born_of item ≡ delete_of x → (d : Coming Known) → In d rest
           → NamesBirth x (recoming born_of d) → ⊥
       at_delete front (Event m) rest e b d i n = cc b
       at_delete front (delete_of k) rest e b d i n = at_coming front rest k e (cc b) d i n
@@ -596,7 +596,7 @@ module _ (p : PairState) (w : World) (asked : List (Message Known)) (told : List
         λ h. elim h [
           | inl a ↦ (let k = tied_used s.meet.tied in omega (arith, a, k, c))
           | inr a ↦ (let f = from_map known_id id (news asked) a
-              in let k = (made_used f.it s.meet.tied (news_made f.it asked f.there)).1 in let e = f.is
+              in let k = (made_used f.item s.meet.tied (news_made f.item asked f.there)).1 in let e = f.is
               in omega (arith, e, k, c))
         ],
       )
@@ -614,7 +614,7 @@ module _ (p : PairState) (w : World) (asked : List (Message Known)) (told : List
         λ h. elim h [
           | inl a ↦ (let k = tied_births s.meet.tied in omega (arith, a, k, c))
           | inr a ↦ (let f = from_map number_of_birth birth (news w.requests) a
-              in let k = make_known f.it (news_comes f.it f.there) in
+              in let k = make_known f.item (news_comes f.item f.there) in
               let less = made_births k.0 s.meet.tied k.1.0 in let e = f.is in let b = ap number_of_birth k.1.1
               in omega (arith, e, less, b, c))
         ],

@@ -55,19 +55,19 @@ pub rest-is : (body : List ℕ) (len : ℕ) → take (length body - len) (drop l
 rest-is body len = take_all (length body - len) (drop len body) (omega (arith, length-drop len body))
 
 pub so-more : (kinds : List Kind) (body : List ℕ) (place len n : ℕ) (before slots : List ReportArg) (k : Kind)
-    (v : Argument) (it : ReportArg) (rest : List ℕ)
+    (v : Argument) (filled : ReportArg) (rest : List ℕ)
     → So kinds body place len before slots → place < length kinds → length kinds ≤ length before
     → rest ≡ drop len body → n ≤ length rest → Spells (get_or kinds place k) v (take n rest)
-    → arg_told_by it ≡ arg_told (bare_argument v)
-    → So kinds body (place + 1) (len + n) before (set slots place it)
-so-more kinds body place len n before slots k v it rest so lt enough is fits spells same =
+    → arg_told_by filled ≡ arg_told (bare_argument v)
+    → So kinds body (place + 1) (len + n) before (set slots place filled)
+so-more kinds body place len n before slots k v filled rest so lt enough is fits spells same =
     let there : n ≤ length (drop len body) = subst (λ (b : List ℕ). n ≤ length b) is fits in
     let s : Spells (get_or kinds place k) v (take n (drop len body)) =
     subst (λ (b : List ℕ). Spells (get_or kinds place k) v (take n b)) is spells in
     let within : place < length slots = omega (arith, so.room, lt, enough) in
     let kinds-more = take_more kinds place k lt in
     let body-more : take (len + n) body ≡ take len body ++ take n (drop len body) = take-add len n body in
-    let slots-more = take_more_set slots place it within in
+    let slots-more = take_more_set slots place filled within in
     let behind : drop (place + 1) slots ≡ drop (place + 1) before =
     grind (arith, common_steps, so.room, so.left, within) in
     record {
@@ -75,9 +75,9 @@ so-more kinds body place len n before slots k v it rest so lt enough is fits spe
       front = rw (kinds-more, body-more) (spells-snoc (get_or kinds place k) v (take n (drop len body)) so.front s);
       reach = omega (arith, lt);
       within = omega (arith, there, so.within, length-drop len body);
-      room = length-set slots place it ∙ so.room;
+      room = length-set slots place filled ∙ so.room;
       told = ap (map arg_told_by) slots-more
-          ∙ (map-append arg_told_by (take place slots) (it ∷ [])
+          ∙ (map-append arg_told_by (take place slots) (filled ∷ [])
           ∙ ((λ i. so.told i ++ same i ∷ [])
           ∙ (sym (map-append arg_told (map bare_argument so.values) (bare_argument v ∷ []))
           ∙ ap (map arg_told) (sym (map-append bare_argument so.values (v ∷ []))))));

@@ -33,15 +33,15 @@ Telling all before place left slots =
     × (drop place slots ≡ drop place before)
 
 pub tells-one : (all : List Reported) (before slots after : List ReportArg) (place : ℕ) (got : Reported)
-    (left rest : List Reported) (it : ReportArg)
-    → Telling all before place left slots → arg_told_by it ≡ arg_told got → left ≡ got ∷ rest
-    → after ≡ set slots place it → place < length before
+    (left rest : List Reported) (filled : ReportArg)
+    → Telling all before place left slots → arg_told_by filled ≡ arg_told got → left ≡ got ∷ rest
+    → after ≡ set slots place filled → place < length before
     → Telling all before (place + 1) rest after
-tells-one all before slots after place got left rest it so same is stored room =
+tells-one all before slots after place got left rest filled so same is stored room =
     let e : drop place all ≡ got ∷ rest = sym so.1 ∙ is in
     let within : place < length slots = omega (arith, so.0, room) in
     let taken = next-taken all place got rest e in
-    let told = take_more_set slots place it within in
+    let told = take_more_set slots place filled within in
     let dropped : drop (place + 1) slots ≡ drop (place + 1) before = grind (arith, common_steps, so.0, so.3, within)
     in (
       grind (arith, common_steps, stored, so.0),

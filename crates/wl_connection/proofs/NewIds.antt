@@ -33,7 +33,7 @@ no_fault place Wrong h = absurd (cc h)
 no_fault place TooMany h = absurd (cc h)
 
 own_id : (o : Option Iface) (own id : ℕ) (m : NewObject)
-    → option_map (λ iface. let it : NewObject = record { id = id; iface = iface; version = own } in it) o ≡ Some m
+    → option_map (λ iface. let made : NewObject = record { id = id; iface = iface; version = own } in made) o ≡ Some m
     → id ≡ m.id
 own_id None own id m h = absurd (cc h)
 own_id (Some iface) own id m h =

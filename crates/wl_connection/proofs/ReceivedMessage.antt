@@ -78,12 +78,12 @@ whole-tests : (tables : List Interface) (side : Side) (reader : Reader) (header 
     → nat_lt waiting (descriptors signature.kinds) ≡ b
     → (if a then Err faults.TrailingBytes
     else if b then Err faults.MissingDescriptor
-    else Ok (let it : Received = record {
+    else Ok (let received : Received = record {
       target = record { id = header.object; birth = entry.birth };
       entry = entry;
       signature = signature;
       values = found.0;
-    } in it)) ≡ Ok m
+    } in received)) ≡ Ok m
     → IsReceived tables side reader header waiting m
 whole-tests tables side reader header waiting m entry signature found true b r s n t h = absurd (cc h)
 whole-tests tables side reader header waiting m entry signature found false true r s n t h = absurd (cc h)

@@ -166,12 +166,12 @@ read_tests : (side : Side) (reader : Reader) (header : Header) (body : List ℕ)
     → arguments_at (forgiving (is_error side entry.iface header.opcode) reader) 0 signature.kinds body ≡ Ok got
     → (if a then Err faults.TrailingBytes
     else if b then Err faults.MissingDescriptor
-    else Ok (let it : Received = record {
+    else Ok (let received : Received = record {
       target = record { id = header.object; birth = entry.birth };
       entry = entry;
       signature = signature;
       values = got.0;
-    } in it)) ≡ Ok m
+    } in received)) ≡ Ok m
     → ReadBy side reader header.opcode body entry signature m
 read_tests side reader header body m entry signature got true b t r h = absurd (cc h)
 read_tests side reader header body m entry signature got false true t r h = absurd (cc h)

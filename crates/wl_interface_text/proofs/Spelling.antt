@@ -282,10 +282,10 @@ argument_spells word found is = by (kind_of (take (opens_at word) word)) refl is
           let spelled : SpellsKind word kind = rw front at (kind_spells (take (opens_at word) word) kind letters) in
           rw plain.1 (alone spelled plain.0 refl)
       | inr more ↦
-          let it = in_brackets kind 40 more.0 found (rw more.1 at e) in
-          let split = put_together (take (opens_at word) word) _ more.0 it.name word whole more.1 it.whole in
-          rw it.is (named (take (opens_at word) word) it.name
-          (kind_spells (take (opens_at word) word) kind letters) it.takes it.good refl split)
+          let bracketed = in_brackets kind 40 more.0 found (rw more.1 at e) in
+          let split = put_together (take (opens_at word) word) _ more.0 bracketed.name word whole more.1 bracketed.whole in
+          rw bracketed.is (named (take (opens_at word) word) bracketed.name
+          (kind_spells (take (opens_at word) word) kind letters) bracketed.takes bracketed.good refl split)
     ]
 
 pub spelled_argument : (word : List ℕ) (found : WrittenKind) → SpellsArgument word found

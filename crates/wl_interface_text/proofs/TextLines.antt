@@ -128,8 +128,8 @@ since_from word digits number whole spelled =
 
 since_spells : (word : List ℕ) (number : ℕ) → at_number word ≡ Some number
     → SpellsTail (spaced (word ∷ [])) (tail_with false number)
-since_spells word number is = let it = at_number_is word number is
-    in since_from word it.digits number it.whole it.spelled
+since_spells word number is = let version = at_number_is word number is
+    in since_from word version.digits number version.whole version.spelled
 
 destroys_since_from : (word digits : List ℕ) (number : ℕ) → word ≡ 64 ∷ digits → SpellsNumber digits number
     → SpellsTail (spaced (codes "D" ∷ word ∷ [])) (tail_with true number)
@@ -139,8 +139,8 @@ destroys_since_from word digits number whole spelled =
 
 destroys_since_spells : (word : List ℕ) (number : ℕ) → at_number word ≡ Some number
     → SpellsTail (spaced (codes "D" ∷ word ∷ [])) (tail_with true number)
-destroys_since_spells word number is = let it = at_number_is word number is
-    in destroys_since_from word it.digits number it.whole it.spelled
+destroys_since_spells word number is = let version = at_number_is word number is
+    in destroys_since_from word version.digits number version.whole version.spelled
 
 with_destroys : (more : List (List ℕ)) (tail : Tail) → option_map (tail_with true) (since_of more) ≡ Some tail
     → SpellsTail (spaced (codes "D" ∷ more)) tail
@@ -245,12 +245,12 @@ spelled_tail (destroys_since {digits} {number} spelled) = record {
   read = destroys_since_read digits number spelled;
 }
 spelled_tail (argument {word} {rest} {kind} {tail} spelled more) =
-    let it = spelled_tail more in
+    let rest = spelled_tail more in
     record {
-      more = word ∷ it.more;
-      whole = ap (λ (bytes : List ℕ). 32 ∷ (word ++ bytes)) it.whole;
-      clean = (argument_no_space word kind spelled, it.clean);
-      read = argument_read word it.more kind tail (spelled_argument word kind spelled) it.read;
+      more = word ∷ rest.more;
+      whole = ap (λ (bytes : List ℕ). 32 ∷ (word ++ bytes)) rest.whole;
+      clean = (argument_no_space word kind spelled, rest.clean);
+      read = argument_read word rest.more kind tail (spelled_argument word kind spelled) rest.read;
     }
 
 -- messages
@@ -312,14 +312,14 @@ read_message n m more line good tail =
 spelled_message : (n : ℕ) (line : List ℕ) (is_request : Bool) (m : WrittenMessage) → IsMessageLine line is_request m
     → m.line ≡ n → MessageWords n line is_request m
 spelled_message n line side m said at =
-    let it = spelled_tail said.tail in
-    let whole : line ≡ side_word side ++ spaced (m.name ∷ it.more) =
-    said.whole ∙ ap (λ (bytes : List ℕ). side_word side ++ 32 ∷ (m.name ++ bytes)) it.whole in
+    let tail = spelled_tail said.tail in
+    let whole : line ≡ side_word side ++ spaced (m.name ∷ tail.more) =
+    said.whole ∙ ap (λ (bytes : List ℕ). side_word side ++ 32 ∷ (m.name ++ bytes)) tail.whole in
     record {
-      more = m.name ∷ it.more;
-      cut = ap words whole ∙ words_joined (side_word side) (m.name ∷ it.more) (side_no_space side)
-          (said.named.no_space, it.clean);
-      read = read_message n m it.more at (is_name m.name said.named) it.read;
+      more = m.name ∷ tail.more;
+      cut = ap words whole ∙ words_joined (side_word side) (m.name ∷ tail.more) (side_no_space side)
+          (said.named.no_space, tail.clean);
+      read = read_message n m tail.more at (is_name m.name said.named) tail.read;
     }
 
 -- interfaces
@@ -420,9 +420,9 @@ pub message_line_added : (n : ℕ) (line : List ℕ) (side : Bool) (m : WrittenM
     → m.line ≡ n
     → (written : List WrittenInterface) → line_added n line written ≡ message_added side m written
 message_line_added n line side m said at written =
-    let it = spelled_message n line side m said at in
-    added_by_words n line (side_word side ∷ it.more) written (message_speaks line _ side said.whole) it.cut
-    ∙ by_side n side it.more m written it.read
+    let spelled = spelled_message n line side m said at in
+    added_by_words n line (side_word side ∷ spelled.more) written (message_speaks line _ side said.whole) spelled.cut
+    ∙ by_side n side spelled.more m written spelled.read
 
 heading_speaks : (line rest : List ℕ) (extends : Bool) → line ≡ heading extends ++ rest → says_nothing line ≡ false
 heading_speaks line rest false whole = speaks line (codes "interface") rest whole refl
@@ -439,9 +439,9 @@ pub interface_line_added : (extends : Bool) (n : ℕ) (line name : List ℕ) (ve
     → (written : List WrittenInterface)
     → line_added n line written ≡ Some (written ++ opened extends n name version ∷ [])
 interface_line_added extends n line name version said written =
-    let it = spelled_interface extends n line name version said in
-    added_by_words n line (heading extends ∷ it.0) written (heading_speaks line _ extends said.whole) it.1
-    ∙ by_heading n extends it.0 _ written it.2
+    let spelled = spelled_interface extends n line name version said in
+    added_by_words n line (heading extends ∷ spelled.0) written (heading_speaks line _ extends said.whole) spelled.1
+    ∙ by_heading n extends spelled.0 _ written spelled.2
 
 -- what a line says
 pub data LineSays (n : ℕ) (line : List ℕ) : Type 0 where
@@ -466,9 +466,9 @@ opens_so : (n : ℕ) (line : List ℕ) (extends : Bool) (more : List (List ℕ))
 opens_so n line extends more says cut None is = fails_so n line (heading extends ∷ more) says cut
     (λ written. heading_fails n extends more written is)
 opens_so n line extends more says cut (Some i) is =
-    let it = interface_says extends n more i is in
-    it_opens extends it.name it.version (subst (λ (l : List ℕ). IsInterfaceLine l extends it.name it.version)
-    (sym (joined_words line (heading extends) more cut)) it.said)
+    let heard = interface_says extends n more i is in
+    it_opens extends heard.name heard.version (subst (λ (l : List ℕ). IsInterfaceLine l extends heard.name heard.version)
+    (sym (joined_words line (heading extends) more cut)) heard.said)
 
 side_fails : (n : ℕ) (side : Bool) (more : List (List ℕ)) (written : List WrittenInterface)
     → written_message_of n more ≡ None
@@ -482,9 +482,9 @@ adds_so : (n : ℕ) (line : List ℕ) (side : Bool) (more : List (List ℕ)) →
 adds_so n line side more says cut None is = fails_so n line (side_word side ∷ more) says cut
     (λ written. side_fails n side more written is)
 adds_so n line side more says cut (Some m) is =
-    let it = message_says n side more m is in
-    it_adds side m it.0 (subst (λ (l : List ℕ). IsMessageLine l side m)
-    (sym (joined_words line (side_word side) more cut)) it.1)
+    let heard = message_says n side more m is in
+    it_adds side m heard.0 (subst (λ (l : List ℕ). IsMessageLine l side m)
+    (sym (joined_words line (side_word side) more cut)) heard.1)
 
 word_is : (word literal : List ℕ) (more ws : List (List ℕ)) → ws ≡ word ∷ more → bytes_eq word literal ≡ true
     → ws ≡ literal ∷ more

@@ -95,48 +95,48 @@ below_added : (n : ℕ) (line : List ℕ) (more : List (List ℕ)) (before : Lis
     (written : List WrittenInterface)
     → (side : Bool) (m : WrittenMessage) → m.line ≡ n → IsMessageLine line side m
     → Below (n + 1) more before (with_written_message side m i) written → Below n (line ∷ more) before i written
-below_added n line more before i written true m at said it = record {
-  requests = m ∷ it.requests;
-  events = it.events;
-  interfaces = it.interfaces;
-  say = request said at it.say;
-  is = it.is ∙ ap (λ (x : WrittenInterface). before ++ x ∷ it.interfaces) (first_then true m i it.requests it.events);
+below_added n line more before i written true m at said below = record {
+  requests = m ∷ below.requests;
+  events = below.events;
+  interfaces = below.interfaces;
+  say = request said at below.say;
+  is = below.is ∙ ap (λ (x : WrittenInterface). before ++ x ∷ below.interfaces) (first_then true m i below.requests below.events);
 }
-below_added n line more before i written false m at said it = record {
-  requests = it.requests;
-  events = m ∷ it.events;
-  interfaces = it.interfaces;
-  say = event said at it.say;
-  is = it.is ∙ ap (λ (x : WrittenInterface). before ++ x ∷ it.interfaces) (first_then false m i it.requests it.events);
+below_added n line more before i written false m at said below = record {
+  requests = below.requests;
+  events = m ∷ below.events;
+  interfaces = below.interfaces;
+  say = event said at below.say;
+  is = below.is ∙ ap (λ (x : WrittenInterface). before ++ x ∷ below.interfaces) (first_then false m i below.requests below.events);
 }
 
 below_opened : (extends : Bool) (n : ℕ) (line name : List ℕ) (version : ℕ) (more : List (List ℕ)) (before : List WrittenInterface)
     (i : WrittenInterface) (written : List WrittenInterface)
     → IsInterfaceLine line extends name version → Below (n + 1) more (before ++ i ∷ []) (opened extends n name version) written
     → Below n (line ∷ more) before i written
-below_opened extends n line name version more before i written said it =
-    let j : WrittenInterface = with_more (opened extends n name version) it.requests it.events in
+below_opened extends n line name version more before i written said below =
+    let j : WrittenInterface = with_more (opened extends n name version) below.requests below.events in
     record {
       requests = [];
       events = [];
-      interfaces = with_more (opened extends n name version) it.requests it.events ∷ it.interfaces;
-      say = interface said refl it.say;
-      is = it.is ∙ append_assoc before (i ∷ []) (j ∷ it.interfaces)
-          ∙ ap (λ (x : WrittenInterface). before ++ x ∷ j ∷ it.interfaces) (sym (with_none i));
+      interfaces = with_more (opened extends n name version) below.requests below.events ∷ below.interfaces;
+      say = interface said refl below.say;
+      is = below.is ∙ append_assoc before (i ∷ []) (j ∷ below.interfaces)
+          ∙ ap (λ (x : WrittenInterface). before ++ x ∷ j ∷ below.interfaces) (sym (with_none i));
     }
 
 below_line : (n : ℕ) (line : List ℕ) (more : List (List ℕ)) → LineSays n line → Reads (n + 1) more
     → Reads n (line ∷ more)
 below_line n line more says reads = λ before i written is. elim says [
   | it_skips skip ↦
-      let it = reads before i written (sym (listed_on n line more (before ++ i ∷ []) _
+      let below = reads before i written (sym (listed_on n line more (before ++ i ∷ []) _
       (skipped_added n line skip (before ++ i ∷ []))) ∙ is) in
       record {
-        requests = it.requests;
-        events = it.events;
-        interfaces = it.interfaces;
-        say = skipped skip it.say;
-        is = it.is;
+        requests = below.requests;
+        events = below.events;
+        interfaces = below.interfaces;
+        say = skipped skip below.say;
+        is = below.is;
       }
   | it_opens extends name version said ↦
       below_opened extends n line name version more before i written said
@@ -169,9 +169,9 @@ first_line : (n : ℕ) (line : List ℕ) (more : List (List ℕ)) (written : Lis
 first_line n line more written says rest is = elim says [
   | it_skips skip ↦ skipped skip (rest (sym (listed_on n line more [] _ (skipped_added n line skip [])) ∙ is))
   | it_opens extends name version said ↦
-      let it = read_below (n + 1) more [] (opened extends n name version) written
+      let below = read_below (n + 1) more [] (opened extends n name version) written
       (sym (listed_on n line more [] _ (interface_line_added extends n line name version said [])) ∙ is) in
-      subst (λ (w : List WrittenInterface). Say n (line ∷ more) [] [] w) (sym it.is) (interface said refl it.say)
+      subst (λ (w : List WrittenInterface). Say n (line ∷ more) [] [] w) (sym below.is) (interface said refl below.say)
   | it_adds side m at said ↦ let no : Err n ≡ Ok written =
       sym (listed_on n line more [] _ (message_line_added n line side m said at [])) ∙ is in cc no
   | it_fails fails ↦ let no : Err n ≡ Ok written = sym (listed_on n line more [] _ (fails [])) ∙ is in cc no
@@ -290,17 +290,17 @@ stops_on n line more so_far number None here later e =
       fails = subst (λ (k : ℕ). line_added k line so_far ≡ None) same here;
     }
 stops_on n line more so_far number (Some all) here later e =
-    let it = later all e in
-    let place = it.place in
+    let later_stop = later all e in
+    let place = later_stop.place in
     record {
-      before = line ∷ it.before;
-      line = it.line;
-      after = it.after;
-      written = it.written;
-      whole = ap (λ (ls : List (List ℕ)). line ∷ ls) it.whole;
+      before = line ∷ later_stop.before;
+      line = later_stop.line;
+      after = later_stop.after;
+      written = later_stop.written;
+      whole = ap (λ (ls : List (List ℕ)). line ∷ ls) later_stop.whole;
       place = omega (arith, place);
-      read = listed_on n line it.before so_far (Some all) here ∙ it.read;
-      fails = it.fails;
+      read = listed_on n line later_stop.before so_far (Some all) here ∙ later_stop.read;
+      fails = later_stop.fails;
     }
 
 stops : (n : ℕ) (all : List (List ℕ)) (so_far : List WrittenInterface) (number : ℕ)
@@ -312,17 +312,17 @@ stops n (line ∷ more) so_far number is = stops_on n line more so_far number (l
 
 stop_is_bad : (text : List ℕ) (number : ℕ) → interfaces_from 1 (lines text) [] ≡ Err number → IsFirstBadLine text number
 stop_is_bad text number is =
-    let it = stops 1 (lines text) [] number is in
-    let place = it.place in
+    let stop = stops 1 (lines text) [] number is in
+    let place = stop.place in
     record {
-      before = it.before;
-      line = it.line;
-      after = it.after;
-      written = it.written;
-      whole = it.whole;
+      before = stop.before;
+      line = stop.line;
+      after = stop.after;
+      written = stop.written;
+      whole = stop.whole;
       place = omega (arith, place);
-      good = read_first 1 it.before it.written it.read;
-      bad = none_stands number it.line it.written it.fails;
+      good = read_first 1 stop.before stop.written stop.read;
+      bad = none_stands number stop.line stop.written stop.fails;
     }
 
 bad_stops : (text : List ℕ) (number : ℕ) → IsFirstBadLine text number → interfaces_from 1 (lines text) [] ≡ Err number

@@ -148,27 +148,27 @@ abbrev pub written_message_of : ℕ → List (List ℕ) → Option WrittenMessag
 written_message_of n [] = None
 written_message_of n (name ∷ more) =
     if is_text_name name
-    then option_map (λ (tail : Tail). let it : WrittenMessage = record {
+    then option_map (λ (tail : Tail). let message : WrittenMessage = record {
       line = n;
       name = name;
       since = tail.since;
       kinds = tail.kinds;
       destroys = tail.destroys;
-    } in it) (tail_of more)
+    } in message) (tail_of more)
     else None
 
 -- the interface of line n, from the words behind "interface", or behind "extend"
 abbrev pub interface_of : Bool → ℕ → List (List ℕ) → Option WrittenInterface
 interface_of extends n (name ∷ digits ∷ []) =
     if is_text_name name
-    then option_map (λ version. let it : WrittenInterface = record {
+    then option_map (λ version. let interface : WrittenInterface = record {
       line = n;
       extends = extends;
       name = name;
       version = version;
       requests = [];
       events = [];
-    } in it) (number_of digits)
+    } in interface) (number_of digits)
     else None
 interface_of extends n _ = None
 

@@ -69,10 +69,10 @@ Parsed words = λ found. (fault_of command_line words ≡ []) × NamesJob (subco
 asked : (words : List Text) (parsed : Result (Option Job) Error) (result : Result Job Stop) → IfOk parsed (Parsed words)
     → IsAnswer parsed result → IfOk result (Asks words)
 asked words parsed (Err stop) found is = tt
-asked words (Ok (Some job)) (Ok it) found is = let same : it ≡ job = cc is
+asked words (Ok (Some job)) (Ok other) found is = let same : other ≡ job = cc is
     in subst (Asks words) (sym same) (record { faultless = found.0; named = found.1 })
-asked words (Ok None) (Ok it) found is = absurd is
-asked words (Err error) (Ok it) found is = absurd is
+asked words (Ok None) (Ok other) found is = absurd is
+asked words (Err error) (Ok other) found is = absurd is
 
 -- and what stops is why there is none
 stopped : (words : List Text) (parsed : Result (Option Job) Error) (result : Result Job Stop)
@@ -131,7 +131,7 @@ stops_with words status (Err stop) asks why none so = so stop why
 
 only_memory : (words : List Text) (result : Result Job Stop) (job : Job) → Asks words job → IfErr result (Stops words)
     → IfErr result IsOutOfMemory
-only_memory words (Ok it) job asks why = tt
+only_memory words (Ok other) job asks why = tt
 only_memory words (Err stop) job asks why = job_asked words stop job asks why
 
 pub returns-clause-asked : goal.returns-clause-asked
@@ -146,7 +146,7 @@ returns-clause-helped c = λ asks sound. stops_with (texts_of c.args.words.now) 
     (asked (texts_of c.args.words.now) c.parsed.result _ c.parsed.ensures.asked c.answer.ensures)
     (stopped (texts_of c.args.words.now) c.parsed.result _ c.parsed.ensures.asked c.parsed.ensures.fault
     c.answer.ensures)
-    (λ job it. none_among (texts_of c.args.words.now) asks.0 asks.1 it.faultless)
+    (λ job other. none_among (texts_of c.args.words.now) asks.0 asks.1 other.faultless)
     (λ stop. helped (texts_of c.args.words.now) stop asks sound)
 
 pub returns-clause-faulty : goal.returns-clause-faulty
@@ -154,7 +154,7 @@ returns-clause-faulty c = λ fault no_help. stops_with (texts_of c.args.words.no
     (asked (texts_of c.args.words.now) c.parsed.result _ c.parsed.ensures.asked c.answer.ensures)
     (stopped (texts_of c.args.words.now) c.parsed.result _ c.parsed.ensures.asked c.parsed.ensures.fault
     c.answer.ensures)
-    (λ job it. none_among (texts_of c.args.words.now) fault.0 fault.1 it.faultless)
+    (λ job other. none_among (texts_of c.args.words.now) fault.0 fault.1 other.faultless)
     (λ stop. refused (texts_of c.args.words.now) stop fault no_help)
 
 pub returns-clause-none : goal.returns-clause-none
@@ -162,7 +162,7 @@ returns-clause-none c = λ names. stops_with (texts_of c.args.words.now) 2 _
     (asked (texts_of c.args.words.now) c.parsed.result _ c.parsed.ensures.asked c.answer.ensures)
     (stopped (texts_of c.args.words.now) c.parsed.result _ c.parsed.ensures.asked c.parsed.ensures.fault
     c.answer.ensures)
-    (λ job it. names_no_job (texts_of c.args.words.now) job names it)
+    (λ job other. names_no_job (texts_of c.args.words.now) job names other)
     (λ stop. nothing (texts_of c.args.words.now) stop names)
 
 pub returns-clause-job : goal.returns-clause-job

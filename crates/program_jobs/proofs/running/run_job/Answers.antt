@@ -41,8 +41,8 @@ returns-in-Demo g c = alone _ _ (λ reads. subst (λ (job : Job). ReadsFile job)
 -- both files are named, and the tables' is open
 pub returns-in-Ok-opener : goal.returns-in-Ok-opener
 returns-in-Ok-opener g c =
-    let named : IsSomeAnd c.in-Trace.tables (λ it. string_bytes it ≡ c.as_str-in-Some.result.now) =
-    subst (λ o. IsSomeAnd o (λ it. string_bytes it ≡ c.as_str-in-Some.result.now)) (sym c.in-Some.is)
+    let named : IsSomeAnd c.in-Trace.tables (λ path. string_bytes path ≡ c.as_str-in-Some.result.now) =
+    subst (λ o. IsSomeAnd o (λ path. string_bytes path ≡ c.as_str-in-Some.result.now)) (sym c.in-Some.is)
     (sym c.as_str-in-Some.ensures.value) in
     let tables : NamesTables c.args.job.now c.as_str-in-Some.result.now = elim c.in-Trace.is [
       | inl e ↦ subst (λ (job : Job). NamesTables job c.as_str-in-Some.result.now) (sym e.1) named
@@ -58,8 +58,8 @@ returns-in-Ok-opener g c =
 -- the tables' file cannot be opened
 pub returns-in-Some : goal.returns-in-Some
 returns-in-Some g c =
-    let named : IsSomeAnd c.in-Trace.tables (λ it. string_bytes it ≡ c.as_str-in-Some.result.now) =
-    subst (λ o. IsSomeAnd o (λ it. string_bytes it ≡ c.as_str-in-Some.result.now)) (sym c.in-Some.is)
+    let named : IsSomeAnd c.in-Trace.tables (λ path. string_bytes path ≡ c.as_str-in-Some.result.now) =
+    subst (λ o. IsSomeAnd o (λ path. string_bytes path ≡ c.as_str-in-Some.result.now)) (sym c.in-Some.is)
     (sym c.as_str-in-Some.ensures.value) in
     let tables : NamesTables c.args.job.now c.as_str-in-Some.result.now = elim c.in-Trace.is [
       | inl e ↦ subst (λ (job : Job). NamesTables job c.as_str-in-Some.result.now) (sym e.1) named
@@ -77,9 +77,9 @@ returns-in-Trace g c =
     ] in
     over _ (string_bytes c.in-Trace.name)
     (needs_none (λ reads. elim c.in-Trace.is [
-      | inl e ↦ subst (λ o. IsSomeAnd o (λ it. string_bytes it ≡ reads.0)) c.in-None.is
+      | inl e ↦ subst (λ o. IsSomeAnd o (λ path. string_bytes path ≡ reads.0)) c.in-None.is
           (subst (λ (job : Job). NamesTables job reads.0) e.1 reads.1)
-      | inr e ↦ subst (λ o. IsSomeAnd o (λ it. string_bytes it ≡ reads.0)) c.in-None.is
+      | inr e ↦ subst (λ o. IsSomeAnd o (λ path. string_bytes path ≡ reads.0)) c.in-None.is
           (subst (λ (job : Job). NamesTables job reads.0) e.1 reads.1)
     ]))
     names c.run_over_file-in-None.ensures
