@@ -92,13 +92,13 @@ pub added_least : (tables : List Interface) (g : Gathered) (here : ℕ) (rest : 
     (added_broken tables (first_place (all_names (grown tables g) g.declared))
     (ended_of (grown tables g) g.declared) here rest added)
 added_least tables g here [] added = record {
-  found = λ it e. cc e;
-  below = λ it e line rule some. cc e;
+  found = λ witness e. cc e;
+  below = λ witness e line rule some. cc e;
   none = λ e line rule some. let no = some.at in cc no;
 }
 added_least tables g here (i ∷ rest) [] = record {
-  found = λ it e. cc e;
-  below = λ it e line rule some. cc e;
+  found = λ witness e. cc e;
+  below = λ witness e line rule some. cc e;
   none = λ e line rule some. let no = some.said in cc no;
 }
 added_least tables g here (i ∷ rest) (w ∷ added) =
@@ -111,7 +111,7 @@ added_least tables g here (i ∷ rest) (w ∷ added) =
   where
     here_of : (side : Side) (line rule : ℕ) → InSide tables g here i w side line rule
         → InAdded tables g here (i ∷ rest) (w ∷ added) line rule
-    here_of side line rule it = record {
+    here_of side line rule witness = record {
       index = 0;
       old = i;
       more = w;
@@ -119,7 +119,7 @@ added_least tables g here (i ∷ rest) (w ∷ added) =
       at = refl;
       said = refl;
       breaks = let on : here ≡ here + 0 = omega arith
-          in subst (λ (k : ℕ). InSide tables g k i w side line rule) on it;
+          in subst (λ (k : ℕ). InSide tables g k i w side line rule) on witness;
     }
 
     to : (line rule : ℕ)
@@ -141,8 +141,8 @@ added_least tables g here (i ∷ rest) (w ∷ added) =
 
     of_side : (side : Side) (line rule : ℕ) → InSide tables g here i w side line rule
         → Either (InSide tables g here i w Request) (InSide tables g here i w Event) line rule
-    of_side Request line rule it = inl it
-    of_side Event line rule it = inr it
+    of_side Request line rule witness = inl witness
+    of_side Event line rule witness = inr witness
 
     from : (line rule index : ℕ) (old : Interface) (more : WrittenInterface) (side : Side)
         → slice_get (i ∷ rest) index ≡ Some old → slice_get (w ∷ added) index ≡ Some more

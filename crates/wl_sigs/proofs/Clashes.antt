@@ -48,16 +48,16 @@ is_named test tables side any =
       passes = k.3;
     }
 
-contained_at : {X : Type 0} (xs : List X) (x : X) → (it : Contains xs x) → slice_get xs it.0 ≡ Some x
-contained_at xs x it = slice_get-get_or xs it.0 x it.1 ∙ ap Some it.2
+contained_at : {X : Type 0} (xs : List X) (x : X) → (witness : Contains xs x) → slice_get xs witness.0 ≡ Some x
+contained_at xs x witness = slice_get-get_or xs witness.0 x witness.1 ∙ ap Some witness.2
 
 was_named : (test : Kind → Bool) (tables : List Interface) (side : Side) → Named test tables side
     → has_argument test tables side ≡ true
-was_named test tables side it =
-    let here = found tables it.place side it.opcode it.message it.at in
-    any_true (λ i. list_any (λ m. list_any test m.kinds) (messages_of side i)) tables it.place here.interface here.at
-    (any_true (λ m. list_any test m.kinds) (messages_of side here.interface) it.opcode it.message here.of
-    (any_true test it.message.kinds it.there.0 it.kind (contained_at it.message.kinds it.kind it.there) it.passes))
+was_named test tables side witness =
+    let here = found tables witness.place side witness.opcode witness.message witness.at in
+    any_true (λ i. list_any (λ m. list_any test m.kinds) (messages_of side i)) tables witness.place here.interface here.at
+    (any_true (λ m. list_any test m.kinds) (messages_of side here.interface) witness.opcode witness.message here.of
+    (any_true test witness.message.kinds witness.there.0 witness.kind (contained_at witness.message.kinds witness.kind witness.there) witness.passes))
 
 is_object : (place : ℕ) (k : Kind) → is_object_of place k ≡ true
     → (null : Bool) × (iface : Iface) × (k ≡ kinds.Obj null (Some iface)) × (iface.0 ≡ place)
@@ -156,19 +156,19 @@ event_clash tables place old m s same a b is_a is_b = by_tests a b is_a is_b
         → (rule : ℕ) → rule ≡ 7 → Clashes tables place old Event s rule
     as_argument is rule seven =
         let both = both_true m.destroys (has_argument (is_object_of place) tables Request) is in
-        let it = is_named (is_object_of place) tables Request both.1 in
-        let object = is_object place it.kind it.passes in
-        ends_argument it.place it.opcode it.message object.0 object.1 seven refl (same ∙ both.0) it.at
-        (subst (λ (k : Kind). Contains it.message.kinds k) object.2 it.there) object.3
+        let witness = is_named (is_object_of place) tables Request both.1 in
+        let object = is_object place witness.kind witness.passes in
+        ends_argument witness.place witness.opcode witness.message object.0 object.1 seven refl (same ∙ both.0) witness.at
+        (subst (λ (k : Kind). Contains witness.message.kinds k) object.2 witness.there) object.3
 
     as_made : m.destroys && has_argument (is_server_object_of place) tables Event ≡ true
         → (rule : ℕ) → rule ≡ 11 → Clashes tables place old Event s rule
     as_made is rule eleven =
         let both = both_true m.destroys (has_argument (is_server_object_of place) tables Event) is in
-        let it = is_named (is_server_object_of place) tables Event both.1 in
-        let made = is_made place it.kind it.passes in
-        ends_server_object it.place it.opcode it.message made.0 eleven refl (same ∙ both.0) it.at
-        (subst (λ (k : Kind). Contains it.message.kinds k) made.1 it.there) made.2
+        let witness = is_named (is_server_object_of place) tables Event both.1 in
+        let made = is_made place witness.kind witness.passes in
+        ends_server_object witness.place witness.opcode witness.message made.0 eleven refl (same ∙ both.0) witness.at
+        (subst (λ (k : Kind). Contains witness.message.kinds k) made.1 witness.there) made.2
 
     at_least : (rule : ℕ) → Clashes tables place old Event s rule
         → ((rule ≡ 7) × (m.destroys && has_argument (is_object_of place) tables Request ≡ true))

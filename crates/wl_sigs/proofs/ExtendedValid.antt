@@ -209,8 +209,8 @@ valid_line_unbroken tables written old rightly valid = by_found (first_line_brok
   where
     by_found : (o : Option Broken) → first_line_broken tables written ≡ o → o ≡ None
     by_found None is = refl
-    by_found (Some it) is = absurd (none_in_valid tables written old rightly valid it.line it.rule
-        ((line_least tables written).found it is))
+    by_found (Some witness) is = absurd (none_in_valid tables written old rightly valid witness.line witness.rule
+        ((line_least tables written).found witness is))
 
 pub unbroken : (tables : List Interface) (written : List WrittenInterface) → Valid tables
     → (first_line_broken tables written ≡ None)

@@ -145,19 +145,19 @@ record Here (g : Gathered) (own : WrittenInterface) (line rule : ℕ) : Type 0 w
 here_least : (g : Gathered) (own : WrittenInterface) (t : Bool) → own.extends ≡ t
     → IsLeast (Here g own) (cond t (broken_at own.line (extend_rule g own)) None)
 here_least g own false is = record {
-  found = λ it e. cc e;
-  below = λ it e line rule some. cc e;
+  found = λ witness e. cc e;
+  below = λ witness e line rule some. cc e;
   none = λ e line rule some. let no : false ≡ true = sym is ∙ some.extends in cc no;
 }
 here_least g own true is =
     let each = extension_least g own in
     let least = one_line own.line (extend_rule g own) in
     record {
-      found = λ it e. let at = least.found it e
-          in record { extends = is; line_is = at.0; breaks = each.found it.rule at.1 };
-      below = λ it e line rule some.
+      found = λ witness e. let at = least.found witness e
+          in record { extends = is; line_is = at.0; breaks = each.found witness.rule at.1 };
+      below = λ witness e line rule some.
           let first = some_rule (ExtensionBreaks g own) (extend_rule g own) each rule some.breaks in
-          later_not_before it line first.0 rule (least.below it e line first.0 (some.line_is, first.1)) first.2;
+          later_not_before witness line first.0 rule (least.below witness e line first.0 (some.line_is, first.1)) first.2;
       none = λ e line rule some.
           let first = some_rule (ExtensionBreaks g own) (extend_rule g own) each rule some.breaks in
           least.none e line first.0 (some.line_is, first.1);
@@ -166,8 +166,8 @@ here_least g own true is =
 pub extensions_least : (g : Gathered) (lines : List WrittenInterface)
     → IsLeast (InExtensions g lines) (extensions_broken g lines)
 extensions_least g [] = record {
-  found = λ it e. cc e;
-  below = λ it e line rule some. cc e;
+  found = λ witness e. cc e;
+  below = λ witness e line rule some. cc e;
   none = λ e line rule some. nowhere some.before some.own some.after some.whole;
 }
   where

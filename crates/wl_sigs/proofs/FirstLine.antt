@@ -117,10 +117,10 @@ fails_first n (t ∷ more) up rule fails = by_test t.kept refl fails (λ e. fail
               (ascending t.rule (t ∷ more) (omega arith, up.1) b.place (tested other false) b.at);
         }
     by_test true kept e rest =
-        let it = rest e in
+        let answer = rest e in
         record {
-          breaks = record { place = suc it.breaks.place; at = it.breaks.at };
-          least = λ other b. behind_kept t more rule kept it.least other b.place b.at;
+          breaks = record { place = suc answer.breaks.place; at = answer.breaks.at };
+          least = λ other b. behind_kept t more rule kept answer.least other b.place b.at;
         }
 
 -- where a rule is broken, some rule fails first
@@ -140,19 +140,19 @@ some_fails (t ∷ more) rule (suc k) at = by_test t.kept (some_fails more rule k
 
 -- a line is not before this one, nor at it with a lesser rule
 abbrev pub NotBefore : Broken → ℕ → ℕ → Type 0
-NotBefore it line rule = (it.line < line) ⊎ ((it.line ≡ line) × (it.rule ≤ rule))
+NotBefore answer line rule = (answer.line < line) ⊎ ((answer.line ≡ line) × (answer.rule ≤ rule))
 
 -- the broken line is one of these, and none of these is before it
 pub record IsLeast (P : ℕ → ℕ → Type 0) (o : Option Broken) : Type 0 where
-  pub found : (it : Broken) → o ≡ Some it → P it.line it.rule
-  pub below : (it : Broken) → o ≡ Some it → (line rule : ℕ) → P line rule → NotBefore it line rule
+  pub found : (answer : Broken) → o ≡ Some answer → P answer.line answer.rule
+  pub below : (answer : Broken) → o ≡ Some answer → (line rule : ℕ) → P line rule → NotBefore answer line rule
   pub none : o ≡ None → (line rule : ℕ) → P line rule → ⊥
 
 pub like : (P Q : ℕ → ℕ → Type 0) → ((line rule : ℕ) → P line rule → Q line rule)
     → ((line rule : ℕ) → Q line rule → P line rule) → (o : Option Broken) → IsLeast P o → IsLeast Q o
 like P Q to from o least = record {
-  found = λ it e. to it.line it.rule (least.found it e);
-  below = λ it e line rule q. least.below it e line rule (from line rule q);
+  found = λ answer e. to answer.line answer.rule (least.found answer e);
+  below = λ answer e line rule q. least.below answer e line rule (from line rule q);
   none = λ e line rule q. least.none e line rule (from line rule q);
 }
 
@@ -193,18 +193,18 @@ not_before_trans x y line rule (inr a) (inr b) =
 pub of_either : (P Q : ℕ → ℕ → Type 0) (a b : Option Broken) → IsLeast P a → IsLeast Q b
     → IsLeast (Either P Q) (earlier a b)
 of_either P Q None b p q = record {
-  found = λ it e. inr (q.found it e);
-  below = λ it e line rule some. elim some [
+  found = λ answer e. inr (q.found answer e);
+  below = λ answer e line rule some. elim some [
     | inl this ↦ absurd
         (p.none refl line rule this)
-    | inr that ↦ q.below it e line rule that
+    | inr that ↦ q.below answer e line rule that
   ];
   none = λ e line rule some. elim some [ inl this ↦ p.none refl line rule this | inr that ↦ q.none e line rule that ];
 }
 of_either P Q (Some x) None p q = record {
-  found = λ it e. inl (p.found it e);
-  below = λ it e line rule some. elim some [
-    | inl this ↦ p.below it e line rule this
+  found = λ answer e. inl (p.found answer e);
+  below = λ answer e line rule some. elim some [
+    | inl this ↦ p.below answer e line rule this
     | inr that ↦ absurd
         (q.none refl line rule that)
   ];
@@ -227,14 +227,14 @@ of_either P Q (Some x) (Some y) p q = by_test (comes_first y x) (which_first (co
     by_test : (t : Bool) → cond t (NotBefore y x.line x.rule) (NotBefore x y.line y.rule)
         → IsLeast (Either P Q) (cond t (Some y) (Some x))
     by_test true before = record {
-      found = λ it e. inr (q.found it e);
-      below = λ it e line rule some. let same : y ≡ it = cc e in
+      found = λ answer e. inr (q.found answer e);
+      below = λ answer e line rule some. let same : y ≡ answer = cc e in
           subst (λ (z : Broken). NotBefore z line rule) same (of_y line rule before some);
       none = λ e line rule some. cc e;
     }
     by_test false before = record {
-      found = λ it e. inl (p.found it e);
-      below = λ it e line rule some. let same : x ≡ it = cc e in
+      found = λ answer e. inl (p.found answer e);
+      below = λ answer e line rule some. let same : x ≡ answer = cc e in
           subst (λ (z : Broken). NotBefore z line rule) same (of_x line rule before some);
       none = λ e line rule some. cc e;
     }
@@ -245,15 +245,15 @@ AtLine here o line rule = (line ≡ here) × (o ≡ Some rule)
 
 pub one_line : (here : ℕ) (o : Option ℕ) → IsLeast (AtLine here o) (broken_at here o)
 one_line here None = record {
-  found = λ it e. cc e;
-  below = λ it e line rule some. cc e;
+  found = λ answer e. cc e;
+  below = λ answer e line rule some. cc e;
   none = λ e line rule some. let no = some.1 in cc no;
 }
 one_line here (Some r) = record {
-  found = λ it e. let same : record { line = here; rule = r } ≡ it = cc e
+  found = λ answer e. let same : record { line = here; rule = r } ≡ answer = cc e
       in (sym (ap (λ (z : Broken). z.line) same), ap (λ (z : Broken). Some z.rule) same);
-  below = λ it e line rule some.
-      let same : record { line = here; rule = r } ≡ it = cc e in
+  below = λ answer e line rule some.
+      let same : record { line = here; rule = r } ≡ answer = cc e in
       let at_rule : r ≡ rule = (let is = some.1 in cc is) in
       let is = ap (λ (z : Broken). z.rule) same in
       inr (sym (ap (λ (z : Broken). z.line) same) ∙ sym some.0, omega (arith, is, at_rule));
@@ -272,8 +272,8 @@ pub record InMessages (rule_of : ℕ → WrittenMessage → Option ℕ) (n : ℕ
 pub messages_least : (rule_of : ℕ → WrittenMessage → Option ℕ) (n : ℕ) (ms : List WrittenMessage)
     → IsLeast (InMessages rule_of n ms) (messages_broken rule_of n ms)
 messages_least rule_of n [] = record {
-  found = λ it e. cc e;
-  below = λ it e line rule some. cc e;
+  found = λ answer e. cc e;
+  below = λ answer e line rule some. cc e;
   none = λ e line rule some. let no = some.at in cc no;
 }
 messages_least rule_of n (m ∷ ms) =
@@ -346,8 +346,8 @@ pub record InInterfaces (place : List ℕ → Option ℕ) (ended : List Bool) (n
 interfaces_least : (place : List ℕ → Option ℕ) (ended : List Bool) (n : ℕ) (is : List WrittenInterface)
     → IsLeast (InInterfaces place ended n is) (interfaces_broken place ended n is)
 interfaces_least place ended n [] = record {
-  found = λ it e. cc e;
-  below = λ it e line rule some. cc e;
+  found = λ answer e. cc e;
+  below = λ answer e line rule some. cc e;
   none = λ e line rule some. let no = some.at in cc no;
 }
 interfaces_least place ended n (i ∷ is) =
@@ -509,12 +509,12 @@ among tables written line rule tests (a_message k i side o m at of line_is tests
         → InMessages (side_rule (first_place (all_names tables written)) (ended_of tables written) i s) 0
         (written_of s i) line first
         → InInterface (first_place (all_names tables written)) (ended_of tables written) (length tables + k) i line first
-    by_side Request it = inr (inl it)
-    by_side Event it = inr (inr it)
+    by_side Request answer = inr (inl answer)
+    by_side Event answer = inr (inr answer)
 
-pub later_not_before : (it : Broken) (line first rule : ℕ) → NotBefore it line first → first ≤ rule → NotBefore it line rule
-later_not_before it line first rule (inl lt) le = inl lt
-later_not_before it line first rule (inr same) le = inr (same.0, let le' = same.1 in omega (arith, le, le'))
+pub later_not_before : (answer : Broken) (line first rule : ℕ) → NotBefore answer line first → first ≤ rule → NotBefore answer line rule
+later_not_before answer line first rule (inl lt) le = inl lt
+later_not_before answer line first rule (inr same) le = inr (same.0, let le' = same.1 in omega (arith, le, le'))
 
 -- what breaks a rule by tests
 pub record ByTests (tables : List Interface) (written : List WrittenInterface) (line rule : ℕ) : Type 0 where
@@ -528,13 +528,13 @@ first_tested tables written =
     let least = interfaces_least (first_place (all_names tables written)) (ended_of tables written)
     (length tables) written in
     record {
-      found = λ it e.
-          let here = least.found it e in
-          let names = names_of tables written it.line it.rule here.index here.interface here.at here.breaks in
+      found = λ answer e.
+          let here = least.found answer e in
+          let names = names_of tables written answer.line answer.rule here.index here.interface here.at here.breaks in
           record { tests = names.tests; declares = names.declares; breaks = names.fails.breaks };
-      below = λ it e line rule by.
+      below = λ answer e line rule by.
           let some = among tables written line rule by.tests by.declares by.breaks in
-          later_not_before it line some.first rule (least.below it e line some.first some.within) some.least;
+          later_not_before answer line some.first rule (least.below answer e line some.first some.within) some.least;
       none = λ e line rule by.
           let some = among tables written line rule by.tests by.declares by.breaks in
           least.none e line some.first some.within;

@@ -56,21 +56,21 @@ listed_at tables g old more side k m at =
 added_words : (tables : List Interface) (written : List WrittenInterface) (line rule : ℕ)
     → InAdded tables (gathered tables written) 0 tables (gathered tables written).added line rule
     → LineBreaks tables written line rule
-added_words tables written line rule it = elim it.breaks.breaks [
-  | inl message ↦ by_added it.index it.old (grown_of tables g it.old it.more) it.side opcode
-      (placed_of tables g it.breaks.message) declares
-      (like_interface (extended tables written) (placing (grown tables g) g.declared (behind_names it.old it.more))
-      (grown_of tables g it.old it.more) it.side opcode (placed_of tables g it.breaks.message) rule
-      (same_names (first_place names) (length names) (grown tables g) g.declared it.old it.more it.side)
-      (same_many (first_place names) (length names) (grown tables g) g.declared it.old it.more) refl
+added_words tables written line rule witness = elim witness.breaks.breaks [
+  | inl message ↦ by_added witness.index witness.old (grown_of tables g witness.old witness.more) witness.side opcode
+      (placed_of tables g witness.breaks.message) declares
+      (like_interface (extended tables written) (placing (grown tables g) g.declared (behind_names witness.old witness.more))
+      (grown_of tables g witness.old witness.more) witness.side opcode (placed_of tables g witness.breaks.message) rule
+      (same_names (first_place names) (length names) (grown tables g) g.declared witness.old witness.more witness.side)
+      (same_many (first_place names) (length names) (grown tables g) g.declared witness.old witness.more) refl
       (subst (λ (m : MessageSignature). MessageBreaks (extended tables written)
-      (placing (grown tables g) g.declared (behind_names it.old it.more)) it.side opcode m rule)
-      (same_message tables g it.breaks.message) message))
-  | inr clash ↦ by_clash it.index it.old (grown_of tables g it.old it.more) it.side opcode
-      (placed_of tables g it.breaks.message) declares
-      (subst (λ (m : MessageSignature). Clashes tables it.index it.old it.side m rule)
-      (same_message tables g it.breaks.message)
-      (subst (λ (p : ℕ). Clashes tables p it.old it.side (placing_message (grown tables g) g.declared it.breaks.message)
+      (placing (grown tables g) g.declared (behind_names witness.old witness.more)) witness.side opcode m rule)
+      (same_message tables g witness.breaks.message) message))
+  | inr clash ↦ by_clash witness.index witness.old (grown_of tables g witness.old witness.more) witness.side opcode
+      (placed_of tables g witness.breaks.message) declares
+      (subst (λ (m : MessageSignature). Clashes tables witness.index witness.old witness.side m rule)
+      (same_message tables g witness.breaks.message)
+      (subst (λ (p : ℕ). Clashes tables p witness.old witness.side (placing_message (grown tables g) g.declared witness.breaks.message)
       rule) from_zero clash))
 ]
   where
@@ -81,24 +81,24 @@ added_words tables written line rule it = elim it.breaks.breaks [
     names = all_names tables g.declared
 
     opcode : ℕ
-    opcode = length (messages_of it.side it.old) + it.breaks.place
+    opcode = length (messages_of witness.side witness.old) + witness.breaks.place
 
-    from_zero : 0 + it.index ≡ it.index
+    from_zero : 0 + witness.index ≡ witness.index
     from_zero = omega arith
 
-    declares : AddsMessage tables written line it.index it.old (grown_of tables g it.old it.more) it.side opcode
-        (placed_of tables g it.breaks.message)
+    declares : AddsMessage tables written line witness.index witness.old (grown_of tables g witness.old witness.more) witness.side opcode
+        (placed_of tables g witness.breaks.message)
     declares = record {
-      index = it.breaks.place;
-      more = it.more;
-      own = it.breaks.message;
-      there = it.at;
-      said = it.said;
-      of = it.breaks.at;
-      line_is = it.breaks.line_is;
+      index = witness.breaks.place;
+      more = witness.more;
+      own = witness.breaks.message;
+      there = witness.at;
+      said = witness.said;
+      of = witness.breaks.at;
+      line_is = witness.breaks.line_is;
       opcode_is = refl;
-      stands = stands_at tables g it.index it.old it.more it.at it.said;
-      listed = listed_at tables g it.old it.more it.side it.breaks.place it.breaks.message it.breaks.at;
+      stands = stands_at tables g witness.index witness.old witness.more witness.at witness.said;
+      listed = listed_at tables g witness.old witness.more witness.side witness.breaks.place witness.breaks.message witness.breaks.at;
     }
 
 -- what is declared is what was added
@@ -189,21 +189,21 @@ Found tables written =
 
 in_words : (tables : List Interface) (written : List WrittenInterface) (line rule : ℕ)
     → Found tables written line rule → LineBreaks tables written line rule
-in_words tables written line rule (inl it) =
-    by_extension (gathered_from (gathered tables []) it.before) it.own (record {
-      before = it.before;
-      after = it.after;
-      whole = it.whole;
-      extends = it.extends;
+in_words tables written line rule (inl witness) =
+    by_extension (gathered_from (gathered tables []) witness.before) witness.own (record {
+      before = witness.before;
+      after = witness.after;
+      whole = witness.whole;
+      extends = witness.extends;
       below = refl;
-      line_is = it.line_is;
-    }) it.breaks
-in_words tables written line rule (inr (inl it)) = added_words tables written line rule it
-in_words tables written line rule (inr (inr it)) = by_declared it
+      line_is = witness.line_is;
+    }) witness.breaks
+in_words tables written line rule (inr (inl witness)) = added_words tables written line rule witness
+in_words tables written line rule (inr (inr witness)) = by_declared witness
 
 from_words : (tables : List Interface) (written : List WrittenInterface) (line rule : ℕ)
     → LineBreaks tables written line rule → Found tables written line rule
-from_words tables written line rule (by_declared it) = inr (inr it)
+from_words tables written line rule (by_declared witness) = inr (inr witness)
 from_words tables written line rule (by_added place old i side opcode m d breaks) =
     inr (inl (message_back tables written line rule place old i side opcode m d breaks))
 from_words tables written line rule (by_clash place old i side opcode m d clash) =
@@ -228,46 +228,46 @@ line_least tables written =
     (of_either _ _ _ _ (added_least tables g 0 tables g.added) (declared_least (grown tables g) g.declared)))
 
 -- the first line and the least rule there
-pub first_line : (tables : List Interface) (written : List WrittenInterface) (it : Broken)
-    → (first_line_broken tables written ≡ Some it) ↔ IsFirstBrokenLine tables written it
-first_line tables written it = (to, λ first. back first (first_line_broken tables written) refl)
+pub first_line : (tables : List Interface) (written : List WrittenInterface) (witness : Broken)
+    → (first_line_broken tables written ≡ Some witness) ↔ IsFirstBrokenLine tables written witness
+first_line tables written witness = (to, λ first. back first (first_line_broken tables written) refl)
   where
-    least_at : (line rule : ℕ) → NotBefore it line rule → it.line ≤ line
+    least_at : (line rule : ℕ) → NotBefore witness line rule → witness.line ≤ line
     least_at line rule (inl lt) = omega (arith, lt)
     least_at line rule (inr same) = let is = same.0 in omega (arith, is)
 
-    rule_at : (rule : ℕ) → NotBefore it it.line rule → it.rule ≤ rule
+    rule_at : (rule : ℕ) → NotBefore witness witness.line rule → witness.rule ≤ rule
     rule_at rule (inl lt) = absurd (omega (arith, lt))
     rule_at rule (inr same) = same.1
 
-    to : first_line_broken tables written ≡ Some it → IsFirstBrokenLine tables written it
+    to : first_line_broken tables written ≡ Some witness → IsFirstBrokenLine tables written witness
     to is =
         let least = line_least tables written in
         record {
-          breaks = least.found it is;
-          least = λ rule breaks. rule_at rule (least.below it is it.line rule breaks);
-          first = λ line rule breaks. least_at line rule (least.below it is line rule breaks);
+          breaks = least.found witness is;
+          least = λ rule breaks. rule_at rule (least.below witness is witness.line rule breaks);
+          first = λ line rule breaks. least_at line rule (least.below witness is line rule breaks);
         }
 
     broken_of : ℕ → ℕ → Broken
     broken_of line rule = record { line = line; rule = rule }
 
-    one : (other : Broken) → NotBefore other it.line it.rule → it.line ≤ other.line
-        → (it.line ≡ other.line → it.rule ≤ other.rule) → other ≡ it
+    one : (other : Broken) → NotBefore other witness.line witness.rule → witness.line ≤ other.line
+        → (witness.line ≡ other.line → witness.rule ≤ other.rule) → other ≡ witness
     one other (inl lt) le rules = absurd (omega (arith, lt, le))
     one other (inr same) le rules =
         let lines = same.0 in
         let le' = same.1 in
         let ge = rules (sym lines) in
-        let at_rule : other.rule ≡ it.rule = omega (arith, le', ge) in
-        ap (λ (l : ℕ). broken_of l other.rule) lines ∙ ap (λ (r : ℕ). broken_of it.line r) at_rule
+        let at_rule : other.rule ≡ witness.rule = omega (arith, le', ge) in
+        ap (λ (l : ℕ). broken_of l other.rule) lines ∙ ap (λ (r : ℕ). broken_of witness.line r) at_rule
 
-    back : IsFirstBrokenLine tables written it → (o : Option Broken) → first_line_broken tables written ≡ o
-        → o ≡ Some it
-    back first None none = absurd ((line_least tables written).none none it.line it.rule first.breaks)
+    back : IsFirstBrokenLine tables written witness → (o : Option Broken) → first_line_broken tables written ≡ o
+        → o ≡ Some witness
+    back first None none = absurd ((line_least tables written).none none witness.line witness.rule first.breaks)
     back first (Some other) is =
         let least = line_least tables written in
         let there = least.found other is in
-        ap (λ (b : Broken). Some b) (one other (least.below other is it.line it.rule first.breaks)
+        ap (λ (b : Broken). Some b) (one other (least.below other is witness.line witness.rule first.breaks)
         (first.first other.line other.rule there)
         (λ lines. first.least other.rule (subst (λ (l : ℕ). LineBreaks tables written l other.rule) (sym lines) there)))

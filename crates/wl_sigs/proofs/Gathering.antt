@@ -109,10 +109,10 @@ later_from g [] p w at = (w, at, record { name = refl; version = omega arith })
 later_from g (next ∷ written) p w at = elim (added_kept g next p w at) [
   | inl same ↦ later_from (one_more g next) written p w same
   | inr more ↦
-      let it = later_from (one_more g next) written p (with_extension w next) more.0 in
+      let witness = later_from (one_more g next) written p (with_extension w next) more.0 in
       let up = greater_is w.version next.version in
-      let on = it.2.version in
-      (it.0, it.1, record { name = it.2.name; version = omega (arith, up, on) })
+      let on = witness.2.version in
+      (witness.0, witness.1, record { name = witness.2.name; version = omega (arith, up, on) })
 ]
 
 -- what a text says of an interface of the tables

@@ -70,8 +70,8 @@ from_grown place past (x ∷ tables) (w ∷ added) len zero j at = record {
   is = let same : interface_grown place past x w ≡ j = cc at in sym same;
 }
 from_grown place past (x ∷ tables) (w ∷ added) len (suc p) j at =
-    let it = from_grown place past tables added (omega (arith, len)) p j at in
-    record { old = it.old; more = it.more; at = it.at; said = it.said; is = it.is }
+    let witness = from_grown place past tables added (omega (arith, len)) p j at in
+    record { old = witness.old; more = witness.more; at = witness.at; said = witness.said; is = witness.is }
 
 -- the messages of a side
 pub grown_messages : (place : List ℕ → Option ℕ) (past : ℕ) (i : Interface) (more : WrittenInterface) (side : Side)

@@ -44,10 +44,10 @@ pub message_stays : (tables : List Interface) (written : List WrittenInterface) 
     (m : MessageSignature) → signature_at tables place side opcode ≡ Some m
     → signature_at (extended tables written) place side opcode ≡ Some m
 message_stays tables written place side opcode m at =
-    let it = found tables place side opcode m at in
-    let there = stays tables written place it.interface it.at in
+    let witness = found tables place side opcode m at in
+    let there = stays tables written place witness.interface witness.at in
     signature_from (extended tables written) place side opcode there.interface m there.at
-    (there.messages side opcode m it.of)
+    (there.messages side opcode m witness.of)
 
 pub law : (tables : List Interface) (written : List WrittenInterface) (place : ℕ) (i : Interface)
     → interface_at tables place ≡ Some i
@@ -56,5 +56,5 @@ pub law : (tables : List Interface) (written : List WrittenInterface) (place : �
     × ((side : Side) (opcode : ℕ) (m : MessageSignature) → message_of side opcode i ≡ Some m
     → message_of side opcode j ≡ Some m)
 law tables written place i at =
-    let it = stays tables written place i at in
-    (it.interface, it.at, it.name, it.version, it.messages)
+    let witness = stays tables written place i at in
+    (witness.interface, witness.at, witness.name, witness.version, witness.messages)

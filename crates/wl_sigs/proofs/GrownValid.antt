@@ -81,10 +81,10 @@ either_grown : (tables : List Interface) (written : List WrittenInterface) (p : 
 either_grown tables written p side o m h =
     let g = gathered tables written in
     let names = names_with tables written in
-    let it = found (grown tables g) p side o m h in
-    let grows = grows tables written p it.interface it.at in
+    let witness = found (grown tables g) p side o m h in
+    let grows = grows tables written p witness.interface witness.at in
     let all = interface_grown (first_place names) (length names) grows.old grows.more in
-    let of : message_of side o all ≡ Some m = subst (λ (x : Interface). message_of side o x ≡ Some m) grows.is it.of in
+    let of : message_of side o all ≡ Some m = subst (λ (x : Interface). message_of side o x ≡ Some m) grows.is witness.of in
     let placed = message_placed (first_place names) (length names) in
     let listed : slice_get (messages_of side grows.old ++ map placed (written_of side grows.more)) o ≡ Some m =
     subst (λ (ms : List MessageSignature). slice_get ms o ≡ Some m)
@@ -175,36 +175,36 @@ earlier_apart tables written none valid place side o p m n h h' same lt =
         | inl front ↦ let e = valid.names_distinct.messages_distinct place side o p m n front front' same
             in omega (arith, e, lt)
         | inr a ↦
-            let it = found tables place side p n front' in
-            let one : a.old ≡ it.interface = some_same a.old it.interface (sym a.adds.there ∙ it.at) in
-            let within = slice_get_within (messages_of side it.interface) p n it.of in
+            let witness = found tables place side p n front' in
+            let one : a.old ≡ witness.interface = some_same a.old witness.interface (sym a.adds.there ∙ witness.at) in
+            let within = slice_get_within (messages_of side witness.interface) p n witness.of in
             let at = a.adds.opcode_is in
-            let len : length (messages_of side a.old) ≡ length (messages_of side it.interface) =
+            let len : length (messages_of side a.old) ≡ length (messages_of side witness.interface) =
             ap (λ (x : Interface). length (messages_of side x)) one in
             omega (arith, lt, within, at, len)
       ]
       | inr b ↦
-          let it = found (grown tables g) place side o m h in
-          let grows = grows tables written place it.interface it.at in
+          let witness = found (grown tables g) place side o m h in
+          let grows = grows tables written place witness.interface witness.at in
           let stands = stands_at tables g place grows.old grows.more grows.at grows.said in
-          let i_is : interface_at (extended tables written) place ≡ Some it.interface =
+          let i_is : interface_at (extended tables written) place ≡ Some witness.interface =
           stands ∙ ap Some (sym grows.is) in
-          let one : it.interface ≡ b.i = some_same it.interface b.i (sym i_is ∙ b.adds.stands) in
+          let one : witness.interface ≡ b.i = some_same witness.interface b.i (sym i_is ∙ b.adds.stands) in
           let of : message_of side o b.i ≡ Some m =
-          subst (λ (x : Interface). message_of side o x ≡ Some m) one it.of in
+          subst (λ (x : Interface). message_of side o x ≡ Some m) one witness.of in
           never tables written none place side p n b 1 (message_named_again o m refl lt of same)
     ]
 
 names_kept : (tables : List Interface) (written : List WrittenInterface) → NoLineBreaks tables written
     → Valid tables → NamesAreDistinct (grown tables (gathered tables written))
 names_kept tables written none valid = record {
-  interfaces_named = λ p j at. let it = grows tables written p j at in
-      subst IsTableName (name_of p j it) (valid.names_distinct.interfaces_named p it.old it.at);
+  interfaces_named = λ p j at. let witness = grows tables written p j at in
+      subst IsTableName (name_of p j witness) (valid.names_distinct.interfaces_named p witness.old witness.at);
   interfaces_distinct = λ p q i j at at' same.
-      let it = grows tables written p i at in
-      let it' = grows tables written q j at' in
-      valid.names_distinct.interfaces_distinct p q it.old it'.old it.at it'.at
-      (name_of p i it ∙ same ∙ sym (name_of q j it'));
+      let witness = grows tables written p i at in
+      let witness' = grows tables written q j at' in
+      valid.names_distinct.interfaces_distinct p q witness.old witness'.old witness.at witness'.at
+      (name_of p i witness ∙ same ∙ sym (name_of q j witness'));
   messages_named = λ side. each_grown (λ m. IsTableName m.name) tables written side
       (valid.names_distinct.messages_named side)
       (λ p o m a. named m.name (λ unnamed. never tables written none p side o m a 1 (message_misnamed refl unnamed)));
@@ -217,8 +217,8 @@ names_kept tables written none valid = record {
   ];
 }
   where
-    name_of : (p : ℕ) (j : Interface) → (it : GrowsAt tables written p j) → it.old.name ≡ j.name
-    name_of p j it = sym (ap (λ (x : Interface). x.name) it.is)
+    name_of : (p : ℕ) (j : Interface) → (witness : GrowsAt tables written p j) → witness.old.name ≡ j.name
+    name_of p j witness = sym (ap (λ (x : Interface). x.name) witness.is)
 
 -- V2
 fixed_kept : (tables : List Interface) (written : List WrittenInterface)
@@ -249,8 +249,8 @@ small_kept tables written none old = record {
       (gathered tables written).added in
       omega (arith, most, len);
   messages = λ side p j at.
-      let it = grows tables written p j at in
-      subst (λ (x : Interface). length (messages_of side x) ≤ 256) (sym it.is) (few side p it.old it.more it.at it.said);
+      let witness = grows tables written p j at in
+      subst (λ (x : Interface). length (messages_of side x) ≤ 256) (sym witness.is) (few side p witness.old witness.more witness.at witness.said);
   arguments = λ side. each_grown (λ m. length m.kinds ≤ 20) tables written side (old.arguments side)
       (λ p o m a. at_most (length m.kinds) 20 (λ lt. never tables written none p side o m a 3
       (too_many_arguments refl lt)));
@@ -294,7 +294,7 @@ few_kept tables written none old = record {
 }
 
 pub of_contained : (P : Kind → Type 0) (ks : List Kind) (k : Kind) → All P ks → Contains ks k → P k
-of_contained P ks k all it = subst P it.2 (all it.0 k it.1)
+of_contained P ks k all witness = subst P witness.2 (all witness.0 k witness.1)
 
 -- no argument is as it must not be
 no_kind : (P : Kind → Type 0) (ks : List Kind) → ((k : Kind) → Contains ks k → P k) → All P ks
@@ -335,20 +335,20 @@ whole_at tables written p j lt at =
 
 -- an event of an interface that destroys its target is one of the tables, or is added
 ends_by : (tables : List Interface) (written : List WrittenInterface) (p : ℕ) (j : Interface)
-    → (it : GrowsAt tables written p j) → has_destroying_event j ≡ true
-    → (has_destroying_event it.old ≡ true)
+    → (witness : GrowsAt tables written p j) → has_destroying_event j ≡ true
+    → (has_destroying_event witness.old ≡ true)
     ⊎ ((o : ℕ) × (m : MessageSignature) × (AddedAt tables written p Event o m) × (destroys_target m.destroys ≡ true))
-ends_by tables written p j it ends =
+ends_by tables written p j witness ends =
     let g = gathered tables written in
     let event = any_at (λ (m : MessageSignature). destroys_target m.destroys) j.events ends in
     let at : interface_at (grown tables g) p ≡ Some j =
-    grown_at (first_place (names_with tables written)) (length (names_with tables written)) tables g.added p it.old
-    it.more it.at it.said ∙ ap Some (sym it.is) in
+    grown_at (first_place (names_with tables written)) (length (names_with tables written)) tables g.added p witness.old
+    witness.more witness.at witness.said ∙ ap Some (sym witness.is) in
     elim (either_grown tables written p Event event.0 event.1
     (signature_from (grown tables g) p Event event.0 j event.1 at event.2)) [
       | inl front ↦
           let f = found tables p Event event.0 event.1 front in
-          let one : f.interface ≡ it.old = some_same f.interface it.old (sym f.at ∙ it.at) in
+          let one : f.interface ≡ witness.old = some_same f.interface witness.old (sym f.at ∙ witness.at) in
           inl (subst (λ (x : Interface). has_destroying_event x ≡ true) one
           (any_true (λ (m : MessageSignature). destroys_target m.destroys) f.interface.events event.0 event.1 f.of
           event.3))
@@ -364,30 +364,30 @@ requests_kept : (tables : List Interface) (written : List WrittenInterface) → 
     → Valid tables
     → EachInterface (grown tables (gathered tables written)) (λ i. has_destroying_event i ≡ true → i.requests ≡ [])
 requests_kept tables written none valid p j at ends =
-    let it = grows tables written p j at in
+    let witness = grows tables written p j at in
     let g = gathered tables written in
     let placed = message_placed (first_place (names_with tables written)) (length (names_with tables written)) in
-    none_left j.requests (at_most (length j.requests) 0 (λ lt. elim (ends_by tables written p j it ends) [
+    none_left j.requests (at_most (length j.requests) 0 (λ lt. elim (ends_by tables written p j witness ends) [
       | inl old ↦
-          let empty = valid.race_free.no_requests p it.old it.at old in
-          let many : length j.requests ≡ length it.old.requests + length it.more.requests =
-          (let len = ap (λ (x : Interface). length x.requests) it.is in
+          let empty = valid.race_free.no_requests p witness.old witness.at old in
+          let many : length j.requests ≡ length witness.old.requests + length witness.more.requests =
+          (let len = ap (λ (x : Interface). length x.requests) witness.is in
           omega (
             arith,
             len,
-            length-append it.old.requests (map placed it.more.requests),
-            length-map it.more.requests placed,
+            length-append witness.old.requests (map placed witness.more.requests),
+            length-map witness.more.requests placed,
           )) in
           let none_old = ap length empty in
-          elim (last_at it.more.requests) [
+          elim (last_at witness.more.requests) [
             | inl nothing ↦ omega (arith, lt, many, none_old, nothing)
-            | inr last ↦ none last.0.line 7 (by_clash p it.old _ Request _ _
-                (adds_at tables written p it.old it.more Request (length it.more.requests - 1) last.0 it.at it.said
+            | inr last ↦ none last.0.line 7 (by_clash p witness.old _ Request _ _
+                (adds_at tables written p witness.old witness.more Request (length witness.more.requests - 1) last.0 witness.at witness.said
                 last.1) (request_of_ended refl refl old))
           ]
       | inr event ↦
           let a = event.2 in
-          let stands = stands_at tables g p it.old it.more it.at it.said ∙ ap Some (sym it.is) in
+          let stands = stands_at tables g p witness.old witness.more witness.at witness.said ∙ ap Some (sym witness.is) in
           let one : j ≡ a.i = some_same j a.i (sym stands ∙ a.adds.stands) in
           never tables written none p Event event.0 event.1 a 7
           (event_destroys refl refl event.3 (let len = ap (λ (x : Interface). length x.requests) one
@@ -423,35 +423,35 @@ sinces_kept : (tables : List Interface) (written : List WrittenInterface) → No
     → SincesAreInRange tables → SincesAreInRange (grown tables (gathered tables written))
 sinces_kept tables written none old = record {
   versions = λ p j at.
-      let it = grows tables written p j at in
-      let least = old.versions p it.old it.at in
-      let up = raised p j it in
+      let witness = grows tables written p j at in
+      let least = old.versions p witness.old witness.at in
+      let up = raised p j witness in
       omega (arith, least, up);
   from_one = λ side. each_grown (λ m. 1 ≤ m.since) tables written side (old.from_one side)
       (λ p o m a. at_most 1 m.since (λ lt. never tables written none p side o m a 8 (since_below_one refl lt)));
   to_version = λ p side o j m at h.
-      let it = grows tables written p j at in
+      let witness = grows tables written p j at in
       elim (either_grown tables written p side o m h) [
         | inl front ↦
-            let le = old.to_version p side o it.old m it.at front in
-            let up = raised p j it in
+            let le = old.to_version p side o witness.old m witness.at front in
+            let up = raised p j witness in
             omega (arith, le, up)
         | inr a ↦
             let g = gathered tables written in
-            let stands = stands_at tables g p it.old it.more it.at it.said ∙ ap Some (sym it.is) in
+            let stands = stands_at tables g p witness.old witness.more witness.at witness.said ∙ ap Some (sym witness.is) in
             let one : j ≡ a.i = some_same j a.i (sym stands ∙ a.adds.stands) in
             at_most m.since j.version (λ lt. never tables written none p side o m a 8
             (since_above_version refl (subst (λ (x : Interface). x.version < m.since) one lt)))
       ];
 }
   where
-    raised : (p : ℕ) (j : Interface) → (it : GrowsAt tables written p j) → it.old.version ≤ j.version
-    raised p j it =
-        let said = said_of tables written p it.old it.at in
-        let one : said.0 ≡ it.more = some_same said.0 it.more (sym said.1 ∙ it.said) in
+    raised : (p : ℕ) (j : Interface) → (witness : GrowsAt tables written p j) → witness.old.version ≤ j.version
+    raised p j witness =
+        let said = said_of tables written p witness.old witness.at in
+        let one : said.0 ≡ witness.more = some_same said.0 witness.more (sym said.1 ∙ witness.said) in
         let up = said.2.version in
         let same = ap (λ (x : WrittenInterface). x.version) one in
-        let version = ap (λ (x : Interface). x.version) it.is in
+        let version = ap (λ (x : Interface). x.version) witness.is in
         omega (arith, up, same, version)
 
 -- V9

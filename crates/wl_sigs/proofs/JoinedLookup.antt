@@ -98,12 +98,12 @@ pub either_message : (tables : List Interface) (written : List WrittenInterface)
     → signature_at (joined tables written) place side opcode ≡ Some m
     → (signature_at tables place side opcode ≡ Some m) ⊎ BroughtMessage tables written place side opcode m
 either_message tables written place side opcode m h =
-    let it = found (joined tables written) place side opcode m h in
-    elim (either_interface tables written place it.interface it.at) [
-      | inl front ↦ inl (signature_from tables place side opcode it.interface m front it.of)
+    let witness = found (joined tables written) place side opcode m h in
+    elim (either_interface tables written place witness.interface witness.at) [
+      | inl front ↦ inl (signature_from tables place side opcode witness.interface m front witness.of)
       | inr b ↦
           let of : message_of side opcode (placing tables written b.from) ≡ Some m =
-          subst (λ x. message_of side opcode x ≡ Some m) (sym b.is) it.of in
+          subst (λ x. message_of side opcode x ≡ Some m) (sym b.is) witness.of in
           let of' : slice_get (map (placing_message tables written) (written_of side b.from)) opcode ≡ Some m =
           subst (λ ms. slice_get ms opcode ≡ Some m) (placed_messages tables written side b.from) of in
           let n = mapped_at (placing_message tables written) (written_of side b.from) opcode m of' in

@@ -129,8 +129,8 @@ sinces_joined tables written none old = record {
       (λ k w o m at of. leb-true _ _ (keeps_at tables written none side k w o m at of).since);
   to_version = λ place side opcode i m at h. elim (either_message tables written place side opcode m h) [
     | inl front ↦
-        let it = found tables place side opcode m front in
-        old.to_version place side opcode i m (in_tables place i at (slice_get_within tables place it.interface it.at))
+        let witness = found tables place side opcode m front in
+        old.to_version place side opcode i m (in_tables place i at (slice_get_within tables place witness.interface witness.at))
         front
     | inr b ↦
         let own : placing tables written b.interface ≡ i =
@@ -281,13 +281,13 @@ messages_apart tables written none old place side o p m n h h' same =
     elim (either_message tables written place side o m h) [
       | inl front ↦ elim (either_message tables written place side p n h') [
         | inl front' ↦ old.messages_distinct place side o p m n front front' same
-        | inr b' ↦ absurd (let it = found tables place side o m front
-            in let within = slice_get_within tables place it.interface it.at in let is = b'.place_is
+        | inr b' ↦ absurd (let witness = found tables place side o m front
+            in let within = slice_get_within tables place witness.interface witness.at in let is = b'.place_is
             in omega (arith, within, is))
       ]
       | inr b ↦ elim (either_message tables written place side p n h') [
-        | inl front' ↦ absurd (let it = found tables place side p n front'
-            in let within = slice_get_within tables place it.interface it.at in let is = b.place_is
+        | inl front' ↦ absurd (let witness = found tables place side p n front'
+            in let within = slice_get_within tables place witness.interface witness.at in let is = b.place_is
             in omega (arith, within, is))
         | inr b' ↦
             let index : b'.index ≡ b.index = (let is = b.place_is in let is' = b'.place_is in omega (arith, is, is')) in

@@ -104,7 +104,7 @@ was_not_ended tables place past ended ends (bare.Obj n) (Some name) free =
     object_free : (o : Option ℕ) → ((i : Interface) → interface_at tables (unwrap_or o past) ≡ Some i
         → has_destroying_event i ≡ false) → not (is_ended ended o) ≡ true
     object_free None all = refl
-    object_free (Some p) all = not_true (slice_get ended p) (λ b at. let it = ends p b at in sym it.2 ∙ all it.0 it.1)
+    object_free (Some p) all = not_true (slice_get ended p) (λ b at. let witness = ends p b at in sym witness.2 ∙ all witness.0 witness.1)
 was_not_ended tables place past ended ends bare.New iface free = refl
 was_not_ended tables place past ended ends bare.NewByServer iface free = refl
 was_not_ended tables place past ended ends bare.Array iface free = refl

@@ -17,17 +17,17 @@ pub record IsLeastRule (P : ℕ → Type 0) (o : Option ℕ) : Type 0 where
 
 pub like_rule : (P Q : ℕ → Type 0) → ((rule : ℕ) → P rule → Q rule) → ((rule : ℕ) → Q rule → P rule)
     → (o : Option ℕ) → IsLeastRule P o → IsLeastRule Q o
-like_rule P Q to from o it = record {
-  found = λ rule e. to rule (it.found rule e);
-  least = λ rule e other q. it.least rule e other (from other q);
-  none = λ e rule q. it.none e rule (from rule q);
+like_rule P Q to from o answer = record {
+  found = λ rule e. to rule (answer.found rule e);
+  least = λ rule e other q. answer.least rule e other (from other q);
+  none = λ e rule q. answer.none e rule (from rule q);
 }
 
 -- some rule is found where one is broken
 pub some_rule : (P : ℕ → Type 0) (o : Option ℕ) → IsLeastRule P o → (rule : ℕ) → P rule
     → (first : ℕ) × (o ≡ Some first) × (first ≤ rule)
-some_rule P None it rule broken = absurd (it.none refl rule broken)
-some_rule P (Some first) it rule broken = (first, refl, it.least first refl rule broken)
+some_rule P None answer rule broken = absurd (answer.none refl rule broken)
+some_rule P (Some first) answer rule broken = (first, refl, answer.least first refl rule broken)
 
 -- by tests in the order of their rules
 pub least_tested : (P : ℕ → Type 0) (tests : List Tested) → Ascends 0 tests → Says P tests
@@ -103,19 +103,19 @@ pub messages_by : (Q : ℕ → WrittenMessage → ℕ → Type 0) (rule_of : ℕ
 messages_by Q rule_of n ms each =
     let least = messages_least rule_of n ms in
     record {
-      found = λ it e.
-          let here = least.found it e in
+      found = λ answer e.
+          let here = least.found answer e in
           record {
             place = here.place;
             message = here.message;
             at = here.at;
             line_is = here.line_is;
-            breaks = (each here.place here.message here.at).found it.rule here.breaks;
+            breaks = (each here.place here.message here.at).found answer.rule here.breaks;
           };
-      below = λ it e line rule by.
+      below = λ answer e line rule by.
           let some = some_rule (Q (n + by.place) by.message) (rule_of (n + by.place) by.message)
           (each by.place by.message by.at) rule by.breaks in
-          later_not_before it line some.0 rule (least.below it e line some.0 (within line rule by some.0 some.1)) some.2;
+          later_not_before answer line some.0 rule (least.below answer e line some.0 (within line rule by some.0 some.1)) some.2;
       none = λ e line rule by.
           let some = some_rule (Q (n + by.place) by.message) (rule_of (n + by.place) by.message)
           (each by.place by.message by.at) rule by.breaks in

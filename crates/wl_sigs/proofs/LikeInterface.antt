@@ -20,10 +20,10 @@ pub like_interface : (all : List Interface) (i j : Interface) (side : Side) (o :
     → MessageBreaks all i side o m rule → MessageBreaks all j side o m rule
 like_interface all i j side o m rule names many version (message_misnamed is never) = message_misnamed is never
 like_interface all i j side o m rule names many version (message_named_again earlier n is lt found same) =
-    let it = mapped_at (λ (n : MessageSignature). n.name) (messages_of side j) earlier n.name
+    let witness = mapped_at (λ (n : MessageSignature). n.name) (messages_of side j) earlier n.name
     (rw (← names) (slice_get-map (λ (n : MessageSignature). n.name) (messages_of side i) earlier
     ∙ ap (option_map (λ (n : MessageSignature). n.name)) found)) in
-    message_named_again earlier it.0 is lt it.1 (it.2 ∙ same)
+    message_named_again earlier witness.0 is lt witness.1 (witness.2 ∙ same)
 like_interface all i j side o m rule names many version (message_beyond is le) = message_beyond is le
 like_interface all i j side o m rule names many version (too_many_arguments is lt) = too_many_arguments is lt
 like_interface all i j side o m rule names many version (event_makes is event lt) = event_makes is event lt

@@ -27,7 +27,7 @@ pub contains : {X : Type 0} (xs : List X) (k : ℕ) (x : X) → slice_get xs k �
 contains xs k x at = (k, slice_get_within xs k x at, get_or_from_slice_get xs k x x at)
 
 all_contain : {X : Type 0} (P : X → Type 0) (xs : List X) (x : X) → All P xs → Contains xs x → P x
-all_contain P xs x all it = subst P it.2 (all it.0 x it.1)
+all_contain P xs x all witness = subst P witness.2 (all witness.0 x witness.1)
 
 -- an element at which a test fails
 fails_at : {X : Type 0} (test : X → Bool) (xs : List X) → list_all test xs ≡ false
@@ -69,11 +69,11 @@ pub record SomeKind (test : WrittenKind → Bool) (f : WrittenKind → Kind) (ks
 pub some_kind : (test : WrittenKind → Bool) (f : WrittenKind → Kind) (ks : List WrittenKind)
     → list_all (λ k. not (test k)) ks ≡ false → SomeKind test f ks
 some_kind test f ks fails =
-    let it = fails_at (λ k. not (test k)) ks fails in
+    let witness = fails_at (λ k. not (test k)) ks fails in
     record {
-      kind = it.1;
-      passes = was_true (test it.1) it.3;
-      there = contains (map f ks) it.0 (f it.1) (slice_get-map f ks it.0 ∙ ap (option_map f) it.2);
+      kind = witness.1;
+      passes = was_true (test witness.1) witness.3;
+      there = contains (map f ks) witness.0 (f witness.1) (slice_get-map f ks witness.0 ∙ ap (option_map f) witness.2);
     }
 
 -- a test of all kinds fails where one of what they become is not as it would be
@@ -141,14 +141,14 @@ ended_named tables place past ended ends (bare.Obj null) (Some name) t = by_plac
         → IsEnded tables (kinds.Obj null (Some (iface_named place past name)))
     by_mark p named None at t = cc t
     by_mark p named (Some b) at t =
-        let it = ends p b at in
+        let witness = ends p b at in
         record {
           null = null;
           iface = iface_named place past name;
-          interface = it.0;
+          interface = witness.0;
           is = refl;
-          at = rw named it.1;
-          ends = it.2 ∙ t;
+          at = rw named witness.1;
+          ends = witness.2 ∙ t;
         }
 
     by_place : (o : Option ℕ) → place name ≡ o → is_ended ended o ≡ true

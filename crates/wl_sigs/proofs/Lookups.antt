@@ -27,8 +27,8 @@ pub record Found (tables : List Interface) (place : ℕ) (side : Side) (opcode :
 pub found : (tables : List Interface) (place : ℕ) (side : Side) (opcode : ℕ) (m : MessageSignature)
     → signature_at tables place side opcode ≡ Some m → Found tables place side opcode m
 found tables place side opcode m h =
-    let it = then_some (message_of side opcode) (interface_at tables place) m h
-    in record { interface = it.0; at = it.1; of = it.2 }
+    let witness = then_some (message_of side opcode) (interface_at tables place) m h
+    in record { interface = witness.0; at = witness.1; of = witness.2 }
 
 pub signature_from : (tables : List Interface) (place : ℕ) (side : Side) (opcode : ℕ) (i : Interface)
     (m : MessageSignature)
@@ -45,7 +45,7 @@ pub record IsNamed (tables : List Interface) (name : List ℕ) (place : ℕ) : T
 abbrev has_name : List ℕ → Interface → Bool
 has_name name i = bytes_eq i.name name
 
-position_of : (o : Option ℕ) (iface : Iface) → option_map (λ place. let it : Iface = record { 0 = place } in it) o
+position_of : (o : Option ℕ) (iface : Iface) → option_map (λ place. let witness : Iface = record { 0 = place } in witness) o
     ≡ Some iface → o ≡ Some iface.0
 position_of None iface h = cc
 position_of (Some p) iface h = ap (option_map (λ (i : Iface). i.0)) h
@@ -95,6 +95,6 @@ place_of_its_name tables valid place i at =
     let within = passes_within (has_name i.name) tables place i at ((bytes_eq-Decides i.name i.name).1 refl) in
     let answer : place_of tables i.name ≡ Some (as_iface first) =
     ap (option_map as_iface) (position_within (has_name i.name) tables within) in
-    let it = named tables i.name (as_iface first) answer in
-    let same : first ≡ place = valid.names_distinct.interfaces_distinct first place it.interface i it.at at it.same in
+    let witness = named tables i.name (as_iface first) answer in
+    let same : first ≡ place = valid.names_distinct.interfaces_distinct first place witness.interface i witness.at at witness.same in
     answer ∙ ap (λ p. Some (as_iface p)) same

@@ -31,20 +31,20 @@ at_position (first ∷ more) name opcode h =
 named_there : (tables : List Interface) (place : ℕ) (side : Side) (name : List ℕ) (opcode : ℕ)
     → opcode_of tables place side name ≡ Some opcode → Named tables place side name opcode
 named_there tables place side name opcode h =
-    let it = then_some (λ i. position (has_name name) (messages_of side i)) (interface_at tables place) opcode h in
-    let m = at_position (messages_of side it.0) name opcode it.2 in
-    (m.0, signature_from tables place side opcode it.0 m.0 it.1 m.1, m.2)
+    let witness = then_some (λ i. position (has_name name) (messages_of side i)) (interface_at tables place) opcode h in
+    let m = at_position (messages_of side witness.0) name opcode witness.2 in
+    (m.0, signature_from tables place side opcode witness.0 m.0 witness.1 m.1, m.2)
 
 there_named : (tables : List Interface) → Valid tables → (place : ℕ) (side : Side) (name : List ℕ) (opcode : ℕ)
     → Named tables place side name opcode → opcode_of tables place side name ≡ Some opcode
 there_named tables valid place side name opcode h =
     let m = h.0 in
-    let it = found tables place side opcode m h.1 in
-    let ms = messages_of side it.interface in
-    let within = passes_within (has_name name) ms opcode m it.of ((bytes_eq-Decides m.name name).1 h.2) in
+    let witness = found tables place side opcode m h.1 in
+    let ms = messages_of side witness.interface in
+    let within = passes_within (has_name name) ms opcode m witness.of ((bytes_eq-Decides m.name name).1 h.2) in
     let first = position_or_len (has_name name) ms in
     let answer : opcode_of tables place side name ≡ Some first =
-    ap (option_and_then (λ i. position (has_name name) (messages_of side i))) it.at
+    ap (option_and_then (λ i. position (has_name name) (messages_of side i))) witness.at
     ∙ position_within (has_name name) ms within in
     let other = named_there tables place side name first answer in
     let same : first ≡ opcode = valid.names_distinct.messages_distinct place side first opcode other.0 m other.1 h.1

@@ -11,9 +11,9 @@ use Rattle.wl_sigs.specs.Extended.{Gathered, extended, whole_of}
 use Rattle.wl_sigs.specs.Extending.{messages_or_declared_broken, first_line_broken}
 use Rattle.wl_sigs.proofs.ExtendedValid.{extended_valid}
 
-none_told : (found : Option BrokenLine) → ((it : BrokenLine) → found ≡ Some it → ⊥) → option_map broken found ≡ None
+none_told : (found : Option BrokenLine) → ((answer : BrokenLine) → found ≡ Some answer → ⊥) → option_map broken found ≡ None
 none_told None never = refl
-none_told (Some it) never = absurd (never it refl)
+none_told (Some answer) never = absurd (never answer refl)
 
 -- where no line breaks a rule, what was gathered makes valid tables
 pub still_valid : (tables : List Interface) (written : List WrittenInterface) (g : Gathered)
@@ -21,7 +21,7 @@ pub still_valid : (tables : List Interface) (written : List WrittenInterface) (g
     → whole_of tables g ≡ extended tables written
     → earlier of_extensions (messages_or_declared_broken tables g) ≡ first_line_broken tables written
     → of_others ≡ messages_or_declared_broken tables g
-    → option_map broken found ≡ earlier of_extensions of_others → ((it : BrokenLine) → found ≡ Some it → ⊥)
+    → option_map broken found ≡ earlier of_extensions of_others → ((answer : BrokenLine) → found ≡ Some answer → ⊥)
     → Valid (whole_of tables g)
 still_valid tables written g of_extensions of_others found valid whole first others_are found_is never =
     let line : option_map broken found ≡ first_line_broken tables written =

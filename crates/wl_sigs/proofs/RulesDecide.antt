@@ -183,8 +183,8 @@ event_named place opcode m (inr named) = named
 unnamed_from : (tables : List Interface) → ((place : ℕ) (i : Interface) → slice_get tables place ≡ Some i
     → RequestsNamed place i) → EachMessage tables Event NoUnnamedNew → UnnamedNewInBindAlone tables
 unnamed_from tables requests events place Request opcode m h =
-    let it = found tables place Request opcode m h
-    in bind_or_named place opcode m (requests place it.interface it.at opcode m it.of)
+    let witness = found tables place Request opcode m h
+    in bind_or_named place opcode m (requests place witness.interface witness.at opcode m witness.of)
 unnamed_from tables requests events place Event opcode m h = inr (events place opcode m h)
 
 pub decides_bind : (tables : List Interface) → Decides (test.unnamed_new_in_bind_alone tables)
@@ -303,9 +303,9 @@ below_from : (tables : List Interface) → ((side : Side) → EachInterface tabl
     → (place : ℕ) (side : Side) (opcode : ℕ) (i : Interface) (m : MessageSignature) → interface_at tables place ≡ Some i
     → signature_at tables place side opcode ≡ Some m → m.since ≤ i.version
 below_from tables all place side opcode i m at h =
-    let it = found tables place side opcode m h in
-    let same : it.interface ≡ i = (let e : Some it.interface ≡ Some i = sym it.at ∙ at in cc) in
-    all side place i at opcode m (subst (λ x. message_of side opcode x ≡ Some m) same it.of)
+    let witness = found tables place side opcode m h in
+    let same : witness.interface ≡ i = (let e : Some witness.interface ≡ Some i = sym witness.at ∙ at in cc) in
+    all side place i at opcode m (subst (λ x. message_of side opcode x ≡ Some m) same witness.of)
 
 pub decides_sinces : (tables : List Interface) → Decides (test.sinces_are_in_range tables) (SincesAreInRange tables)
 decides_sinces tables =
@@ -404,8 +404,8 @@ decides_argument : (tables : List Interface) → Decides (test.argument_ends_in_
     (ArgumentEndsInFixesAlone tables)
 decides_argument tables =
     Decides-like (test.argument_ends_in_fixes_alone tables)
-    (λ all place side opcode m h. let it = found tables place side opcode m h
-    in fixes_from side opcode place it.interface m (all place it.interface it.at) it.of)
+    (λ all place side opcode m h. let witness = found tables place side opcode m h
+    in fixes_from side opcode place witness.interface m (all place witness.interface witness.at) witness.of)
     (λ all place i at. fixes_to place i (λ side opcode m of. all place side opcode m
     (signature_from tables place side opcode i m at of)))
     (Decides-by_place (λ place i. nat_eq place 18 || test.both_sides

@@ -245,15 +245,15 @@ was_made_rightly tables place past ended ends there bare.NewByServer (Some name)
         → option_map_or (λ b. b) o false ≡ false
     mark p named None at = refl
     mark p named (Some b) at =
-        let it = ends p b at in
-        let right = free (iface_named place past name) it.0 refl (rw named it.1) in
-        sym it.2 ∙ right.0
+        let witness = ends p b at in
+        let right = free (iface_named place past name) witness.0 refl (rw named witness.1) in
+        sym witness.2 ∙ right.0
 
     by_place : (o : Option ℕ) → place name ≡ o → not (is_forbidden ended o) ≡ true
     by_place None named = refl
     by_place (Some p) named =
-        let it = there name p named in
-        let right = free (iface_named place past name) it.0 refl (rw named it.1) in
+        let witness = there name p named in
+        let right = free (iface_named place past name) witness.0 refl (rw named witness.1) in
         let place_is : unwrap_or (place name) past ≡ p = rw named refl in
         let never : ¬ IsFixedPlace p = subst (λ (q : ℕ). ¬ IsFixedPlace q) place_is right.1 in
         not_either (is_fixed_place p) (is_ended ended (Some p)) (none_fixed p never)
@@ -287,13 +287,13 @@ wrongly_made tables place past ended ends there bare.NewByServer (Some name) t =
         → IsWronglyMade tables (kinds.NewByServer (iface_named place past name))
     by_mark p named None at t = cc t
     by_mark p named (Some b) at t =
-        let it = ends p b at in
+        let witness = ends p b at in
         record {
           iface = iface_named place past name;
-          interface = it.0;
+          interface = witness.0;
           is = refl;
-          at = rw named it.1;
-          wrong = inr (it.2 ∙ t);
+          at = rw named witness.1;
+          wrong = inr (witness.2 ∙ t);
         }
 
     by_place : (o : Option ℕ) → place name ≡ o → is_forbidden ended o ≡ true
@@ -301,13 +301,13 @@ wrongly_made tables place past ended ends there bare.NewByServer (Some name) t =
     by_place None named t = cc t
     by_place (Some p) named t = elim (either (is_fixed_place p) (is_ended ended (Some p)) t) [
       | inl fixed ↦
-          let it = there name p named in
+          let witness = there name p named in
           let place_is : p ≡ unwrap_or (place name) past = rw named refl in
           record {
             iface = iface_named place past name;
-            interface = it.0;
+            interface = witness.0;
             is = refl;
-            at = rw named it.1;
+            at = rw named witness.1;
             wrong = inl (subst IsFixedPlace place_is ((decides_fixed p).0 fixed));
           }
       | inr ends_it ↦ by_mark p named (slice_get ended p) refl ends_it

@@ -42,12 +42,12 @@ some_told tables any =
 
 told_some : (tables : List Interface) → HasServerObjects tables → has_server_objects tables ≡ true
 told_some tables h =
-    let it = found tables h.place Event h.opcode h.event h.at in
+    let witness = found tables h.place Event h.opcode h.event h.at in
     let kind : has_server_object h.event ≡ true =
     list_any_at is_by_server h.event.kinds h.has.0 (kinds.NewByServer h.iface) h.has.1 (ap is_by_server h.has.2) in
-    let event : list_any has_server_object it.interface.events ≡ true =
-    any_true has_server_object it.interface.events h.opcode h.event it.of kind in
-    any_true (λ (i : Interface). list_any has_server_object i.events) tables h.place it.interface it.at event
+    let event : list_any has_server_object witness.interface.events ≡ true =
+    any_true has_server_object witness.interface.events h.opcode h.event witness.of kind in
+    any_true (λ (i : Interface). list_any has_server_object i.events) tables h.place witness.interface witness.at event
 
 server_objects_told : (tables : List Interface) → (has_server_objects tables ≡ true) ↔ HasServerObjects tables
 server_objects_told tables = (some_told tables, told_some tables)

@@ -120,10 +120,10 @@ interface_says tables written k w at = record {
     name_says e = elim (either_fails (is_name w.name) (is_first (first_place names) w.name here) e) [
       | inl none ↦ interface_misnamed refl (not_name w.name none)
       | inr again ↦
-          let it = earlier_name names w.name here here_name again.1 in
-          let j = mapped_at (λ (i : Interface). i.name) (joined tables written) it.0 w.name
-          (rw (names_joined tables written) it.2) in
-          interface_named_again it.0 j.0 refl it.1 j.1 j.2
+          let witness = earlier_name names w.name here here_name again.1 in
+          let j = mapped_at (λ (i : Interface). i.name) (joined tables written) witness.0 w.name
+          (rw (names_joined tables written) witness.2) in
+          interface_named_again witness.0 j.0 refl witness.1 j.1 j.2
     ]
 
     beyond_says : nat_lt here 1024 ≡ false → InterfaceBroken tables written k w 3
@@ -264,11 +264,11 @@ message_says tables written w side o m of = record {
     name_says e = elim (either_fails (is_name m.name) (is_first (first_place own_names) m.name o) e) [
       | inl none ↦ message_misnamed refl (not_name m.name none)
       | inr again ↦
-          let it = earlier_name own_names m.name o (own_name o m of) again.1 in
-          let n = mapped_at (λ (n : WrittenMessage). n.name) (written_of side w) it.0 m.name it.2 in
-          message_named_again it.0 (placing_message tables written n.0) refl it.1
+          let witness = earlier_name own_names m.name o (own_name o m of) again.1 in
+          let n = mapped_at (λ (n : WrittenMessage). n.name) (written_of side w) witness.0 m.name witness.2 in
+          message_named_again witness.0 (placing_message tables written n.0) refl witness.1
           (rw (placed_messages tables written side w)
-          (slice_get-map (placing_message tables written) (written_of side w) it.0
+          (slice_get-map (placing_message tables written) (written_of side w) witness.0
           ∙ ap (option_map (placing_message tables written)) n.1)) n.2
     ]
 
@@ -290,25 +290,25 @@ message_says tables written w side o m of = record {
     -- V5
     unnamed_says : list_all (λ k. not (makes_unnamed k)) m.kinds ≡ false → Broken 5
     unnamed_says e =
-        let it = some_kind makes_unnamed kind_of m.kinds e in
+        let witness = some_kind makes_unnamed kind_of m.kinds e in
         new_without_interface refl (subst (λ (x : Kind). Contains (map kind_of m.kinds) x)
-        (unnamed_is place past it.kind.kind it.kind.iface it.passes) it.there)
+        (unnamed_is place past witness.kind.kind witness.kind.iface witness.passes) witness.there)
 
     -- V6
     any_says : (s : Side) → side ≡ s → names_objects s m ≡ false → Broken 6
     any_says Request is e =
-        let it = some_kind takes_any kind_of m.kinds e in
-        let any = any_is place past it.kind.kind it.kind.iface it.passes in
-        object_of_any any.0 refl is (subst (λ (x : Kind). Contains (map kind_of m.kinds) x) any.1 it.there)
+        let witness = some_kind takes_any kind_of m.kinds e in
+        let any = any_is place past witness.kind.kind witness.kind.iface witness.passes in
+        object_of_any any.0 refl is (subst (λ (x : Kind). Contains (map kind_of m.kinds) x) any.1 witness.there)
     any_says Event is e = cc e
 
     -- V7
     race_says : (s : Side) → side ≡ s → is_race_free place ended w s m ≡ false → Broken 7
     race_says Request is e =
-        let it = some_kind (takes_ended place ended) kind_of m.kinds e in
-        let ends = ended_named all place past ended (ended_is tables written) it.kind.kind it.kind.iface it.passes in
+        let witness = some_kind (takes_ended place ended) kind_of m.kinds e in
+        let ends = ended_named all place past ended (ended_is tables written) witness.kind.kind witness.kind.iface witness.passes in
         object_of_ended ends.null ends.iface ends.interface refl is
-        (subst (λ (x : Kind). Contains (map kind_of m.kinds) x) ends.is it.there) ends.at ends.ends
+        (subst (λ (x : Kind). Contains (map kind_of m.kinds) x) ends.is witness.there) ends.at ends.ends
     race_says Event is e =
         let both = either_races m.destroys (is_empty w.requests) e in
         event_destroys refl is (target_is m.destroys both.0)
@@ -324,9 +324,9 @@ message_says tables written w side o m of = record {
     -- V9
     missing_says : list_all (λ k. not (names_missing place k)) m.kinds ≡ false → Broken 9
     missing_says e =
-        let it = some_kind (names_missing place) kind_of m.kinds e in
-        let missing = missing_named place past it.kind.kind it.kind.iface it.passes in
-        interface_missing (kind_of it.kind) missing.0 refl it.there missing.1
+        let witness = some_kind (names_missing place) kind_of m.kinds e in
+        let missing = missing_named place past witness.kind.kind witness.kind.iface witness.passes in
+        interface_missing (kind_of witness.kind) missing.0 refl witness.there missing.1
         (let le = missing.2 in omega (arith, le, lens))
 
     -- V11
@@ -339,10 +339,10 @@ message_says tables written w side o m of = record {
 
     forbidden_says : list_all (λ k. not (makes_forbidden place ended k)) m.kinds ≡ false → Broken 11
     forbidden_says e =
-        let it = some_kind (makes_forbidden place ended) kind_of m.kinds e in
+        let witness = some_kind (makes_forbidden place ended) kind_of m.kinds e in
         let made = wrongly_made all place past ended (ended_is tables written) (name_there tables written)
-        it.kind.kind it.kind.iface it.passes in
-        let there = subst (λ (x : Kind). Contains (map kind_of m.kinds) x) made.is it.there in
+        witness.kind.kind witness.kind.iface witness.passes in
+        let there = subst (λ (x : Kind). Contains (map kind_of m.kinds) x) made.is witness.there in
         elim made.wrong [
           | inl fixed ↦ server_object_of_fixed made.iface made.interface refl there made.at fixed
           | inr ends ↦ server_object_of_ended made.iface made.interface refl there made.at ends

@@ -51,7 +51,7 @@ pub Decides-message : (test : MessageSignature → Bool) (P : MessageSignature �
     → (tables : List Interface) (side : Side) → Decides (each_message test tables side) (EachMessage tables side P)
 Decides-message test P each tables side =
     Decides-like (each_message test tables side)
-    (λ all place opcode m h. let it = found tables place side opcode m h in all place it.interface it.at opcode m it.of)
+    (λ all place opcode m h. let witness = found tables place side opcode m h in all place witness.interface witness.at opcode m witness.of)
     (λ all place i at opcode m of. all place opcode m (signature_from tables place side opcode i m at of))
     (Decides-each (λ i. list_all test (messages_of side i))
     (λ i. (opcode : ℕ) (m : MessageSignature) → slice_get (messages_of side i) opcode ≡ Some m → P m)

@@ -32,7 +32,7 @@ unbroken_told tables all text written valid told None unbroken is =
       same,
       subst Valid same (extended_valid tables written valid unbroken),
     )
-unbroken_told tables all text written valid told (Some it) broken is = cc is
+unbroken_told tables all text written valid told (Some answer) broken is = cc is
 
 read_told : (tables all : List Interface) (text : List ℕ) → Valid tables → (r : Result (List WrittenInterface) ℕ)
     → interfaces_from 1 (lines text) [] ≡ r → outcome_of tables r ≡ Ok all → Told tables text all
@@ -60,7 +60,7 @@ texts_told tables all text valid = (
 unbroken_stands : (tables : List Interface) (written : List WrittenInterface) (n : ℕ) → (o : Option Broken)
     → extended_unless tables written o ≡ Err (BadLine n) → ⊥
 unbroken_stands tables written n None is = cc is
-unbroken_stands tables written n (Some it) is = cc is
+unbroken_stands tables written n (Some answer) is = cc is
 
 read_bad : (tables : List Interface) (text : List ℕ) (n : ℕ) → (r : Result (List WrittenInterface) ℕ)
     → interfaces_from 1 (lines text) [] ≡ r → outcome_of tables r ≡ Err (BadLine n) → IsFirstBadLine text n
@@ -89,10 +89,10 @@ broken_stands : (tables : List Interface) (text : List ℕ) (line rule : ℕ) (w
     → (o : Option Broken) → first_line_broken tables written ≡ o → extended_unless tables written o ≡ Err (BadTable line rule)
     → IsBroken tables text line rule
 broken_stands tables text line rule written told None unbroken is = cc is
-broken_stands tables text line rule written told (Some it) broken is =
-    let at : it.line ≡ line = cc is in
-    let breaks : it.rule ≡ rule = cc is in
-    let same : it ≡ broken_of line rule = ap (λ (l : ℕ). broken_of l it.rule) at
+broken_stands tables text line rule written told (Some answer) broken is =
+    let at : answer.line ≡ line = cc is in
+    let breaks : answer.rule ≡ rule = cc is in
+    let same : answer ≡ broken_of line rule = ap (λ (l : ℕ). broken_of l answer.rule) at
     ∙ ap (λ (r : ℕ). broken_of line r) breaks in (
       written,
       told,

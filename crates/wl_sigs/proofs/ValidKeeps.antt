@@ -92,10 +92,10 @@ interface_keeps tables written valid k w at =
 
     alone : (p : ℕ) → slice_get (all_names tables written) p ≡ Some w.name → p ≡ length tables + k
     alone p found =
-        let it = mapped_at (λ (i : Interface). i.name) (joined tables written) p w.name
+        let witness = mapped_at (λ (i : Interface). i.name) (joined tables written) p w.name
         (rw (names_joined tables written) found) in
-        valid.names_distinct.interfaces_distinct p (length tables + k) it.0 _ it.1
-        (placed_at tables written k w at) it.2
+        valid.names_distinct.interfaces_distinct p (length tables + k) witness.0 _ witness.1
+        (placed_at tables written k w at) witness.2
 
 -- what `ended_of` says of a place
 pub ended_is : (tables : List Interface) (written : List WrittenInterface) (p : ℕ) (b : Bool)
@@ -271,9 +271,9 @@ message_keeps tables written two valid side k w o m at of =
   where
     alone : (p : ℕ) → slice_get (map (λ n. n.name) (written_of side w)) p ≡ Some m.name → p ≡ o
     alone p found =
-        let it = mapped_at (λ (n : WrittenMessage). n.name) (written_of side w) p m.name found in
+        let witness = mapped_at (λ (n : WrittenMessage). n.name) (written_of side w) p m.name found in
         valid.names_distinct.messages_distinct (length tables + k) side p o _ _
-        (message_at tables written side k w p it.0 at it.1) (message_at tables written side k w o m at of) it.2
+        (message_at tables written side k w p witness.0 at witness.1) (message_at tables written side k w o m at of) witness.2
 
 -- no rule is broken where all tests pass
 interface_unbroken : (place : List ℕ → Option ℕ) (here : ℕ) (i : WrittenInterface) → InterfaceKeeps place here i

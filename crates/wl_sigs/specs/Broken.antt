@@ -137,7 +137,7 @@ message_rule place ended i side first opcode m =
 
 abbrev pub broken_at : ℕ → Option ℕ → Option Broken
 broken_at line rule =
-    option_map (λ r. let it : Broken = record { line = line; rule = r } in it) rule
+    option_map (λ r. let broken_line : Broken = record { line = line; rule = r } in broken_line) rule
 
 -- whether one stands at an earlier line than the other, or at the same and its rule is less
 abbrev pub comes_first : Broken → Broken → Bool

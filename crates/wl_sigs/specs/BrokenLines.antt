@@ -22,4 +22,4 @@ added_here tables place ended here i (Some more) =
     (added_side_broken tables place ended here i more Event)
 
 abbrev pub broken : BrokenLine → Broken
-broken it = record { line = it.line; rule = it.rule }
+broken found = record { line = found.line; rule = found.rule }

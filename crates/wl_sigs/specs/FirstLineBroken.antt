@@ -104,8 +104,8 @@ ExtendsRightly tables written =
 
 -- The line breaks the rule and no lesser one, and no earlier line breaks any.
 pub record IsFirstBrokenLine (tables : List Interface) (written : List WrittenInterface)
-    (it : Broken)
+    (broken : Broken)
     : Type 0 where
-  pub breaks : LineBreaks tables written it.line it.rule
-  pub least : (rule : ℕ) → LineBreaks tables written it.line rule → it.rule ≤ rule
-  pub first : (line rule : ℕ) → LineBreaks tables written line rule → it.line ≤ line
+  pub breaks : LineBreaks tables written broken.line broken.rule
+  pub least : (rule : ℕ) → LineBreaks tables written broken.line rule → broken.rule ≤ rule
+  pub first : (line rule : ℕ) → LineBreaks tables written line rule → broken.line ≤ line

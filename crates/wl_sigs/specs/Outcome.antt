@@ -13,7 +13,7 @@ use Rattle.wl_sigs.specs.Extending.{first_line_broken}
 abbrev pub extended_unless : List Interface → List WrittenInterface → Option Broken
     → Result (List Interface) TableFault
 extended_unless tables written None = Ok (extended tables written)
-extended_unless tables written (Some it) = Err (BadTable it.line it.rule)
+extended_unless tables written (Some first) = Err (BadTable first.line first.rule)
 
 abbrev pub outcome_of : List Interface → Result (List WrittenInterface) ℕ
     → Result (List Interface) TableFault

@@ -69,8 +69,8 @@ pub fn places_and_opcodes_stay()
 /// Of what a text lists, the broken line that is found is the first that breaks a rule of valid
 /// tables behind these, and the rule the least that it breaks.
 pub fn first_broken_is_first()
-    ensures { (tables : List Interface) (written : List WrittenInterface) (it : Broken)
-        → (first_line_broken tables written ≡ Some it) ↔ IsFirstBrokenLine tables written it }
+    ensures { (tables : List Interface) (written : List WrittenInterface) (broken : Broken)
+        → (first_line_broken tables written ≡ Some broken) ↔ IsFirstBrokenLine tables written broken }
 {}
 
 /// A text is read behind valid tables, as the tables extended by what it lists, exactly where it
