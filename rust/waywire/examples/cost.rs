@@ -1,10 +1,14 @@
 //! Sends messages between a client and a server in one process, and reads them, so that the
 //! instructions of a message can be counted (bench/rust/run). The same as bench/c/calls.c.
 //!
-//!     cost damage|motion|surface TIMES
+//!     cost damage|motion|surface|title BATCH TIMES
 
 use std::hint::black_box;
 use waywire::{event, request, Arg, Client, Fixed, Object, Server, Sizes, Tables};
+
+/// Room for 100 of any of the messages.
+const SIZES: Sizes =
+    Sizes { out_bytes: 131_072, out_tokens: 64, in_bytes: 131_072, in_tokens: 64, limit: 0 };
 
 struct Pair {
     client: Client,
@@ -38,16 +42,23 @@ impl Pair {
     }
 }
 
-fn main() {
-    let words: Vec<String> = std::env::args().collect();
-    let times: i32 = words[2].parse().unwrap();
+/// The objects to which the messages are sent.
+struct Objects {
+    compositor: Object,
+    surface: Object,
+    shell_surface: Object,
+    pointer: Object,
+}
+
+fn open() -> (Pair, Objects) {
     let tables = Tables::core().unwrap();
     let mut pair = Pair {
-        client: Client::new(&tables, &Sizes::default()).unwrap(),
-        server: Server::new(&tables, &Sizes::default()).unwrap(),
-        bytes: vec![0; 65536].into_boxed_slice(),
+        client: Client::new(&tables, &SIZES).unwrap(),
+        server: Server::new(&tables, &SIZES).unwrap(),
+        bytes: vec![0; SIZES.in_bytes].into_boxed_slice(),
     };
-    for (name, version) in [("wl_compositor", 6), ("wl_seat", 9)] {
+    let globals = [("wl_compositor", 6), ("wl_seat", 9), ("wl_shell", 1)];
+    for (name, version) in globals {
         pair.server.add_global(tables.interface(name).unwrap(), version).unwrap();
     }
     let display = pair.client.display();
@@ -56,38 +67,65 @@ fn main() {
     pair.request();
     pair.server.announce().unwrap();
     pair.down();
-    pair.event();
-    pair.event();
+    globals.iter().for_each(|_| pair.event());
     let compositor = pair.client.bind(registry, 1, "wl_compositor", 6).unwrap();
     let seat = pair.client.bind(registry, 2, "wl_seat", 9).unwrap();
+    let shell = pair.client.bind(registry, 3, "wl_shell", 1).unwrap();
     let surface = pair.make(compositor, request::wl_compositor::CREATE_SURFACE);
     let pointer = pair.make(seat, request::wl_seat::GET_POINTER);
+    let args = [Arg::NewId, Arg::Object(Some(surface))];
+    let made = pair.client.send(shell, request::wl_shell::GET_SHELL_SURFACE, &args);
+    let shell_surface = made.unwrap().unwrap();
     pair.up();
-    (0..4).for_each(|_| pair.request());
-    for each in 0..times {
-        match words[1].as_str() {
-            "damage" => {
-                let args = [each, 100, 3, 4].map(Arg::Int);
-                pair.client.send(surface, request::wl_surface::DAMAGE, &args).unwrap();
-                pair.up();
-                pair.request();
-            }
-            "motion" => {
-                let [x, y] = [256, 77].map(|it| Arg::Fixed(Fixed::from_raw(it)));
-                let args = [Arg::Uint(each as u32), x, y];
-                pair.server.send(pointer, event::wl_pointer::MOTION, &args).unwrap();
-                pair.down();
-                pair.event();
-            }
-            _ => {
-                let made = pair.make(compositor, request::wl_compositor::CREATE_SURFACE);
-                pair.client.send(made, request::wl_surface::DESTROY, &[]).unwrap();
-                pair.up();
-                pair.request();
-                pair.request();
-                pair.down();
-                pair.event();
-            }
+    (0..6).for_each(|_| pair.request());
+    (pair, Objects { compositor, surface, shell_surface, pointer })
+}
+
+/// What a case sends, and how many requests and events are read for it.
+type Case = (fn(&mut Pair, &Objects), usize, usize);
+
+fn send_damage(pair: &mut Pair, objects: &Objects) {
+    let args = [1, 2, 3, 4].map(Arg::Int);
+    pair.client.send(objects.surface, request::wl_surface::DAMAGE, &args).unwrap();
+}
+
+fn send_motion(pair: &mut Pair, objects: &Objects) {
+    let [x, y] = [256, 77].map(|it| Arg::Fixed(Fixed::from_raw(it)));
+    let args = [Arg::Uint(1), x, y];
+    pair.server.send(objects.pointer, event::wl_pointer::MOTION, &args).unwrap();
+}
+
+fn send_surface(pair: &mut Pair, objects: &Objects) {
+    let made = pair.make(objects.compositor, request::wl_compositor::CREATE_SURFACE);
+    pair.client.send(made, request::wl_surface::DESTROY, &[]).unwrap();
+}
+
+fn send_title(pair: &mut Pair, objects: &Objects) {
+    let args = [Arg::Str(Some(&[b'a'; 1000]))];
+    let set_title = request::wl_shell_surface::SET_TITLE;
+    pair.client.send(objects.shell_surface, set_title, &args).unwrap();
+}
+
+fn main() {
+    let words: Vec<String> = std::env::args().collect();
+    let (send, requests, events): Case = match words[1].as_str() {
+        "damage" => (send_damage, 1, 0),
+        "motion" => (send_motion, 0, 1),
+        "surface" => (send_surface, 2, 1),
+        "title" => (send_title, 1, 0),
+        other => panic!("no case is called {other}"),
+    };
+    let (batch, times): (usize, usize) = (words[2].parse().unwrap(), words[3].parse().unwrap());
+    let (mut pair, objects) = open();
+    for _ in 0..times {
+        (0..batch).for_each(|_| send(&mut pair, &objects));
+        if requests > 0 {
+            pair.up();
         }
+        (0..batch * requests).for_each(|_| pair.request());
+        if events > 0 {
+            pair.down();
+        }
+        (0..batch * events).for_each(|_| pair.event());
     }
 }
