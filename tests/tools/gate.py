@@ -276,7 +276,7 @@ exit 1""")
         for signal, name, is_memory in ((9, "KILL", True), (15, "TERM", False)):
             said = self.failing("9 passed, 1", picture=f"kill -{signal} $$")
             self.assertIn(f"tests/check-picture, which ended by signal {signal} ({name}) and", said)
-            self.assertEqual("for want of memory" in said, is_memory, said)
+            self.assertEqual("for lack of memory" in said, is_memory, said)
 
     def test_a_status_that_no_count_explains(self):
         said = self.failing("10 passed, 1", tools="echo '1 passed, 0 failed'; exit 3")
@@ -293,9 +293,9 @@ exit 1""")
             return said
 
         tried = "rt: must-fail a/b.edit: NOT TRIED: its check ended with status 3"
-        self.assertNotIn("for want of memory", gate(tried))
+        self.assertNotIn("for lack of memory", gate(tried))
         killed = "rt: the check was killed, most likely for memory: once more"
-        self.assertIn("for want of memory", gate(killed, "rt: c NOT PROVED"))
+        self.assertIn("for lack of memory", gate(killed, "rt: c NOT PROVED"))
 
     def test_an_exception_in_a_test(self):
         """It is counted, and the tests behind it are run."""
