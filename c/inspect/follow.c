@@ -1,4 +1,5 @@
-/* Cuts a client's bytes into messages, and takes these apart. */
+/* Cuts a client's bytes into messages, and follows what they change. The library's reader takes them apart
+ * (waywire_tables_decode): no code here reads the wire. */
 #define _GNU_SOURCE
 #include "follow.h"
 
@@ -46,21 +47,27 @@ bool follow_piece(struct follower *follower, int from, const unsigned char *byte
 	return true;
 }
 
-static uint32_t word_at(const unsigned char *bytes)
+/* Reads the header in front of a direction: target, opcode and size of `header`. They are the same by whatever
+ * interface a message is taken apart, and whatever the status says. False where the header is not whole. */
+static bool read_header(const struct follower *follower, int from, waywire_decoded *header)
 {
-	return bytes[0] | (uint32_t)bytes[1] << 8 | (uint32_t)bytes[2] << 16 | (uint32_t)bytes[3] << 24;
+	const struct stream *stream = &follower->streams[from];
+	if (stream->to - stream->from < HEADER)
+		return false;
+	waywire_tables_decode(follower->tables, 0, UINT32_MAX, (waywire_sender)from, stream->bytes + stream->from,
+		HEADER, header);
+	return true;
 }
 
 bool has_message(const struct follower *follower, int from, bool *is_bad)
 {
 	const struct stream *stream = &follower->streams[from];
-	size_t left = stream->to - stream->from;
+	waywire_decoded header;
 	*is_bad = false;
-	if (left < HEADER)
+	if (!read_header(follower, from, &header))
 		return false;
-	uint32_t size = word_at(stream->bytes + stream->from + 4) >> 16;
-	*is_bad = size < HEADER || size % 4 || size > follower->limit;
-	return *is_bad || size <= left;
+	*is_bad = header.size < HEADER || header.size % 4 || header.size > follower->limit;
+	return *is_bad || header.size <= stream->to - stream->from;
 }
 
 /* ---- a message, taken apart */
@@ -173,12 +180,12 @@ void read_message(const struct follower *follower, int from, struct message *mes
 		.offset = stream->offset, .piece = follower->piece_count, .seconds = follower->seconds,
 		.bytes = stream->bytes + stream->from, .length = left };
 	message->status = WAYWIRE_FAULT_BAD_SIZE;
-	if (left < HEADER)
+	waywire_decoded header;
+	if (!read_header(follower, from, &header))
 		return;
-	uint32_t second = word_at(message->bytes + 4);
-	message->opcode = second & 0xffff;
-	message->size = second >> 16;
-	message->target = object_of(&follower->objects, word_at(message->bytes));
+	message->opcode = header.opcode;
+	message->size = header.size;
+	message->target = object_of(&follower->objects, header.target);
 	if (message->size >= HEADER && message->size < left)
 		message->length = message->size;
 	take_apart(follower, message);
@@ -224,12 +231,11 @@ static bool note_global(struct follower *follower, const struct message *message
 	return true;
 }
 
-void skip_message(struct follower *follower, int from)
+void skip_message(struct follower *follower, const struct message *message)
 {
-	struct stream *stream = &follower->streams[from];
-	uint32_t size = word_at(stream->bytes + stream->from + 4) >> 16;
-	stream->from += size;
-	stream->offset += size;
+	struct stream *stream = &follower->streams[message->from];
+	stream->from += message->size;
+	stream->offset += message->size;
 	stream->count++;
 	follower->count++;
 }
@@ -247,6 +253,6 @@ bool follow_message(struct follower *follower, struct message *message)
 		object_end(objects, message->destroyed.id, message->number);
 	if (message->freed.id)
 		object_free(objects, message->freed.id);
-	skip_message(follower, message->from);
+	skip_message(follower, message);
 	return is_kept;
 }

@@ -141,8 +141,8 @@ void read_message(const struct follower *follower, int from, struct message *mes
 /* Makes the changes of that message, and goes past it. False where memory runs out. */
 bool follow_message(struct follower *follower, struct message *message);
 
-/* Goes past the message in front, which changes nothing. */
-void skip_message(struct follower *follower, int from);
+/* Goes past that message, which changes nothing. */
+void skip_message(struct follower *follower, const struct message *message);
 
 /* Whether a global of this name and interface was announced, with at least this version. */
 bool is_announced(const struct follower *follower, uint32_t name, const char *interface, size_t length,

@@ -209,7 +209,7 @@ static void meet_fault(struct judging *judging, int from, const char *verdict, s
 	text_put(&judging->verdict, verdict, length);
 	tell_broken(judging, &message, &fault);
 	if (has_message(&judging->follower, from, &is_bad_size) && !is_bad_size)
-		skip_message(&judging->follower, from);
+		skip_message(&judging->follower, &message);
 	else
 		judging->is_lost[from] = true;
 }
@@ -230,7 +230,7 @@ static void look_for_error(struct judging *judging, int from)
 			tell(judging, &message, &line, &beside);
 			text_free(&line);
 		} else
-			skip_message(&judging->follower, from);
+			skip_message(&judging->follower, &message);
 	}
 	judging->is_lost[from] |= is_bad_size;
 	if (from == CLIENT || judging->is_lost[from])
