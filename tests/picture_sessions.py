@@ -45,7 +45,8 @@ class Lines:
             "index": self.number, "piece": self.number, "offset": self.offset[direction], "size": size,
             "object": target, "opcode": opcode, "message": name, "state": "live", "arguments": arguments,
             "made": made, "destroyed": [], "freed": [],
-            "text": f"{arrow} {target['interface']}@{target['id']}.{name}({printed})", "judged": True, **parts})
+            "text": f"{arrow} {target['interface']}@{target['id']}.{name}({printed})", "bytes": "00" * size,
+            "judged": True, **parts})
         self.offset[direction] += size
 
 

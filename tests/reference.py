@@ -1,8 +1,9 @@
 """Recordings, traces and verdicts, read in Python as docs/FORMATS.md has them.
 
-It is for the tests: slow, without bounds on memory, and written from the page alone, so that what it says
-can be held against what the program says. Texts of tables are read by tools/table_text.py, which `checks`
-puts on the path: it is imported first.
+This is the one reader of the wire beside the proved one, and there so that tests have something to compare
+that one with: it is written from the page alone, slow, and without bounds on memory. Tools take messages
+apart by waywire_tables_decode, or read what `waywire-inspect --json` says of them. Texts of tables are read by
+tools/table_text.py, which `checks` puts on the path: it is imported first.
 """
 
 import re

@@ -1,8 +1,8 @@
 """The lines of `waywire-inspect --json` as columns, which a page of waywire-picture holds deflated.
 
 A message is a row of numbers: its signature, its object and its arguments' values are numbers of the lists
-`signatures`, `objects`, `strings` and `arrays`. Nothing here reads a recording, or takes a printed line
-apart: the end of a line is kept as it was printed."""
+`signatures`, `objects` and `strings`. Nothing here reads a recording, or takes a message or a printed line
+apart: bytes are kept as digits, and the end of a line as it was printed."""
 
 import base64
 import json
@@ -12,7 +12,7 @@ from array import array
 # A page holds no more messages, and no more bytes of text; what comes behind is left out, and it says so.
 MOST_MESSAGES = 200_000
 MOST_TEXT = 32 * 2**20
-# Of an array no more bytes are kept.
+# Of a message no more bytes are kept.
 MOST_BYTES = 256
 STATES = {"live": 0, "ending": 1, "unknown": 2}
 
@@ -62,11 +62,11 @@ class Columns:
         self.client, self.others = client, set()
         self.head, self.who = {}, {}
         self.verdict = self.broken = self.error = None
-        self.signatures, self.strings, self.arrays = Numbered(), Numbered(), Numbered()
+        self.signatures, self.strings = Numbered(), Numbered()
         self.objects, self.about = {}, []
         names = ("time", "piece", "signature", "object", "size", "offset", "state")
         self.rows = {it: array("q") for it in names}
-        self.values, self.rest = [], []
+        self.values, self.rest, self.bytes = [], [], []
         self.made, self.destroyed, self.freed = [], [], []
         self.text_size, self.left_out, self.cut_at, self.notes = 0, 0, 0, []
         self.last_time, self.last_piece, self.next_offset = 0, 0, {}
@@ -109,21 +109,11 @@ class Columns:
 
     def take_broken(self, found):
         """A message that breaks a rule is a row like others, also where it could not be taken apart."""
-        message = found.get("message") or {"object": self.target(found["bytes"]), "opcode": -1, "message": None,
-                                           "arguments": [], "state": "unknown", "text": "", "piece": None}
-        place = {it: found[it] for it in ("direction", "offset", "size", "number")}
-        self.broken = {"place": len(self.rest), "fault": found["fault"], "words": found["words"],
-                       "bytes": found["bytes"][: 2 * MOST_BYTES]}
-        self.add_row({"time": None, **message, **place, "made": (), "destroyed": (), "freed": ()})
-
-    def target(self, digits):
-        """The object that a message is for which could not be taken apart: the last with its id."""
-        number = int.from_bytes(bytes.fromhex(digits[:8]), "little") if len(digits) >= 8 else 0
-        known = [it for it in self.objects if it[0] == number]
-        if not known:
-            return {"interface": None, "id": number, "birth": 0}
-        interface, _, birth, _ = self.about[self.objects[known[-1]]]
-        return {"interface": interface, "id": number, "birth": birth}
+        message = found["message"] or {"object": found["object"], "opcode": -1, "message": None,
+                                       "arguments": [], "state": "unknown", "text": "", "piece": None}
+        own = {it: found[it] for it in ("direction", "offset", "size", "number", "bytes")}
+        self.broken = {"place": len(self.rest), "fault": found["fault"], "words": found["words"]}
+        self.add_row({"time": None, **message, **own, "made": (), "destroyed": (), "freed": ()})
 
     def object(self, found, version=None):
         """The number of an object; -1 stands for none."""
@@ -146,9 +136,9 @@ class Columns:
             return self.object(argument, argument.get("version"))
         if kind == "string":
             value = argument["value"]
-            return -1 if value is None else self.strings.of((value, argument.get("bytes")))
+            return -1 if value is None else self.strings.of(value)
         if kind == "array":
-            return self.arrays.of((argument["size"], argument["value"][: 2 * MOST_BYTES]))
+            return argument["size"]
         return argument["number"] if kind == "fd" else argument["value"]
 
     def take_message(self, found):
@@ -184,6 +174,7 @@ class Columns:
             for it in found.get(what) or ():
                 kept += (place, self.object(it))
         self.rest.append(self.end_of_line(found, arguments))
+        self.bytes.append(found["bytes"][: 2 * MOST_BYTES])
 
     def end_of_line(self, found, arguments):
         """What the printed line has behind the message's name, with letters of all scripts as they are."""
@@ -213,9 +204,8 @@ class Columns:
             "verdict": self.verdict, "broken": self.broken, "error": self.error, "left_out": self.left_out, "cut_at": self.cut_at,
             "notes": self.notes,
             "signatures": self.signatures.values(), "strings": self.strings.values(),
-            "arrays": self.arrays.values(),
             "objects": dict(zip(("interface", "id", "birth", "version"), about)),
-            "rest": "\n".join(self.rest), "values": self.values,
+            "rest": "\n".join(self.rest), "bytes": "\n".join(self.bytes), "values": self.values,
             "made": self.made, "destroyed": self.destroyed, "freed": self.freed,
             **{name: row.tolist() for name, row in self.rows.items()},
         }

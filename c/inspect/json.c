@@ -48,6 +48,14 @@ static void put_words(struct text *text, const char *words)
 	put_name(text, words, words ? strlen(words) : 0);
 }
 
+/* Puts bytes as digits. */
+static void put_bytes(struct text *text, const char *key, const void *bytes, size_t length)
+{
+	text_format(text, ",\"%s\":\"", key);
+	text_hex(text, bytes, length);
+	text_add(text, "\"");
+}
+
 /* Puts the three parts that name an object, without braces. */
 static void put_parts(struct text *text, const struct object *object)
 {
@@ -88,11 +96,8 @@ static void put_text(struct text *text, const struct argument *argument)
 	text_add(text, ",\"value\":");
 	if (value->kind == WAYWIRE_NULL_STRING)
 		text_add(text, "null");
-	else if (!put_string(text, value->bytes, value->length)) {
-		text_add(text, ",\"bytes\":\"");
-		text_hex(text, value->bytes, value->length);
-		text_add(text, "\"");
-	}
+	else if (!put_string(text, value->bytes, value->length))
+		put_bytes(text, "bytes", value->bytes, value->length);
 }
 
 static void put_object_argument(struct text *text, const struct argument *argument)
@@ -139,9 +144,8 @@ static void put_argument(struct text *text, const struct argument *argument, uin
 		break;
 	case WAYWIRE_ARRAY:
 		begin_argument(text, "array", argument);
-		text_format(text, ",\"size\":%zu,\"value\":\"", value->length);
-		text_hex(text, value->bytes, value->length);
-		text_add(text, "\"");
+		text_format(text, ",\"size\":%zu", value->length);
+		put_bytes(text, "value", value->bytes, value->length);
 		break;
 	case WAYWIRE_FD:
 		begin_argument(text, "fd", argument);
@@ -214,6 +218,7 @@ void json_message(const struct shown *shown, const struct message *message, cons
 	struct text json = { NULL, 0, 0 };
 	text_add(&json, "{");
 	put_message_parts(&json, shown, message, line);
+	put_bytes(&json, "bytes", message->bytes, message->length);
 	text_format(&json, ",\"judged\":%s", message->is_judged ? "true" : "false");
 	if (beside->note) {
 		text_add(&json, ",\"note\":");
@@ -230,10 +235,12 @@ void json_broken(const struct shown *shown, const struct breaking *breaking)
 	text_format(&line, "{\"type\":\"broken\",\"client\":%u,\"number\":%" PRIu64 ",\"fault\":\"F%u\",\"words\":",
 		shown->number, message->number, breaking->fault.number);
 	put_name(&line, breaking->words->bytes, breaking->words->length);
-	text_format(&line, ",\"direction\":\"%s\",\"offset\":%" PRIu64 ",\"size\":%zu,\"bytes\":\"",
+	text_format(&line, ",\"direction\":\"%s\",\"offset\":%" PRIu64 ",\"size\":%zu",
 		message->from == CLIENT ? "request" : "event", message->offset, message->size);
-	text_hex(&line, message->bytes, message->length);
-	text_add(&line, "\",\"message\":");
+	put_bytes(&line, "bytes", message->bytes, message->length);
+	text_add(&line, ",\"object\":{");
+	put_parts(&line, &message->target);
+	text_add(&line, "},\"message\":");
 	if (!message->name)
 		text_add(&line, "null");
 	else {

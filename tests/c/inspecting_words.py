@@ -279,10 +279,11 @@ class Json(Talking):
         self.assertEqual([it["piece"] for it in messages], [1, 2, 3, 4, 5, 5])
         bound = messages[2]
         self.assertEqual({it: bound[it] for it in ("direction", "offset", "size", "opcode", "message", "state",
-                                                   "object", "judged", "text")},
+                                                   "object", "judged", "text", "bytes")},
                          {"direction": "request", "offset": 12, "size": 32, "opcode": 0, "message": "bind",
                           "state": "live", "object": {"interface": "wl_registry", "id": 2, "birth": 1}, "judged": True,
-                          "text": '-> wl_registry@2.bind(1, "wl_seat", 5, new id wl_seat@3)'})
+                          "text": '-> wl_registry@2.bind(1, "wl_seat", 5, new id wl_seat@3)',
+                          "bytes": bind(1, "wl_seat", 5, 3).hex()})
         self.assertEqual(bound["arguments"], [
             {"kind": "uint", "name": "name", "value": 1},
             {"kind": "new", "name": "id", "interface": "wl_seat", "id": 3, "birth": 1, "version": 5}])
@@ -309,7 +310,8 @@ class Json(Talking):
         broken = next(it for it in told if it["type"] == "broken")
         self.assertEqual(broken, {"type": "broken", "client": 1, "number": 2, "fault": "F2",
                                   "words": "F2: no object has had the id 9", "direction": "request", "offset": 12,
-                                  "size": 8, "bytes": "0900000000000800", "message": None})
+                                  "size": 8, "bytes": "0900000000000800",
+                                  "object": {"interface": None, "id": 9, "birth": 0}, "message": None})
         self.assertEqual([it["type"] for it in told], ["head", "client", "message", "broken", "message", "error",
                                                        "verdict"])
         self.assertEqual(told[-2], {"type": "error", "client": 1, "number": 3, "object":

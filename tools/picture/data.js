@@ -41,12 +41,13 @@ function newObject(number, iface, id, birth, version) {
 
 class Session {
     constructor(raw) {
-        const { rest, signatures } = raw;
+        const { rest, bytes, signatures } = raw;
         this.raw = raw;
         this.title = raw.title;
         this.isTimed = raw.head.timed === true;
         this.count = raw.signature.length;
         this.rest = this.count ? rest.split("\n") : [];
+        this.bytes = this.count ? bytes.split("\n") : [];
         this.signatures = signatures.map(([iface, name, direction, opcode, kinds]) => ({
             interface: iface, name: name ?? (opcode < 0 ? "" : `opcode ${opcode}`), opcode, kinds,
             direction: direction === "request" ? REQUEST : EVENT,

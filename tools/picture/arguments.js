@@ -1,57 +1,10 @@
 "use strict";
-// A message's arguments, in words and as the bytes that they are on the wire.
+// A message's arguments in words, and its bytes: all of it as `waywire-inspect --json` has said it.
 
-function littleEndian(number) {
-    const word = number >>> 0;
-    return [word & 255, word >>> 8 & 255, word >>> 16 & 255, word >>> 24];
-}
-
-const fromHex = (digits) => (digits.match(/../g) ?? []).map((it) => parseInt(it, 16));
-
-function sized(bytes, length = bytes.length) {
-    return [...littleEndian(length), ...bytes, ...Array(-bytes.length & 3).fill(0)];
-}
-
-function stringBytes([text, digits]) {
-    return sized([...(digits ? fromHex(digits) : new TextEncoder().encode(text)), 0]);
-}
-
-function argumentBytes(session, message, place) {
-    const { kinds } = session.signatures[session.signature[message]];
-    const value = session.value(message, place);
-    switch (kinds[place][0]) {
-        case "fixed": return littleEndian(Math.round(value * 256));
-        case "string": return value < 0 ? littleEndian(0) : stringBytes(session.raw.strings[value]);
-        case "array": return sized(fromHex(session.raw.arrays[value][1]), session.raw.arrays[value][0]);
-        case "object": return littleEndian(session.objects[value]?.id ?? 0);
-        case "new": {
-            const { interface: name, version, id } = session.objects[value];
-            const isBind = session.isOf(message, "wl_registry", "bind");
-            const isWhole = isBind && !kinds.some(([kind]) => kind === "string");
-            return [...(isWhole ? [...stringBytes([name, null]), ...littleEndian(version)] : []), ...littleEndian(id)];
-        }
-        case "fd": return [];
-        default: return littleEndian(value);
-    }
-}
-
-// The bytes of a message in words of four, as digits; of a long array they end with two dots.
+// The bytes of a message in words of four, as digits; those of a long message end with two dots.
 function bytesOf(session, message) {
-    if (message === session.bad) {
-        return grouping(session.raw.broken.bytes ?? "", session.size[message]);
-    }
-    const { opcode, kinds } = session.signatures[session.signature[message]];
-    const bytes = kinds.flatMap((_, place) => argumentBytes(session, message, place));
-    const size = session.size[message];
-    const all = [...littleEndian(session.objects[session.object[message]]?.id ?? 0),
-        ...littleEndian(size * 65536 + opcode), ...bytes];
-    return grouping(all.map((it) => it.toString(16).padStart(2, "0")).join(""), size);
-}
-
-function grouping(digits, size) {
-    const most = 256;
-    const words = digits.slice(0, 2 * most).match(/.{1,8}/g) ?? [];
-    return words.join(" ") + (Math.min(most, digits.length / 2) < size ? " .." : "");
+    const digits = session.bytes[message];
+    return (digits.match(/.{1,8}/g) ?? []).join(" ") + (digits.length / 2 < session.size[message] ? " .." : "");
 }
 
 // An argument's value in words; an object of the session beside it, if it names one.
@@ -62,8 +15,8 @@ function argumentWords(session, message, place) {
     switch (kind) {
         case "object": return object ? { text: "", object } : { text: "nil" };
         case "new": return { text: `version ${object.version}`, object };
-        case "string": return { text: value < 0 ? "nil" : `“${session.raw.strings[value][0]}”` };
-        case "array": return { text: several(session.raw.arrays[value][0], "byte") };
+        case "string": return { text: value < 0 ? "nil" : `“${session.raw.strings[value]}”` };
+        case "array": return { text: several(value, "byte") };
         case "fd": return { text: value === null ? "fd" : `fd ${value}` };
         default: return { text: String(value) };
     }
@@ -81,7 +34,7 @@ function printedArgument(session, message, place) {
             return { text: isBind ? `"${object.interface}", ${object.version}, ${text}` : text, object };
         }
         case "fixed": return { text: value.toFixed(8) };
-        case "array": return { text: `array[${session.raw.arrays[value][0]}]` };
+        case "array": return { text: `array[${value}]` };
         case "fd": return { text: `fd ${value}` };
         case "string": return { text: null };
         default: return { text: String(value) };
