@@ -3,8 +3,8 @@
 #![allow(dead_code)]
 
 pub mod socket;
-#[rustfmt::skip]
-pub mod xdg_shell;
+// The module `xdg_shell`, which build.rs makes of the protocol's file.
+include!(concat!(env!("OUT_DIR"), "/xdg_shell.rs"));
 
 use std::collections::HashMap;
 use std::io::{Error, ErrorKind};
