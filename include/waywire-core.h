@@ -1,5 +1,5 @@
-/* Typed calls for the protocol core, over waywire.h.
- * Made by stubs-from-xml, which says what each function does.
+/* Made by stubs-from-xml, which says what each function does.
+ * Typed calls for the protocol core, over waywire.h.
  */
 #ifndef WAYWIRE_CORE_H
 #define WAYWIRE_CORE_H

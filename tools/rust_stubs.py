@@ -361,9 +361,9 @@ class Module:
         self.say("}")
 
     def text(self, comments=()):
-        usual = (f"Typed calls for the protocol {self.protocol.name}, over the package waywire.", "",
-                 "Made by stubs-from-xml --rust, which says what each item is.")
-        self.say(*(f"//! {it}".rstrip() for it in comments or usual))
+        usual = ("// Made by stubs-from-xml --rust, which says what each item is.",
+                 f"//! Typed calls for the protocol {self.protocol.name}, over the package waywire.")
+        self.say(*([f"//! {it}".rstrip() for it in comments] or usual))
         if self.protocol.copyright:
             self.say("//!", "//! ```text", *(f"//! {it}".rstrip() for it in self.protocol.copyright), "//! ```")
         self.say("", "#![allow(dead_code, missing_docs)]",

@@ -205,6 +205,7 @@ int main(int argc, char **argv)
 	MUST(!waywire_client_new(tables, &sizes, &client));
 	MUST(!waywire_server_new(tables, &sizes, &server));
 	MUST(!waywire_inspector_new(tables, 4096, &inspector));
+	puts("# Made by tests/c/session.c, which prints what each end reads.");
 	play(most);
 	agree();
 	MUST(*told && !strcmp(told, passed));

@@ -61,6 +61,28 @@ class Crates(unittest.TestCase):
         self.assertEqual(said("below", "no_crate").returncode, 2)
 
 
+class Made(unittest.TestCase):
+    """The files of the repository that a tool made say so in their first line. Other tests compare those of the
+    protocols (Texts), of the crates (Crates.test_picture) and of the contracts (Contracts), and tests/check-c
+    what the program session prints."""
+
+    CORE = module_of("tools/dev/core-files").FILES
+    OTHERS = {"docs/crates.svg": "draw-crates", "docs/CONTRACTS.md": "dev/contracts", "tests/c/session.out": "session.c"}
+
+    def test_of_the_core(self):
+        ran = subprocess.run([f"{TOOLS}/dev/core-files", "--check"], capture_output=True, text=True)
+        self.assertEqual((ran.stdout + ran.stderr, ran.returncode), ("", 0))
+
+    def test_first_lines(self):
+        made = {**dict.fromkeys(self.CORE, "core-files|stubs-from-xml"), **self.OTHERS}
+        texts = glob.glob("examples/tables/*.tables", root_dir=TOP)
+        made.update(dict.fromkeys(texts, "tools/tables-from-xml"))
+        for name, tool in made.items():
+            # A module of Rattle says so at the end of its first comment.
+            head = read(name).split("\n\n" if name.endswith(".rt") else "\n")[0]
+            self.assertRegex(head, rf"(?i)\bmade by \S*({tool})", name)
+
+
 class Contracts(unittest.TestCase):
     """docs/CONTRACTS.md, the list of clauses."""
 

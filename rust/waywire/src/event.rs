@@ -1,6 +1,5 @@
+// Made by tools/dev/core-files.
 //! The opcodes of the core interfaces' events, which a server writes, by name.
-//!
-//! Made by tools/dev/core-files.
 
 #![allow(missing_docs)]
 

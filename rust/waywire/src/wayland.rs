@@ -1,6 +1,5 @@
+// Made by tools/dev/core-files.
 //! Typed calls for the core protocol, wayland.xml without data transfer.
-//!
-//! Made by tools/dev/core-files.
 
 #![allow(dead_code, missing_docs)]
 #![allow(clippy::module_inception, clippy::new_ret_no_self, clippy::too_many_arguments)]
