@@ -114,7 +114,7 @@ bool has_room_behind(int descriptor)
 	if (getrlimit(RLIMIT_NOFILE, &limit) || limit.rlim_cur == RLIM_INFINITY
 		|| (rlim_t)descriptor + KEPT_FREE < limit.rlim_cur)
 		return true;
-	say("a client is refused: %d descriptors are open, at most %llu may be (ulimit -Hn), and %d are kept free",
+	notice("a client is refused: %d descriptors are open, at most %llu may be (ulimit -Hn), and %d are kept free",
 		descriptor, (unsigned long long)limit.rlim_cur, KEPT_FREE);
 	return false;
 }

@@ -59,15 +59,15 @@ static bool read_header(const struct follower *follower, int from, waywire_decod
 	return true;
 }
 
-bool has_message(const struct follower *follower, int from, bool *is_bad)
+bool has_message(const struct follower *follower, int from, bool *is_bad_size)
 {
 	const struct stream *stream = &follower->streams[from];
 	waywire_decoded header;
-	*is_bad = false;
+	*is_bad_size = false;
 	if (!read_header(follower, from, &header))
 		return false;
-	*is_bad = header.size < HEADER || header.size % 4 || header.size > follower->limit;
-	return *is_bad || header.size <= stream->to - stream->from;
+	*is_bad_size = header.size < HEADER || header.size % 4 || header.size > follower->limit;
+	return *is_bad_size || header.size <= stream->to - stream->from;
 }
 
 /* ---- a message, taken apart */

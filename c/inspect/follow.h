@@ -132,8 +132,8 @@ void follower_free(struct follower *follower);
 bool follow_piece(struct follower *follower, int from, const unsigned char *bytes, size_t length,
 	double seconds);
 
-/* Whether a message begins a direction's bytes; `is_bad` says that its size is none. */
-bool has_message(const struct follower *follower, int from, bool *is_bad);
+/* Whether a message begins a direction's bytes; `is_bad_size` says that its size is none. */
+bool has_message(const struct follower *follower, int from, bool *is_bad_size);
 
 /* Reads the message in front, whole or not; nothing changes. */
 void read_message(const struct follower *follower, int from, struct message *message);

@@ -46,7 +46,7 @@ struct options {
 /* ---- what is said (output.c) */
 
 /* Writes a line to standard error, behind the tool's name. */
-void say(const char *format, ...) __attribute__((format(printf, 1, 2)));
+void notice(const char *format, ...) __attribute__((format(printf, 1, 2)));
 
 /* Writes a line to standard error and ends with the status of nothing inspected. */
 void fail(const char *format, ...) __attribute__((format(printf, 1, 2), noreturn));
@@ -254,7 +254,7 @@ struct shared {
 	sigset_t while_waiting; /* the signals that are blocked while nothing is done */
 	pid_t command;          /* the process of the command; 0 where there is none */
 	unsigned session_count; /* that were begun */
-	bool is_stopping, any_is_bad;
+	bool is_stopping, any_has_failed;
 };
 
 /* Begins the session of a client, whose sockets it takes over; null where there is no memory. */

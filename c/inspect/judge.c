@@ -8,7 +8,7 @@
 /* So many bytes of a message that cannot be taken apart are printed. */
 #define SHOWN_BYTES 64
 
-bool is_bad(const struct judging *judging)
+bool has_failed(const struct judging *judging)
 {
 	return judging->standing == BROKEN || judging->has_error;
 }
@@ -18,7 +18,7 @@ static void lose(struct judging *judging, waywire_status status)
 {
 	if (judging->standing == LOST)
 		return;
-	say("client %u is handed on unjudged from here: %s", judging->shown.number, waywire_strerror(status));
+	notice("client %u is handed on unjudged from here: %s", judging->shown.number, waywire_strerror(status));
 	judging->standing = LOST;
 }
 
@@ -45,23 +45,23 @@ void judge_free(struct judging *judging)
 /* ---- a message */
 
 /* Prints a message by its line, and makes its changes. */
-static void tell(struct judging *judging, struct message *message, const struct text *line,
+static void print_and_follow(struct judging *judging, struct message *message, const struct text *line,
 	const struct beside *beside)
 {
-	struct beside its = *beside;
-	its.is_red |= is_error(message);
+	struct beside printed = *beside;
+	printed.is_red |= is_error(message);
 	judging->has_error |= is_error(message);
 	judging->counts[message->from]++;
 	if (judging->shown.options->stats)
 		stats_note(&judging->stats, message);
 	name_arguments(message);
-	show_message(&judging->shown, message, line, &its);
+	print_message(&judging->shown, message, line, &printed);
 	if (!follow_message(&judging->follower, message))
 		lose(judging, WAYWIRE_NO_MEMORY);
 }
 
 /* Prints the messages that the last piece completed by the library's lines. */
-static void tell_judged(struct judging *judging, int from, const char *lines, size_t length)
+static void print_judged(struct judging *judging, int from, const char *lines, size_t length)
 {
 	static const struct beside none;
 	bool is_bad_size;
@@ -73,7 +73,7 @@ static void tell_judged(struct judging *judging, int from, const char *lines, si
 		read_message(&judging->follower, from, &message);
 		message.is_judged = true;
 		text_put_line(&line, lines, its);
-		tell(judging, &message, &line, &none);
+		print_and_follow(judging, &message, &line, &none);
 		text_free(&line);
 		lines += its + (end != NULL);
 		length -= its + (end != NULL);
@@ -88,30 +88,30 @@ static bool is_unknown(const struct message *message)
 	return message->status || message->target.state == UNKNOWN;
 }
 
-static void tell_unjudged_message(struct judging *judging, struct message *message, const char *note)
+static void print_unjudged_message(struct judging *judging, struct message *message, const char *note)
 {
 	struct beside beside = { .note = note, .is_marked = !note };
 	struct text line = { NULL, 0, 0 };
 	put_message(&line, message);
 	if (is_unknown(message))
 		judging->follower.streams[message->from].is_unnumbered = true;
-	tell(judging, message, &line, &beside);
+	print_and_follow(judging, message, &line, &beside);
 	text_free(&line);
 }
 
 /* Prints the whole messages of a direction, unjudged. */
-static void tell_unjudged(struct judging *judging, int from)
+static void print_unjudged(struct judging *judging, int from)
 {
 	bool is_bad_size = false;
 	while (judging->standing == UNJUDGED && !judging->has_error && !judging->is_lost[from]
 		&& has_message(&judging->follower, from, &is_bad_size) && !is_bad_size) {
 		struct message message;
 		read_message(&judging->follower, from, &message);
-		tell_unjudged_message(judging, &message, NULL);
+		print_unjudged_message(judging, &message, NULL);
 	}
 	if (!is_bad_size || judging->is_lost[from])
 		return;
-	say("client %u: its %s have no sizes from here, and are not printed any more", judging->shown.number,
+	notice("client %u: its %s have no sizes from here, and are not printed any more", judging->shown.number,
 		from == CLIENT ? "requests" : "events");
 	judging->is_lost[from] = true;
 }
@@ -146,9 +146,9 @@ static void leave_unjudged(struct judging *judging, struct message *message)
 	judging->unjudged_from = message->index;
 	text_add(&note, "not judged from here: ");
 	text_put(&note, judging->reason.bytes, judging->reason.length);
-	tell_unjudged_message(judging, message, note.bytes ? note.bytes : "not judged from here");
+	print_unjudged_message(judging, message, note.bytes ? note.bytes : "not judged from here");
 	text_free(&note);
-	tell_unjudged(judging, message->from);
+	print_unjudged(judging, message->from);
 }
 
 /* ---- a message that breaks a rule */
@@ -179,7 +179,7 @@ static void put_bytes(struct text *line, const struct message *message)
 	text_add(line, length < message->length ? ".." : "");
 }
 
-static void tell_broken(struct judging *judging, struct message *message, const struct fault *fault)
+static void print_broken_message(struct judging *judging, struct message *message, const struct fault *fault)
 {
 	struct text line = { NULL, 0, 0 }, words = { NULL, 0, 0 };
 	put_message(&line, message);
@@ -189,7 +189,7 @@ static void tell_broken(struct judging *judging, struct message *message, const 
 	put_fault(&words, &judging->follower, message, fault);
 	name_arguments(message);
 	struct breaking breaking = { message, &line, &words, &judging->verdict, *fault };
-	show_broken(&judging->shown, &breaking);
+	print_broken(&judging->shown, &breaking);
 	text_free(&line);
 	text_free(&words);
 }
@@ -207,7 +207,7 @@ static void meet_fault(struct judging *judging, int from, const char *verdict, s
 	}
 	judging->standing = BROKEN;
 	text_put(&judging->verdict, verdict, length);
-	tell_broken(judging, &message, &fault);
+	print_broken_message(judging, &message, &fault);
 	if (has_message(&judging->follower, from, &is_bad_size) && !is_bad_size)
 		skip_message(&judging->follower, &message);
 	else
@@ -227,7 +227,7 @@ static void look_for_error(struct judging *judging, int from)
 		read_message(&judging->follower, from, &message);
 		if (is_error(&message)) {
 			put_message(&line, &message);
-			tell(judging, &message, &line, &beside);
+			print_and_follow(judging, &message, &line, &beside);
 			text_free(&line);
 		} else
 			skip_message(&judging->follower, &message);
@@ -250,7 +250,7 @@ static void judge(struct judging *judging, int from, const unsigned char *bytes,
 	if (!status)
 		status = waywire_inspector_lines(judging->inspector, &lines, &lines_length);
 	if (!status) {
-		tell_judged(judging, from, lines, lines_length);
+		print_judged(judging, from, lines, lines_length);
 		status = waywire_inspector_verdict(judging->inspector, &lines, &lines_length, &is_broken);
 	}
 	if (status)
@@ -269,7 +269,7 @@ void judge_piece(struct judging *judging, int from, const unsigned char *bytes, 
 	} else if (judging->standing == JUDGED) {
 		judge(judging, from, bytes, length, descriptor_count);
 	} else if (judging->standing == UNJUDGED) {
-		tell_unjudged(judging, from);
+		print_unjudged(judging, from);
 	} else
 		look_for_error(judging, from);
 }
@@ -325,7 +325,7 @@ void judge_end(struct judging *judging, double seconds)
 	}
 	if (judging->standing == LOST)
 		text_add(&words, "unjudged: out of memory");
-	show_verdict(&judging->shown, &ending);
+	print_verdict(&judging->shown, &ending);
 	text_free(&words);
 	if (!judging->shown.options->stats || judging->shown.options->json)
 		return;

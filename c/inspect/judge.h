@@ -2,7 +2,7 @@
 #ifndef INSPECT_JUDGE_H
 #define INSPECT_JUDGE_H
 
-#include "show.h"
+#include "printed.h"
 
 enum standing {
 	JUDGED,   /* the library's inspector judges it */
@@ -40,6 +40,6 @@ void judge_end(struct judging *judging, double seconds);
 void judge_free(struct judging *judging);
 
 /* Whether a message broke a rule, or wl_display.error came. */
-bool is_bad(const struct judging *judging);
+bool has_failed(const struct judging *judging);
 
 #endif

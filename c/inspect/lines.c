@@ -1,6 +1,6 @@
 /* The line of a message, by what the tool knows of its objects. */
 #define _GNU_SOURCE
-#include "show.h"
+#include "printed.h"
 
 #include <inttypes.h>
 

@@ -46,7 +46,7 @@ void names_read(const struct options *options)
 		if (is_xml(options->tables[each]))
 			words[given++] = options->tables[each];
 	if (run_to_end(words, &lines))
-		say("%s has failed: arguments have no names", tool);
+		notice("%s has failed: arguments have no names", tool);
 	sort_lines();
 	free(words);
 }

@@ -21,7 +21,7 @@ static int output = STDOUT_FILENO;
 static const char *output_name = "standard output";
 static sigset_t signals_while_waiting;
 
-static void say_with(const char *format, va_list words)
+static void notice_with(const char *format, va_list words)
 {
 	char line[1024] = "waywire-inspect: ";
 	size_t length = strlen(line);
@@ -32,11 +32,11 @@ static void say_with(const char *format, va_list words)
 		errno = 0; /* nobody is left to be told */
 }
 
-void say(const char *format, ...)
+void notice(const char *format, ...)
 {
 	va_list words;
 	va_start(words, format);
-	say_with(format, words);
+	notice_with(format, words);
 	va_end(words);
 }
 
@@ -44,7 +44,7 @@ void fail(const char *format, ...)
 {
 	va_list words;
 	va_start(words, format);
-	say_with(format, words);
+	notice_with(format, words);
 	va_end(words);
 	exit(NOTHING_INSPECTED);
 }
@@ -67,7 +67,7 @@ static void write_waiting(void)
 		ssize_t written = wait_for_output() ? write(output, from, waiting_length) : -1;
 		if (written < 0 && errno != EINTR && errno != EAGAIN) {
 			is_closed = true;
-			say("cannot write to %s: %s; messages are judged and not printed", output_name,
+			notice("cannot write to %s: %s; messages are judged and not printed", output_name,
 				strerror(errno));
 		} else if (written > 0) {
 			from += written;

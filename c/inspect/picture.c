@@ -50,7 +50,7 @@ static void make_page(const struct options *options, const char *tool, unsigned 
 	char *words[] = { (char *)tool, recording, "-o", page, "--limit", limit, "--inspector", own, NULL };
 	int status = recording && page ? run_to_end(words, NULL) : 127;
 	if (status)
-		say("no page of client %u is made: %s %s", number, tool, status == 127 ? "cannot be run" : "has failed");
+		notice("no page of client %u is made: %s %s", number, tool, status == 127 ? "cannot be run" : "has failed");
 	free(recording);
 	free(page);
 }

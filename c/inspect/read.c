@@ -110,14 +110,14 @@ static void print_head(const struct options *options, const struct known *known,
 }
 
 /* Says why the recording ends before its end. */
-static void say_end(const struct options *options, const struct reading *reading, waywire_status status)
+static void notice_end(const struct options *options, const struct reading *reading, waywire_status status)
 {
 	char words[64];
 	snprintf(words, sizeof words, "line %zu: bad line", reading->piece.line);
 	if (status == WAYWIRE_BAD_LINE && options->json)
 		json_bad_line(reading->piece.line, words);
 	print_now();
-	say("%s", status == WAYWIRE_BAD_LINE ? words : waywire_strerror(status));
+	notice("%s", status == WAYWIRE_BAD_LINE ? words : waywire_strerror(status));
 }
 
 /* Passes all pieces, of which the first was read. Returns why it ends. */
@@ -143,11 +143,11 @@ int read_recording(const struct options *options, const struct known *known)
 	status = pass_pieces(&reading, &judging, status);
 	bool is_whole = status == WAYWIRE_NOT_FOUND;
 	if (!is_whole)
-		say_end(options, &reading, status);
+		notice_end(options, &reading, status);
 	judging.is_cut = !is_whole;
 	judge_end(&judging, reading.comments.seconds);
 	print_now();
-	int result = is_whole ? is_bad(&judging) : NOTHING_INSPECTED;
+	int result = is_whole ? has_failed(&judging) : NOTHING_INSPECTED;
 	judge_free(&judging);
 	text_free(&reading.text);
 	free(reading.bytes);

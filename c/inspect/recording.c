@@ -82,7 +82,7 @@ bool can_write(const char *path)
 	}
 	if (errno == EEXIST && !access(path, W_OK))
 		return true;
-	say("cannot write %s: %s", path, strerror(errno));
+	notice("cannot write %s: %s", path, strerror(errno));
 	return false;
 }
 
@@ -98,12 +98,12 @@ static void write_tables(const struct options *options, const struct known *know
 {
 	char *path;
 	if (asprintf(&path, "%s.tables", options->record) < 0) {
-		say("the tables are not recorded: out of memory");
+		notice("the tables are not recorded: out of memory");
 		return;
 	}
 	int file = open(path, O_WRONLY | O_CREAT | O_TRUNC | O_CLOEXEC, 0666);
 	if (file < 0 || !write_whole(file, known->joined.bytes, known->joined.length))
-		say("cannot write %s: %s", path, strerror(errno));
+		notice("cannot write %s: %s", path, strerror(errno));
 	if (file >= 0)
 		close(file);
 	free(path);
@@ -120,7 +120,7 @@ static bool is_regular(int file)
 /* The file takes nothing more. */
 static void give_up(struct recording *recording)
 {
-	say("cannot write %s: %s; the recording ends there", recording->path, strerror(errno));
+	notice("cannot write %s: %s; the recording ends there", recording->path, strerror(errno));
 	if (ftruncate(recording->file, recording->length))
 		errno = 0; /* a device has no length */
 	recording_end(recording);
@@ -151,12 +151,12 @@ void recording_begin(struct recording *recording, const struct options *options,
 		return;
 	recording->path = numbered(options->record, client->number);
 	if (!recording->path) {
-		say("client %u is not recorded: out of memory", client->number);
+		notice("client %u is not recorded: out of memory", client->number);
 		return;
 	}
 	recording->file = open(recording->path, O_WRONLY | O_CREAT | O_TRUNC | O_CLOEXEC, 0666);
 	if (recording->file < 0) {
-		say("cannot write %s: %s", recording->path, strerror(errno));
+		notice("cannot write %s: %s", recording->path, strerror(errno));
 		recording_end(recording);
 		return;
 	}
@@ -191,7 +191,7 @@ void recording_add(struct recording *recording, int from, const unsigned char *b
 		return;
 	size_t written = lines_of(text, from, bytes, length, descriptor_count, seconds);
 	if (recording->length + (off_t)written > LONGEST) {
-		say("%s has %jd bytes, and %d is the most that is read; the recording ends there", recording->path,
+		notice("%s has %jd bytes, and %d is the most that is read; the recording ends there", recording->path,
 			(intmax_t)recording->length, LONGEST);
 		recording_end(recording);
 	} else if (write_whole(recording->file, text, written))

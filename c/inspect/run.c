@@ -85,7 +85,7 @@ static void begin(struct run *run, int client)
 	}
 	struct session *made = make_room(run) ? session_new(&run->shared, client, compositor) : NULL;
 	if (!made) {
-		say("a client is refused: out of memory");
+		notice("a client is refused: out of memory");
 		close(client);
 		close(compositor);
 		return;
@@ -106,7 +106,7 @@ static void accept_client(struct run *run)
 		close(client);
 	} else if (errno != EAGAIN && errno != EINTR && errno != ECONNABORTED) {
 		if (!run->was_full)
-			say("a client has to wait: %s", strerror(errno));
+			notice("a client has to wait: %s", strerror(errno));
 		run->is_full = run->was_full = true;
 	}
 }
@@ -207,7 +207,7 @@ static void note_ended(struct run *run)
 	child_ended = 0;
 	reap(&run->children);
 	if (was_running && !run->children.is_running && run->children.ended_by && !run->stops)
-		say("%s was ended by signal %d (%s)", run->shared.options->command[0], run->children.ended_by,
+		notice("%s was ended by signal %d (%s)", run->shared.options->command[0], run->children.ended_by,
 			strsignal(run->children.ended_by));
 }
 
@@ -235,12 +235,12 @@ static int ended(struct run *run)
 {
 	char **command = run->shared.options->command;
 	if (!run->shared.session_count && command)
-		say("%s made no connection", command[0]);
+		notice("%s made no connection", command[0]);
 	else if (!run->shared.session_count)
-		say("no client has connected");
+		notice("no client has connected");
 	if (!run->shared.session_count)
 		return NOTHING_INSPECTED;
-	return run->children.status ? run->children.status : run->shared.any_is_bad;
+	return run->children.status ? run->children.status : run->shared.any_has_failed;
 }
 
 /* The line of JSON that stands first. */
@@ -265,7 +265,7 @@ static bool begin_clients(struct run *run, const char *display)
 	}
 	int error = start_command(command, display, &run->shared.while_waiting, &run->shared.command);
 	if (error)
-		say("%s: %s", command[0], strerror(error));
+		notice("%s: %s", command[0], strerror(error));
 	run->children = (struct children){ run->shared.command, !error, false, 0, 0 };
 	return !error;
 }

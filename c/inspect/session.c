@@ -29,9 +29,9 @@ static void source_ended(struct session *session, const struct shared *shared, i
 	way->is_open = false;
 	way->is_ended = true;
 	if (from == COMPOSITOR && !session->ways[CLIENT].is_ended && !shared->is_stopping)
-		say("the compositor has closed the connection of client %u", session->client.number);
+		notice("the compositor has closed the connection of client %u", session->client.number);
 	if (from == CLIENT && session->client.process != shared->command && !shared->is_stopping)
-		say("client %u (process %ld) has closed its connection", session->client.number,
+		notice("client %u (process %ld) has closed its connection", session->client.number,
 			(long)session->client.process);
 	if (is_hung_up(way->source) || shutdown(way->target, SHUT_WR))
 		session->is_over = true;
@@ -48,7 +48,7 @@ static void pass_piece(struct session *session, struct shared *shared, int from)
 		source_ended(session, shared, from);
 		return;
 	case CAME_TOO_MANY:
-		say("client %u is closed: no numbers are left for its descriptors", session->client.number);
+		notice("client %u is closed: no numbers are left for its descriptors", session->client.number);
 		session->is_over = true;
 		return;
 	case CAME_PIECE:
@@ -62,9 +62,9 @@ static void pass_piece(struct session *session, struct shared *shared, int from)
 	number_lines(session, shared);
 	judge_piece(&session->judging, from, way->bytes, length, descriptor_count, seconds);
 	print_now();
-	shared->any_is_bad |= is_bad(&session->judging);
+	shared->any_has_failed |= has_failed(&session->judging);
 	if (session->judging.standing == BROKEN && shared->options->stop_when_broken) {
-		say("client %u is closed: a message broke a rule", session->client.number);
+		notice("client %u is closed: a message broke a rule", session->client.number);
 		session->is_over = true;
 	}
 }
@@ -138,7 +138,7 @@ struct session *session_new(struct shared *shared, int client, int compositor)
 		json_client(made->client.number, *made->client.name ? made->client.name : NULL,
 			(long)made->client.process);
 	if (shared->options->verbose)
-		say("client %u is process %ld", made->client.number, (long)made->client.process);
+		notice("client %u is process %ld", made->client.number, (long)made->client.process);
 	return made;
 }
 

@@ -48,7 +48,7 @@ int connect_to_compositor(void)
 	if (made >= 0 && !setsockopt(made, SOL_SOCKET, SO_SNDTIMEO, &patience, sizeof patience)
 		&& !connect(made, (struct sockaddr *)&compositor, sizeof compositor))
 		return made;
-	say("no compositor at %s: %s", compositor.sun_path, strerror(errno));
+	notice("no compositor at %s: %s", compositor.sun_path, strerror(errno));
 	if (made >= 0)
 		close(made);
 	return -1;

@@ -1,6 +1,6 @@
 /* What --stats counts. */
 #define _GNU_SOURCE
-#include "show.h"
+#include "printed.h"
 
 #include <inttypes.h>
 

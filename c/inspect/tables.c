@@ -38,7 +38,7 @@ static struct source *source_at(struct sources *sources, size_t *line)
 
 static void leave_out(struct source *source, const char *why)
 {
-	say("left out: %s", why);
+	notice("left out: %s", why);
 	free(source->bytes);
 	source->bytes = NULL;
 }

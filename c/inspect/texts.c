@@ -223,7 +223,7 @@ char **installed_texts(size_t *count)
 	find_beside(folder, sizeof folder, WAYWIRE_TABLES);
 	int entries = scandir(folder, &found, is_tables, by_name);
 	if (entries < 0)
-		say("cannot read %s: %s; the core's interfaces alone are known", folder, strerror(errno));
+		notice("cannot read %s: %s; the core's interfaces alone are known", folder, strerror(errno));
 	*count = entries < 0 ? 0 : (size_t)entries;
 	char **paths = calloc(*count + 1, sizeof *paths);
 	for (size_t each = 0; each < *count; each++) {

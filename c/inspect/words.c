@@ -1,6 +1,6 @@
 /* What is wrong with a message, in words. The library has said which rule it breaks. */
 #define _GNU_SOURCE
-#include "show.h"
+#include "printed.h"
 
 #include <inttypes.h>
 

@@ -1,4 +1,4 @@
-/* What is printed of a client's messages: lines (lines.c, show.c) or JSON (json.c), those that are asked for
+/* What is printed of a client's messages: lines (lines.c, printed.c) or JSON (json.c), those that are asked for
  * (filter.c), and counts at the end (stats.c). */
 #ifndef INSPECT_SHOW_H
 #define INSPECT_SHOW_H
@@ -73,7 +73,7 @@ void stats_put(struct text *text, const struct stats *stats, const struct object
 
 void stats_free(struct stats *stats);
 
-/* ---- a client (show.c, json.c) */
+/* ---- a client (printed.c, json.c) */
 
 /* The client that lines are of. */
 struct shown {
@@ -91,7 +91,7 @@ struct beside {
 };
 
 /* Prints a message; `line` is its line. */
-void show_message(const struct shown *shown, const struct message *message, const struct text *line,
+void print_message(const struct shown *shown, const struct message *message, const struct text *line,
 	const struct beside *beside);
 
 /* Prints the message that breaks a rule, what is wrong in words, and the verdict. */
@@ -100,10 +100,10 @@ struct breaking {
 	const struct text *line, *words, *verdict;
 	struct fault fault;
 };
-void show_broken(const struct shown *shown, const struct breaking *breaking);
+void print_broken(const struct shown *shown, const struct breaking *breaking);
 
 /* Prints a sentence. */
-void show_words(const struct shown *shown, double seconds, const struct text *words, bool is_red);
+void print_words(const struct shown *shown, double seconds, const struct text *words, bool is_red);
 
 /* The verdict at the end. */
 struct ending {
@@ -114,7 +114,7 @@ struct ending {
 	bool is_red;
 	bool is_said;        /* in words, already */
 };
-void show_verdict(const struct shown *shown, const struct ending *ending);
+void print_verdict(const struct shown *shown, const struct ending *ending);
 
 /* JSON (json.c): each prints one line. */
 struct head {

@@ -66,7 +66,7 @@ static void print_and_free(struct text *text)
 	text_free(text);
 }
 
-void show_words(const struct shown *shown, double seconds, const struct text *words, bool is_red)
+void print_words(const struct shown *shown, double seconds, const struct text *words, bool is_red)
 {
 	struct text text = { NULL, 0, 0 };
 	if (shown->options->json)
@@ -77,15 +77,15 @@ void show_words(const struct shown *shown, double seconds, const struct text *wo
 }
 
 /* The notice behind a message from which on nothing is judged. */
-static void show_note(const struct shown *shown, const struct message *message, const char *note)
+static void print_note(const struct shown *shown, const struct message *message, const char *note)
 {
 	struct text words = { NULL, 0, 0 };
 	text_add(&words, note);
-	show_words(shown, message->seconds, &words, false);
+	print_words(shown, message->seconds, &words, false);
 	text_free(&words);
 }
 
-void show_message(const struct shown *shown, const struct message *message, const struct text *line,
+void print_message(const struct shown *shown, const struct message *message, const struct text *line,
 	const struct beside *beside)
 {
 	struct text text = { NULL, 0, 0 };
@@ -103,26 +103,26 @@ void show_message(const struct shown *shown, const struct message *message, cons
 		}
 		print_and_free(&text);
 		if (beside->note)
-			show_note(shown, message, beside->note);
+			print_note(shown, message, beside->note);
 	}
 }
 
-void show_broken(const struct shown *shown, const struct breaking *breaking)
+void print_broken(const struct shown *shown, const struct breaking *breaking)
 {
 	double seconds = breaking->message->seconds;
 	if (shown->options->json) {
 		json_broken(shown, breaking);
 		return;
 	}
-	show_words(shown, seconds, breaking->line, true);
-	show_words(shown, seconds, breaking->words, true);
-	show_words(shown, seconds, breaking->verdict, true);
+	print_words(shown, seconds, breaking->line, true);
+	print_words(shown, seconds, breaking->words, true);
+	print_words(shown, seconds, breaking->verdict, true);
 }
 
-void show_verdict(const struct shown *shown, const struct ending *ending)
+void print_verdict(const struct shown *shown, const struct ending *ending)
 {
 	if (shown->options->json)
 		json_verdict(shown, ending);
 	else if (!ending->is_said)
-		show_words(shown, ending->seconds, ending->words, ending->is_red);
+		print_words(shown, ending->seconds, ending->words, ending->is_red);
 }
