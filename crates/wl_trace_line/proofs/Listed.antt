@@ -14,7 +14,7 @@ use Rattle.wl_trace_line.specs.Argument.{argument_text, placed_text}
 use Rattle.wl_trace_line.specs.Line.{told_interface, taken_with, trace_texts}
 use Rattle.wl_trace_line.specs.Report.{wire_argument, descriptor_number, report_texts}
 
--- what is printed for texts that stand behind so many others
+-- what is printed for texts that stand behind n others
 abbrev pub listed_behind : ℕ → List (List ℕ) → List ℕ
 listed_behind zero texts = comma_separated texts
 listed_behind (suc n) texts = flat_map (λ text. codes ", " ++ text) texts
@@ -28,7 +28,7 @@ nothing_behind : (n : ℕ) → listed_behind n [] ≡ []
 nothing_behind zero = refl
 nothing_behind (suc n) = refl
 
--- From one state to the next some texts are printed, so many that these are left of the whole.
+-- From one state to the next some texts are printed; of the whole, these are left to print.
 abbrev pub Printed : {S : Type 0} → (S → List ℕ → S → Type 0) → S → S → ℕ → List (List ℕ) → List ℕ
     → Type 0
 Printed takes s t n texts whole =

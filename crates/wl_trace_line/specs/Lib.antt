@@ -1,4 +1,3 @@
-pub mod Sinks
 pub mod Text
 pub mod Argument
 pub mod Line

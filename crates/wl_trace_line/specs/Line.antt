@@ -21,7 +21,7 @@ told_interface held kind _ = named_interface kind
 abbrev pub taken_with : ℕ → Argument → ℕ
 taken_with taken value = if is_descriptor value then taken + 1 else taken
 
--- the texts of a message's arguments, in order, where these objects are held and so many tokens
+-- the texts of a message's arguments, in order, where these objects are held and `taken` tokens
 -- were taken before them
 abbrev pub trace_texts : List Interface → (ℕ → Option Entry) → ℕ → List Kind → List Argument
     → List (List ℕ)
@@ -31,7 +31,7 @@ trace_texts tables held taken (kind ∷ ks) (value ∷ values) =
 trace_texts tables held taken _ _ = []
 
 -- The line of a message that was read, with the line feed that ends it: by these tables, where
--- these objects are held, and so many tokens were taken in its direction before it.
+-- these objects are held, and `taken` tokens were taken in its direction before it.
 abbrev pub line : List Interface → Side → (ℕ → Option Entry) → Received → ℕ → List ℕ
 line tables side held message taken =
     head_text side (name_of tables message.entry.iface) message.target.id message.signature.name

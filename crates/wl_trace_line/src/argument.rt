@@ -94,7 +94,7 @@ fn write_named<S: Sink>(out: &mut S, iface: &[u8], version: u32, id: u32) -> Res
     write_new(out, iface, id)
 }
 
-/// Prints an array of so many bytes.
+/// Prints an array, of which a line tells the length alone.
 fn write_array<S: Sink>(out: &mut S, len: usize) -> Result<(), S::Error>
     ensures { OnOk result (S.takes out.old (codes "array[" ++ decimal len ++ codes "]") out.new) }
 {

@@ -43,15 +43,17 @@ pub(crate) trait Sink {
 }
 
 impl<A: Allocator> Sink for Vec<u8, A> {
-    ghost use Rattle.wl_trace_line.specs.Sinks.{appended_nothing, appended_then};
+    ghost use Rattle.std.proofs.Common.{rules};
+    ghost use Rattle.std.proofs.lemmas.Grind.{common_steps};
 
     type Error = AllocError;
 
     ghost takes = { λ s bytes t. t.items ≡ s.items ++ bytes };
 
-    ghost nothing = { λ s. appended_nothing s.items };
+    ghost nothing = { λ s. Prim.search (rules, common_steps) };
 
-    ghost then = { λ s t u a b. appended_then s.items t.items u.items a b };
+    ghost then = { λ s t u a b first second.
+        Prim.search (rules, common_steps, first, second) };
 
     fn write_bytes(&mut self, bytes: &[u8]) -> Result<(), AllocError> {
         self.extend_from_slice(bytes)
@@ -76,16 +78,18 @@ impl<A: Allocator> Sink for Vec<u8, A> {
 }
 
 impl<W: fmt::Write> Sink for Formatter<W> {
+    ghost use Rattle.std.proofs.Common.{rules};
+    ghost use Rattle.std.proofs.lemmas.Grind.{common_steps};
     ghost use Rattle.std.specs.Fmt.{HasWritten, IsPlainFormatter};
-    ghost use Rattle.wl_trace_line.specs.Sinks.{wrote_nothing, wrote_then};
 
     type Error = fmt::Error;
 
     ghost takes = { λ f bytes g. IsPlainFormatter f → HasWritten W.write_str_gives f bytes g };
 
-    ghost nothing = { wrote_nothing W.write_str_gives };
+    ghost nothing = { λ f plain. Prim.search (rules, common_steps, plain) };
 
-    ghost then = { wrote_then W.write_str_gives };
+    ghost then = { λ f g h a b first second plain.
+        Prim.grind (rules, common_steps, first plain, second (first plain).plain) };
 
     fn write_bytes(&mut self, bytes: &[u8]) -> fmt::Result {
         match str::from_utf8(bytes) {
