@@ -335,7 +335,7 @@ pub fn job_of(alloc: Global, words: &[String]) -> Result<Job, Stop>
     ensures asked { IfOk result (Asks (texts_of words.now)) }
     ensures stopped { IfErr result (Stops (texts_of words.now)) }
 
-    // and each cause has its status, but for want of memory
+    // and each cause has its status, but for lack of memory
     ensures helped { AsksHelp (texts_of words.now) → (HasFault (texts_of words.now) → ⊥)
         → StopsWith 0 result }
     ensures faulty { HasFault (texts_of words.now) → (AsksHelp (texts_of words.now) → ⊥)
