@@ -25,10 +25,12 @@ A_WHILE = 4
 DRAWN = r"-> wl_surface@\d+\.commit\("
 # The programs, by what draws them.
 PROGRAMS = {
-    "gtk3": (["zenity", "--info", "--text=grüße"], ["gtk3-demo"], ["gtk3-widget-factory"]),
-    "gtk4": (["gtk4-demo"], ["gtk4-widget-factory"]),
+    "gtk3": (["zenity", "--info", "--text=grüße"], ["gtk3-demo"], ["gtk3-widget-factory"],
+             ["gtk3-icon-browser"]),
+    "gtk4": (["gtk4-demo"], ["gtk4-widget-factory"], ["gtk4-icon-browser"]),
     "qt": (["featherpad", "--standalone"],),
     "foot": (["foot"],),
+    "swaybg": (["swaybg", "--color", "336699"],),
     "wlr-randr": (["wlr-randr"],),
     "waybar": (["waybar"],),
     "mpv": (["mpv", "--vo=wlshm", "--no-config", "--idle", "--force-window=yes"],),
@@ -130,6 +132,9 @@ class Desktop(inspecting_at_sway.Sway):
 
     def test_foot(self):
         self.programs("foot")
+
+    def test_swaybg(self):
+        self.programs("swaybg")
 
     def test_wlr_randr(self):
         self.programs("wlr-randr")
