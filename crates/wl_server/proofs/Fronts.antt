@@ -48,7 +48,7 @@ use Rattle.wl_server.specs.State.{Global}
 use Rattle.wl_server.specs.Requests.{Report, made_by_request, report, request, unless_bad_bind, reported_object}
 use Rattle.wl_server.specs.Steps.{Step, step_of, step_found, front_step, server_state, pending_in}
 use Rattle.wl_server.specs.Steps.{pending_of, ended_by_request, report_with, HasFreeId, HasRow, CanTake, IsEndedBy}
-use Rattle.wl_server.specs.Steps.{IsPendingOf, is_bad}
+use Rattle.wl_server.specs.Steps.{IsPendingOf, is_bad_bind}
 
 abbrev pub read_by : Core → Header → List ℕ → ℕ → Result Received Fault
 read_by core h body waiting = received core.tables request_side (reader_of core.view) h body waiting
@@ -86,18 +86,18 @@ answers_fault core globals h body waiting fault s e =
 
 pub answers_bad : (core : Core) (globals : List Global) (h : Header) (body : List ℕ) (waiting : ℕ) (m : Received)
     → IsFrame core h body waiting → Ok m ≡ read_by core h body waiting
-    → is_bad core.tables globals h.opcode m ≡ true → Answers core globals (Err (errors.Fault faults.BadBind core.read))
+    → is_bad_bind core.tables globals h.opcode m ≡ true → Answers core globals (Err (errors.Fault faults.BadBind core.read))
 answers_bad core globals h body waiting m s e b =
     answers_as core globals (Err faults.BadBind) _ (request_is core globals h body waiting s (Ok m) e ∙ rw b refl) refl
 
 request_some : (core : Core) (globals : List Global) (h : Header) (body : List ℕ) (waiting : ℕ) (m : Received)
     → IsFrame core h body waiting → Ok m ≡ read_by core h body waiting
-    → is_bad core.tables globals h.opcode m ≡ false → request (server_state core globals) ≡ Ok (Some (the_found h m))
+    → is_bad_bind core.tables globals h.opcode m ≡ false → request (server_state core globals) ≡ Ok (Some (the_found h m))
 request_some core globals h body waiting m s e b = request_is core globals h body waiting s (Ok m) e ∙ rw b refl
 
 pub answers_full : (core : Core) (globals : List Global) (h : Header) (body : List ℕ) (waiting : ℕ) (m : Received)
     → IsFrame core h body waiting → Ok m ≡ read_by core h body waiting
-    → is_bad core.tables globals h.opcode m ≡ false
+    → is_bad_bind core.tables globals h.opcode m ≡ false
     → (destroys_one m.signature.destroys && nat_lt (room_of core.outbox) delete_id_len) ≡ true
     → Answers core globals (Err errors.OutFull)
 answers_full core globals h body waiting m s e b f =
@@ -105,7 +105,7 @@ answers_full core globals h body waiting m s e b f =
 
 front_ok : (core : Core) (globals : List Global) (h : Header) (body : List ℕ) (waiting : ℕ) (m : Received)
     → IsFrame core h body waiting → Ok m ≡ read_by core h body waiting
-    → is_bad core.tables globals h.opcode m ≡ false
+    → is_bad_bind core.tables globals h.opcode m ≡ false
     → (destroys_one m.signature.destroys && nat_lt (room_of core.outbox) delete_id_len) ≡ false
     → front_step (server_state core globals) ≡ Ok (Some (step_of core (the_found h m)))
 front_ok core globals h body waiting m s e b f = ap (step_found core) (request_some core globals h body waiting m s e b)
@@ -294,8 +294,8 @@ same_step core h body waiting m args ended s e a k =
     ap (λ (b : List ℕ). reported_in b core.view.births tokens args) rest
     ∙ (a.reported tokens ∙ tokens_enough core f (found_is core h body waiting s (Ok m) e)) in
     let ends = ended_is core h body m args ended a k in
-    (λ i. let step = step_of core f in let it : Step =
-    record step { report = record step.report { args = same i }; ended = ends i } in it)
+    (λ i. let step = step_of core f in let next : Step =
+    record step { report = record step.report { args = same i }; ended = ends i } in next)
 
 pub can_take : (core : Core) (h : Header) (body : List ℕ) (waiting : ℕ) (m : Received) (args : List ParsedArg)
     (ended : Option Object) → Valid core.tables → HasDisplay core.view → IsFrame core h body waiting
@@ -309,12 +309,12 @@ can_take core h body waiting m args ended v d s e a k f =
 
 pub answers_ok : (core : Core) (globals : List Global) (h : Header) (body : List ℕ) (waiting : ℕ) (m : Received)
     (args : List ParsedArg) (ended : Option Object) → IsFrame core h body waiting → Ok m ≡ read_by core h body waiting
-    → is_bad core.tables globals h.opcode m ≡ false
+    → is_bad_bind core.tables globals h.opcode m ≡ false
     → (is_some ended && nat_lt (room_of core.outbox) delete_id_len) ≡ false
     → AreParsed (reader_of core.view) body args m.values → IsEndedBy m args ended
     → Answers core globals (Ok (Some (pending_in core args (pending_of core.tables core.view.births ended h m))))
 answers_ok core globals h body waiting m args ended s e b f a k =
-    ap (λ (x : Step). let it : Result (Option Step) NextError = Ok (Some x) in it)
+    ap (λ (x : Step). let answer : Result (Option Step) NextError = Ok (Some x) in answer)
     (same_step core h body waiting m args ended s e a k)
     ∙ sym (front_ok core globals h body waiting m s e b (full_by core m args ended false k f))
 

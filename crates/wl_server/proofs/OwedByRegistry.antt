@@ -28,16 +28,15 @@ pub owings-end : (test : ℕ → Global → Bool) (owing : ℕ → Global → Ow
 owings-end test owing i n globals l = ap (owings test owing n) (drop_all i globals l)
 
 -- and nor are those of the next n globals
-pub owings-skip-all : (test : ℕ → Global → Bool) (owing : ℕ → Global → Owing) (i n : ℕ) (globals : List Global)
-    (any : Global)
+skip-next : (test : ℕ → Global → Bool) (owing : ℕ → Global → Owing) (i n : ℕ) (globals : List Global) (any : Global)
     → ((k : ℕ) (x : Global) → i ≤ k → k < i + n → k < length globals → x ≡ get_or globals k x → test (k + 1) x ≡ false)
     → owings test owing (i + 1) (drop i globals) ≡ owings test owing (i + n + 1) (drop (i + n) globals)
-owings-skip-all test owing i zero globals any f =
+skip-next test owing i zero globals any f =
     let same : i ≡ i + 0 = omega arith in ap (λ (j : ℕ). owings test owing (j + 1) (drop j globals)) same
-owings-skip-all test owing i (suc n) globals any f =
+skip-next test owing i (suc n) globals any f =
     let place = i + n in
     let next : place + 1 ≡ i + suc n = omega arith in
-    let front = owings-skip-all test owing i n globals any (λ k x l m there e. f k x l (omega (arith, m)) there e) in
+    let front = skip-next test owing i n globals any (λ k x l m there e. f k x l (omega (arith, m)) there e) in
     let step : owings test owing (place + 1) (drop place globals)
     ≡ owings test owing (place + 1 + 1) (drop (place + 1) globals) =
     elim (cases_lt place (length globals)) [
@@ -50,6 +49,16 @@ owings-skip-all test owing i (suc n) globals any f =
           ∙ sym (owings-end test owing (place + 1) (place + 1 + 1) globals (omega (arith, behind)))
     ] in
     front ∙ step ∙ ap (λ (j : ℕ). owings test owing (j + 1) (drop j globals)) next
+
+-- those up to a later place
+pub owings-skip-all : (test : ℕ → Global → Bool) (owing : ℕ → Global → Owing) (i j : ℕ) (globals : List Global) → i ≤ j
+    → ((k : ℕ) (x : Global) → i ≤ k → k < j → k < length globals → x ≡ get_or globals k x → test (k + 1) x ≡ false)
+    → owings test owing (i + 1) (drop i globals) ≡ owings test owing (j + 1) (drop j globals)
+owings-skip-all test owing i j globals m f =
+    let same : i + (j - i) ≡ j = omega (arith, m) in
+    skip-next test owing i (j - i) globals (record { iface = record { 0 = 0 }; version = 0; present = false })
+    (λ k x least less there e. f k x least (omega (arith, less, same)) there e)
+    ∙ ap (λ (n : ℕ). owings test owing (n + 1) (drop n globals)) same
 
 -- tests that are alike from this name on
 owings-same : (test other : ℕ → Global → Bool) (owing : ℕ → Global → Owing) (n : ℕ) (globals : List Global)

@@ -33,11 +33,11 @@ none-next test other globals n x keep h here e is k y l there d = elim (side k n
       ∙ ap (other (n + 1)) (same-global globals k n x y same here e d) ∙ is)
 ]
 
--- the next n, where the test fails of them
-pub none-skip : (test : ℕ → Global → Bool) (globals : List Global) (i n : ℕ) → NoneOf test globals i
-    → ((k : ℕ) (x : Global) → i ≤ k → k < i + n → k < length globals → x ≡ get_or globals k x → test (k + 1) x ≡ false)
-    → NoneOf test globals (i + n)
-none-skip test globals i n h f k x l there e = elim (side k i) [
+-- those up to a later place, where the test fails of those between
+pub none-skip : (test : ℕ → Global → Bool) (globals : List Global) (i j : ℕ) → NoneOf test globals i
+    → ((k : ℕ) (x : Global) → i ≤ k → k < j → k < length globals → x ≡ get_or globals k x → test (k + 1) x ≡ false)
+    → NoneOf test globals j
+none-skip test globals i j h f k x l there e = elim (side k i) [
   | inl less ↦ h k x less there e
   | inr least ↦ f k x least l there e
 ]

@@ -1,5 +1,5 @@
 -- Telling one registry, name by name.
-use Rattle.std.proofs.Common.{◌≡◌, ℕ, ◌+◌, ◌<◌, true, false, List, [], ◌∷◌, ◌++◌, length}
+use Rattle.std.proofs.Common.{◌≡◌, ℕ, ◌+◌, ◌<◌, ◌≤◌, true, false, List, [], ◌∷◌, ◌++◌, length}
 use Rattle.std.proofs.Common.{drop, get_or, sym, subst, arith}
 use Rattle.wl_message.specs.Outgoing.{room_of}
 use Rattle.wl_object_map.specs.declared.object.Object.{Object}
@@ -9,7 +9,8 @@ use Rattle.wl_server.specs.State.{Global, Registry}
 use Rattle.wl_server.specs.Announcing.{Due, Owing, Removal, Telling, owings}
 use Rattle.wl_server.specs.Announcing.{owes_removal, owes_telling, marked, values_of}
 use Rattle.wl_server.specs.Tellings.{Progress, IsAnnounced, IsWritten, dues_for}
-use Rattle.wl_server.proofs.OwedByRegistry.{owings-skip, owings-take, removals-behind, tellings-behind}
+use Rattle.wl_server.proofs.OwedByRegistry.{owings-skip, owings-skip-all, owings-take, removals-behind}
+use Rattle.wl_server.proofs.OwedByRegistry.{tellings-behind}
 use Rattle.wl_server.proofs.TellingGoesOn.{told-one}
 
 pub told-blocked : (core : Core) (rs : List Registry) (all : List Due) (count : ℕ) (now new : Core) (ms : List Registry)
@@ -50,6 +51,18 @@ removal-skipped core rs all count now r o globals i x l e t p =
     (dues_for o (list ++ owings (owes_telling r) Telling 1 globals)))
     (owings-skip (owes_removal r) (λ name _. Removal name) i globals x l e t) p
 
+-- the globals up to a later place, of which it is owed no removal
+pub removals-passed : (core : Core) (rs : List Registry) (all : List Due) (count : ℕ) (now : Core) (r : Registry)
+    (o : Object) (globals : List Global) (i j : ℕ) → i ≤ j
+    → ((k : ℕ) (x : Global) → i ≤ k → k < j → k < length globals → x ≡ get_or globals k x
+    → owes_removal r (k + 1) x ≡ false)
+    → Removing core rs all o globals i count now r
+    → Removing core rs all o globals j count now r
+removals-passed core rs all count now r o globals i j m none p =
+    subst (λ (list : List Owing). Progress core rs all count now (r ∷ [])
+    (dues_for o (list ++ owings (owes_telling r) Telling 1 globals)))
+    (owings-skip-all (owes_removal r) (λ name _. Removal name) i j globals m none) p
+
 -- a global of which it is owed the removal
 pub removal-next : (core : Core) (rs : List Registry) (all : List Due) (count : ℕ) (now : Core) (r : Registry)
     (o : Object) (globals : List Global) (i : ℕ) (x : Global) → i < length globals → x ≡ get_or globals i x
@@ -88,6 +101,17 @@ pub telling-skipped : (core : Core) (rs : List Registry) (all : List Due) (count
 telling-skipped core rs all count now r o globals i x l e t p =
     subst (λ (list : List Owing). Progress core rs all count now (r ∷ []) (dues_for o list))
     (owings-skip (owes_telling r) Telling i globals x l e t) p
+
+-- the globals up to a later place, which are not new to it
+pub tellings-passed : (core : Core) (rs : List Registry) (all : List Due) (count : ℕ) (now : Core) (r : Registry)
+    (o : Object) (globals : List Global) (i j : ℕ) → i ≤ j
+    → ((k : ℕ) (x : Global) → i ≤ k → k < j → k < length globals → x ≡ get_or globals k x
+    → owes_telling r (k + 1) x ≡ false)
+    → Adding core rs all o globals i count now r
+    → Adding core rs all o globals j count now r
+tellings-passed core rs all count now r o globals i j m none p =
+    subst (λ (list : List Owing). Progress core rs all count now (r ∷ []) (dues_for o list))
+    (owings-skip-all (owes_telling r) Telling i j globals m none) p
 
 -- a global that is new to it
 pub telling-next : (core : Core) (rs : List Registry) (all : List Due) (count : ℕ) (now : Core) (r : Registry)

@@ -3,10 +3,9 @@ use Rattle.std.proofs.Common.{◌≡◌, ◌≢◌, ℕ, zero, suc, ◌+◌, ◌
 use Rattle.std.proofs.Common.{List, length, get_or, refl, sym, ap, ◌∙◌, arith}
 use Rattle.std.specs.Prelude.{not, ◌&&◌, max, min, replicate, slice_get, unwrap_or, Option}
 use Rattle.std.specs.Int.{bit_at, bit_not, w64}
-use Rattle.std.specs.Int.RustNames.{bit_or}
 use lib.Bits.{bit_and}
 use Rattle.std.proofs.lemmas.Bool.{eqb-true, eqb-false}
-use Rattle.std.proofs.lemmas.Nat.Bits.{bit_at_and, bit_at_not, bit_at_ones, bit_at_or, bit_at-lt, bit_at-zero}
+use Rattle.std.proofs.lemmas.Nat.Bits.{bit_at_and, bit_at_not, bit_at-lt}
 use Rattle.wl_server.specs.Bits.{bits}
 use Rattle.wl_server.specs.State.{Global, Registry, mark_of}
 use Rattle.wl_server.specs.Announcing.{owes_removal, owes_telling}
@@ -40,7 +39,7 @@ none-of x y z h l = by_test (x == 1) (y == 1) (z == 1) refl refl refl
     by_test true false c d e f = refl
     by_test false b c d e f = refl
 
-pub no-removal : (t w d k : ℕ) → d < 2 ^ 64 → k < 64 → bit_and (bit_and t w) (bit_not w64 d) ≡ 0
+pub no-removal : (t w d k : ℕ) → d < 2 ^ 64 → k < 64 → bit_at (bit_and (bit_and t w) (bit_not w64 d)) k ≡ 0
     → (((bit_at t k == 1) && (bit_at w k == 1)) && not (bit_at d k == 1)) ≡ false
 no-removal t w d k small l none =
     none-of (bit_at t k) (bit_at w k) (bit_at d k)
@@ -49,8 +48,7 @@ no-removal t w d k small l none =
       bit_at_and (bit_and t w) (bit_not w64 d) k,
       bit_at_and t w k,
       bit_at_not w64 d k small l,
-      ap (λ (n : ℕ). bit_at n k) none,
-      bit_at-zero k,
+      none,
     )) (bit_at-lt d k)
 
 either-of : (x y : ℕ) → max x y ≡ 1 → x < 2 → y < 2 → (not (y == 1) && not (x == 1)) ≡ false
@@ -69,12 +67,20 @@ either-of x y h l m = by_test (x == 1) (y == 1) refl refl
     by_test true false d e = refl
     by_test false true d e = refl
 
-pub no-telling : (t w k : ℕ) → k < 64 → bit_or t w ≡ 2 ^ 64 - 1
+pub no-telling : (t w k : ℕ) → t < 2 ^ 64 → w < 2 ^ 64 → k < 64
+    → bit_at (bit_and (bit_not w64 t) (bit_not w64 w)) k ≡ 0
     → (not (bit_at w k == 1) && not (bit_at t k == 1)) ≡ false
-no-telling t w k l all =
+no-telling t w k small also l none =
     either-of (bit_at t k) (bit_at w k)
-    (omega (arith, bit_at_or t w k, ap (λ (n : ℕ). bit_at n k) all, bit_at_ones 64 k l)) (bit_at-lt t k)
-    (bit_at-lt w k)
+    (omega (
+      arith,
+      bit_at_and (bit_not w64 t) (bit_not w64 w) k,
+      bit_at_not w64 t k small l,
+      bit_at_not w64 w k also l,
+      bit_at-lt t k,
+      bit_at-lt w k,
+      none,
+    )) (bit_at-lt t k) (bit_at-lt w k)
 
 pub unmarked : (n k : ℕ) → unwrap_or (slice_get (replicate n false) k) false ≡ false
 unmarked zero k = refl
@@ -83,28 +89,23 @@ unmarked (suc n) (suc k) = unmarked n k
 
 -- ---- what a registry is owed
 
--- of the 64 globals from this place on a registry is owed no removal
-pub removal-none : (r : Registry) (globals : List Global) (withdrawn : List Bool) (i word : ℕ)
-    → AreWithdrawn globals withdrawn → OwesNoRemoval r withdrawn word → i ≡ 64 * word → (k : ℕ) (x : Global) → i ≤ k
-    → k < i + 64 → k < length globals → x ≡ get_or globals k x → owes_removal r (k + 1) x ≡ false
-removal-none r globals withdrawn i word are none first k x least less there e =
-    let at : k + 1 ≡ 64 * word + (k - i) + 1 = omega (arith, first, least) in
+-- of the globals between two places a registry is owed no removal
+pub removal-none : (r : Registry) (globals : List Global) (withdrawn : List Bool) (place next : ℕ)
+    → AreWithdrawn globals withdrawn → OwesNoRemoval r withdrawn place next → (k : ℕ) (x : Global) → place + 1 ≤ k
+    → k < next → k < length globals → x ≡ get_or globals k x → owes_removal r (k + 1) x ≡ false
+removal-none r globals withdrawn place next are none k x least less there e =
     ap (λ (b : Bool). (mark_of r.told (k + 1) && b) && not (mark_of r.removed (k + 1))) (sym (are k x there e))
-    ∙ (ap (λ (n : ℕ). (mark_of r.told n && mark_of withdrawn n) && not (mark_of r.removed n)) at
-    ∙ none (k - i) (omega (arith, less, least)))
+    ∙ none k (omega (arith, least)) less
 
 twice-not : (b : Bool) → not (not b) ≡ b
 twice-not true = refl
 twice-not false = refl
 
 -- and no telling
-pub telling-none : (r : Registry) (globals : List Global) (withdrawn : List Bool) (i word : ℕ)
-    → AreWithdrawn globals withdrawn → OwesNoTelling r withdrawn word → i ≡ 64 * word → (k : ℕ) (x : Global) → i ≤ k
-    → k < i + 64 → k < length globals → x ≡ get_or globals k x → owes_telling r (k + 1) x ≡ false
-telling-none r globals withdrawn i word are none first k x least less there e =
-    let at : k + 1 ≡ 64 * word + (k - i) + 1 = omega (arith, first, least) in
+pub telling-none : (r : Registry) (globals : List Global) (withdrawn : List Bool) (place next : ℕ)
+    → AreWithdrawn globals withdrawn → OwesNoTelling r withdrawn place next → (k : ℕ) (x : Global) → place + 1 ≤ k
+    → k < next → k < length globals → x ≡ get_or globals k x → owes_telling r (k + 1) x ≡ false
+telling-none r globals withdrawn place next are none k x least less there e =
     let present : x.present ≡ not (mark_of withdrawn (k + 1)) =
     sym (twice-not x.present) ∙ ap not (sym (are k x there e)) in
-    ap (λ (b : Bool). b && not (mark_of r.told (k + 1))) present
-    ∙ (ap (λ (n : ℕ). not (mark_of withdrawn n) && not (mark_of r.told n)) at
-    ∙ none (k - i) (omega (arith, less, least)))
+    ap (λ (b : Bool). b && not (mark_of r.told (k + 1))) present ∙ none k (omega (arith, least)) less

@@ -112,8 +112,8 @@ pub record IsPending (tables : List Interface) (view : View) (header : Header) (
   pub same : p ≡ pending_of tables view.births p.change.ended header message
 
 -- whether a message is a bind that names no global that was ever advertised so
-abbrev pub is_bad : List Interface → List Global → ℕ → Received → Bool
-is_bad tables globals opcode message =
+abbrev pub is_bad_bind : List Interface → List Global → ℕ → Received → Bool
+is_bad_bind tables globals opcode message =
     is_bind request_side message.entry.iface opcode
     && not (is_good_bind_of tables globals message.values)
 
@@ -124,10 +124,10 @@ IsPendingOf tables view globals header body args r (Err fault) =
     (r ≡ Err fault)
     ⊎ ((fault ≡ faults.BadBind)
     × (message : Received) × (r ≡ Ok message)
-    × (is_bad tables globals header.opcode message ≡ true))
+    × (is_bad_bind tables globals header.opcode message ≡ true))
 IsPendingOf tables view globals header body args r (Ok p) =
     (message : Received) × (r ≡ Ok message)
-    × (is_bad tables globals header.opcode message ≡ false)
+    × (is_bad_bind tables globals header.opcode message ≡ false)
     × IsPending tables view header body args message p
 
 abbrev pub pendings_in : Core → List ParsedArg → Result (Option PendingRequest) NextError

@@ -1,20 +1,18 @@
 //! What a server writes to its client's registries: wl_registry.global and global_remove.
-ghost use Rattle.std.specs.Prelude.{◌≡◌, ◌≤◌, ◌∷◌, [], false, true, IfErr, IfOk, length, take};
+ghost use Rattle.std.specs.Prelude.{◌≡◌, ◌≤◌, ◌∷◌, [], false, true, IfErr, IfOk, length};
 ghost use Rattle.wl_wire.specs.Spelling.{IsText};
 ghost use Rattle.wl_sigs.specs.Tables.{max_name_len};
 ghost use Rattle.wl_objects.specs.declared.error.SendError.TheVariants as refusals;
 ghost use Rattle.wl_connection.specs.Core.{IsOrdinary, max_globals};
 ghost use Rattle.wl_server.specs.Registries.{HasRegistries};
 ghost use Rattle.wl_server.specs.Announcing.{Fitting, Removal, Telling, after_announce, due_to};
-ghost use Rattle.wl_server.specs.Announcing.{name_at, owed_in};
+ghost use Rattle.wl_server.specs.Announcing.{name_at};
 ghost use Rattle.wl_server.specs.Tellings.{IsAnnounced, IsWritten};
 ghost use Rattle.wl_server.specs.Words.{AreWithdrawn};
-ghost use Rattle.wl_server.specs.Slots.{SlotsRise, open_in, past_of, settled_in};
 
-use crate::globals::{Advertised, withdrawn_names};
-use crate::marks::{Marks, WORD_LEN};
-use crate::open_registries::OpenRegistries;
-use crate::registry::{OpenRegistry, Slot};
+use crate::globals::Advertised;
+use crate::marks::Marks;
+use crate::registry::OpenRegistry;
 use crate::server::Server;
 use wl_connection::Core;
 use wl_objects::{Arg, CallMessage, SendError, Table};
@@ -78,9 +76,9 @@ fn write_global<T: Table>(
     true
 }
 
-/// Writes to one registry what it is owed, as far as it fits. Passes at once over 64 names where no
-/// global_remove of these is owed, and over 64 that all have globals where no global is owed.
-fn announce_to<T: Table>(
+/// Writes to one registry what it is owed, as far as it fits. Goes at once from one name to the next
+/// of which something is owed, within 64 names.
+pub(crate) fn announce_to<T: Table>(
     core: &mut Core<'_, T>,
     globals: &[Advertised],
     withdrawn: &Marks,
@@ -97,10 +95,6 @@ fn announce_to<T: Table>(
     let mut count = 0;
     let mut place = 0;
     'removals: while place < globals.len() {
-        if place % WORD_LEN == 0 && registry.owes_no_removal(withdrawn, place / WORD_LEN) {
-            place += WORD_LEN;
-            continue;
-        }
         let name = place as u32 + 1;
         if registry.owes_removal(name, globals[place]) {
             if !write_global_remove(core, registry.object.id, name) {
@@ -109,14 +103,10 @@ fn announce_to<T: Table>(
             registry.mark_removed(name);
             count += 1;
         }
-        place += 1;
+        place = registry.next_removal(withdrawn, place);
     }
     place = 0;
     'tellings: while place < globals.len() {
-        if place % WORD_LEN == 0 && registry.owes_no_telling(withdrawn, place / WORD_LEN) {
-            place += WORD_LEN;
-            continue;
-        }
         let name = place as u32 + 1;
         let global = globals[place];
         if registry.owes_telling(name, global) {
@@ -126,77 +116,9 @@ fn announce_to<T: Table>(
             registry.mark_told(name);
             count += 1;
         }
-        place += 1;
+        place = registry.next_telling(withdrawn, place);
     }
     Announced { count, all: true }
-}
-
-/// Writes to the registries of slots what they are owed, as far as it fits, from a place on. The
-/// place moves behind the registries that are then owed nothing.
-fn announce_from<T: Table>(
-    core: &mut Core<'_, T>,
-    globals: &[Advertised],
-    withdrawn: &Marks,
-    slots: &mut [Slot],
-    settled: &mut usize,
-) -> Announced
-    requires few { length globals.now ≤ max_globals }
-    requires withdrawn { AreWithdrawn globals.now withdrawn.now }
-    requires ordinary { IsOrdinary core.old.outbox }
-    requires rising { SlotsRise 0 slots.old }
-    requires within { settled.old ≤ length slots.old }
-    requires settled { owed_in globals.now (open_in (take settled.old slots.old)) ≡ [] }
-    ensures told { IsAnnounced core.old (open_in slots.old)
-        (owed_in globals.now (open_in slots.old)) result core.new (open_in slots.new) }
-    ensures rising { SlotsRise 0 slots.new }
-    ensures within { settled.new ≤ length slots.new }
-    ensures settled { owed_in globals.now (open_in (take settled.new slots.new)) ≡ [] }
-    ensures past { past_of slots.new ≡ past_of slots.old }
-    ensures count { length (open_in slots.new) ≡ length (open_in slots.old) }
-{
-    let mut count = 0;
-    'places: for place in *settled..slots.len() {
-        if slots[place].is_open {
-            let told = announce_to(core, globals, withdrawn, &mut slots[place].registry);
-            count += told.count;
-            if !told.all {
-                return Announced { count, all: false };
-            }
-        }
-        *settled = place + 1;
-    }
-    Announced { count, all: true }
-}
-
-/// Writes to the open registries what they are owed, as far as it fits. Passes over those that are
-/// known to be owed nothing.
-fn announce_to_all<T: Table>(
-    core: &mut Core<'_, T>,
-    globals: &[Advertised],
-    registries: &mut OpenRegistries<T::Alloc>,
-) -> Announced
-    requires few { length globals.now ≤ max_globals }
-    requires ordinary { IsOrdinary core.old.outbox }
-    requires settled { owed_in globals.now (settled_in registries.old) ≡ [] }
-    ensures told { IsAnnounced core.old registries.old.list
-        (owed_in globals.now registries.old.list) result core.new registries.new.list }
-    ensures settled { owed_in globals.now (settled_in registries.new) ≡ [] }
-    ensures past { registries.new.past ≡ registries.old.past }
-{
-    if registries.settled == registries.slots.len() {
-        return Announced {
-            count: 0,
-            all: true,
-        };
-    }
-    let withdrawn = withdrawn_names(globals);
-    announce_from(
-        core,
-        globals,
-        &withdrawn,
-        &mut registries.slots,
-        &mut registries.settled,
-    )
 }
 
 impl<'t, T: Table> Server<'t, T> {
@@ -217,7 +139,8 @@ impl<'t, T: Table> Server<'t, T> {
         if self.end.core.failed {
             return Err(SendError::Failed);
         }
-        let told = announce_to_all(&mut self.end.core, &self.globals, &mut self.registries);
+        let core = &mut self.end.core;
+        let told = self.registries.announce(core, &self.globals);
         Ok(told.count)
     }
 }

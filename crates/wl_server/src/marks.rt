@@ -1,5 +1,6 @@
 //! Marks of the names of globals, a bit for each.
-ghost use Rattle.std.specs.Prelude.{◌≡◌, ◌≤◌, ◌<◌, ◌+◌, ◌*◌, ◌==◌, ℕ, true, false, replicate};
+ghost use Rattle.std.specs.Prelude.{◌≡◌, ◌≤◌, ◌<◌, ◌+◌, ◌*◌, ◌/◌, ◌%◌, ◌==◌, ℕ, true, false};
+ghost use Rattle.std.specs.Prelude.{replicate};
 ghost use Rattle.std.specs.Int.{bit_at};
 ghost use Rattle.wl_connection.specs.Core.{max_globals};
 ghost use Rattle.wl_server.specs.State.{mark_of, with_mark};
@@ -65,4 +66,18 @@ impl Marks {
     {
         self.words[word]
     }
+}
+
+/// The next place behind this one whose bit is set in the word that has both; the first place
+/// behind the word where none is.
+pub(crate) fn next_in(word: u64, place: usize) -> usize
+    requires { place < max_globals }
+    ensures behind { place < result }
+    ensures within { result ≤ 64 * (place / 64) + 64 }
+    ensures none { (k : ℕ) → place % 64 < k → 64 * (place / 64) + k < result
+        → bit_at word k ≡ 0 }
+{
+    let passed = u64::MAX >> (WORD_LEN - 1 - place % WORD_LEN);
+    let behind = word & !passed;
+    place / WORD_LEN * WORD_LEN + behind.trailing_zeros() as usize
 }

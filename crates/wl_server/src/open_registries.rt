@@ -1,14 +1,23 @@
 //! The open registries of a server's client, by rising births.
-ghost use Rattle.std.specs.Prelude.{◌≡◌, ◌≤◌, ◌<◌, ◌+◌, ◌∷◌, ◌++◌, [], true, OnOk, OnErr};
+ghost use Rattle.std.specs.Prelude.{◌≡◌, ◌≤◌, ◌<◌, ◌+◌, ◌∷◌, ◌++◌, [], true, OnOk, OnErr, length};
+ghost use Rattle.std.specs.Prelude.{take};
 ghost use Rattle.std.specs.List.{count_by};
+ghost use Rattle.wl_connection.specs.Core.{IsOrdinary, max_globals};
 ghost use Rattle.wl_server.specs.State.{untold};
+ghost use Rattle.wl_server.specs.Announcing.{owed_in};
 ghost use Rattle.wl_server.specs.Registries.{registry_birth, without_registry};
-ghost use Rattle.wl_server.specs.Slots.{KeepsSettled, settled_in};
+ghost use Rattle.wl_server.specs.Slots.{KeepsSettled, SlotsRise, open_in, past_of, settled_in};
+ghost use Rattle.wl_server.specs.Tellings.{IsAnnounced};
+ghost use Rattle.wl_server.specs.Words.{AreWithdrawn};
 
+use crate::announce::{Announced, announce_to};
+use crate::globals::{Advertised, withdrawn_names};
+use crate::marks::Marks;
 use crate::registry::{OpenRegistry, Slot};
 use std::alloc::{AllocError, Allocator};
 use std::marker::Model;
-use wl_objects::Object;
+use wl_connection::Core;
+use wl_objects::{Object, Table};
 
 /// The open registries of a client. One that is closed keeps its slot until more than half of the
 /// slots are closed, or there is no memory for a new one, and then all these go at once: on average
@@ -16,11 +25,11 @@ use wl_objects::Object;
 #[derive(Drop)]
 pub(crate) struct OpenRegistries<A: Allocator> {
     /// By rising births.
-    pub(crate) slots: Vec<Slot, A>,
+    slots: Vec<Slot, A>,
     /// How many slots are closed.
     closed: usize,
     /// The registries of so many slots, from the first on, are known to be owed nothing.
-    pub(crate) settled: usize,
+    settled: usize,
 }
 
 impl<A: Allocator> Model for OpenRegistries<A> {
@@ -49,6 +58,43 @@ fn count_open(slots: &[Slot]) -> usize
     ensures { result ≡ count_by (λ slot. slot.is_open) slots.now }
 {
     slots.iter().filter(|slot| slot.is_open).count()
+}
+
+/// Writes to the registries of slots what they are owed, as far as it fits, from a place on. The
+/// place moves behind the registries that are then owed nothing.
+fn announce_from<T: Table>(
+    core: &mut Core<'_, T>,
+    globals: &[Advertised],
+    withdrawn: &Marks,
+    slots: &mut [Slot],
+    settled: &mut usize,
+) -> Announced
+    requires few { length globals.now ≤ max_globals }
+    requires withdrawn { AreWithdrawn globals.now withdrawn.now }
+    requires ordinary { IsOrdinary core.old.outbox }
+    requires rising { SlotsRise 0 slots.old }
+    requires within { settled.old ≤ length slots.old }
+    requires settled { owed_in globals.now (open_in (take settled.old slots.old)) ≡ [] }
+    ensures told { IsAnnounced core.old (open_in slots.old)
+        (owed_in globals.now (open_in slots.old)) result core.new (open_in slots.new) }
+    ensures rising { SlotsRise 0 slots.new }
+    ensures within { settled.new ≤ length slots.new }
+    ensures settled { owed_in globals.now (open_in (take settled.new slots.new)) ≡ [] }
+    ensures past { past_of slots.new ≡ past_of slots.old }
+    ensures count { length (open_in slots.new) ≡ length (open_in slots.old) }
+{
+    let mut count = 0;
+    'places: for place in *settled..slots.len() {
+        if slots[place].is_open {
+            let told = announce_to(core, globals, withdrawn, &mut slots[place].registry);
+            count += told.count;
+            if !told.all {
+                return Announced { count, all: false };
+            }
+        }
+        *settled = place + 1;
+    }
+    Announced { count, all: true }
 }
 
 impl<A: Allocator + Drop> OpenRegistries<A> {
@@ -139,5 +185,36 @@ impl<A: Allocator + Drop> OpenRegistries<A> {
         self.settled = count_open(&self.slots[..self.settled]);
         self.slots.retain(|slot| slot.is_open);
         self.closed = 0;
+    }
+
+    /// Writes to the open registries what they are owed, as far as it fits. Passes over those that
+    /// are known to be owed nothing.
+    pub(crate) fn announce<T: Table>(
+        &mut self,
+        core: &mut Core<'_, T>,
+        globals: &[Advertised],
+    ) -> Announced
+        requires few { length globals.now ≤ max_globals }
+        requires ordinary { IsOrdinary core.old.outbox }
+        requires settled { owed_in globals.now (settled_in self.old) ≡ [] }
+        ensures told { IsAnnounced core.old self.old.list (owed_in globals.now self.old.list) result
+            core.new self.new.list }
+        ensures settled { owed_in globals.now (settled_in self.new) ≡ [] }
+        ensures past { self.new.past ≡ self.old.past }
+    {
+        if self.settled == self.slots.len() {
+            return Announced {
+                count: 0,
+                all: true,
+            };
+        }
+        let withdrawn = withdrawn_names(globals);
+        announce_from(
+            core,
+            globals,
+            &withdrawn,
+            &mut self.slots,
+            &mut self.settled,
+        )
     }
 }

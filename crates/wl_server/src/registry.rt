@@ -6,7 +6,7 @@ ghost use Rattle.wl_server.specs.Announcing.{owes_removal, owes_telling};
 ghost use Rattle.wl_server.specs.Words.{OwesNoRemoval, OwesNoTelling};
 
 use crate::globals::Advertised;
-use crate::marks::Marks;
+use crate::marks::{Marks, WORD_LEN, next_in};
 use std::marker::Model;
 use wl_objects::Object;
 
@@ -55,21 +55,28 @@ impl OpenRegistry {
         global.present && !self.told.has(name)
     }
 
-    /// Whether the registry is owed no removal of the 64 names of a word, where the names of the
-    /// withdrawn globals are marked.
-    pub(crate) fn owes_no_removal(&self, withdrawn: &Marks, word: usize) -> bool
-        requires { word < 16 }
-        ensures { result ≡ true → OwesNoRemoval self.now withdrawn.now word }
+    /// The next place behind this one of whose name global_remove may be owed: none is owed of the
+    /// names between. The names of the withdrawn globals are marked.
+    pub(crate) fn next_removal(&self, withdrawn: &Marks, place: usize) -> usize
+        requires { place < max_globals }
+        ensures behind { place < result }
+        ensures none { OwesNoRemoval self.now withdrawn.now place result }
     {
-        self.told.word(word) & withdrawn.word(word) & !self.removed.word(word) == 0
+        let word = place / WORD_LEN;
+        let owed = self.told.word(word) & withdrawn.word(word) & !self.removed.word(word);
+        next_in(owed, place)
     }
 
-    /// Whether the registry is owed no global of the 64 names of a word.
-    pub(crate) fn owes_no_telling(&self, withdrawn: &Marks, word: usize) -> bool
-        requires { word < 16 }
-        ensures { result ≡ true → OwesNoTelling self.now withdrawn.now word }
+    /// The next place behind this one of whose name global may be owed: none is owed of the names
+    /// between.
+    pub(crate) fn next_telling(&self, withdrawn: &Marks, place: usize) -> usize
+        requires { place < max_globals }
+        ensures behind { place < result }
+        ensures none { OwesNoTelling self.now withdrawn.now place result }
     {
-        self.told.word(word) | withdrawn.word(word) == u64::MAX
+        let word = place / WORD_LEN;
+        let owed = !self.told.word(word) & !withdrawn.word(word);
+        next_in(owed, place)
     }
 
     /// Marks a name as told of its removal.

@@ -9,8 +9,8 @@ use Rattle.wl_server.proofs.TellingGoesOn.{finished}
 use Rattle.wl_server.proofs.Registries.{births_told, has_told, past_told}
 use Rattle.wl_server.proofs.server.Server.announce.Goals as goal
 
-pub announce_to_all-told-requires-clause-settled : goal.announce_to_all-told-requires-clause-settled
-announce_to_all-told-requires-clause-settled g c =
+pub announce-told-requires-clause-settled : goal.announce-told-requires-clause-settled
+announce-told-requires-clause-settled g c =
     ap (λ (gs : List Global). owed_in gs (settled_in c.self.inside.registries)) c.deref.ensures.value
     ∙ c.self.invariant.settled
 
@@ -18,17 +18,17 @@ pub invariant_of-self : goal.invariant_of-self
 invariant_of-self g c =
     let core = c.self.inside.end.core in
     let registries = c.self.inside.registries.list in
-    let now = c.announce_to_all-told.new.core in
-    let left = c.announce_to_all-told.new.registries in
-    let told = c.announce_to_all-told.ensures.told in
+    let now = c.announce-told.new.core in
+    let left = c.announce-told.new.self in
+    let told = c.announce-told.ensures.told in
     record {
       few = c.self.invariant.few;
       registries = has_told core registries _ _ now left.list told c.self.invariant.registries;
       births = births_told core registries _ _ now left.list told c.self.invariant.births;
       past = past_told core registries _ _ now left.list left.past told
-          (omega (arith, c.announce_to_all-told.ensures.past, c.self.invariant.past));
+          (omega (arith, c.announce-told.ensures.past, c.self.invariant.past));
       settled = ap (λ (gs : List Global). owed_in gs (settled_in left)) (sym c.deref.ensures.value)
-          ∙ c.announce_to_all-told.ensures.settled;
+          ∙ c.announce-told.ensures.settled;
     }
 
 pub returns : goal.returns
@@ -42,21 +42,21 @@ returns g c =
     subst (λ (core : Core). IsOrdinary core.outbox) (λ i. (c.self-inside.view_is i).end.core)
     (c.self-inside.invariant.no_error c.if-self.false) in
     let told : IsAnnounced state.core state.registries
-    (owed_in state.globals state.registries) c.announce_to_all-told.result c.announce_to_all-told.new.core
-    c.announce_to_all-told.new.registries.list =
+    (owed_in state.globals state.registries) c.announce-told.result c.announce-told.new.core
+    c.announce-told.new.self.list =
     subst (λ (gs : List Global). IsAnnounced state.core state.registries (owed_in gs state.registries)
-    c.announce_to_all-told.result c.announce_to_all-told.new.core c.announce_to_all-told.new.registries.list)
-    c.deref.ensures.value c.announce_to_all-told.ensures.told in
-    let f = finished state c.announce_to_all-told.result c.announce_to_all-told.new.core
-    c.announce_to_all-told.new.registries.list ordinary told in
+    c.announce-told.result c.announce-told.new.core c.announce-told.new.self.list)
+    c.deref.ensures.value c.announce-told.ensures.told in
+    let f = finished state c.announce-told.result c.announce-told.new.core
+    c.announce-told.new.self.list ordinary told in
     record {
       registries = subst (λ (s : State). HasRegistries s.core.view s.registries) c.self.view_is
           c.self.invariant.registries;
       ok = (
         ap (λ (s : State). s.core.failed) (sym c.self.view_is)
             ∙ (sym (λ i. (c.self-inside.view_is i).end.core.failed) ∙ c.if-self.false),
-        subst (λ (s : State). Fitting s c.announce_to_all-told.result.count) c.self.view_is f.0,
-        f.1 ∙ ap (λ (s : State). after_announce s c.announce_to_all-told.result.count) c.self.view_is,
+        subst (λ (s : State). Fitting s c.announce-told.result.count) c.self.view_is f.0,
+        f.1 ∙ ap (λ (s : State). after_announce s c.announce-told.result.count) c.self.view_is,
       );
       err = tt;
     }

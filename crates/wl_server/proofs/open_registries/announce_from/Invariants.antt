@@ -2,7 +2,7 @@ use Rattle.std.proofs.Common.{◌≡◌, [], drop, length, take}
 use Rattle.wl_server.specs.Announcing.{owed_in}
 use Rattle.wl_server.specs.Tellings.{Progress}
 use Rattle.wl_server.specs.Slots.{SlotsRise, open_in, past_of}
-use Rattle.wl_server.proofs.announce.announce_from.Given as goal
+use Rattle.wl_server.proofs.open_registries.announce_from.Given as goal
 
 -- what is left is owed to the registries that are left, and nothing to those before
 abbrev pub invariant-places : goal.invariant-places

@@ -10,8 +10,8 @@ use Rattle.wl_server.proofs.OwedEvents.{ordinary-dues}
 use Rattle.wl_server.proofs.TellingGoesOn.{begun, told-count, told-none, told-part, told-whole}
 use Rattle.wl_server.proofs.Slots.{before, birth_in, is_open, open-set, owed-behind, past-set, rise-open, rise-set}
 use Rattle.wl_server.proofs.Slots.{settled-past, settled-told}
-use Rattle.wl_server.proofs.announce.announce_from.Goals.{then-slots-place+else-not-told, else-slots-place}
-use Rattle.wl_server.proofs.announce.announce_from.Goals as goal
+use Rattle.wl_server.proofs.open_registries.announce_from.Goals.{then-slots-place+else-not-told, else-slots-place}
+use Rattle.wl_server.proofs.open_registries.announce_from.Goals as goal
 
 not-true : (b : Bool) → not b ≡ true → b ≡ false
 not-true true e = sym e
