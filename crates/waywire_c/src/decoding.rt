@@ -13,7 +13,7 @@ ghost use Rattle.waywire_c.specs.Decoding.{TellsAtFront, TellsKnown, TellsSpelle
 use crate::messages::side_of;
 use crate::statuses::{BAD_VALUE, NOT_FOUND, OK, fault_place, fault_spelling, fault_status};
 use crate::tables_handle::TablesHandle;
-use crate::values::{ReportArg, shown, start_of};
+use crate::values::{ReportArg, show, start_of};
 use wl_objects::{Fault, GotRef, MAX_ARGS, Named, Object};
 use wl_sigs::{Side, Signature, Tables};
 use wl_wire::{HEADER_LEN, Header, Iface, Kind, ValueRef, read_ref};
@@ -110,7 +110,7 @@ fn put_spelled(kinds: &[Kind], body: &[u8], slots: &mut [ReportArg]) -> (usize, 
     'kinds: for (place, kind) in kinds.iter().enumerate() {
         match read_ref(*kind, &body[end..]) {
             Ok((value, len)) => {
-                slots[place] = shown(bare_argument(value));
+                show(bare_argument(value), &mut slots[place]);
                 end += len;
             }
             Err(fault) => return (place, Some(Fault::BadArgument(place, fault))),

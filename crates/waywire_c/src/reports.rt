@@ -8,7 +8,7 @@ ghost use Rattle.waywire_c.specs.Reports.{told_by, entry_told, entry_told_by, to
 ghost use Rattle.waywire_c.specs.Reports.{told_message, told_unread};
 
 use crate::statuses::{fault_place, fault_spelling};
-use crate::values::{CObject, ReportArg, named, shown, start_of, start_of_tokens};
+use crate::values::{CObject, ReportArg, named, show, start_of_text, start_of_tokens};
 use wl_client::{Incoming, IncomingWithEntry};
 use wl_objects::{Args, Entry, GotRef, NextError, REGISTRY};
 use wl_server::RequestWithEntry;
@@ -77,7 +77,7 @@ fn plain(kind: u32) -> Report
         code: 0,
         named: 0,
         spelling: 0,
-        text: start_of(b""),
+        text: start_of_text(b""),
         text_length: 0,
         place: 0,
         offset: 0,
@@ -105,7 +105,7 @@ fn put_shown(args: &mut Args<'_>, slots: &mut [ReportArg]) -> usize
     let count = args.len().min(slots.len());
     'places: for place in 0..count {
         if let Some(got) = args.next() {
-            slots[place] = shown(got);
+            show(got, &mut slots[place]);
         }
     }
     count
@@ -226,7 +226,7 @@ fn event(read: Incoming<'_>, slots: &mut [ReportArg]) -> Report
                 code,
                 named: about.kind,
                 target: about.object,
-                text: start_of(text),
+                text: start_of_text(text),
                 text_length: text.len(),
                 ..plain(ERROR)
             }

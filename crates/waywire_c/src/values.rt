@@ -231,6 +231,15 @@ pub fn start_of(bytes: &[u8]) -> *const u8 {
     }
 }
 
+/// Where a text begins: a NUL that lies elsewhere where it is empty, so never null.
+#[inline(always)]
+pub fn start_of_text(text: &[u8]) -> *const u8 {
+    match text.first() {
+        Some(first) => ptr::from_ref(first),
+        None => start_of(b"\0"),
+    }
+}
+
 /// Where a slice begins, as `start_of` has it, and its length.
 #[inline(always)]
 pub fn extent(bytes: &[u8]) -> (*const u8, usize)
@@ -247,24 +256,26 @@ pub fn start_of_tokens(tokens: &[u32]) -> *const u32 {
     }
 }
 
-/// The argument of a call, where its kind is one of those that a call takes.
+/// Puts the argument of a call into a slot. None where its kind is one that no call takes.
 #[inline(always)]
-fn arg_of<'a>(arg: &CallArg<'a>) -> Option<Arg<'a>>
-    ensures { option_map given_of result ≡ given_by arg.now }
+fn put_arg<'a>(arg: &CallArg<'a>, slot: &mut Arg<'a>) -> Option<()>
+    ensures { MatchOption result (given_by arg.now ≡ None)
+        (λ _. given_by arg.now ≡ Some (given_of slot.new)) }
 {
     match arg.kind {
-        INT => Some(Arg::Int(arg.int)),
-        UINT => Some(Arg::Uint(arg.uint)),
-        FIXED => Some(Arg::Fixed(Fixed::from_raw(arg.int))),
-        STRING => Some(Arg::Str(Some(arg.bytes))),
-        NULL_STRING => Some(Arg::Str(None)),
-        OBJECT => Some(Arg::Obj(Some(arg.object.object()))),
-        NULL_OBJECT => Some(Arg::Obj(None)),
-        NEW => Some(Arg::New),
-        ARRAY => Some(Arg::Array(arg.bytes)),
-        FD => Some(Arg::Fd(arg.uint)),
-        _ => None,
+        INT => *slot = Arg::Int(arg.int),
+        UINT => *slot = Arg::Uint(arg.uint),
+        FIXED => *slot = Arg::Fixed(Fixed::from_raw(arg.int)),
+        STRING => *slot = Arg::Str(Some(arg.bytes)),
+        NULL_STRING => *slot = Arg::Str(None),
+        OBJECT => *slot = Arg::Obj(Some(arg.object.object())),
+        NULL_OBJECT => *slot = Arg::Obj(None),
+        NEW => *slot = Arg::New,
+        ARRAY => *slot = Arg::Array(arg.bytes),
+        FD => *slot = Arg::Fd(arg.uint),
+        _ => return None,
     }
+    Some(())
 }
 
 /// Puts the arguments of a call into the first slots, as many as there are slots, and returns their
@@ -279,7 +290,7 @@ pub fn put_args<'a>(args: &[CallArg<'a>], slots: &mut [Arg<'a>]) -> Option<usize
 {
     let count = args.len().min(slots.len());
     'places: for place in 0..count {
-        slots[place] = arg_of(&args[place])?;
+        put_arg(&args[place], &mut slots[place])?;
     }
     Some(count)
 }
@@ -294,7 +305,7 @@ fn plain(kind: u32) -> ReportArg
         int: 0,
         uint: 0,
         object: CObject::none(),
-        bytes: start_of(b""),
+        bytes: ptr::null(),
         length: 0,
     }
 }
@@ -308,6 +319,17 @@ fn with_bytes(kind: u32, bytes: &[u8]) -> ReportArg
         bytes,
         length,
         ..plain(kind)
+    }
+}
+
+/// As `with_bytes`, of a text.
+#[inline(always)]
+fn with_text(kind: u32, text: &[u8]) -> ReportArg
+    ensures { arg_told_by result ≡ record (arg_of_kind kind) { length = length text.now } }
+{
+    ReportArg {
+        bytes: start_of_text(text),
+        ..with_bytes(kind, text)
     }
 }
 
@@ -349,29 +371,31 @@ pub fn named(named: Named) -> ReportArg
     }
 }
 
-/// The argument of a report as C sees it.
+/// Writes the argument of a report to a slot, as C sees it.
 #[inline(always)]
-pub fn shown(got: GotRef<'_>) -> ReportArg
-    ensures { arg_told_by result ≡ arg_told (lent_got got.entry) }
+pub fn show(got: GotRef<'_>, slot: &mut ReportArg)
+    ensures { arg_told_by slot.new ≡ arg_told (lent_got got.entry) }
 {
     match got {
-        GotRef::Int(number) => with_int(INT, number),
-        GotRef::Uint(number) => with_uint(UINT, number),
-        GotRef::Fixed(number) => with_int(FIXED, number.raw()),
-        GotRef::Str(Some(text)) => with_bytes(STRING, text),
-        GotRef::Str(None) => plain(NULL_STRING),
-        GotRef::Obj(object) => named(object),
-        GotRef::New(object) => with_object(NEW, object),
+        GotRef::Int(number) => *slot = with_int(INT, number),
+        GotRef::Uint(number) => *slot = with_uint(UINT, number),
+        GotRef::Fixed(number) => *slot = with_int(FIXED, number.raw()),
+        GotRef::Str(Some(text)) => *slot = with_text(STRING, text),
+        GotRef::Str(None) => *slot = plain(NULL_STRING),
+        GotRef::Obj(object) => *slot = named(object),
+        GotRef::New(object) => *slot = with_object(NEW, object),
         GotRef::Bound {
             iface,
             version,
             object,
-        } => ReportArg {
-            uint: version,
-            object: CObject::of(object),
-            ..with_bytes(BOUND, iface)
-        },
-        GotRef::Array(bytes) => with_bytes(ARRAY, bytes),
-        GotRef::Fd(token) => with_uint(FD, token),
+        } => {
+            *slot = ReportArg {
+                uint: version,
+                object: CObject::of(object),
+                ..with_text(BOUND, iface)
+            };
+        }
+        GotRef::Array(bytes) => *slot = with_bytes(ARRAY, bytes),
+        GotRef::Fd(token) => *slot = with_uint(FD, token),
     }
 }

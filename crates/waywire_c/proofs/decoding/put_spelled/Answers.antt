@@ -15,9 +15,9 @@ returns-in-Err c =
 pub kinds-preserved : goal.kinds-preserved
 kinds-preserved c =
     so-more c.args.kinds.now c.args.body.now c.kinds.place c.kinds.end c.in-Ok.len c.args.slots.now c.kinds.slots _
-    (lent c.in-Ok.value) c.shown.result _ c.kinds.invariant c.kinds-test.true c.requires.room
+    (lent c.in-Ok.value) _ _ c.kinds.invariant c.kinds-test.true c.requires.room
     (rest-is c.args.body.now c.kinds.end) c.in-Ok.ensures.found.0 c.in-Ok.ensures.found.1
-    (c.shown.ensures ∙ ap arg_told c.bare_argument.ensures)
+    (c.show.ensures ∙ ap arg_told c.bare_argument.ensures)
 
 pub returns-then-end-body : goal.returns-then-end-body
 returns-then-end-body c =
