@@ -27,13 +27,13 @@ use crate::making;
 use crate::parts::address;
 use crate::reading::read_event;
 use crate::reports::Report;
-use crate::sending::tell_made;
-use crate::statuses::{BAD_VALUE, NOT_FOUND, OK, send_status};
+use crate::sending::{Call, send_request};
+use crate::statuses::{NOT_FOUND, OK, send_status};
 use crate::tables_handle::TablesHandle;
-use crate::values::{CAmounts, CObject, CParts, CSizes, CallArg, MAX_GIVEN, ReportArg, put_args};
+use crate::values::{CAmounts, CObject, CParts, CSizes, CallArg, ReportArg};
 use std::alloc::Global;
 use wl_connection::End;
-use wl_objects::{Arg, Table};
+use wl_objects::Table;
 
 /// Makes a client with wl_display alone and empty queues, and writes where it is to `client`.
 #[unsafe(no_mangle)]
@@ -335,15 +335,12 @@ pub extern "C" fn waywire_c_client_send(
         (after_send client.old.held.client.core request_side (object_from_c target) opcode given)) }
     ensures unchanged { result ≢ 0 → client.new.held ≡ client.old.held }
 {
-    let mut slots = [Arg::New; MAX_GIVEN];
-    let Some(count) = put_args(args, &mut slots) else {
-        return BAD_VALUE;
+    let call = Call {
+        target: target.object(),
+        opcode,
+        args,
     };
-    let answer = client
-        .get_mut()
-        .client
-        .send(target.object(), opcode, &slots[..count]);
-    tell_made(answer, made, place)
+    send_request(&mut client.get_mut().client, &call, made, place)
 }
 
 /// Reads the next event, and writes its report and, as far as they hold them, its arguments.

@@ -29,14 +29,14 @@ use crate::making;
 use crate::parts::address;
 use crate::reading::read_request;
 use crate::reports::Report;
-use crate::sending::tell_made;
+use crate::sending::{Call, send_event};
 use crate::server_handle::ServerHandle;
-use crate::statuses::{BAD_VALUE, NOT_FOUND, OK, global_status, send_status};
+use crate::statuses::{NOT_FOUND, OK, global_status, send_status};
 use crate::tables_handle::TablesHandle;
-use crate::values::{CAmounts, CObject, CParts, CSizes, CallArg, MAX_GIVEN, ReportArg, put_args};
+use crate::values::{CAmounts, CObject, CParts, CSizes, CallArg, ReportArg};
 use std::alloc::Global;
 use wl_connection::End;
-use wl_objects::{Arg, Table};
+use wl_objects::Table;
 use wl_wire::Iface;
 
 /// Makes a server with wl_display alone and empty queues, and writes where it is to `server`.
@@ -338,15 +338,12 @@ pub extern "C" fn waywire_c_server_send(
         (after_send server.old.held.server.core event_side (object_from_c target) opcode given)) }
     ensures unchanged { result ≢ 0 → server.new.held ≡ server.old.held }
 {
-    let mut slots = [Arg::New; MAX_GIVEN];
-    let Some(count) = put_args(args, &mut slots) else {
-        return BAD_VALUE;
+    let call = Call {
+        target: target.object(),
+        opcode,
+        args,
     };
-    let answer = server
-        .get_mut()
-        .server
-        .send(target.object(), opcode, &slots[..count]);
-    tell_made(answer, made, place)
+    send_event(&mut server.get_mut().server, &call, made, place)
 }
 
 /// Reads the next request, and writes its report and, as far as they hold them, its arguments.
