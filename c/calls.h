@@ -36,9 +36,6 @@ extern HIDDEN uint32_t nowhere[1];
 /* Tests a slice, and gives an empty one that is null an address. */
 HIDDEN waywire_status slice(const void **bytes, size_t length, size_t size);
 
-/* Gives an empty string an address. */
-HIDDEN void name_empty(waywire_arg *arg);
-
 /* The least that this thread asks for at a time: while a piece passes, so much that its lines grow in few steps; else
  * 0. */
 extern __thread size_t least_asked HIDDEN;

@@ -244,7 +244,6 @@ waywire_status waywire_tables_decode(const waywire_tables *tables, uint16_t inte
 		waywire_arg *arg = &decoded->args[place];
 		waywire_kind kind;
 		waywire_c_tables_kind(tables->handle, interface, sender, decoded->opcode, place, &kind);
-		name_empty(arg);
 		decoded->interfaces[place] = decoded_interface(tables, &kind, arg);
 	}
 	return status;

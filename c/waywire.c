@@ -90,17 +90,32 @@ waywire_status slice(const void **bytes, size_t length, size_t size)
 	return length ? WAYWIRE_NULL : WAYWIRE_OK;
 }
 
-/* Copies the arguments of a call, with an address for each slice. */
-static waywire_status copy_args(const waywire_arg *args, size_t *count, waywire_arg *copies)
+static bool has_bytes(const waywire_arg *arg)
 {
-	if (*count > MAX_GIVEN)
-		*count = MAX_GIVEN;
-	if (*count && !args)
+	return arg->kind == WAYWIRE_STRING || arg->kind == WAYWIRE_ARRAY;
+}
+
+/* Whether the slices of arguments are such as an export takes, also where their kind has none: as those are that
+ * include/waywire.h makes. */
+static bool have_slices(const waywire_arg *args, size_t count)
+{
+	if (!args)
+		return false;
+	for (const waywire_arg *arg = args; arg < args + count; arg++)
+		if (!arg->bytes || (arg->length && (!has_bytes(arg) || arg->length > PTRDIFF_MAX)))
+			return false;
+	return true;
+}
+
+/* Copies the arguments of a call, with an address for each slice. */
+static waywire_status copy_args(const waywire_arg *args, size_t count, waywire_arg *copies)
+{
+	if (count && !args)
 		return WAYWIRE_NULL;
-	for (size_t place = 0; place < *count; place++) {
+	for (size_t place = 0; place < count; place++) {
 		waywire_arg *copy = &copies[place];
 		*copy = args[place];
-		if (copy->kind != WAYWIRE_STRING && copy->kind != WAYWIRE_ARRAY) {
+		if (!has_bytes(copy)) {
 			copy->bytes = nowhere;
 			copy->length = 0;
 			continue;
@@ -112,26 +127,14 @@ static waywire_status copy_args(const waywire_arg *args, size_t *count, waywire_
 	return WAYWIRE_OK;
 }
 
-void name_empty(waywire_arg *arg)
+/* Lists the tokens of a report's arguments. */
+static void list_tokens(waywire_report *report, uint32_t tokens[WAYWIRE_MAX_ARGS])
 {
-	if (!arg->bytes && (arg->kind == WAYWIRE_STRING || arg->kind == WAYWIRE_BOUND))
-		arg->bytes = nowhere;
-}
-
-/* Gives the empty strings of a report an address, and lists the tokens of its arguments. */
-static void finish(waywire_report *report, uint32_t tokens[WAYWIRE_MAX_ARGS])
-{
-	if (!report->text)
-		report->text = (const char *)nowhere;
-	for (size_t place = 0; place < report->arg_count; place++) {
-		waywire_arg *arg = &report->args[place];
+	for (const waywire_arg *arg = report->args; arg < report->args + report->arg_count; arg++)
 		if (arg->kind == WAYWIRE_FD) {
 			tokens[report->token_count++] = arg->u;
 			report->tokens = tokens;
-		} else {
-			name_empty(arg);
 		}
-	}
 }
 
 /* ---- pointers of the caller's
@@ -189,6 +192,7 @@ static waywire_status set_user(struct users *users, waywire_object object, void 
 		struct handle handle; \
 		waywire_tables *tables; \
 		struct users users; \
+		size_t untold; /* the tokens that came and that no report has told */ \
 		uint32_t tokens[WAYWIRE_MAX_ARGS]; \
 	}; \
 \
@@ -208,6 +212,7 @@ static waywire_status set_user(struct users *users, waywire_object object, void 
 		it->tables = used(tables); \
 		it->users.at = NULL; \
 		it->users.count = 0; \
+		it->untold = 0; \
 		*made = it; \
 		return WAYWIRE_OK; \
 	} \
@@ -315,6 +320,7 @@ static waywire_status set_user(struct users *users, waywire_object object, void 
 		if (status) \
 			return status; \
 		waywire_c_##end##_feed(&it->handle, bytes, length, from, token_count, fed); \
+		it->untold += fed->tokens; \
 		return waywire_c_##end##_has_failed(&it->handle) ? WAYWIRE_FAILED : WAYWIRE_OK; \
 	} \
 \
@@ -384,6 +390,7 @@ static waywire_status set_user(struct users *users, waywire_object object, void 
 		if (status) \
 			return status; \
 		waywire_c_##end##_received(&it->handle, bytes, from, token_count, fed); \
+		it->untold += fed->tokens; \
 		return waywire_c_##end##_has_failed(&it->handle) ? WAYWIRE_FAILED : WAYWIRE_OK; \
 	} \
 \
@@ -404,15 +411,25 @@ static waywire_status set_user(struct users *users, waywire_object object, void 
 		size_t *place) \
 	{ \
 		waywire_arg copies[MAX_GIVEN]; \
-		waywire_object no_object; \
-		size_t no_place; \
+		waywire_object object; \
+		size_t refused; \
 		if (!it) \
 			return WAYWIRE_NULL; \
-		waywire_status status = copy_args(args, &arg_count, copies); \
-		if (status) \
-			return status; \
-		return waywire_c_##end##_send(&it->handle, target, opcode, copies, arg_count, \
-			made ? made : &no_object, place ? place : &no_place); \
+		if (arg_count > MAX_GIVEN) \
+			arg_count = MAX_GIVEN; \
+		if (!have_slices(args, arg_count)) { \
+			waywire_status status = copy_args(args, arg_count, copies); \
+			if (status) \
+				return status; \
+			args = copies; \
+		} \
+		waywire_status status = waywire_c_##end##_send(&it->handle, target, opcode, args, arg_count, \
+			&object, &refused); \
+		if (!status && made) \
+			*made = object; \
+		if (place && (status == WAYWIRE_WRONG_ARGS || status == WAYWIRE_BAD_OBJECT)) \
+			*place = refused; \
+		return status; \
 	} \
 \
 	waywire_status waywire_##end##_next(waywire_##end *it, waywire_report *report) \
@@ -421,7 +438,10 @@ static waywire_status set_user(struct users *users, waywire_object object, void 
 			return WAYWIRE_NULL; \
 		waywire_status status = waywire_c_##end##_next(&it->handle, report, report->args, \
 			WAYWIRE_MAX_ARGS); \
-		finish(report, it->tokens); \
+		if (it->untold) { \
+			list_tokens(report, it->tokens); \
+			it->untold -= report->token_count; \
+		} \
 		report->user = user_of(&it->users, report->target); \
 		return status; \
 	}

@@ -176,23 +176,24 @@ typedef struct waywire_arg {
 	size_t length;
 } waywire_arg;
 
-/* Arguments of calls. What `bytes` points to is read by the call and not kept. */
+/* Arguments of calls. What `bytes` points to is read by the call and not kept. Where a kind has no bytes, they are
+ * those of an empty string: so the call need not copy the argument. */
 static inline waywire_arg waywire_int(int32_t number)
 {
-	waywire_arg arg = { WAYWIRE_INT, number, 0, { 0, 0 }, NULL, 0 };
+	waywire_arg arg = { WAYWIRE_INT, number, 0, { 0, 0 }, "", 0 };
 	return arg;
 }
 
 static inline waywire_arg waywire_uint(uint32_t number)
 {
-	waywire_arg arg = { WAYWIRE_UINT, 0, number, { 0, 0 }, NULL, 0 };
+	waywire_arg arg = { WAYWIRE_UINT, 0, number, { 0, 0 }, "", 0 };
 	return arg;
 }
 
 /* A fixed number, in 256ths. */
 static inline waywire_arg waywire_fixed(int32_t parts)
 {
-	waywire_arg arg = { WAYWIRE_FIXED, parts, 0, { 0, 0 }, NULL, 0 };
+	waywire_arg arg = { WAYWIRE_FIXED, parts, 0, { 0, 0 }, "", 0 };
 	return arg;
 }
 
@@ -219,7 +220,7 @@ static inline double waywire_fixed_to_double(int32_t parts)
 /* A string that ends with a NUL; NULL is the null string. */
 static inline waywire_arg waywire_string(const char *text)
 {
-	waywire_arg arg = { WAYWIRE_NULL_STRING, 0, 0, { 0, 0 }, NULL, 0 };
+	waywire_arg arg = { WAYWIRE_NULL_STRING, 0, 0, { 0, 0 }, "", 0 };
 	if (text) {
 		arg.kind = WAYWIRE_STRING;
 		arg.bytes = text;
@@ -230,7 +231,7 @@ static inline waywire_arg waywire_string(const char *text)
 
 static inline waywire_arg waywire_array(const void *bytes, size_t length)
 {
-	waywire_arg arg = { WAYWIRE_ARRAY, 0, 0, { 0, 0 }, NULL, 0 };
+	waywire_arg arg = { WAYWIRE_ARRAY, 0, 0, { 0, 0 }, "", 0 };
 	arg.bytes = bytes;
 	arg.length = length;
 	return arg;
@@ -238,26 +239,26 @@ static inline waywire_arg waywire_array(const void *bytes, size_t length)
 
 static inline waywire_arg waywire_of(waywire_object object)
 {
-	waywire_arg arg = { WAYWIRE_OBJECT, 0, 0, { 0, 0 }, NULL, 0 };
+	waywire_arg arg = { WAYWIRE_OBJECT, 0, 0, { 0, 0 }, "", 0 };
 	arg.object = object;
 	return arg;
 }
 
 static inline waywire_arg waywire_no_object(void)
 {
-	waywire_arg arg = { WAYWIRE_NULL_OBJECT, 0, 0, { 0, 0 }, NULL, 0 };
+	waywire_arg arg = { WAYWIRE_NULL_OBJECT, 0, 0, { 0, 0 }, "", 0 };
 	return arg;
 }
 
 static inline waywire_arg waywire_new(void)
 {
-	waywire_arg arg = { WAYWIRE_NEW, 0, 0, { 0, 0 }, NULL, 0 };
+	waywire_arg arg = { WAYWIRE_NEW, 0, 0, { 0, 0 }, "", 0 };
 	return arg;
 }
 
 static inline waywire_arg waywire_fd(uint32_t token)
 {
-	waywire_arg arg = { WAYWIRE_FD, 0, token, { 0, 0 }, NULL, 0 };
+	waywire_arg arg = { WAYWIRE_FD, 0, token, { 0, 0 }, "", 0 };
 	return arg;
 }
 

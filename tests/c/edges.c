@@ -155,6 +155,43 @@ static void faults(void)
 	MUST(!waywire_is_fault(WAYWIRE_OUT_FULL) && !waywire_is_fault(WAYWIRE_NO_SUCH_GLOBAL));
 }
 
+/* What a field has that its argument's kind does not use changes nothing, in calls of few arguments and of more;
+ * and a new object may be written over an argument. */
+static void unused(void)
+{
+	static const char text[] = "interface some 1\n"
+		"request six i i i i i i\n"
+		"request seven i i i i i i n(some)\n";
+	waywire_tables *more;
+	struct pair pair;
+	waywire_report report;
+	waywire_arg args[7];
+	MUST(!waywire_tables_read(tables, text, strlen(text), &more, NULL, NULL));
+	open_pair(&pair, more);
+	waywire_object some = bound(&pair, more, "some");
+	for (int form = 0; form < 6; form++) {
+		uint16_t opcode = form % 2;
+		for (int each = 0; each < 6; each++) {
+			args[each] = waywire_int(10 * form + each);
+			if (form / 2)
+				args[each].bytes = form / 2 == 1 ? NULL : args;
+			if (form / 2 == 2)
+				args[each].length = each % 2 ? SIZE_MAX : 1;
+		}
+		args[6] = waywire_new();
+		MUST(!waywire_client_send(pair.client, some, opcode, args, 6 + opcode, &args[0].object, NULL));
+		MUST(!args[0].object.id == !opcode);
+		to_server(&pair);
+		MUST(!waywire_server_next(pair.server, &report) && report.arg_count == 6u + opcode);
+		for (int each = 0; each < 6; each++)
+			MUST(report.args[each].kind == WAYWIRE_INT && report.args[each].i == 10 * form + each
+				&& !report.args[each].bytes && !report.args[each].length);
+		MUST(!opcode || report.args[6].object.id == args[0].object.id);
+	}
+	close_pair(&pair);
+	waywire_tables_free(more);
+}
+
 /* A message of 20 arguments passes whole, one of 21 is refused, also where 20 would fit. */
 static void twenty(void)
 {
@@ -432,6 +469,7 @@ int main(void)
 	places();
 	object_without_id();
 	faults();
+	unused();
 	twenty();
 	full();
 	errors();
