@@ -222,6 +222,7 @@ impl<A: Allocator> Inbox<A> {
     /// The first message, once it is whole; none before. It stays in the inbox.
     ///
     /// `BadSize` is answered as soon as the 8 bytes of its header are there.
+    #[inline(always)]
     pub fn frame(&mut self) -> Result<Option<Frame<'_>>, BadSize>
         ensures* stays { sem 𝓛 (Rests (the_row A.row A.Allocator) self.entry (λ i. i ≡ self.old)) }
         ensures tells { TellsFront self.old result }
@@ -279,6 +280,7 @@ impl<A: Allocator> Inbox<A> {
     /// Takes the first message out, and this many of the first tokens, as `pop` does, for `last`
     /// and `last_tokens` to lend.
     #[tactic(auto, using(crate::proofs::Fronts::has_message))]
+    #[inline(always)]
     pub fn pass(&mut self, tokens: usize)
         requires message { HasMessage (in_front self.old) }
         requires tokens { tokens ≤ length self.old.tokens }
