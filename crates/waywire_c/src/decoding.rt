@@ -171,8 +171,8 @@ fn of_message(
     }
 }
 
-/// Tells a message of this signature. Returns the status.
-fn tell_body(
+/// Writes a message of this signature. Returns the status.
+fn put_body(
     header: Header,
     message: &Signature,
     body: &[u8],
@@ -208,8 +208,8 @@ fn message_since(
     }
 }
 
-/// Tells the message of this header, where the version of its interface has it.
-fn tell_message(
+/// Writes the message of this header, where the version of its interface has it.
+fn put_message(
     tables: &Tables,
     interface: Iface,
     version: u32,
@@ -224,7 +224,7 @@ fn tell_message(
         body.now result (decoded_by decoded.new) args.old args.new }
 {
     match message_since(tables, interface, version, side, header.opcode) {
-        Some(message) => tell_body(header, message, body, decoded, args),
+        Some(message) => put_body(header, message, body, decoded, args),
         None => {
             *decoded = of_header(header);
             fault_status(Fault::UnknownMessage)
@@ -239,8 +239,8 @@ fn stands_whole(size: usize, bytes: &[u8]) -> bool
     size >= HEADER_LEN && size % 4 == 0 && size <= bytes.len()
 }
 
-/// Tells the message at the front of bytes.
-fn tell_front(
+/// Writes the message at the front of bytes.
+fn put_front(
     tables: &Tables,
     interface: Iface,
     version: u32,
@@ -264,7 +264,7 @@ fn tell_front(
         return fault_status(Fault::BadSize);
     }
     let body = &bytes[HEADER_LEN..size];
-    tell_message(
+    put_message(
         tables, interface, version, side, header, body, decoded, args,
     )
 }
@@ -292,7 +292,7 @@ pub extern "C" fn waywire_c_tables_decode(
     if tables.version(Iface(interface)).is_none() {
         return NOT_FOUND;
     }
-    tell_front(
+    put_front(
         tables,
         Iface(interface),
         version,

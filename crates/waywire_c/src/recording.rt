@@ -51,14 +51,14 @@ pub extern "C" fn waywire_c_recording_next(
     }
     let mut reader = PieceReader { rest: text, number };
     match reader.next_piece(&alloc) {
-        Ok(Some(passed)) => tell_piece(&passed, reader.rest.len(), reader.number, bytes, piece),
+        Ok(Some(passed)) => put_piece(&passed, reader.rest.len(), reader.number, bytes, piece),
         Ok(None) => NOT_FOUND,
-        Err(error) => tell_error(error, piece),
+        Err(error) => put_error(error, piece),
     }
 }
 
 /// The status of an error, whose line is told.
-fn tell_error(error: RecordingError, piece: &mut CPiece) -> u32
+fn put_error(error: RecordingError, piece: &mut CPiece) -> u32
     ensures bad { result ≡ 71 → error ≡ bad_line piece.new.number }
     ensures status { (result ≡ 71) ⊎ (result ≡ 11) }
 {
@@ -71,8 +71,8 @@ fn tell_error(error: RecordingError, piece: &mut CPiece) -> u32
     }
 }
 
-/// Tells of a piece, and writes its bytes, if there is room for them.
-fn tell_piece(
+/// Writes a piece and its bytes, if there is room for them.
+fn put_piece(
     passed: &Passed,
     left: usize,
     number: usize,
@@ -84,15 +84,15 @@ fn tell_piece(
     ensures status { (result ≡ 0) ⊎ (result ≡ 9) }
     ensures unwritten { result ≢ 0 → bytes.new ≡ bytes.old }
 {
-    let its = passed.bytes.as_slice();
-    if its.len() > bytes.len() {
+    let read = passed.bytes.as_slice();
+    if read.len() > bytes.len() {
         return FULL;
     }
-    bytes[..its.len()].copy_from_slice(its);
+    bytes[..read.len()].copy_from_slice(read);
     *piece = CPiece {
         sender: sender_of(passed.direction),
         tokens: passed.tokens,
-        length: its.len(),
+        length: read.len(),
         left,
         number,
     };

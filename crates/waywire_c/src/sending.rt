@@ -32,11 +32,7 @@ pub struct Call<'a, 'b> {
 /// Writes the object that was made to `made`, or the place of the argument that was refused to
 /// `place`. Returns the status.
 #[inline(always)]
-fn tell_made(
-    answer: Result<Option<Object>, SendError>,
-    made: &mut CObject,
-    place: &mut usize,
-) -> u32
+fn put_made(answer: Result<Option<Object>, SendError>, made: &mut CObject, place: &mut usize) -> u32
     ensures status { result ≡ made_outcome answer }
     ensures made { object_from_c made.new ≡ made_left (object_from_c made.old) answer }
     ensures place { place.new ≡ place_left place.old answer }
@@ -121,7 +117,7 @@ fn put_request<'t, 'b>(
         return BAD_VALUE;
     };
     let answer = client.send(call.target, call.opcode, &slots[..count]);
-    tell_made(answer, made, place)
+    put_made(answer, made, place)
 }
 
 /// A server writes an event for C. Returns the status.
@@ -190,5 +186,5 @@ fn put_event<'t, 'b>(
         return BAD_VALUE;
     };
     let answer = server.send(call.target, call.opcode, &slots[..count]);
-    tell_made(answer, made, place)
+    put_made(answer, made, place)
 }

@@ -4,7 +4,7 @@ use Rattle.wl_wire.specs.declared.header.Header.{Header}
 use Rattle.wl_wire.specs.Word.{header_at}
 use Rattle.wl_message.specs.Cut.{is_size}
 use Rattle.waywire_c.specs.Decoding.{decoded_by, of_header, TellsWhole}
-use Rattle.waywire_c.proofs.decoding.tell_front.Goals as goal
+use Rattle.waywire_c.proofs.decoding.put_front.Goals as goal
 
 pub returns-then-bytes-lt-HEADER_LEN : goal.returns-then-bytes-lt-HEADER_LEN
 returns-then-bytes-lt-HEADER_LEN c =

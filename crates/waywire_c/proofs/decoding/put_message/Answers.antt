@@ -1,8 +1,8 @@
 use Rattle.std.proofs.Common.{refl}
-use Rattle.waywire_c.proofs.decoding.tell_message.Goals as goal
+use Rattle.waywire_c.proofs.decoding.put_message.Goals as goal
 
 pub returns-in-Some : goal.returns-in-Some
-returns-in-Some c = rw (← c.message_since.ensures.found, c.in-Some.is) c.tell_body.ensures
+returns-in-Some c = rw (← c.message_since.ensures.found, c.in-Some.is) c.put_body.ensures
 
 pub returns-in-None : goal.returns-in-None
 returns-in-None c =
