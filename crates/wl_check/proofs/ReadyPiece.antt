@@ -21,7 +21,7 @@ scanner c server client = record { state = c; to_server = server; to_client = cl
 
 -- a stream that has the bytes and the counts of another
 pub record AreSameBytes {A : Type 0} (stream copy : Stream A) : Type 0 where
-  pub bytes : copy.bytes.items ≡ stream.bytes.items
+  pub bytes : copy.bytes ≡ stream.bytes
   pub len : copy.len ≡ stream.len
   pub tokens : copy.tokens ≡ stream.tokens
 
@@ -67,7 +67,7 @@ come_server {A = A} limit tables o ps p a s is r = record {
   before = r.before.to_server;
   along = subst (λ (c : SessionState A). Along limit tables o p.direction ps c r.before.to_server) (sym r.state)
       (along_server limit tables o ps p.direction r.before is r.after);
-  bytes = r.appended_is.to_server ∙ ap (λ (d : Direction). r.before.to_server.bytes.items ++ own ToServer d p.bytes) is;
+  bytes = r.appended_is.to_server ∙ ap (λ (d : Direction). r.before.to_server.bytes ++ own ToServer d p.bytes) is;
   len = r.len_to_server;
   tokens = r.tokens_to_server;
   direction_is = r.appended_is.direction;
@@ -82,7 +82,7 @@ come_client {A = A} limit tables o ps p a s is r = record {
   before = r.before.to_client;
   along = subst (λ (c : SessionState A). Along limit tables o p.direction ps c r.before.to_client) (sym r.state)
       (along_client limit tables o ps p.direction r.before is r.after);
-  bytes = r.appended_is.to_client ∙ ap (λ (d : Direction). r.before.to_client.bytes.items ++ own ToClient d p.bytes) is;
+  bytes = r.appended_is.to_client ∙ ap (λ (d : Direction). r.before.to_client.bytes ++ own ToClient d p.bytes) is;
   len = r.len_to_client;
   tokens = r.tokens_to_client;
   direction_is = r.appended_is.direction;
@@ -108,8 +108,8 @@ judged_server {A = A} limit tables o a s n after (Ok x) is along going other = �
     (λ d away. other d (subst (λ (e : Direction). same_direction e d ≡ false) (sym r.appended_is.direction) away)
     ∙ ap (λ (c : SessionState A). end_in c d) r.state) in
     let client : AreSameBytes b.to_client s.to_client = record {
-      bytes = r.appended_is.to_client ∙ ap (λ (d : Direction). b.to_client.bytes.items ++ own ToClient d p.bytes) pd
-          ∙ append-nil b.to_client.bytes.items;
+      bytes = r.appended_is.to_client ∙ ap (λ (d : Direction). b.to_client.bytes ++ own ToClient d p.bytes) pd
+          ∙ append-nil b.to_client.bytes;
       len = r.len_to_client;
       tokens = r.tokens_to_client;
     } in
@@ -133,8 +133,8 @@ judged_client {A = A} limit tables o a s n after (Ok x) is along going other = �
     (λ d away. other d (subst (λ (e : Direction). same_direction e d ≡ false) (sym r.appended_is.direction) away)
     ∙ ap (λ (c : SessionState A). end_in c d) r.state) in
     let server : AreSameBytes b.to_server s.to_server = record {
-      bytes = r.appended_is.to_server ∙ ap (λ (d : Direction). b.to_server.bytes.items ++ own ToServer d p.bytes) pd
-          ∙ append-nil b.to_server.bytes.items;
+      bytes = r.appended_is.to_server ∙ ap (λ (d : Direction). b.to_server.bytes ++ own ToServer d p.bytes) pd
+          ∙ append-nil b.to_server.bytes;
       len = r.len_to_server;
       tokens = r.tokens_to_server;
     } in

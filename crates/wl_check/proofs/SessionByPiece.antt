@@ -177,7 +177,7 @@ own_tokens_of ps p = tokens_last p.direction ps p
 pub follows_piece : {A : Type 0} (limit : ℕ) (tables : List Interface) (o : Output) (ps : List Piece) (p : Piece)
     (c : SessionState A) (stream : Stream A) (len tokens : ℕ) (bytes : List ℕ)
     → Along limit tables o p.direction ps c stream → is_going c.status ≡ true → len ≡ stream.len + length p.bytes
-    → len < 2 ^ 64 → tokens ≡ stream.tokens + p.tokens → bytes ≡ stream.bytes.items ++ p.bytes
+    → len < 2 ^ 64 → tokens ≡ stream.tokens + p.tokens → bytes ≡ stream.bytes ++ p.bytes
     → CutFollows limit tables (session_of limit (ps ++ p ∷ [])) o c p.direction tokens bytes
 follows_piece limit tables o ps p c stream len tokens bytes h going len_is small tokens_is bytes_is =
     let d = p.direction in
@@ -223,7 +223,7 @@ pub along_piece : {A : Type 0} (limit : ℕ) (tables : List Interface) (o : Outp
     → Along limit tables o p.direction ps c stream
     → AllJudged limit tables (session_of limit (ps ++ p ∷ [])) o n p.direction rest
     → after.len ≡ stream.len + length p.bytes → after.tokens ≡ stream.tokens + p.tokens
-    → after.bytes.items ≡ rest → Along limit tables o p.direction (ps ++ p ∷ []) n after
+    → after.bytes ≡ rest → Along limit tables o p.direction (ps ++ p ∷ []) n after
 along_piece limit tables o ps p c n stream after rest h j len tokens bytes =
     let l = ap (λ (b : List ℕ). length b) (own_stream ps p) in
     let a = length-append (stream_of p.direction ps) p.bytes in
@@ -353,8 +353,8 @@ unfolding cutting
 left_none limit d = record { rest_is = refl; place = refl; is_bad = refl }
 
 pub none_judged : {A : Type 0} (limit : ℕ) (tables : List Interface) (o : Output) (s : Scanner A) → IsUnread s.state
-    → s.to_server.bytes.items ≡ [] → s.to_server.len ≡ 0 → s.to_server.tokens ≡ 0
-    → s.to_client.bytes.items ≡ [] → s.to_client.len ≡ 0 → s.to_client.tokens ≡ 0 → IsAfter limit tables o [] s
+    → s.to_server.bytes ≡ [] → s.to_server.len ≡ 0 → s.to_server.tokens ≡ 0
+    → s.to_client.bytes ≡ [] → s.to_client.len ≡ 0 → s.to_client.tokens ≡ 0 → IsAfter limit tables o [] s
 unfolding merged_within
 none_judged limit tables o s f bytes len tokens bytes2 len2 tokens2 =
     let t = session_of limit [] in

@@ -164,7 +164,7 @@ pub record IsStream {A : Type 0} (limit : ℕ) (d : Direction) (ps : List Piece)
   pub len : stream.len ≡ length (stream_of d ps)
   pub tokens : stream.tokens ≡ piece_tokens d ps
   pub left : is_going c.status ≡ true → IsLeft limit (stream_of d ps) (end_in c d)
-      stream.bytes.items
+      stream.bytes
 
 -- The messages of these pieces were judged, and this is what they brought in one direction.
 pub record Along {A : Type 0} (limit : ℕ) (tables : List Interface) (o : Output) (d : Direction)
@@ -188,7 +188,7 @@ pub record HasCome {A : Type 0} (limit : ℕ) (tables : List Interface) (o : Out
     : Type 0 where
   pub before : Stream A
   pub along : Along limit tables o p.direction ps c before
-  pub bytes : stream.bytes.items ≡ before.bytes.items ++ p.bytes
+  pub bytes : stream.bytes ≡ before.bytes ++ p.bytes
   pub len : stream.len ≡ before.len
   pub tokens : stream.tokens ≡ before.tokens
   pub direction_is : appended.direction ≡ p.direction
@@ -205,8 +205,8 @@ pub record IsReady {A : Type 0} (limit : ℕ) (tables : List Interface) (o : Out
   pub len_to_client : s.to_client.len ≡ before.to_client.len
   pub tokens_to_server : s.to_server.tokens ≡ before.to_server.tokens
   pub tokens_to_client : s.to_client.tokens ≡ before.to_client.tokens
-  pub appended_is : IsAppended p appended before.to_server.bytes.items s.to_server.bytes.items
-      before.to_client.bytes.items s.to_client.bytes.items
+  pub appended_is : IsAppended p appended before.to_server.bytes s.to_server.bytes
+      before.to_client.bytes s.to_client.bytes
 
 -- ---- a state that memory running out goes back to
 

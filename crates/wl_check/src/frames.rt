@@ -1,11 +1,17 @@
 //! A recording's messages, cut off the bytes of their directions.
-ghost use Rattle.std.specs.Prelude.{◌≡◌, ◌≤◌, [], drop, length};
+ghost use Rattle.std.specs.Prelude.{◌≡◌, ◌⊎◌, ◌≤◌, ◌<◌, ◌^◌, ◌+◌, ◌++◌, ◌∷◌, ℕ, List, [], drop};
+ghost use Rattle.std.specs.Prelude.{length, take, IfOk, IfErr, IfNone, IfSome, MatchOption, OnOk};
+ghost use Rattle.std.specs.Prelude.{OnErr};
+ghost use Rattle.wl_recording.specs.declared.recording.RecordingError.TheVariants.{BadLine, Memory};
+ghost use Rattle.wl_recording.specs.Piece.{recorded_piece, IsAppended, Piece};
+ghost use Rattle.wl_recording.specs.Text.{IsFirstBad, IsReadUpTo, TextRecords};
 ghost use Rattle.wl_message.specs.Cut.{front};
 ghost use Rattle.wl_check.specs.Seen.{size_of};
 
-use std::alloc::{Allocator, Global};
+use std::alloc::{AllocError, Allocator, Global};
+use std::marker::Model;
 use wl_message::Limit;
-use wl_recording::Direction;
+use wl_recording::{Appended, Direction, Passed, PieceReader, RecordingError};
 use wl_wire::Header;
 
 /// A message of the list.
@@ -20,11 +26,26 @@ pub(crate) struct FramedMessage {
     pub tokens: u128,
 }
 
+/// The bytes of a direction that wait for the rest of their message. Their room for more is no part
+/// of their value.
+#[derive(Debug, Drop)]
+pub(crate) struct WaitingBytes<A: Allocator = Global> {
+    items: Vec<u8, A>,
+}
+
+impl<A: Allocator> Model for WaitingBytes<A> {
+    ghost use Rattle.std.specs.Prelude.{ℕ, List};
+
+    ghost Value = { List ℕ };
+
+    ghost view = { λ w. w.items.items };
+}
+
 /// What pieces brought in one direction.
 #[derive(Debug, Drop)]
 pub(crate) struct Stream<A: Allocator = Global> {
     /// The bytes behind the last message that was judged, as long as there are messages to judge.
-    pub bytes: Vec<u8, A>,
+    pub bytes: WaitingBytes<A>,
     /// How many bytes there were in all.
     pub len: usize,
     pub tokens: u128,
@@ -50,25 +71,125 @@ pub(crate) fn size_in_front(bytes: &[u8], limit: Limit) -> Option<u16>
 
 /// Before the first piece.
 pub(crate) fn empty_stream<A: Allocator>(alloc: A) -> Stream<A>
-    ensures bytes { result.bytes.items ≡ [] }
+    ensures bytes { result.bytes ≡ [] }
     ensures len { result.len ≡ 0 }
     ensures tokens { result.tokens ≡ 0 }
 {
     Stream {
-        bytes: Vec::new(alloc),
+        bytes: WaitingBytes::new(alloc),
         len: 0,
         tokens: 0,
     }
 }
 
-/// Removes bytes from the front.
-pub(crate) fn remove_front<A: Allocator>(bytes: &mut Vec<u8, A>, count: usize)
-    requires { count ≤ length bytes.old.items }
-    ensures { bytes.new.items ≡ drop count bytes.old.items }
-{
-    if count == bytes.len() {
-        bytes.clear();
-    } else if count > 0 {
-        drop(bytes.drain(..count));
+impl<A: Allocator> WaitingBytes<A> {
+    /// None.
+    fn new(alloc: A) -> Self
+        ensures { result ≡ [] }
+    {
+        WaitingBytes {
+            items: Vec::new(alloc),
+        }
     }
+
+    pub(crate) fn as_slice(&self) -> &[u8]
+        ensures { result.now ≡ self.now }
+    {
+        self.items.as_slice()
+    }
+
+    pub(crate) fn len(&self) -> usize
+        ensures { result ≡ length self.now }
+    {
+        self.items.len()
+    }
+
+    /// Appends bytes.
+    pub(crate) fn append(&mut self, bytes: &[u8]) -> Result<(), AllocError>
+        ensures ok { OnOk result (self.new ≡ self.old ++ bytes.now) }
+        ensures err { OnErr result (self.new ≡ self.old) }
+    {
+        self.items.extend_from_slice(bytes)
+    }
+
+    /// Removes all.
+    pub(crate) fn clear(&mut self)
+        ensures { self.new ≡ [] }
+    {
+        self.items.clear();
+    }
+
+    /// Removes bytes from the front.
+    pub(crate) fn remove_front(&mut self, count: usize)
+        requires { count ≤ length self.old }
+        ensures { self.new ≡ drop count self.old }
+    {
+        if count == self.items.len() {
+            self.items.clear();
+        } else if count > 0 {
+            drop(self.items.drain(..count));
+        }
+    }
+
+    /// Puts back what stood here before more was appended, by how many there were. Room that was
+    /// made for more is given back, where there is memory to move these to.
+    pub(crate) fn go_back(&mut self, len: usize)
+        ensures { self.new ≡ take len self.old }
+    {
+        self.items.truncate(len);
+        self.items.shrink_to_fit();
+    }
+}
+
+impl<A: Allocator + Clone> WaitingBytes<A> {
+    /// Leaves those from a place on. Those before it leave no room behind.
+    pub(crate) fn keep_from(&mut self, place: usize) -> Result<(), AllocError>
+        requires { place ≤ length self.old }
+        ensures ok { OnOk result (self.new ≡ drop place self.old) }
+        ensures err { OnErr result (self.new ≡ self.old) }
+    {
+        if place == 0 {
+            return Ok(());
+        }
+        let mut rest = Vec::new(self.items.allocator().clone()?);
+        rest.extend_from_slice(&self.items[place..])?;
+        self.items = rest;
+        Ok(())
+    }
+}
+
+/// Appends the bytes of a piece to those of its direction.
+pub(crate) fn append_piece<A: Allocator>(
+    piece: &Passed<A>,
+    to_server: &mut WaitingBytes<A>,
+    to_client: &mut WaitingBytes<A>,
+) -> Result<Appended, AllocError>
+    ensures { IfOk result (λ appended. IsAppended (recorded_piece piece.now) appended
+        to_server.old to_server.new to_client.old to_client.new) }
+{
+    piece.append_to(&mut to_server.items, &mut to_client.items)
+}
+
+/// Reads on to the next piece of a text, and appends its bytes to those of its direction.
+pub(crate) fn append_next<A: Allocator>(
+    reader: &mut PieceReader<'_>,
+    to_server: &mut WaitingBytes<A>,
+    to_client: &mut WaitingBytes<A>,
+) -> Result<Option<Appended>, RecordingError>
+    requires { reader.old.number + length reader.old.rest.now < 2 ^ 64 }
+    ensures read { IfOk result (λ found. (text : List ℕ) (pieces : List Piece)
+        → IsReadUpTo text reader.old.rest.now reader.old.number pieces
+        → MatchOption found (TextRecords text pieces)
+        (λ appended. (piece : Piece)
+        × IsReadUpTo text reader.new.rest.now reader.new.number (pieces ++ piece ∷ [])
+        × IsAppended piece appended to_server.old to_server.new to_client.old to_client.new)) }
+    ensures none { IfOk result (λ found. IfNone found
+        ((to_server.new ≡ to_server.old) × (to_client.new ≡ to_client.old))) }
+    ensures bad { IfErr result (λ e. (text : List ℕ) (pieces : List Piece)
+        → IsReadUpTo text reader.old.rest.now reader.old.number pieces
+        → (e ≡ Memory) ⊎ ((n : ℕ) × (e ≡ BadLine n) × IsFirstBad text n)) }
+    ensures shorter { IfOk result (λ found. IfSome found
+        (λ appended. length reader.new.rest.now < length reader.old.rest.now)) }
+{
+    reader.append_next(&mut to_server.items, &mut to_client.items)
 }

@@ -1,6 +1,6 @@
 //! The messages that a piece completes, judged and printed as it passes.
 ghost use Rattle.std.specs.Prelude.{◌≡◌, ◌≤◌, ◌∷◌, ◌++◌, ℕ, List, [], true, drop, length};
-ghost use Rattle.std.specs.Prelude.{OnOk, OnErr, IfOk};
+ghost use Rattle.std.specs.Prelude.{take, OnOk, OnErr, IfOk};
 ghost use Rattle.wl_recording.specs.Piece.{Piece};
 ghost use Rattle.wl_sigs.specs.Tables.{Interface};
 ghost use Rattle.wl_sigs.specs.Valid.{Valid};
@@ -11,7 +11,7 @@ ghost use Rattle.wl_check.specs.SessionState.{IsAfter, IsJudged, OthersStay, Wen
 ghost use Rattle.wl_check.specs.Printed.{piece_of, AreOwnLines, PrintsOn};
 ghost use Rattle.wl_check.specs.Session.{session_of, IsVerdictOf, Session};
 
-use crate::frames::{FramedMessage, Stream, size_in_front};
+use crate::frames::{FramedMessage, Stream, WaitingBytes, size_in_front};
 use crate::judging::judge;
 use crate::overwritten::UndoList;
 use crate::scanning::Scanner;
@@ -127,24 +127,12 @@ fn print_all<A: Allocator + Clone>(
     }
 }
 
-/// The bytes from a place on. Those before it leave no room behind.
-fn rest_of<A: Allocator + Clone>(bytes: Vec<u8, A>, place: usize) -> Result<Vec<u8, A>, AllocError>
-    requires { place ≤ length bytes.items }
-    ensures { IfOk result (λ rest. rest.items ≡ drop place bytes.items) }
-{
-    if place == 0 {
-        return Ok(bytes);
-    }
-    let mut rest = Vec::new(bytes.allocator().clone()?);
-    rest.extend_from_slice(&bytes[place..])?;
-    Ok(rest)
-}
-
-/// Judges the messages that these bytes of a direction complete, behind those that were kept of it,
-/// appends their lines, and returns what is left.
+/// Judges the messages that these bytes of a direction complete, behind those that wait for more,
+/// appends their lines, and leaves what waits now. Where memory runs out, what waited before stands
+/// in front.
 fn print_bytes<A: Allocator + Clone>(
     state: &mut SessionState<A>,
-    kept: &Vec<u8, A>,
+    waiting: &mut WaitingBytes<A>,
     bytes: &[u8],
     direction: Direction,
     tokens: u128,
@@ -152,35 +140,34 @@ fn print_bytes<A: Allocator + Clone>(
     limit: Limit,
     lines: &mut Vec<u8, A>,
     undo: &mut UndoList<A>,
-) -> Result<Vec<u8, A>, AllocError>
+) -> Result<(), AllocError>
     requires valid { Valid tables.now }
     requires follows { ∥ ((s : Session) × CutFollows limit.bytes tables.now s Nothing state.old
-        direction tokens (kept.now.items ++ bytes.now)) ∥₁ }
-    ensures judged { IfOk result (λ left. (s : Session)
+        direction tokens (waiting.old ++ bytes.now)) ∥₁ }
+    ensures judged { OnOk result ((s : Session)
         → CutFollows limit.bytes tables.now s Nothing state.old direction tokens
-        (kept.now.items ++ bytes.now)
-        → AllJudged limit.bytes tables.now s Nothing state.new direction left.items) }
+        (waiting.old ++ bytes.now)
+        → AllJudged limit.bytes tables.now s Nothing state.new direction waiting.new) }
     ensures lines { OnOk result ((s : Session)
         → CutFollows limit.bytes tables.now s Nothing state.old direction tokens
-        (kept.now.items ++ bytes.now)
+        (waiting.old ++ bytes.now)
         → PrintsOn tables.now s state.old.count state.new.count lines.old.items
         lines.new.items) }
     ensures other { OnOk result (OthersStay direction state.old state.new) }
     ensures text { state.new.text ≡ state.old.text }
     ensures undone { undone_by undo.new state.new.progress.known.held
         ≡ undone_by undo.old state.old.progress.known.held }
+    ensures waiting { OnErr result (take (length waiting.old) waiting.new ≡ waiting.old) }
 {
-    let mut all = Vec::new(kept.allocator().clone()?);
-    if kept.is_empty() {
+    if waiting.len() == 0 {
         let place = print_all(state, bytes, direction, tokens, tables, limit, lines, undo)?;
-        all.extend_from_slice(&bytes[place..])?;
-        return Ok(all);
+        waiting.append(&bytes[place..])?;
+        return Ok(());
     }
-    all.extend_from_slice(kept.as_slice())?;
-    all.extend_from_slice(bytes)?;
+    waiting.append(bytes)?;
     let place = print_all(
         state,
-        all.as_slice(),
+        waiting.as_slice(),
         direction,
         tokens,
         tables,
@@ -188,43 +175,47 @@ fn print_bytes<A: Allocator + Clone>(
         lines,
         undo,
     )?;
-    rest_of(all, place)
+    waiting.keep_from(place)?;
+    Ok(())
 }
 
-/// The same, but where memory runs out, the state is as it was.
+/// The same, but where memory runs out, all is as it was.
 fn print_or_go_back<A: Allocator + Clone>(
     state: &mut SessionState<A>,
-    kept: &Vec<u8, A>,
+    waiting: &mut WaitingBytes<A>,
     bytes: &[u8],
     direction: Direction,
     tokens: u128,
     tables: &Tables,
     limit: Limit,
     lines: &mut Vec<u8, A>,
-) -> Result<Vec<u8, A>, AllocError>
+) -> Result<(), AllocError>
     requires valid { Valid tables.now }
     requires follows { ∥ ((s : Session) × CutFollows limit.bytes tables.now s Nothing state.old
-        direction tokens (kept.now.items ++ bytes.now)) ∥₁ }
-    ensures judged { IfOk result (λ left. (s : Session)
+        direction tokens (waiting.old ++ bytes.now)) ∥₁ }
+    ensures judged { OnOk result ((s : Session)
         → CutFollows limit.bytes tables.now s Nothing state.old direction tokens
-        (kept.now.items ++ bytes.now)
-        → AllJudged limit.bytes tables.now s Nothing state.new direction left.items) }
+        (waiting.old ++ bytes.now)
+        → AllJudged limit.bytes tables.now s Nothing state.new direction waiting.new) }
     ensures lines { OnOk result ((s : Session)
         → CutFollows limit.bytes tables.now s Nothing state.old direction tokens
-        (kept.now.items ++ bytes.now)
+        (waiting.old ++ bytes.now)
         → PrintsOn tables.now s state.old.count state.new.count lines.old.items
         lines.new.items) }
     ensures other { OnOk result (OthersStay direction state.old state.new) }
     ensures err { OnErr result (state.new ≡ state.old) }
+    ensures waiting { OnErr result (waiting.new ≡ waiting.old) }
 {
     let numbers = state.numbers();
-    let mut undo = UndoList::On(Vec::new(kept.allocator().clone()?));
+    let len = waiting.len();
+    let mut undo = UndoList::On(Vec::new(lines.allocator().clone()?));
     match print_bytes(
-        state, kept, bytes, direction, tokens, tables, limit, lines, &mut undo,
+        state, waiting, bytes, direction, tokens, tables, limit, lines, &mut undo,
     ) {
-        Ok(left) => Ok(left),
+        Ok(()) => Ok(()),
         Err(error) => {
             state.go_back(numbers, &mut undo);
+            waiting.go_back(len);
             Err(error)
         }
     }
@@ -273,9 +264,9 @@ fn print_stream<A: Allocator + Clone>(
         stream.tokens = tokens;
         return Ok(());
     }
-    let left = print_or_go_back(
+    print_or_go_back(
         state,
-        &stream.bytes,
+        &mut stream.bytes,
         bytes,
         direction,
         tokens,
@@ -283,7 +274,6 @@ fn print_stream<A: Allocator + Clone>(
         limit,
         lines,
     )?;
-    stream.bytes = left;
     stream.len = len;
     stream.tokens = tokens;
     Ok(())

@@ -12,7 +12,7 @@ ghost use Rattle.wl_check.specs.SessionState.{IsReady, OthersStay};
 ghost use Rattle.wl_check.specs.Session.{session_of, IsVerdictOf};
 ghost use Rattle.wl_check.specs.Trace.{trace_of, wanted};
 
-use crate::frames::{Stream, empty_stream, remove_front};
+use crate::frames::{Stream, append_next, append_piece, empty_stream};
 use crate::session_state::{Output, SessionState, SessionStatus};
 use crate::verdict::Verdict;
 use std::alloc::{AllocError, Allocator, Global};
@@ -73,7 +73,7 @@ fn judge_piece<A: Allocator + Clone>(
         output,
         args,
     )?;
-    remove_front(&mut stream.bytes, place);
+    stream.bytes.remove_front(place);
     Ok(())
 }
 
@@ -172,7 +172,11 @@ pub(crate) fn scan<A: Allocator + Clone>(
     let mut scanner = Scanner::new(alloc, tables)?;
     let mut args = ParsedArgs::new();
     'pieces: for piece in pieces {
-        let appended = piece.append_to(&mut scanner.to_server.bytes, &mut scanner.to_client.bytes)?;
+        let appended = append_piece(
+            piece,
+            &mut scanner.to_server.bytes,
+            &mut scanner.to_client.bytes,
+        )?;
         scanner.judge(&appended, tables, limit, output, &mut args)?;
     }
     Ok(scanner.finish())
@@ -195,7 +199,8 @@ pub(crate) fn scan_text<A: Allocator + Clone>(
     let mut scanner = Scanner::new(alloc, tables)?;
     let mut args = ParsedArgs::new();
     let mut reader = PieceReader::new(text);
-    'pieces: while let Some(piece) = reader.append_next(
+    'pieces: while let Some(piece) = append_next(
+        &mut reader,
         &mut scanner.to_server.bytes,
         &mut scanner.to_client.bytes,
     )? {

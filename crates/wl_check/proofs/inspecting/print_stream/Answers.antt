@@ -44,8 +44,8 @@ returns-clause-along g c ps h =
     h (sym c.is_open.ensures ∙ c.if-not-is_open.false) len.1
     (let is = len.1 in let less = len.0 in omega (arith, is, less)) tokens.1 refl in
     along_piece c.args.limit.bytes c.args.tables.now Nothing ps p c.args.state.now c.print_or_go_back.new.state
-    c.args.stream.now _ c.in_ok-left.left.items
-    h (c.in_ok-left.ensures.judged (session_of c.args.limit.bytes (ps ++ p ∷ [])) follows) len.1 tokens.1 refl
+    c.args.stream.now _ _
+    h (c.in_ok-print_or_go_back.ensures.judged (session_of c.args.limit.bytes (ps ++ p ∷ [])) follows) len.1 tokens.1 refl
 
 pub returns-clause-lines : goal.returns-clause-lines
 returns-clause-lines g c ps h =
@@ -59,4 +59,4 @@ returns-clause-lines g c ps h =
     c.in-Some-checked_add.tokens _
     h (sym c.is_open.ensures ∙ c.if-not-is_open.false) len.1
     (let is = len.1 in let less = len.0 in omega (arith, is, less)) tokens.1 refl in
-    λ earlier e. c.in_ok-left.ensures.lines (session_of c.args.limit.bytes (ps ++ p ∷ [])) follows earlier e
+    λ earlier e. c.in_ok-print_or_go_back.ensures.lines (session_of c.args.limit.bytes (ps ++ p ∷ [])) follows earlier e

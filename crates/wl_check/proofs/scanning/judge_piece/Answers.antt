@@ -35,7 +35,7 @@ judge_all-requires-clause-follows g c =
           (len.1 ∙ (let a = h.len in let b = h.len_is in omega (arith, a, b)))
           (let is = len.1 in let less = len.0 in omega (arith, is, less))
           (tokens.1 ∙ (let a = h.tokens in let b = h.tokens_are in let t = c.from.ensures in omega (arith, a, b, t)))
-          (c.as_slice.ensures.value ∙ h.bytes)),
+          (c.as_slice.ensures ∙ h.bytes)),
     )
 
 pub returns-clause-along : goal.returns-clause-along
@@ -53,7 +53,7 @@ returns-clause-along g c ps p h =
     (follows_piece c.args.limit.bytes c.args.tables.now c.args.output ps p c.args.state.now h.before c.in-Some.len
     c.in-Some-checked_add.tokens c.as_slice.result.now
     h.along (sym c.is_open.ensures ∙ c.if-not-is_open.false) len_is
-    (let is = len.1 in let less = len.0 in omega (arith, is, less)) tokens_is (c.as_slice.ensures.value ∙ h.bytes))
+    (let is = len.1 in let less = len.0 in omega (arith, is, less)) tokens_is (c.as_slice.ensures ∙ h.bytes))
     in
     let judged = subst (λ (d : Direction). AllJudged c.args.limit.bytes c.args.tables.now s c.args.output
     c.judge_all.new.self d (drop c.in_ok-place.place c.as_slice.result.now)) h.direction_is
@@ -61,4 +61,4 @@ returns-clause-along g c ps p h =
     along_piece c.args.limit.bytes c.args.tables.now c.args.output ps p c.args.state.now c.judge_all.new.self h.before _
     (drop c.in_ok-place.place c.as_slice.result.now)
     h.along judged len_is tokens_is (c.remove_front.ensures
-    ∙ ap (λ (b : List ℕ). drop c.in_ok-place.place b) (sym c.as_slice.ensures.value))
+    ∙ ap (λ (b : List ℕ). drop c.in_ok-place.place b) (sym c.as_slice.ensures))

@@ -21,7 +21,7 @@ judge-requires-clause-ready g c = (
     len_to_client = refl;
     tokens_to_server = refl;
     tokens_to_client = refl;
-    appended_is = c.in_ok-appended.ensures.appended;
+    appended_is = c.in_ok-appended.ensures;
   },
 )
 
@@ -43,7 +43,7 @@ pieces-preserved g c =
       len_to_client = refl;
       tokens_to_server = refl;
       tokens_to_client = refl;
-      appended_is = c.in_ok-appended.ensures.appended;
+      appended_is = c.in_ok-appended.ensures;
     }) in
     subst (λ (qs : List Piece). IsAfter c.args.limit.bytes c.args.tables.now c.args.output qs c.judge.new.self) more
     after
