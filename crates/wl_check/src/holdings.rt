@@ -137,7 +137,7 @@ impl<A: Allocator + Clone> Holdings<A> {
         })
     }
 
-    /// Remembers a global that an event advertises.
+    /// Remembers a global that an event advertises, if no event did with as great a version.
     pub(crate) fn remember_global(
         &mut self,
         global: &AdvertisedGlobal,
@@ -151,9 +151,11 @@ impl<A: Allocator + Clone> Holdings<A> {
     {
         let key = (global.name, global.iface.0);
         let version = self.globals.get(&key).copied();
+        if global.version <= version.unwrap_or(0) {
+            return Ok(());
+        }
         undo.write_down(Overwritten::Global { key, version })?;
-        let greatest = global.version.max(version.unwrap_or(0));
-        self.globals.insert(key, greatest)?;
+        self.globals.insert(key, global.version)?;
         Ok(())
     }
 }
