@@ -13,7 +13,6 @@ use Rattle.wl_objects.specs.declared.error.Fault.{Fault}
 use Rattle.wl_recording.specs.declared.piece.Direction.{Direction}
 use Rattle.wl_recording.specs.declared.piece.Direction.TheVariants.{ToServer, ToClient}
 use Rattle.wl_check.specs.declared.session_state.SessionState.{SessionState}
-use Rattle.wl_check.specs.declared.session_state.Output.{Output}
 use Rattle.wl_check.specs.declared.session_state.SessionStatus.{SessionStatus}
 use Rattle.wl_check.specs.declared.session_state.SessionStatus.TheVariants.{Open, Ended, Broken}
 use Rattle.wl_check.specs.declared.changes.MessageChanges.{MessageChanges}
@@ -28,13 +27,11 @@ use Rattle.wl_check.specs.Merged.{Mark, mark, Cutting, cutting, cut_at, bad_at, 
 use Rattle.wl_check.specs.Merged.{framed, same_direction}
 use Rattle.wl_check.specs.Places.{IsKnownBehind}
 use Rattle.wl_check.specs.Rules.{judged_front}
-use Rattle.wl_check.specs.Seen.{known_in, size_of, tally_after, tally_in}
+use Rattle.wl_check.specs.Seen.{known_in, size_of, taken_of_direction, tally_after, tally_in}
 use Rattle.wl_check.specs.Session.{Session, Judged, messages}
-use Rattle.wl_check.specs.Trace.{call_line, lines_within, wanted}
 use Rattle.wl_check.proofs.MessagesOfStream.{next_within, step}
 use Rattle.wl_check.proofs.Examined.{at_next, ends_is, found_is, passed_next}
 use Rattle.wl_check.proofs.LongerRecording.{size_least}
-use Rattle.wl_check.proofs.Lines.{lines_more}
 
 pub open_passed : (tables : List Interface) (s : Session) (k : ℕ) (status : SessionStatus) → is_going status ≡ true
     → StatusIs tables s k status → ArePassed (messages tables s) k
@@ -62,42 +59,48 @@ count_few tables s k p ToClient at = few_counted s k ToClient p.to_client at.to_
 -- ---- the next message
 
 -- it lies within its stream
-pub message_within : {A : Type 0} (limit : ℕ) (tables : List Interface) (s : Session) (o : Output) (c : SessionState A)
-    (f : FramedMessage) (rest : List ℕ) → Comes limit tables s o c f rest → is_size limit f.size ≡ true
+pub message_within : {A : Type 0} (limit : ℕ) (tables : List Interface) (s : Session) (c : SessionState A)
+    (f : FramedMessage) (rest : List ℕ) → Comes limit tables s c f rest → is_size limit f.size ≡ true
     → f.start + f.size ≤ length (s.streams f.direction)
-message_within limit tables s o c f rest h good =
+message_within limit tables s c f rest h good =
     let l = length-drop f.start (s.streams f.direction) in
     let e = ap (λ (b : List ℕ). length b) h.rest_is in
     let w = h.whole good in
     let n = size_least limit f.size good in
     omega (arith, l, e, w, n)
 
-pub few_judged : {A : Type 0} (tables : List Interface) (s : Session) (o : Output) (c : SessionState A)
-    → IsJudged tables s o c → c.count < 2 ^ 62
-few_judged tables s o c j = let few = j.few in let a = j.small_to_server in let b = j.small_to_client
+pub few_judged : {A : Type 0} (tables : List Interface) (s : Session) (c : SessionState A)
+    → IsJudged tables s c → c.count < 2 ^ 62
+few_judged tables s c j = let few = j.few in let a = j.small_to_server in let b = j.small_to_client
     in omega (arith, few, a, b)
 
+pub taken_few : {A : Type 0} (tables : List Interface) (s : Session) (c : SessionState A) (d : Direction)
+    → IsJudged tables s c → taken_of_direction c.progress.known d < 2 ^ 127
+taken_few tables s c ToServer j = let few = few_judged tables s c j in let taken = j.at.taken_to_server
+    in omega (arith, few, taken)
+taken_few tables s c ToClient j = let few = few_judged tables s c j in let taken = j.at.taken_to_client
+    in omega (arith, few, taken)
+
 -- what the code finds
-pub next_is : {A : Type 0} (limit : ℕ) (tables : List Interface) (s : Session) (o : Output) (c : SessionState A)
-    (f : FramedMessage) (rest : List ℕ) (x : Judged) → Comes limit tables s o c f rest
+pub next_is : {A : Type 0} (limit : ℕ) (tables : List Interface) (s : Session) (c : SessionState A)
+    (f : FramedMessage) (rest : List ℕ) (x : Judged) → Comes limit tables s c f rest
     → x ≡ judged_front limit tables (known_in c.progress.known) rest f → slice_get (messages tables s) c.count ≡ Some x
-next_is limit tables s o c f rest x h is =
+next_is limit tables s c f rest x h is =
     found_is tables s c.count f c.progress rest x h.stands h.judged.at h.rest_is
     (is ∙ ap (λ (n : ℕ). judged_front n tables (known_in c.progress.known) rest f) (sym h.limit_is))
 
-pub judged_broken : {A : Type 0} (limit : ℕ) (tables : List Interface) (s : Session) (o : Output) (c n : SessionState A)
-    (f : FramedMessage) (rest : List ℕ) (fault : Fault) → Comes limit tables s o c f rest
-    → Err fault ≡ judged_front limit tables (known_in c.progress.known) rest f → n.text.items ≡ c.text.items
-    → n ≡ record c { status = Broken f fault; text = n.text } → IsJudged tables s o n
-judged_broken {A} limit tables s o c n f rest fault h is text_is n_is =
-    subst (λ (x : SessionState A). IsJudged tables s o x) (sym n_is) (record {
+pub judged_broken : {A : Type 0} (limit : ℕ) (tables : List Interface) (s : Session) (c n : SessionState A)
+    (f : FramedMessage) (rest : List ℕ) (fault : Fault) → Comes limit tables s c f rest
+    → Err fault ≡ judged_front limit tables (known_in c.progress.known) rest f
+    → n ≡ record c { status = Broken f fault } → IsJudged tables s n
+judged_broken {A} limit tables s c n f rest fault h is n_is =
+    subst (λ (x : SessionState A). IsJudged tables s x) (sym n_is) (record {
       at = h.judged.at;
       status = record {
         stands = h.stands;
-        is = next_is limit tables s o c f rest (Err fault) h is;
+        is = next_is limit tables s c f rest (Err fault) h is;
         passed = open_passed tables s c.count c.status h.going h.judged.status;
       };
-      text_is = text_is ∙ h.judged.text_is;
       within = h.judged.within;
       few = h.judged.few;
       small_to_server = h.judged.small_to_server;
@@ -107,7 +110,7 @@ judged_broken {A} limit tables s o c n f rest fault h is text_is n_is =
 -- ---- behind a message that keeps the rules
 
 -- What the code has done then.
-pub record Goes {A : Type 0} (tables : List Interface) (o : Output) (c n : SessionState A) (f : FramedMessage)
+pub record Goes {A : Type 0} (tables : List Interface) (c n : SessionState A) (f : FramedMessage)
     (call : Call) (e : MessageChanges) : Type 0 where
   pub changes_are : e ≡ changes tables call
   pub known : IsKnownBehind (c.count + 1) e (known_in c.progress.known) (known_in n.progress.known)
@@ -116,7 +119,6 @@ pub record Goes {A : Type 0} (tables : List Interface) (o : Output) (c n : Sessi
   pub few_to_server : n.progress.known.taken_to_server < c.progress.known.taken_to_server + 2 ^ 64
   pub few_to_client : n.progress.known.taken_to_client < c.progress.known.taken_to_client + 2 ^ 64
   pub count : n.count ≡ c.count + 1
-  pub text : n.text.items ≡ c.text.items ++ wanted o (call_line tables (known_in c.progress.known) call)
 
 pub own_end : {A : Type 0} (c n : SessionState A) (f : FramedMessage) (d : Direction) → f.direction ≡ d
     → n.progress.to_server ≡ tally_after ToServer f c.progress.to_server
@@ -159,30 +161,26 @@ small_step c n f ToClient len e a b h l v w =
     let y : n.progress.to_server.end ≡ c.progress.to_server.end = rw (a, e) refl in
     (omega (arith, y, v), omega (arith, x, h, l))
 
-judged_so : {A : Type 0} (limit : ℕ) (tables : List Interface) (s : Session) (o : Output) (c n : SessionState A)
-    (f : FramedMessage) (rest : List ℕ) (call : Call) (e : MessageChanges) → Comes limit tables s o c f rest
+judged_so : {A : Type 0} (limit : ℕ) (tables : List Interface) (s : Session) (c n : SessionState A)
+    (f : FramedMessage) (rest : List ℕ) (call : Call) (e : MessageChanges) → Comes limit tables s c f rest
     → Ok call ≡ judged_front limit tables (known_in c.progress.known) rest f → is_size limit f.size ≡ true
-    → Goes tables o c n f call e → StatusIs tables s (c.count + 1) n.status → IsJudged tables s o n
-judged_so limit tables s o c n f rest call e h is good g status =
-    let m = next_is limit tables s o c f rest (Ok call) h is in
+    → Goes tables c n f call e → StatusIs tables s (c.count + 1) n.status → IsJudged tables s n
+judged_so limit tables s c n f rest call e h is good g status =
+    let m = next_is limit tables s c f rest (Ok call) h is in
     let k : n.count ≡ c.count + 1 = g.count in
     let at : IsAt tables s (c.count + 1) n.progress =
     at_next tables s c.count f call e c.progress n.progress g.changes_are h.stands m
-    (message_within limit tables s o c f rest h good) g.known g.to_server g.to_client g.few_to_server
+    (message_within limit tables s c f rest h good) g.known g.to_server g.to_client g.few_to_server
     g.few_to_client h.judged.at in
-    let lines : n.text.items ≡ wanted o (lines_within tables s (c.count + 1)) =
-    lines_more tables s c.count o call c.progress c.text.items n.text.items m h.judged.at h.judged.text_is
-    g.text in
     let below = slice_get_within s.frames c.count f h.stands in
     let small = small_step c n f f.direction (length (s.streams f.direction)) refl g.to_server g.to_client
-    (message_within limit tables s o c f rest h good) h.small h.judged.small_to_server h.judged.small_to_client
+    (message_within limit tables s c f rest h good) h.small h.judged.small_to_server h.judged.small_to_client
     in
     let few = few_step c n f f.direction refl g.to_server g.to_client h.here
     (size_least limit f.size good) h.judged.few in
     record {
       at = subst (λ (j : ℕ). IsAt tables s j n.progress) (sym k) at;
       status = subst (λ (j : ℕ). StatusIs tables s j n.status) (sym k) status;
-      text_is = subst (λ (j : ℕ). n.text.items ≡ wanted o (lines_within tables s j)) (sym k) lines;
       within = omega (arith, k, below);
       few = omega (arith, k, few);
       small_to_server = small.0;
@@ -195,25 +193,25 @@ status_open Open e tables s k h = h
 status_open Ended e tables s k h = absurd (cc e)
 status_open (Broken frame fault) e tables s k h = absurd (cc e)
 
-pub judged_on : {A : Type 0} (limit : ℕ) (tables : List Interface) (s : Session) (o : Output) (c n : SessionState A)
-    (f : FramedMessage) (rest : List ℕ) (call : Call) (e : MessageChanges) → Comes limit tables s o c f rest
+pub judged_on : {A : Type 0} (limit : ℕ) (tables : List Interface) (s : Session) (c n : SessionState A)
+    (f : FramedMessage) (rest : List ℕ) (call : Call) (e : MessageChanges) → Comes limit tables s c f rest
     → Ok call ≡ judged_front limit tables (known_in c.progress.known) rest f → is_size limit f.size ≡ true
-    → Goes tables o c n f call e → e.is_error ≡ false → n.status ≡ c.status → IsJudged tables s o n
-judged_on limit tables s o c n f rest call e h is good g on status =
-    let m = next_is limit tables s o c f rest (Ok call) h is in
+    → Goes tables c n f call e → e.is_error ≡ false → n.status ≡ c.status → IsJudged tables s n
+judged_on limit tables s c n f rest call e h is good g on status =
+    let m = next_is limit tables s c f rest (Ok call) h is in
     let passed = passed_next (messages tables s) c.count call
     (open_passed tables s c.count c.status h.going h.judged.status) m
     (ends_is tables call e false g.changes_are on) in
-    judged_so limit tables s o c n f rest call e h is good g
+    judged_so limit tables s c n f rest call e h is good g
     (subst (λ (x : SessionStatus). StatusIs tables s (c.count + 1) x) (sym status)
     (status_open c.status h.going tables s (c.count + 1) passed))
 
-pub judged_end : {A : Type 0} (limit : ℕ) (tables : List Interface) (s : Session) (o : Output) (c n : SessionState A)
-    (f : FramedMessage) (rest : List ℕ) (call : Call) (e : MessageChanges) → Comes limit tables s o c f rest
+pub judged_end : {A : Type 0} (limit : ℕ) (tables : List Interface) (s : Session) (c n : SessionState A)
+    (f : FramedMessage) (rest : List ℕ) (call : Call) (e : MessageChanges) → Comes limit tables s c f rest
     → Ok call ≡ judged_front limit tables (known_in c.progress.known) rest f → is_size limit f.size ≡ true
-    → Goes tables o c n f call e → e.is_error ≡ true → n.status ≡ Ended → IsJudged tables s o n
-judged_end limit tables s o c n f rest call e h is good g ends status =
-    let m = next_is limit tables s o c f rest (Ok call) h is in
+    → Goes tables c n f call e → e.is_error ≡ true → n.status ≡ Ended → IsJudged tables s n
+judged_end limit tables s c n f rest call e h is good g ends status =
+    let m = next_is limit tables s c f rest (Ok call) h is in
     let last : IsEnd (messages tables s) (c.count + 1) = record {
       before = c.count;
       last = refl;
@@ -222,7 +220,7 @@ judged_end limit tables s o c n f rest call e h is good g ends status =
       ends = ends_is tables call e true g.changes_are ends;
       passed = open_passed tables s c.count c.status h.going h.judged.status;
     } in
-    judged_so limit tables s o c n f rest call e h is good g
+    judged_so limit tables s c n f rest call e h is good g
     (subst (λ (x : SessionStatus). StatusIs tables s (c.count + 1) x) (sym status) last)
 
 -- ---- the messages that are cut off bytes
@@ -283,10 +281,10 @@ in_front_as limit w rest p z (Whole y) e within is some =
       good = λ good. c2;
     }
 
-pub in_front : {A : Type 0} (limit : ℕ) (tables : List Interface) (s : Session) (o : Output) (c : SessionState A)
-    (d : Direction) (tokens z : ℕ) (rest : List ℕ) → CutFollows limit tables s o c d tokens rest
+pub in_front : {A : Type 0} (limit : ℕ) (tables : List Interface) (s : Session) (c : SessionState A)
+    (d : Direction) (tokens z : ℕ) (rest : List ℕ) → CutFollows limit tables s c d tokens rest
     → Some z ≡ size_of (front limit rest) → InFront limit (s.streams d) rest (end_in c d) z
-in_front limit tables s o c d tokens z rest h some =
+in_front limit tables s c d tokens z rest h some =
     in_front_as limit (s.streams d) rest (end_in c d) z (front limit (drop (end_in c d) (s.streams d))) refl
     (end_within tables s c.count c.progress d h.judged.at) h.rest_is
     (some ∙ ap (λ (b : List ℕ). size_of (front limit b)) (sym h.rest_is))
@@ -294,12 +292,12 @@ in_front limit tables s o c d tokens z rest h some =
 abbrev pub frame_of : Direction → ℕ → ℕ → ℕ → FramedMessage
 frame_of d start z tokens = record { direction = d; start = start; size = z; tokens = tokens }
 
-pub comes_next : {A : Type 0} (limit : ℕ) (tables : List Interface) (s : Session) (o : Output) (c : SessionState A)
-    (d : Direction) (tokens z start : ℕ) (rest : List ℕ) → CutFollows limit tables s o c d tokens rest
+pub comes_next : {A : Type 0} (limit : ℕ) (tables : List Interface) (s : Session) (c : SessionState A)
+    (d : Direction) (tokens z start : ℕ) (rest : List ℕ) → CutFollows limit tables s c d tokens rest
     → Some z ≡ size_of (front limit rest) → start ≡ end_in c d
-    → Comes limit tables s o c (frame_of d start z tokens) rest
-comes_next limit tables s o c d tokens z start rest h some here =
-    let i = in_front limit tables s o c d tokens z rest h some in
+    → Comes limit tables s c (frame_of d start z tokens) rest
+comes_next limit tables s c d tokens z start rest h some here =
+    let i = in_front limit tables s c d tokens z rest h some in
     let frames : drop c.count s.frames ≡ frame_of d (end_in c d) z tokens ∷ map (framed d tokens) i.others =
     h.frames ∙ ap (map (framed d tokens)) i.marks in
     record {
@@ -315,12 +313,12 @@ comes_next limit tables s o c d tokens z start rest h some here =
       whole = i.whole;
     }
 
-pub follows_next : {A : Type 0} (limit : ℕ) (tables : List Interface) (s : Session) (o : Output) (c n : SessionState A)
-    (d : Direction) (tokens z start : ℕ) (rest : List ℕ) → CutFollows limit tables s o c d tokens rest
+pub follows_next : {A : Type 0} (limit : ℕ) (tables : List Interface) (s : Session) (c n : SessionState A)
+    (d : Direction) (tokens z start : ℕ) (rest : List ℕ) → CutFollows limit tables s c d tokens rest
     → Some z ≡ size_of (front limit rest) → start ≡ end_in c d → WentOn limit (frame_of d start z tokens) c n
-    → IsJudged tables s o n → is_going n.status ≡ true → CutFollows limit tables s o n d tokens (drop z rest)
-follows_next limit tables s o c n d tokens z start rest h some here went judged going =
-    let i = in_front limit tables s o c d tokens z rest h some in
+    → IsJudged tables s n → is_going n.status ≡ true → CutFollows limit tables s n d tokens (drop z rest)
+follows_next limit tables s c n d tokens z start rest h some here went judged going =
+    let i = in_front limit tables s c d tokens z rest h some in
     let w = s.streams d in
     let p = end_in c d in
     let is = i.good went.size in
@@ -353,10 +351,10 @@ stops_as limit w p More e within none = step limit (length w) w p within (omega 
 stops_as limit w p (Bad y) e within none = absurd (cc none)
 stops_as limit w p (Whole y) e within none = absurd (cc none)
 
-pub all_judged : {A : Type 0} (limit : ℕ) (tables : List Interface) (s : Session) (o : Output) (c : SessionState A)
-    (d : Direction) (tokens : ℕ) (rest : List ℕ) → CutFollows limit tables s o c d tokens rest
-    → None ≡ size_of (front limit rest) → AllJudged limit tables s o c d rest
-all_judged limit tables s o c d tokens rest h none =
+pub all_judged : {A : Type 0} (limit : ℕ) (tables : List Interface) (s : Session) (c : SessionState A)
+    (d : Direction) (tokens : ℕ) (rest : List ℕ) → CutFollows limit tables s c d tokens rest
+    → None ≡ size_of (front limit rest) → AllJudged limit tables s c d rest
+all_judged limit tables s c d tokens rest h none =
     let w = s.streams d in
     let p = end_in c d in
     let is : cutting limit (length w) w p ≡ stopped p =
@@ -376,10 +374,10 @@ all_judged limit tables s o c d tokens rest h none =
     }
 
 -- a message ended the session, or broke a rule
-pub closed : {A : Type 0} (limit : ℕ) (tables : List Interface) (s : Session) (o : Output) (c : SessionState A)
-    (d : Direction) (rest : List ℕ) → IsJudged tables s o c → is_going c.status ≡ false
-    → AllJudged limit tables s o c d rest
-closed limit tables s o c d rest judged stopped_is =
+pub closed : {A : Type 0} (limit : ℕ) (tables : List Interface) (s : Session) (c : SessionState A)
+    (d : Direction) (rest : List ℕ) → IsJudged tables s c → is_going c.status ≡ false
+    → AllJudged limit tables s c d rest
+closed limit tables s c d rest judged stopped_is =
     record {
       judged = judged;
       all = λ going. absurd (cc (going, stopped_is));

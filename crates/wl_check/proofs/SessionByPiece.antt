@@ -12,7 +12,6 @@ use Rattle.wl_recording.specs.declared.piece.Direction.{Direction}
 use Rattle.wl_recording.specs.declared.piece.Direction.TheVariants.{ToServer, ToClient}
 use Rattle.wl_recording.specs.Piece.{Piece}
 use Rattle.wl_check.specs.declared.session_state.SessionState.{SessionState}
-use Rattle.wl_check.specs.declared.session_state.Output.{Output}
 use Rattle.wl_check.specs.declared.session_state.SessionStatus.{SessionStatus}
 use Rattle.wl_check.specs.declared.session_state.SessionStatus.TheVariants.{Open, Ended, Broken}
 use Rattle.wl_check.specs.declared.frames.FramedMessage.{FramedMessage}
@@ -31,12 +30,11 @@ use Rattle.wl_check.specs.Merged.{piece_tokens, completed, merged, merged_within
 use Rattle.wl_check.specs.Places.{known}
 use Rattle.wl_check.specs.Seen.{tally_in}
 use Rattle.wl_check.specs.Session.{Session, Judged, count_in, changes_at, end_after, messages, session_of, IsVerdictOf}
-use Rattle.wl_check.specs.Trace.{judged_line, lines_within, trace_of, wanted}
+use Rattle.wl_check.specs.Trace.{judged_line, lines_within}
 use Rattle.wl_check.proofs.SessionByMessage.{end_within, open_passed}
 use Rattle.wl_check.proofs.MessagesOfStream.{fed_good, new_marks}
 use Rattle.wl_check.proofs.Examined.{answers_all, answers_end, answers_broken, at_first}
 use Rattle.wl_check.proofs.LongerRecording.{merged_with, messages_more, stream_last, tokens_last}
-use Rattle.wl_check.proofs.Lines.{lines_none, trace_all, trace_broken, trace_end}
 use Rattle.wl_check.proofs.MergedPiece.{own, same_is}
 use Rattle.wl_check.proofs.JudgedByPlaces.{after_front, changes_at_same, get_front, known_same, length_messages}
 
@@ -142,12 +140,11 @@ status_more tables s t k (Broken frame fault) b h i =
       passed = passed_more tables s t k b h i.passed;
     }
 
-judged_more : {A : Type 0} (tables : List Interface) (s t : Session) (o : Output) (c : SessionState A)
-    → Begins tables s t → IsJudged tables s o c → IsJudged tables t o c
-judged_more tables s t o c b j = record {
+judged_more : {A : Type 0} (tables : List Interface) (s t : Session) (c : SessionState A)
+    → Begins tables s t → IsJudged tables s c → IsJudged tables t c
+judged_more tables s t c b j = record {
   at = at_more tables s t c.count c.progress b j.within j.at;
   status = status_more tables s t c.count c.status b j.within j.status;
-  text_is = j.text_is ∙ ap (wanted o) (lines_same tables s t c.count b j.within);
   within = (let w = j.within in let l = ap (λ (f : List FramedMessage). length f) b.frames
       in let a = length-append s.frames b.more in omega (arith, w, l, a));
   few = j.few;
@@ -174,12 +171,12 @@ own_tokens_of ps p = tokens_last p.direction ps p
     ∙ ap (λ (b : Bool). piece_tokens p.direction ps + cond b p.tokens 0) (same_is p.direction)
 
 -- what the piece brings is there to be judged
-pub follows_piece : {A : Type 0} (limit : ℕ) (tables : List Interface) (o : Output) (ps : List Piece) (p : Piece)
+pub follows_piece : {A : Type 0} (limit : ℕ) (tables : List Interface) (ps : List Piece) (p : Piece)
     (c : SessionState A) (stream : Stream A) (len tokens : ℕ) (bytes : List ℕ)
-    → Along limit tables o p.direction ps c stream → is_going c.status ≡ true → len ≡ stream.len + length p.bytes
+    → Along limit tables p.direction ps c stream → is_going c.status ≡ true → len ≡ stream.len + length p.bytes
     → len < 2 ^ 64 → tokens ≡ stream.tokens + p.tokens → bytes ≡ stream.bytes ++ p.bytes
-    → CutFollows limit tables (session_of limit (ps ++ p ∷ [])) o c p.direction tokens bytes
-follows_piece limit tables o ps p c stream len tokens bytes h going len_is small tokens_is bytes_is =
+    → CutFollows limit tables (session_of limit (ps ++ p ∷ [])) c p.direction tokens bytes
+follows_piece limit tables ps p c stream len tokens bytes h going len_is small tokens_is bytes_is =
     let d = p.direction in
     let s = stream_of d ps in
     let w = stream_of d (ps ++ p ∷ []) in
@@ -205,7 +202,7 @@ follows_piece limit tables o ps p c stream len tokens bytes h going len_is small
     record {
       limit_is = refl;
       going = going;
-      judged = judged_more tables (session_of limit ps) (session_of limit (ps ++ p ∷ [])) o c
+      judged = judged_more tables (session_of limit ps) (session_of limit (ps ++ p ∷ [])) c
           (one_more limit tables ps p) h.judged;
       rest_is = ap (drop end) whole ∙ drop-append-le end s p.bytes within
           ∙ ap (λ (b : List ℕ). b ++ p.bytes) left.rest_is ∙ sym bytes_is;
@@ -218,13 +215,13 @@ follows_piece limit tables o ps p c stream len tokens bytes h going len_is small
     }
 
 -- it was judged
-pub along_piece : {A : Type 0} (limit : ℕ) (tables : List Interface) (o : Output) (ps : List Piece) (p : Piece)
+pub along_piece : {A : Type 0} (limit : ℕ) (tables : List Interface) (ps : List Piece) (p : Piece)
     (c n : SessionState A) (stream after : Stream A) (rest : List ℕ)
-    → Along limit tables o p.direction ps c stream
-    → AllJudged limit tables (session_of limit (ps ++ p ∷ [])) o n p.direction rest
+    → Along limit tables p.direction ps c stream
+    → AllJudged limit tables (session_of limit (ps ++ p ∷ [])) n p.direction rest
     → after.len ≡ stream.len + length p.bytes → after.tokens ≡ stream.tokens + p.tokens
-    → after.bytes ≡ rest → Along limit tables o p.direction (ps ++ p ∷ []) n after
-along_piece limit tables o ps p c n stream after rest h j len tokens bytes =
+    → after.bytes ≡ rest → Along limit tables p.direction (ps ++ p ∷ []) n after
+along_piece limit tables ps p c n stream after rest h j len tokens bytes =
     let l = ap (λ (b : List ℕ). length b) (own_stream ps p) in
     let a = length-append (stream_of p.direction ps) p.bytes in
     let len_old = h.stream.len in
@@ -243,17 +240,17 @@ along_piece limit tables o ps p c n stream after rest h j len tokens bytes =
     }
 
 -- there was nothing to judge any more
-pub along_closed : {A : Type 0} (limit : ℕ) (tables : List Interface) (o : Output) (ps : List Piece) (p : Piece)
+pub along_closed : {A : Type 0} (limit : ℕ) (tables : List Interface) (ps : List Piece) (p : Piece)
     (c : SessionState A) (stream after : Stream A)
-    → Along limit tables o p.direction ps c stream → is_going c.status ≡ false → after.len ≡ stream.len + length p.bytes
+    → Along limit tables p.direction ps c stream → is_going c.status ≡ false → after.len ≡ stream.len + length p.bytes
     → after.tokens ≡ stream.tokens + p.tokens
-    → Along limit tables o p.direction (ps ++ p ∷ []) c after
-along_closed limit tables o ps p c stream after h away len tokens =
+    → Along limit tables p.direction (ps ++ p ∷ []) c after
+along_closed limit tables ps p c stream after h away len tokens =
     let l = ap (λ (b : List ℕ). length b) (own_stream ps p) in
     let a = length-append (stream_of p.direction ps) p.bytes in
     let len_old = h.stream.len in
     record {
-      judged = judged_more tables (session_of limit ps) (session_of limit (ps ++ p ∷ [])) o c
+      judged = judged_more tables (session_of limit ps) (session_of limit (ps ++ p ∷ [])) c
           (one_more limit tables ps p) h.judged;
       all = λ going. absurd (cc (going, away));
       stream = record {
@@ -284,15 +281,15 @@ other_stream limit d ps p c n stream away h going end =
       });
     }
 
-pub after_server : {A : Type 0} (limit : ℕ) (tables : List Interface) (o : Output) (ps : List Piece) (p : Piece)
-    (s : Scanner A) (n : SessionState A) (after : Stream A) → p.direction ≡ ToServer → IsAfter limit tables o ps s
-    → (Along limit tables o p.direction ps s.state s.to_server
-    → Along limit tables o p.direction (ps ++ p ∷ []) n after)
+pub after_server : {A : Type 0} (limit : ℕ) (tables : List Interface) (ps : List Piece) (p : Piece)
+    (s : Scanner A) (n : SessionState A) (after : Stream A) → p.direction ≡ ToServer → IsAfter limit tables ps s
+    → (Along limit tables p.direction ps s.state s.to_server
+    → Along limit tables p.direction (ps ++ p ∷ []) n after)
     → (is_going n.status ≡ true → is_going s.state.status ≡ true)
     → ((d : Direction) → same_direction p.direction d ≡ false → end_in n d ≡ end_in s.state d)
-    → IsAfter limit tables o (ps ++ p ∷ []) (record { state = n; to_server = after; to_client = s.to_client })
-after_server limit tables o ps p s n after is h step going other =
-    let own : Along limit tables o p.direction ps s.state s.to_server =
+    → IsAfter limit tables (ps ++ p ∷ []) (record { state = n; to_server = after; to_client = s.to_client })
+after_server limit tables ps p s n after is h step going other =
+    let own : Along limit tables p.direction ps s.state s.to_server =
     record {
       judged = h.judged;
       all = h.all;
@@ -307,15 +304,15 @@ after_server limit tables o ps p s n after is h step going other =
       to_client = other_stream limit ToClient ps p s.state n s.to_client away h.to_client going (other ToClient away);
     }
 
-pub after_client : {A : Type 0} (limit : ℕ) (tables : List Interface) (o : Output) (ps : List Piece) (p : Piece)
-    (s : Scanner A) (n : SessionState A) (after : Stream A) → p.direction ≡ ToClient → IsAfter limit tables o ps s
-    → (Along limit tables o p.direction ps s.state s.to_client
-    → Along limit tables o p.direction (ps ++ p ∷ []) n after)
+pub after_client : {A : Type 0} (limit : ℕ) (tables : List Interface) (ps : List Piece) (p : Piece)
+    (s : Scanner A) (n : SessionState A) (after : Stream A) → p.direction ≡ ToClient → IsAfter limit tables ps s
+    → (Along limit tables p.direction ps s.state s.to_client
+    → Along limit tables p.direction (ps ++ p ∷ []) n after)
     → (is_going n.status ≡ true → is_going s.state.status ≡ true)
     → ((d : Direction) → same_direction p.direction d ≡ false → end_in n d ≡ end_in s.state d)
-    → IsAfter limit tables o (ps ++ p ∷ []) (record { state = n; to_server = s.to_server; to_client = after })
-after_client limit tables o ps p s n after is h step going other =
-    let own : Along limit tables o p.direction ps s.state s.to_client =
+    → IsAfter limit tables (ps ++ p ∷ []) (record { state = n; to_server = s.to_server; to_client = after })
+after_client limit tables ps p s n after is h step going other =
+    let own : Along limit tables p.direction ps s.state s.to_client =
     record {
       judged = h.judged;
       all = h.all;
@@ -330,17 +327,17 @@ after_client limit tables o ps p s n after is h step going other =
       to_client = subst (λ (d : Direction). IsStream limit d (ps ++ p ∷ []) n after) is a.stream;
     }
 
-pub along_server : {A : Type 0} (limit : ℕ) (tables : List Interface) (o : Output) (ps : List Piece) (d : Direction)
-    (s : Scanner A) → d ≡ ToServer → IsAfter limit tables o ps s → Along limit tables o d ps s.state s.to_server
-along_server limit tables o ps d s is h = record {
+pub along_server : {A : Type 0} (limit : ℕ) (tables : List Interface) (ps : List Piece) (d : Direction)
+    (s : Scanner A) → d ≡ ToServer → IsAfter limit tables ps s → Along limit tables d ps s.state s.to_server
+along_server limit tables ps d s is h = record {
   judged = h.judged;
   all = h.all;
   stream = subst (λ (x : Direction). IsStream limit x ps s.state s.to_server) (sym is) h.to_server;
 }
 
-pub along_client : {A : Type 0} (limit : ℕ) (tables : List Interface) (o : Output) (ps : List Piece) (d : Direction)
-    (s : Scanner A) → d ≡ ToClient → IsAfter limit tables o ps s → Along limit tables o d ps s.state s.to_client
-along_client limit tables o ps d s is h = record {
+pub along_client : {A : Type 0} (limit : ℕ) (tables : List Interface) (ps : List Piece) (d : Direction)
+    (s : Scanner A) → d ≡ ToClient → IsAfter limit tables ps s → Along limit tables d ps s.state s.to_client
+along_client limit tables ps d s is h = record {
   judged = h.judged;
   all = h.all;
   stream = subst (λ (x : Direction). IsStream limit x ps s.state s.to_client) (sym is) h.to_client;
@@ -352,11 +349,11 @@ left_none : (limit : ℕ) (d : Direction) → IsLeft limit [] 0 []
 unfolding cutting
 left_none limit d = record { rest_is = refl; place = refl; is_bad = refl }
 
-pub none_judged : {A : Type 0} (limit : ℕ) (tables : List Interface) (o : Output) (s : Scanner A) → IsUnread s.state
+pub none_judged : {A : Type 0} (limit : ℕ) (tables : List Interface) (s : Scanner A) → IsUnread s.state
     → s.to_server.bytes ≡ [] → s.to_server.len ≡ 0 → s.to_server.tokens ≡ 0
-    → s.to_client.bytes ≡ [] → s.to_client.len ≡ 0 → s.to_client.tokens ≡ 0 → IsAfter limit tables o [] s
+    → s.to_client.bytes ≡ [] → s.to_client.len ≡ 0 → s.to_client.tokens ≡ 0 → IsAfter limit tables [] s
 unfolding merged_within
-none_judged limit tables o s f bytes len tokens bytes2 len2 tokens2 =
+none_judged limit tables s f bytes len tokens bytes2 len2 tokens2 =
     let t = session_of limit [] in
     let c = s.state in
     let a : (tally_in c.progress ToServer).end ≡ 0 = ap (λ (x : Tally). x.end) f.to_server in
@@ -368,7 +365,6 @@ none_judged limit tables o s f bytes len tokens bytes2 len2 tokens2 =
             (at_first tables t c.progress f.known f.to_server f.to_client f.taken_to_server f.taken_to_client);
         status = subst (λ (x : SessionStatus). StatusIs tables t c.count x) (sym f.status)
             (λ j below. absurd (omega (arith, below, n)));
-        text_is = f.text ∙ lines_none tables t o ∙ ap (λ (k : ℕ). wanted o (lines_within tables t k)) (sym n);
         within = omega (arith, n);
         few = omega (arith, n);
         small_to_server = omega (arith, a);
@@ -403,74 +399,50 @@ verdict_of Ended s = Lawful s.state.progress.to_server.count s.state.progress.to
     (s.to_server.len - s.state.progress.to_server.end) (s.to_client.len - s.state.progress.to_client.end)
 verdict_of (Broken f fault) s = BrokenAt f.direction ((tally_in s.state.progress f.direction).count + 1) f.start fault
 
-lens_are : {A : Type 0} (limit : ℕ) (tables : List Interface) (o : Output) (ps : List Piece) (s : Scanner A)
-    → IsAfter limit tables o ps s
+lens_are : {A : Type 0} (limit : ℕ) (tables : List Interface) (ps : List Piece) (s : Scanner A)
+    → IsAfter limit tables ps s
     → Lawful s.state.progress.to_server.count s.state.progress.to_client.count
     (s.to_server.len - s.state.progress.to_server.end) (s.to_client.len - s.state.progress.to_client.end)
     ≡ Lawful s.state.progress.to_server.count s.state.progress.to_client.count
     (length (stream_of ToServer ps) - s.state.progress.to_server.end)
     (length (stream_of ToClient ps) - s.state.progress.to_client.end)
-lens_are limit tables o ps s h =
+lens_are limit tables ps s h =
     let a = h.to_server.len in
     let b = h.to_client.len in
     λ i. Lawful s.state.progress.to_server.count s.state.progress.to_client.count (a i - s.state.progress.to_server.end)
     (b i - s.state.progress.to_client.end)
 
-answers_as : {A : Type 0} (limit : ℕ) (tables : List Interface) (o : Output) (ps : List Piece) (s : Scanner A)
-    (status : SessionStatus) → s.state.status ≡ status → IsAfter limit tables o ps s
+answers_as : {A : Type 0} (limit : ℕ) (tables : List Interface) (ps : List Piece) (s : Scanner A)
+    (status : SessionStatus) → s.state.status ≡ status → IsAfter limit tables ps s
     → IsVerdictOf tables (session_of limit ps) (verdict_of status s)
-answers_as limit tables o ps s Open e h =
+answers_as limit tables ps s Open e h =
     let t = session_of limit ps in
     let going : is_going s.state.status ≡ true = ap is_going e in
-    subst (IsVerdictOf tables t) (sym (lens_are limit tables o ps s h))
+    subst (IsVerdictOf tables t) (sym (lens_are limit tables ps s h))
     (answers_all tables t s.state.count s.state.progress (h.all going)
     (open_passed tables t s.state.count s.state.status going h.judged.status) h.judged.at)
-answers_as limit tables o ps s Ended e h =
+answers_as limit tables ps s Ended e h =
     let t = session_of limit ps in
     let i : IsEnd (messages tables t) s.state.count =
     subst (λ (x : SessionStatus). StatusIs tables t s.state.count x) e h.judged.status in
-    subst (IsVerdictOf tables t) (sym (lens_are limit tables o ps s h))
+    subst (IsVerdictOf tables t) (sym (lens_are limit tables ps s h))
     (answers_end tables t i.before i.call s.state.progress i.is i.ends i.passed
     (subst (λ (k : ℕ). IsAt tables t k s.state.progress) i.last h.judged.at))
-answers_as limit tables o ps s (Broken f fault) e h =
+answers_as limit tables ps s (Broken f fault) e h =
     let t = session_of limit ps in
     let i : IsFault tables t s.state.count f fault =
     subst (λ (x : SessionStatus). StatusIs tables t s.state.count x) e h.judged.status in
     answers_broken tables t s.state.count f fault s.state.progress i.stands i.is i.passed h.judged.at
 
-pub answers_so : {A : Type 0} (limit : ℕ) (tables : List Interface) (o : Output) (ps : List Piece) (s : Scanner A)
-    → IsAfter limit tables o ps s → IsVerdictOf tables (session_of limit ps) (verdict_of s.state.status s)
-answers_so limit tables o ps s h = answers_as limit tables o ps s s.state.status refl h
-
-lines_as : {A : Type 0} (limit : ℕ) (tables : List Interface) (o : Output) (ps : List Piece) (s : Scanner A)
-    (status : SessionStatus) → s.state.status ≡ status → IsAfter limit tables o ps s
-    → s.state.text.items ≡ wanted o (trace_of tables (session_of limit ps))
-lines_as limit tables o ps s Open e h =
-    let t = session_of limit ps in
-    let going : is_going s.state.status ≡ true = ap is_going e in
-    trace_all tables t s.state.count o s.state.text.items (h.all going)
-    (open_passed tables t s.state.count s.state.status going h.judged.status) h.judged.text_is
-lines_as limit tables o ps s Ended e h =
-    let t = session_of limit ps in
-    let i : IsEnd (messages tables t) s.state.count =
-    subst (λ (x : SessionStatus). StatusIs tables t s.state.count x) e h.judged.status in
-    trace_end tables t i.before o i.call s.state.text.items i.is i.ends i.passed
-    (h.judged.text_is ∙ ap (λ (k : ℕ). wanted o (lines_within tables t k)) i.last)
-lines_as limit tables o ps s (Broken f fault) e h =
-    let t = session_of limit ps in
-    let i : IsFault tables t s.state.count f fault =
-    subst (λ (x : SessionStatus). StatusIs tables t s.state.count x) e h.judged.status in
-    trace_broken tables t s.state.count o fault s.state.text.items i.is i.passed h.judged.text_is
-
-pub lines_so : {A : Type 0} (limit : ℕ) (tables : List Interface) (o : Output) (ps : List Piece) (s : Scanner A)
-    → IsAfter limit tables o ps s → s.state.text.items ≡ wanted o (trace_of tables (session_of limit ps))
-lines_so limit tables o ps s h = lines_as limit tables o ps s s.state.status refl h
+pub answers_so : {A : Type 0} (limit : ℕ) (tables : List Interface) (ps : List Piece) (s : Scanner A)
+    → IsAfter limit tables ps s → IsVerdictOf tables (session_of limit ps) (verdict_of s.state.status s)
+answers_so limit tables ps s h = answers_as limit tables ps s s.state.status refl h
 
 -- where the counted messages end is within what came
-pub ends_within : {A : Type 0} (limit : ℕ) (tables : List Interface) (o : Output) (ps : List Piece) (s : Scanner A)
-    → IsAfter limit tables o ps s
+pub ends_within : {A : Type 0} (limit : ℕ) (tables : List Interface) (ps : List Piece) (s : Scanner A)
+    → IsAfter limit tables ps s
     → (s.state.progress.to_server.end ≤ s.to_server.len) × (s.state.progress.to_client.end ≤ s.to_client.len)
-ends_within limit tables o ps s h =
+ends_within limit tables ps s h =
     let a = h.judged.at.to_server.within in
     let b = h.judged.at.to_client.within in
     let c = h.to_server.len in
@@ -478,26 +450,26 @@ ends_within limit tables o ps s h =
     (omega (arith, a, c), omega (arith, b, d))
 
 -- both directions at once, in the form in which the code has it
-pub takes_server : {A E : Type 0} (limit : ℕ) (tables : List Interface) (o : Output) (p : Piece) (s : Scanner A)
+pub takes_server : {A E : Type 0} (limit : ℕ) (tables : List Interface) (p : Piece) (s : Scanner A)
     (n : SessionState A) (after : Stream A) (r : Result (Unit {0}) E) → p.direction ≡ ToServer
-    → OnOk r ((ps : List Piece) → Along limit tables o p.direction ps s.state s.to_server
-    → Along limit tables o p.direction (ps ++ p ∷ []) n after)
+    → OnOk r ((ps : List Piece) → Along limit tables p.direction ps s.state s.to_server
+    → Along limit tables p.direction (ps ++ p ∷ []) n after)
     → OnOk r (is_going n.status ≡ true → is_going s.state.status ≡ true)
     → OnOk r ((d : Direction) → same_direction p.direction d ≡ false → end_in n d ≡ end_in s.state d)
-    → OnOk r ((ps : List Piece) → IsAfter limit tables o ps s
-    → IsAfter limit tables o (ps ++ p ∷ []) (record { state = n; to_server = after; to_client = s.to_client }))
-takes_server limit tables o p s n after (Ok x) is a b d =
-    λ ps h. after_server limit tables o ps p s n after is h (a ps) b d
-takes_server limit tables o p s n after (Err e) is a b d = tt
+    → OnOk r ((ps : List Piece) → IsAfter limit tables ps s
+    → IsAfter limit tables (ps ++ p ∷ []) (record { state = n; to_server = after; to_client = s.to_client }))
+takes_server limit tables p s n after (Ok x) is a b d =
+    λ ps h. after_server limit tables ps p s n after is h (a ps) b d
+takes_server limit tables p s n after (Err e) is a b d = tt
 
-pub takes_client : {A E : Type 0} (limit : ℕ) (tables : List Interface) (o : Output) (p : Piece) (s : Scanner A)
+pub takes_client : {A E : Type 0} (limit : ℕ) (tables : List Interface) (p : Piece) (s : Scanner A)
     (n : SessionState A) (after : Stream A) (r : Result (Unit {0}) E) → p.direction ≡ ToClient
-    → OnOk r ((ps : List Piece) → Along limit tables o p.direction ps s.state s.to_client
-    → Along limit tables o p.direction (ps ++ p ∷ []) n after)
+    → OnOk r ((ps : List Piece) → Along limit tables p.direction ps s.state s.to_client
+    → Along limit tables p.direction (ps ++ p ∷ []) n after)
     → OnOk r (is_going n.status ≡ true → is_going s.state.status ≡ true)
     → OnOk r ((d : Direction) → same_direction p.direction d ≡ false → end_in n d ≡ end_in s.state d)
-    → OnOk r ((ps : List Piece) → IsAfter limit tables o ps s
-    → IsAfter limit tables o (ps ++ p ∷ []) (record { state = n; to_server = s.to_server; to_client = after }))
-takes_client limit tables o p s n after (Ok x) is a b d =
-    λ ps h. after_client limit tables o ps p s n after is h (a ps) b d
-takes_client limit tables o p s n after (Err e) is a b d = tt
+    → OnOk r ((ps : List Piece) → IsAfter limit tables ps s
+    → IsAfter limit tables (ps ++ p ∷ []) (record { state = n; to_server = s.to_server; to_client = after }))
+takes_client limit tables p s n after (Ok x) is a b d =
+    λ ps h. after_client limit tables ps p s n after is h (a ps) b d
+takes_client limit tables p s n after (Err e) is a b d = tt

@@ -25,6 +25,10 @@ pub undone_more : (earlier now : List Overwritten) (last : Overwritten) (old new
 undone_more earlier now last old new is back =
     ap (λ (l : List Overwritten). undone l new) is ∙ undone_last earlier last new ∙ ap (undone earlier) back
 
+-- where nothing was overwritten yet, nothing changes
+pub none_overwritten : (list : List Overwritten) (held : Held) → list ≡ [] → Some (undone list held) ≡ Some held
+none_overwritten list held none = ap (λ (l : List Overwritten). Some (undone l held)) none
+
 -- ---- what stands at an id
 
 slot_same : {X : Type 0} (xs more : List (Option X)) (id : ℕ)

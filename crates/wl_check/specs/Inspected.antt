@@ -2,7 +2,6 @@
 use Rattle.std.specs.Prelude.{◌≡◌, ℕ, List, [], ◌∷◌, ◌++◌}
 use Rattle.wl_sigs.specs.Tables.{Interface}
 use Rattle.wl_recording.specs.Piece.{Piece}
-use Rattle.wl_check.specs.declared.session_state.Output.TheVariants.{Nothing}
 use Rattle.wl_check.specs.declared.inspector.Inspector.{Inspector}
 use Rattle.wl_check.specs.SessionState.{IsAfter}
 use Rattle.wl_check.specs.Printed.{AreOwnLines}
@@ -16,7 +15,7 @@ pub record HasPassed {A : Type 0} (limit : ℕ) (tables : List Interface) (ps : 
     (i : Inspector A) : Type 0 where
   pub limit_is : i.limit.bytes ≡ limit
   pub tables_are : i.tables.now ≡ tables
-  pub after : IsAfter limit tables Nothing ps i.scanner
+  pub after : IsAfter limit tables ps i.scanner
 
 -- What a call does: the piece passed behind the others, and what it printed is what the trace of
 -- their recording has more with it.

@@ -10,4 +10,5 @@ pub mod SessionState
 pub mod Text
 pub mod Samples
 pub mod Printed
+pub mod Passing
 pub mod Inspected

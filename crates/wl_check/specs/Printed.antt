@@ -4,7 +4,8 @@ use Rattle.wl_sigs.specs.Tables.{Interface}
 use Rattle.wl_recording.specs.declared.piece.Direction.{Direction}
 use Rattle.wl_recording.specs.Piece.{Piece}
 use Rattle.wl_check.specs.Session.{Session, session_of}
-use Rattle.wl_check.specs.Trace.{lines_within, trace_of}
+use Rattle.wl_check.specs.declared.session_state.Output.{Output}
+use Rattle.wl_check.specs.Trace.{lines_within, trace_of, wanted}
 
 -- a piece of these bytes and tokens
 abbrev pub piece_of : Direction → List ℕ → ℕ → Piece
@@ -17,10 +18,17 @@ AreOwnLines limit tables ps piece lines =
     trace_of tables (session_of limit (ps ++ piece ∷ []))
     ≡ trace_of tables (session_of limit ps) ++ lines
 
--- Printing went on from one number of messages to another: whatever stands before what was
--- printed, if all together were the lines of so many messages, then they are those of as many as
--- there are now.
-abbrev pub PrintsOn : List Interface → Session → ℕ → ℕ → List ℕ → List ℕ → Type 0
-PrintsOn tables s before after old new =
-    (earlier : List ℕ) → earlier ++ old ≡ lines_within tables s before
-    → earlier ++ new ≡ lines_within tables s after
+-- Writing went on from one number of messages to another: whatever stands before what was written,
+-- if all together were what is wanted of so many messages, then they are what is wanted of as many
+-- as there are now.
+abbrev pub PrintsOn : List Interface → Session → Output → ℕ → ℕ → List ℕ → List ℕ → Type 0
+PrintsOn tables s output before after old new =
+    (earlier : List ℕ) → earlier ++ old ≡ wanted output (lines_within tables s before)
+    → earlier ++ new ≡ wanted output (lines_within tables s after)
+
+-- It went on over a piece behind others: from what is wanted of the messages of these to what is
+-- wanted with those of the piece.
+abbrev pub PrintsPiece : ℕ → List Interface → Output → List Piece → Piece → List ℕ → List ℕ → Type 0
+PrintsPiece limit tables output ps piece old new =
+    (earlier : List ℕ) → earlier ++ old ≡ wanted output (trace_of tables (session_of limit ps))
+    → earlier ++ new ≡ wanted output (trace_of tables (session_of limit (ps ++ piece ∷ [])))

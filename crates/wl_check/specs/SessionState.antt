@@ -7,11 +7,9 @@ use Rattle.wl_message.specs.Cut.{is_size}
 use Rattle.wl_objects.specs.declared.error.Fault.{Fault}
 use Rattle.wl_recording.specs.declared.piece.Direction.{Direction}
 use Rattle.wl_recording.specs.declared.piece.Direction.TheVariants.{ToServer, ToClient}
-use Rattle.wl_recording.specs.declared.piece.Appended.{Appended}
-use Rattle.wl_recording.specs.Piece.{IsAppended, Piece}
+use Rattle.wl_recording.specs.Piece.{Piece}
 use Rattle.wl_check.specs.declared.session_state.Numbers.{Numbers}
 use Rattle.wl_check.specs.declared.session_state.SessionState.{SessionState}
-use Rattle.wl_check.specs.declared.session_state.Output.{Output}
 use Rattle.wl_check.specs.declared.session_state.SessionStatus.{SessionStatus}
 use Rattle.wl_check.specs.declared.session_state.SessionStatus.TheVariants.{Open, Ended, Broken}
 use Rattle.wl_check.specs.declared.frames.FramedMessage.{FramedMessage}
@@ -27,7 +25,6 @@ use Rattle.wl_check.specs.Places.{known, IsFirst}
 use Rattle.wl_check.specs.Seen.{known_in, no_tally, tally_in}
 use Rattle.wl_check.specs.Session.{Session, ArePassed, Judged, count_in, changes_at, end_after}
 use Rattle.wl_check.specs.Session.{ends_session, messages, session_of}
-use Rattle.wl_check.specs.Trace.{lines_within, wanted}
 
 -- ---- the messages before a place
 
@@ -85,12 +82,11 @@ OthersStay d before after =
     (other : Direction) → same_direction d other ≡ false → end_in after other ≡ end_in before other
 
 -- The first messages of the session were judged, and this is what they come to.
-pub record IsJudged {A : Type 0} (tables : List Interface) (s : Session) (o : Output)
+pub record IsJudged {A : Type 0} (tables : List Interface) (s : Session)
     (c : SessionState A)
     : Type 0 where
   pub at : IsAt tables s c.count c.progress
   pub status : StatusIs tables s c.count c.status
-  pub text_is : c.text.items ≡ wanted o (lines_within tables s c.count)
   pub within : c.count ≤ length s.frames
   pub few : c.count * 8 ≤ c.progress.to_server.end + c.progress.to_client.end
   pub small_to_server : c.progress.to_server.end < 2 ^ 64
@@ -104,15 +100,14 @@ pub record IsUnread {A : Type 0} (c : SessionState A) : Type 0 where
   pub taken_to_server : c.progress.known.taken_to_server ≡ 0
   pub taken_to_client : c.progress.known.taken_to_client ≡ 0
   pub count : c.count ≡ 0
-  pub text : c.text.items ≡ []
   pub status : c.status ≡ Open
 
 -- This frame is the next of the session, and these are the bytes of its direction from there on.
-pub record Comes {A : Type 0} (limit : ℕ) (tables : List Interface) (s : Session) (o : Output)
+pub record Comes {A : Type 0} (limit : ℕ) (tables : List Interface) (s : Session)
     (c : SessionState A) (frame : FramedMessage) (rest : List ℕ) : Type 0 where
   pub limit_is : s.limit ≡ limit
   pub going : is_going c.status ≡ true
-  pub judged : IsJudged tables s o c
+  pub judged : IsJudged tables s c
   pub stands : slice_get s.frames c.count ≡ Some frame
   pub here : frame.start ≡ end_in c frame.direction
   pub rest_is : drop frame.start (s.streams frame.direction) ≡ rest
@@ -132,11 +127,11 @@ abbrev pub cut_from : {A : Type 0} → (limit : ℕ) → Session → SessionStat
 cut_from limit s c d = cutting limit (length (s.streams d)) (s.streams d) (end_in c d)
 
 -- Behind the judged messages the session has just those that are cut off these bytes.
-pub record CutFollows {A : Type 0} (limit : ℕ) (tables : List Interface) (s : Session) (o : Output)
+pub record CutFollows {A : Type 0} (limit : ℕ) (tables : List Interface) (s : Session)
     (c : SessionState A) (d : Direction) (tokens : ℕ) (rest : List ℕ) : Type 0 where
   pub limit_is : s.limit ≡ limit
   pub going : is_going c.status ≡ true
-  pub judged : IsJudged tables s o c
+  pub judged : IsJudged tables s c
   pub rest_is : drop (end_in c d) (s.streams d) ≡ rest
   pub small : length (s.streams d) < 2 ^ 64
   pub frames : drop c.count s.frames ≡ map (framed d tokens) (cut_from limit s c d).marks
@@ -150,9 +145,9 @@ pub record IsLeft (limit : ℕ) (stream : List ℕ) (end : ℕ) (rest : List ℕ
   pub is_bad : (cut limit stream).is_bad ≡ false
 
 -- All messages of the session were judged, unless one ended it or broke a rule.
-pub record AllJudged {A : Type 0} (limit : ℕ) (tables : List Interface) (s : Session) (o : Output)
+pub record AllJudged {A : Type 0} (limit : ℕ) (tables : List Interface) (s : Session)
     (c : SessionState A) (d : Direction) (rest : List ℕ) : Type 0 where
-  pub judged : IsJudged tables s o c
+  pub judged : IsJudged tables s c
   pub all : is_going c.status ≡ true → length s.frames ≡ c.count
   pub left : is_going c.status ≡ true → IsLeft limit (s.streams d) (end_in c d) rest
 
@@ -167,50 +162,23 @@ pub record IsStream {A : Type 0} (limit : ℕ) (d : Direction) (ps : List Piece)
       stream.bytes
 
 -- The messages of these pieces were judged, and this is what they brought in one direction.
-pub record Along {A : Type 0} (limit : ℕ) (tables : List Interface) (o : Output) (d : Direction)
+pub record Along {A : Type 0} (limit : ℕ) (tables : List Interface) (d : Direction)
     (ps : List Piece) (c : SessionState A) (brought : Stream A) : Type 0 where
-  pub judged : IsJudged tables (session_of limit ps) o c
+  pub judged : IsJudged tables (session_of limit ps) c
   pub all : is_going c.status ≡ true → length (merged limit ps) ≡ c.count
   pub stream : IsStream limit d ps c brought
 
 -- and this in both
-pub record IsAfter {A : Type 0} (limit : ℕ) (tables : List Interface) (o : Output) (ps : List Piece)
+pub record IsAfter {A : Type 0} (limit : ℕ) (tables : List Interface) (ps : List Piece)
     (s : Scanner A) : Type 0 where
-  pub judged : IsJudged tables (session_of limit ps) o s.state
+  pub judged : IsJudged tables (session_of limit ps) s.state
   pub all : is_going s.state.status ≡ true → length (merged limit ps) ≡ s.state.count
   pub to_server : IsStream limit ToServer ps s.state s.to_server
   pub to_client : IsStream limit ToClient ps s.state s.to_client
 
--- These pieces were judged, and one more has come: its bytes stand behind those that were left in
--- its direction, but it is not counted yet.
-pub record HasCome {A : Type 0} (limit : ℕ) (tables : List Interface) (o : Output)
-    (ps : List Piece) (p : Piece) (appended : Appended) (c : SessionState A) (stream : Stream A)
-    : Type 0 where
-  pub before : Stream A
-  pub along : Along limit tables o p.direction ps c before
-  pub bytes : stream.bytes ≡ before.bytes ++ p.bytes
-  pub len : stream.len ≡ before.len
-  pub tokens : stream.tokens ≡ before.tokens
-  pub direction_is : appended.direction ≡ p.direction
-  pub len_is : appended.len ≡ length p.bytes
-  pub tokens_are : appended.tokens ≡ p.tokens
-
--- the same, in both directions
-pub record IsReady {A : Type 0} (limit : ℕ) (tables : List Interface) (o : Output)
-    (ps : List Piece) (p : Piece) (appended : Appended) (s : Scanner A) : Type 0 where
-  pub before : Scanner A
-  pub after : IsAfter limit tables o ps before
-  pub state : s.state ≡ before.state
-  pub len_to_server : s.to_server.len ≡ before.to_server.len
-  pub len_to_client : s.to_client.len ≡ before.to_client.len
-  pub tokens_to_server : s.to_server.tokens ≡ before.to_server.tokens
-  pub tokens_to_client : s.to_client.tokens ≡ before.to_client.tokens
-  pub appended_is : IsAppended p appended before.to_server.bytes s.to_server.bytes
-      before.to_client.bytes s.to_client.bytes
-
 -- ---- a state that memory running out goes back to
 
--- all of a state but what is held and what was written
+-- all of a state but what is held
 abbrev pub numbers_in : {A : Type 0} → SessionState A → Numbers
 numbers_in c = record {
   used = c.progress.known.used;

@@ -1,17 +1,12 @@
 //! A recording's messages, cut off the bytes of their directions.
-ghost use Rattle.std.specs.Prelude.{◌≡◌, ◌⊎◌, ◌≤◌, ◌<◌, ◌^◌, ◌+◌, ◌++◌, ◌∷◌, ℕ, List, [], drop};
-ghost use Rattle.std.specs.Prelude.{length, take, IfOk, IfErr, IfNone, IfSome, MatchOption, OnOk};
-ghost use Rattle.std.specs.Prelude.{OnErr};
-ghost use Rattle.wl_recording.specs.declared.recording.RecordingError.TheVariants.{BadLine, Memory};
-ghost use Rattle.wl_recording.specs.Piece.{recorded_piece, IsAppended, Piece};
-ghost use Rattle.wl_recording.specs.Text.{IsFirstBad, IsReadUpTo, TextRecords};
+ghost use Rattle.std.specs.Prelude.{◌≡◌, ◌≤◌, ◌++◌, [], drop, length, take, OnOk, OnErr};
 ghost use Rattle.wl_message.specs.Cut.{front};
 ghost use Rattle.wl_check.specs.Seen.{size_of};
 
 use std::alloc::{AllocError, Allocator, Global};
 use std::marker::Model;
 use wl_message::Limit;
-use wl_recording::{Appended, Direction, Passed, PieceReader, RecordingError};
+use wl_recording::Direction;
 use wl_wire::Header;
 
 /// A message of the list.
@@ -49,6 +44,14 @@ pub(crate) struct Stream<A: Allocator = Global> {
     /// How many bytes there were in all.
     pub len: usize,
     pub tokens: u128,
+}
+
+/// A piece that passes.
+#[derive(Clone, Copy, Debug)]
+pub(crate) struct LentPiece<'a> {
+    pub direction: Direction,
+    pub bytes: &'a [u8],
+    pub tokens: usize,
 }
 
 /// The size of the message in front of these bytes. None where its header, or the rest of a message
@@ -112,25 +115,6 @@ impl<A: Allocator> WaitingBytes<A> {
         self.items.extend_from_slice(bytes)
     }
 
-    /// Removes all.
-    pub(crate) fn clear(&mut self)
-        ensures { self.new ≡ [] }
-    {
-        self.items.clear();
-    }
-
-    /// Removes bytes from the front.
-    pub(crate) fn remove_front(&mut self, count: usize)
-        requires { count ≤ length self.old }
-        ensures { self.new ≡ drop count self.old }
-    {
-        if count == self.items.len() {
-            self.items.clear();
-        } else if count > 0 {
-            drop(self.items.drain(..count));
-        }
-    }
-
     /// Puts back what stood here before more was appended, by how many there were. Room that was
     /// made for more is given back, where there is memory to move these to.
     pub(crate) fn go_back(&mut self, len: usize)
@@ -156,40 +140,4 @@ impl<A: Allocator + Clone> WaitingBytes<A> {
         self.items = rest;
         Ok(())
     }
-}
-
-/// Appends the bytes of a piece to those of its direction.
-pub(crate) fn append_piece<A: Allocator>(
-    piece: &Passed<A>,
-    to_server: &mut WaitingBytes<A>,
-    to_client: &mut WaitingBytes<A>,
-) -> Result<Appended, AllocError>
-    ensures { IfOk result (λ appended. IsAppended (recorded_piece piece.now) appended
-        to_server.old to_server.new to_client.old to_client.new) }
-{
-    piece.append_to(&mut to_server.items, &mut to_client.items)
-}
-
-/// Reads on to the next piece of a text, and appends its bytes to those of its direction.
-pub(crate) fn append_next<A: Allocator>(
-    reader: &mut PieceReader<'_>,
-    to_server: &mut WaitingBytes<A>,
-    to_client: &mut WaitingBytes<A>,
-) -> Result<Option<Appended>, RecordingError>
-    requires { reader.old.number + length reader.old.rest.now < 2 ^ 64 }
-    ensures read { IfOk result (λ found. (text : List ℕ) (pieces : List Piece)
-        → IsReadUpTo text reader.old.rest.now reader.old.number pieces
-        → MatchOption found (TextRecords text pieces)
-        (λ appended. (piece : Piece)
-        × IsReadUpTo text reader.new.rest.now reader.new.number (pieces ++ piece ∷ [])
-        × IsAppended piece appended to_server.old to_server.new to_client.old to_client.new)) }
-    ensures none { IfOk result (λ found. IfNone found
-        ((to_server.new ≡ to_server.old) × (to_client.new ≡ to_client.old))) }
-    ensures bad { IfErr result (λ e. (text : List ℕ) (pieces : List Piece)
-        → IsReadUpTo text reader.old.rest.now reader.old.number pieces
-        → (e ≡ Memory) ⊎ ((n : ℕ) × (e ≡ BadLine n) × IsFirstBad text n)) }
-    ensures shorter { IfOk result (λ found. IfSome found
-        (λ appended. length reader.new.rest.now < length reader.old.rest.now)) }
-{
-    reader.append_next(&mut to_server.items, &mut to_client.items)
 }

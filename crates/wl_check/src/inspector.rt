@@ -2,11 +2,12 @@
 ghost use Rattle.std.specs.Prelude.{◌≡◌, ℕ, List, [], OnOk, OnErr, IfOk};
 ghost use Rattle.wl_recording.specs.Piece.{Piece};
 ghost use Rattle.wl_sigs.specs.Tables.{Interface};
-ghost use Rattle.wl_check.specs.declared.session_state.Output.TheVariants.{Nothing};
 ghost use Rattle.wl_check.specs.SessionState.{IsAfter};
 
-use crate::inspecting::{print_piece, verdict_on};
+use crate::frames::LentPiece;
+use crate::overwritten::UndoList;
 use crate::scanning::Scanner;
+use crate::session_state::{Journal, Output, Rules, Sink};
 use crate::verdict::Verdict;
 use std::alloc::{AllocError, Allocator, Global};
 use wl_message::Limit;
@@ -30,7 +31,7 @@ pub struct Inspector<'t, A: Allocator = Global> {
     pub(crate) scanner: Scanner<A>,
     lines: Vec<u8, A>,
     ghost begun: { ∥ ((ps : List Piece)
-        × IsAfter limit.bytes tables.now Nothing ps scanner) ∥₁ },
+        × IsAfter limit.bytes tables.now ps scanner) ∥₁ },
 }
 
 impl<'t, A: Allocator + Clone> Inspector<'t, A> {
@@ -65,17 +66,26 @@ impl<'t, A: Allocator + Clone> Inspector<'t, A> {
     {
         // That tables are valid is what each of their calls says.
         let _version = self.tables.version(DISPLAY);
-        let mut lines = Vec::new(self.lines.allocator().clone()?);
-        print_piece(
-            &mut self.scanner,
+        let text = Vec::new(self.lines.allocator().clone()?);
+        let overwritten = Vec::new(self.lines.allocator().clone()?);
+        let mut journal = Journal {
+            sink: Sink {
+                output: Output::Lines,
+                text,
+            },
+            undo: UndoList::On(overwritten),
+        };
+        let piece = LentPiece {
             direction,
             bytes,
             tokens,
-            self.tables,
-            self.limit,
-            &mut lines,
-        )?;
-        self.lines = lines;
+        };
+        let rules = Rules {
+            tables: self.tables,
+            limit: self.limit,
+        };
+        self.scanner.judge(&piece, &rules, &mut journal)?;
+        self.lines = journal.sink.text;
         Ok(())
     }
 }
@@ -96,6 +106,6 @@ impl<'t, A: Allocator> Inspector<'t, A> {
         ensures { (limit : ℕ) (tables : List Interface) (ps : List Piece)
             → HasPassed limit tables ps self.now → IsVerdictOf tables (session_of limit ps) result }
     {
-        verdict_on(&self.scanner)
+        self.scanner.verdict()
     }
 }

@@ -16,9 +16,8 @@ use crate::changes::{AdvertisedGlobal, MessageChanges};
 use crate::frames::FramedMessage;
 use crate::known::{KnownState, ReaderLookup};
 use crate::making::object_made;
-use crate::session_state::Output;
+use crate::session_state::{Output, Rules, Sink};
 use std::alloc::{AllocError, Allocator};
-use wl_message::Limit;
 use wl_objects::{
     Fault, Messages, NewObject, ParsedArgs, REGISTRY, Received, Values, is_bind, is_delete_id,
     receive,
@@ -48,39 +47,41 @@ pub(crate) fn side_of(direction: Direction) -> Side
 /// are read into those of the message before.
 pub(crate) fn judge<A: Allocator>(
     args: &mut ParsedArgs,
-    tables: &Tables,
+    rules: &Rules<'_>,
     known: &KnownState<A>,
     bytes: &[u8],
     frame: &FramedMessage,
-    limit: Limit,
-    text: &mut Vec<u8, A>,
-    output: Output,
+    sink: &mut Sink<A>,
 ) -> Result<Result<MessageChanges, Fault>, AllocError>
-    requires valid { Valid tables.now }
+    requires valid { Valid rules.now.tables.now }
     requires header { 8 ≤ length bytes.now }
-    requires whole { is_size limit.bytes frame.now.size ≡ true
+    requires whole { is_size rules.now.limit.bytes frame.now.size ≡ true
         → frame.now.size ≤ length bytes.now }
     requires taken { taken_of_direction known.now frame.now.direction < 2 ^ 127 }
-    ensures changes { IfOk result (λ r. r ≡ changes_in tables.now
-        (judged_front limit.bytes tables.now (known_in known.now) bytes.now frame.now)) }
-    ensures text { OnOk result (text.new.items ≡ text.old.items
-        ++ wanted output (judged_line tables.now (known_in known.now)
-        (Some (judged_front limit.bytes tables.now (known_in known.now) bytes.now frame.now)))) }
+    ensures changes { IfOk result (λ r. r ≡ changes_in rules.now.tables.now
+        (judged_front rules.now.limit.bytes rules.now.tables.now (known_in known.now) bytes.now
+        frame.now)) }
+    ensures text { OnOk result (sink.new.text.items ≡ sink.old.text.items
+        ++ wanted sink.old.output (judged_line rules.now.tables.now (known_in known.now)
+        (Some (judged_front rules.now.limit.bytes rules.now.tables.now (known_in known.now)
+        bytes.now frame.now)))) }
+    ensures output { sink.new.output ≡ sink.old.output }
 {
-    if !limit.allows(frame.size) {
+    if !rules.limit.allows(frame.size) {
         return Ok(Err(Fault::BadSize));
     }
-    let body = &bytes[8..frame.size as usize];
-    judge_message(
-        args,
-        tables,
-        known,
-        frame,
-        Header::at_front_of(bytes),
-        body,
-        text,
-        output,
-    )
+    let whole = WholeMessage {
+        header: Header::at_front_of(bytes),
+        body: &bytes[8..frame.size as usize],
+    };
+    judge_message(args, rules.tables, known, frame, &whole, sink)
+}
+
+/// The header of a message, and what stands behind it.
+#[derive(Clone, Copy)]
+struct WholeMessage<'a> {
+    header: Header,
+    body: &'a [u8],
 }
 
 /// Judges a whole message, its header and what stands behind that.
@@ -89,19 +90,21 @@ fn judge_message<A: Allocator>(
     tables: &Tables,
     known: &KnownState<A>,
     frame: &FramedMessage,
-    header: Header,
-    body: &[u8],
-    text: &mut Vec<u8, A>,
-    output: Output,
+    whole: &WholeMessage<'_>,
+    sink: &mut Sink<A>,
 ) -> Result<Result<MessageChanges, Fault>, AllocError>
     requires valid { Valid tables.now }
     requires taken { taken_of_direction known.now frame.now.direction < 2 ^ 127 }
     ensures changes { IfOk result (λ r. r ≡ changes_in tables.now
-        (judged_message tables.now (known_in known.now) frame.now header body.now)) }
-    ensures text { OnOk result (text.new.items ≡ text.old.items
-        ++ wanted output (judged_line tables.now (known_in known.now)
-        (Some (judged_message tables.now (known_in known.now) frame.now header body.now)))) }
+        (judged_message tables.now (known_in known.now) frame.now whole.now.header
+        whole.now.body.now)) }
+    ensures text { OnOk result (sink.new.text.items ≡ sink.old.text.items
+        ++ wanted sink.old.output (judged_line tables.now (known_in known.now)
+        (Some (judged_message tables.now (known_in known.now) frame.now whole.now.header
+        whole.now.body.now)))) }
+    ensures output { sink.new.output ≡ sink.old.output }
 {
+    let WholeMessage { header, body } = *whole;
     let direction = frame.direction;
     let side = side_of(direction);
     let lookup = ReaderLookup {
@@ -121,32 +124,31 @@ fn judge_message<A: Allocator>(
     if is_bad_bind(tables, known, side, header.opcode, &message, &changes) {
         return Ok(Err(Fault::BadBind));
     }
-    write(text, tables, side, &lookup, &message, taken, output)?;
+    write(sink, side, &lookup, &message, taken)?;
     Ok(Ok(changes))
 }
 
 /// Appends what is wanted of a message, before the message changes what is known.
 fn write<A: Allocator>(
-    text: &mut Vec<u8, A>,
-    tables: &Tables,
+    sink: &mut Sink<A>,
     side: Side,
     lookup: &ReaderLookup<'_, A>,
     message: &Received<'_, '_>,
     taken: u128,
-    output: Output,
 ) -> Result<(), AllocError>
     requires { taken < 2 ^ 127 }
-    ensures { OnOk result (text.new.items ≡ text.old.items
-        ++ wanted output (line tables.now side
+    ensures text { OnOk result (sink.new.text.items ≡ sink.old.text.items
+        ++ wanted sink.old.output (line lookup.now.tables.now side
         (reader_by lookup.now.tables.now (known_in lookup.now.known.now)
         lookup.now.direction).object
         (received_of message.now) taken)) }
+    ensures output { sink.new.output ≡ sink.old.output }
 {
-    match output {
+    match sink.output {
         Output::Nothing => Ok(()),
         Output::Lines => {
-            text.reserve(LINE_ROOM)?;
-            write_line(text, tables, side, lookup, message, taken)
+            sink.text.reserve(LINE_ROOM)?;
+            write_line(&mut sink.text, lookup.tables, side, lookup, message, taken)
         }
     }
 }

@@ -9,7 +9,6 @@ mod changes;
 mod checking;
 mod frames;
 mod holdings;
-mod inspecting;
 mod inspector;
 mod judging;
 mod known;

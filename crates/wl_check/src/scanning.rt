@@ -1,27 +1,29 @@
-//! A recorded session, gone through piece by piece.
-ghost use Rattle.std.specs.Prelude.{◌≡◌, ◌⊎◌, ◌∷◌, ◌++◌, ℕ, List, [], map, true, false, OnOk, IfOk};
-ghost use Rattle.std.specs.Prelude.{IfErr};
+//! A session, judged piece by piece.
+ghost use Rattle.std.specs.Prelude.{◌≡◌, ◌⊎◌, ◌∷◌, ◌++◌, ℕ, List, [], map, take, true, length, Some};
+ghost use Rattle.std.specs.Prelude.{IfErr, IfOk, OnErr, OnOk};
 ghost use Rattle.wl_recording.specs.declared.recording.RecordingError.TheVariants.{BadLine, Memory};
 ghost use Rattle.wl_recording.specs.Piece.{Piece, recorded_piece};
 ghost use Rattle.wl_recording.specs.Text.{IsFirstBad, TextRecords};
 ghost use Rattle.wl_sigs.specs.Tables.{Interface};
 ghost use Rattle.wl_sigs.specs.Valid.{Valid};
-ghost use Rattle.wl_check.specs.declared.session_state.Output.{Output as Wish};
-ghost use Rattle.wl_check.specs.SessionState.{is_going, Along, HasCome, IsAfter, IsUnread};
-ghost use Rattle.wl_check.specs.SessionState.{IsReady, OthersStay};
-ghost use Rattle.wl_check.specs.Session.{session_of, IsVerdictOf};
+ghost use Rattle.wl_check.specs.Held.{undone_by};
+ghost use Rattle.wl_check.specs.SessionState.{is_going, AllJudged, Along, CutFollows, IsAfter};
+ghost use Rattle.wl_check.specs.SessionState.{IsUnread, OthersStay};
+ghost use Rattle.wl_check.specs.Passing.{bytes_of, piece_in};
+ghost use Rattle.wl_check.specs.Printed.{PrintsOn, PrintsPiece};
+ghost use Rattle.wl_check.specs.Session.{session_of, IsVerdictOf, Session};
 ghost use Rattle.wl_check.specs.Trace.{trace_of, wanted};
 
-use crate::frames::{Stream, append_next, append_piece, empty_stream};
-use crate::session_state::{Output, SessionState, SessionStatus};
+use crate::frames::{LentPiece, Stream, WaitingBytes, empty_stream};
+use crate::overwritten::UndoList;
+use crate::session_state::{Journal, Output, Rules, SessionState, SessionStatus, Sink};
 use crate::verdict::Verdict;
 use std::alloc::{AllocError, Allocator, Global};
 use wl_message::Limit;
-use wl_objects::ParsedArgs;
-use wl_recording::{Appended, Direction, Passed, PieceReader, RecordingError};
+use wl_recording::{Direction, Passed, PieceReader, RecordingError};
 use wl_sigs::Tables;
 
-/// A session that is judged as its pieces come. Of its bytes it keeps those of started messages.
+/// A session that is judged as its pieces pass. Of its bytes it keeps those of started messages.
 #[derive(Drop)]
 pub(crate) struct Scanner<A: Allocator = Global> {
     pub state: SessionState<A>,
@@ -29,51 +31,133 @@ pub(crate) struct Scanner<A: Allocator = Global> {
     pub to_client: Stream<A>,
 }
 
-/// Judges the messages that a piece completes, whose bytes were appended to its stream. What is
-/// left is kept, unless the session has ended or a message broke a rule; then pieces are only
-/// counted.
+/// Judges the messages that the bytes of a piece complete, behind those that wait for more, and
+/// leaves what waits now. Where memory runs out, what waited before stands in front.
+fn judge_bytes<A: Allocator + Clone>(
+    state: &mut SessionState<A>,
+    waiting: &mut WaitingBytes<A>,
+    piece: &LentPiece<'_>,
+    tokens: u128,
+    rules: &Rules<'_>,
+    journal: &mut Journal<A>,
+) -> Result<(), AllocError>
+    requires valid { Valid rules.now.tables.now }
+    requires follows { ∥ ((s : Session) × CutFollows rules.now.limit.bytes rules.now.tables.now s
+        state.old piece.now.direction tokens (waiting.old ++ piece.now.bytes.now)) ∥₁ }
+    ensures judged { OnOk result ((s : Session)
+        → CutFollows rules.now.limit.bytes rules.now.tables.now s state.old piece.now.direction
+        tokens (waiting.old ++ piece.now.bytes.now)
+        → AllJudged rules.now.limit.bytes rules.now.tables.now s state.new piece.now.direction
+        waiting.new) }
+    ensures lines { OnOk result ((s : Session)
+        → CutFollows rules.now.limit.bytes rules.now.tables.now s state.old piece.now.direction
+        tokens (waiting.old ++ piece.now.bytes.now)
+        → PrintsOn rules.now.tables.now s journal.old.sink.output state.old.count state.new.count
+        journal.old.sink.text.items journal.new.sink.text.items) }
+    ensures other { OnOk result (OthersStay piece.now.direction state.old state.new) }
+    ensures output { journal.new.sink.output ≡ journal.old.sink.output }
+    ensures undone { undone_by journal.new.undo state.new.progress.known.held
+        ≡ undone_by journal.old.undo state.old.progress.known.held }
+    ensures waiting { OnErr result (take (length waiting.old) waiting.new ≡ waiting.old) }
+{
+    if waiting.len() == 0 {
+        let place = state.judge_all(piece.bytes, piece.direction, tokens, rules, journal)?;
+        waiting.append(&piece.bytes[place..])?;
+        return Ok(());
+    }
+    waiting.append(piece.bytes)?;
+    let place = state.judge_all(waiting.as_slice(), piece.direction, tokens, rules, journal)?;
+    waiting.keep_from(place)?;
+    Ok(())
+}
+
+/// The same, but where memory runs out, all is as it was, if it was written down.
+fn judge_or_go_back<A: Allocator + Clone>(
+    state: &mut SessionState<A>,
+    waiting: &mut WaitingBytes<A>,
+    piece: &LentPiece<'_>,
+    tokens: u128,
+    rules: &Rules<'_>,
+    journal: &mut Journal<A>,
+) -> Result<(), AllocError>
+    requires valid { Valid rules.now.tables.now }
+    requires follows { ∥ ((s : Session) × CutFollows rules.now.limit.bytes rules.now.tables.now s
+        state.old piece.now.direction tokens (waiting.old ++ piece.now.bytes.now)) ∥₁ }
+    ensures judged { OnOk result ((s : Session)
+        → CutFollows rules.now.limit.bytes rules.now.tables.now s state.old piece.now.direction
+        tokens (waiting.old ++ piece.now.bytes.now)
+        → AllJudged rules.now.limit.bytes rules.now.tables.now s state.new piece.now.direction
+        waiting.new) }
+    ensures lines { OnOk result ((s : Session)
+        → CutFollows rules.now.limit.bytes rules.now.tables.now s state.old piece.now.direction
+        tokens (waiting.old ++ piece.now.bytes.now)
+        → PrintsOn rules.now.tables.now s journal.old.sink.output state.old.count state.new.count
+        journal.old.sink.text.items journal.new.sink.text.items) }
+    ensures other { OnOk result (OthersStay piece.now.direction state.old state.new) }
+    ensures output { journal.new.sink.output ≡ journal.old.sink.output }
+    ensures err { OnErr result (undone_by journal.old.undo state.old.progress.known.held
+        ≡ Some state.old.progress.known.held → state.new ≡ state.old) }
+    ensures waiting { OnErr result (waiting.new ≡ waiting.old) }
+{
+    let numbers = state.numbers();
+    let len = waiting.len();
+    match judge_bytes(state, waiting, piece, tokens, rules, journal) {
+        Ok(()) => Ok(()),
+        Err(error) => {
+            state.go_back(numbers, &mut journal.undo);
+            waiting.go_back(len);
+            Err(error)
+        }
+    }
+}
+
+/// Judges the messages that a piece completes of its stream. It keeps what is left, unless the
+/// session has ended or a message broke a rule; then it only counts. Where memory runs out, nothing
+/// has changed, if what was overwritten was written down.
 fn judge_piece<A: Allocator + Clone>(
     state: &mut SessionState<A>,
     stream: &mut Stream<A>,
-    piece: &Appended,
-    tables: &Tables,
-    limit: Limit,
-    output: Output,
-    args: &mut ParsedArgs,
+    piece: &LentPiece<'_>,
+    rules: &Rules<'_>,
+    journal: &mut Journal<A>,
 ) -> Result<(), AllocError>
-    requires valid { Valid tables.now }
-    requires come { (ps : List Piece) × (p : Piece)
-        × HasCome limit.bytes tables.now output ps p piece.now state.old stream.old }
-    ensures along { OnOk result ((ps : List Piece) (p : Piece)
-        → HasCome limit.bytes tables.now output ps p piece.now state.old stream.old
-        → Along limit.bytes tables.now output p.direction (ps ++ p ∷ []) state.new stream.new) }
+    requires valid { Valid rules.now.tables.now }
+    requires along { ∥ ((ps : List Piece) × Along rules.now.limit.bytes rules.now.tables.now
+        piece.now.direction ps state.old stream.old) ∥₁ }
+    ensures along { OnOk result ((ps : List Piece)
+        → Along rules.now.limit.bytes rules.now.tables.now piece.now.direction ps state.old
+        stream.old
+        → Along rules.now.limit.bytes rules.now.tables.now piece.now.direction
+        (ps ++ piece_in piece.now ∷ []) state.new stream.new) }
+    ensures lines { OnOk result ((ps : List Piece)
+        → Along rules.now.limit.bytes rules.now.tables.now piece.now.direction ps state.old
+        stream.old
+        → PrintsOn rules.now.tables.now
+        (session_of rules.now.limit.bytes (ps ++ piece_in piece.now ∷ [])) journal.old.sink.output
+        state.old.count state.new.count journal.old.sink.text.items journal.new.sink.text.items) }
     ensures going { OnOk result (is_going state.new.status ≡ true
         → is_going state.old.status ≡ true) }
     ensures other { OnOk result (OthersStay piece.now.direction state.old state.new) }
+    ensures output { journal.new.sink.output ≡ journal.old.sink.output }
+    ensures state { OnErr result (undone_by journal.old.undo state.old.progress.known.held
+        ≡ Some state.old.progress.known.held → state.new ≡ state.old) }
+    ensures stream { OnErr result (stream.new ≡ stream.old) }
 {
     // More than these numbers count does not fit into any memory.
-    let Some(len) = stream.len.checked_add(piece.len) else {
+    let Some(len) = stream.len.checked_add(piece.bytes.len()) else {
         return Err(AllocError);
     };
-    let Some(tokens) = stream.tokens.checked_add(u128::from(piece.tokens)) else {
+    let Some(tokens) = stream.tokens.checked_add(piece.tokens as u128) else {
         return Err(AllocError);
     };
-    stream.len = len;
-    stream.tokens = tokens;
     if !state.is_open() {
-        stream.bytes.clear();
+        stream.len = len;
+        stream.tokens = tokens;
         return Ok(());
     }
-    let place = state.judge_all(
-        stream.bytes.as_slice(),
-        piece.direction,
-        tokens,
-        tables,
-        limit,
-        output,
-        args,
-    )?;
-    stream.bytes.remove_front(place);
+    judge_or_go_back(state, &mut stream.bytes, piece, tokens, rules, journal)?;
+    stream.len = len;
+    stream.tokens = tokens;
     Ok(())
 }
 
@@ -81,8 +165,7 @@ impl<A: Allocator + Clone> Scanner<A> {
     /// Before the first piece.
     pub(crate) fn new(alloc: &A, tables: &Tables) -> Result<Self, AllocError>
         ensures valid { OnOk result (Valid tables.now) }
-        ensures none { IfOk result (λ s. (limit : ℕ) (output : Wish)
-            → IsAfter limit tables.now output [] s) }
+        ensures none { IfOk result (λ s. (limit : ℕ) → IsAfter limit tables.now [] s) }
     {
         Ok(Scanner {
             state: SessionState::new(alloc, tables)?,
@@ -91,67 +174,56 @@ impl<A: Allocator + Clone> Scanner<A> {
         })
     }
 
-    /// Judges the messages that a piece completes, whose bytes were appended to the stream of its
-    /// direction.
-    fn judge(
+    /// Judges the messages that a piece completes, and writes what is wanted of them. Where memory
+    /// runs out, nothing has changed, if what was overwritten was written down.
+    pub(crate) fn judge(
         &mut self,
-        piece: &Appended,
-        tables: &Tables,
-        limit: Limit,
-        output: Output,
-        args: &mut ParsedArgs,
+        piece: &LentPiece<'_>,
+        rules: &Rules<'_>,
+        journal: &mut Journal<A>,
     ) -> Result<(), AllocError>
-        requires valid { Valid tables.now }
-        requires ready { (ps : List Piece) × (p : Piece)
-            × IsReady limit.bytes tables.now output ps p piece.now self.old }
-        ensures { OnOk result ((ps : List Piece) (p : Piece)
-            → IsReady limit.bytes tables.now output ps p piece.now self.old
-            → IsAfter limit.bytes tables.now output (ps ++ p ∷ []) self.new) }
+        requires valid { Valid rules.now.tables.now }
+        requires after { ∥ ((ps : List Piece)
+            × IsAfter rules.now.limit.bytes rules.now.tables.now ps self.old) ∥₁ }
+        ensures after { OnOk result ((ps : List Piece)
+            → IsAfter rules.now.limit.bytes rules.now.tables.now ps self.old
+            → IsAfter rules.now.limit.bytes rules.now.tables.now (ps ++ piece_in piece.now ∷ [])
+            self.new) }
+        ensures lines { OnOk result ((ps : List Piece)
+            → IsAfter rules.now.limit.bytes rules.now.tables.now ps self.old
+            → PrintsPiece rules.now.limit.bytes rules.now.tables.now journal.old.sink.output ps
+            (piece_in piece.now) journal.old.sink.text.items journal.new.sink.text.items) }
+        ensures output { journal.new.sink.output ≡ journal.old.sink.output }
+        ensures err { OnErr result (undone_by journal.old.undo self.old.state.progress.known.held
+            ≡ Some self.old.state.progress.known.held → self.new ≡ self.old) }
     {
         match piece.direction {
-            Direction::ToServer => judge_piece(
-                &mut self.state,
-                &mut self.to_server,
-                piece,
-                tables,
-                limit,
-                output,
-                args,
-            ),
-            Direction::ToClient => judge_piece(
-                &mut self.state,
-                &mut self.to_client,
-                piece,
-                tables,
-                limit,
-                output,
-                args,
-            ),
+            Direction::ToServer => {
+                judge_piece(&mut self.state, &mut self.to_server, piece, rules, journal)
+            }
+            Direction::ToClient => {
+                judge_piece(&mut self.state, &mut self.to_client, piece, rules, journal)
+            }
         }
     }
 }
 
 impl<A: Allocator> Scanner<A> {
-    /// What was written, and the verdict on the session of all pieces so far.
-    fn finish(self) -> (Vec<u8, A>, Verdict)
-        requires { (limit : ℕ) × (tables : List Interface) × (output : Wish) × (ps : List Piece)
-            × IsAfter limit tables output ps self }
-        ensures lines { (limit : ℕ) (tables : List Interface) (output : Wish) (ps : List Piece)
-            → IsAfter limit tables output ps self
-            → result.0.items ≡ wanted output (trace_of tables (session_of limit ps)) }
-        ensures verdict { (limit : ℕ) (tables : List Interface) (output : Wish) (ps : List Piece)
-            → IsAfter limit tables output ps self
-            → IsVerdictOf tables (session_of limit ps) result.1 }
+    /// The verdict on the session of all pieces so far.
+    pub(crate) fn verdict(&self) -> Verdict
+        requires { ∥ ((limit : ℕ) × (tables : List Interface) × (ps : List Piece)
+            × IsAfter limit tables ps self.now) ∥₁ }
+        ensures { (limit : ℕ) (tables : List Interface) (ps : List Piece)
+            → IsAfter limit tables ps self.now
+            → IsVerdictOf tables (session_of limit ps) result }
     {
         let progress = &self.state.progress;
-        let verdict = match &self.state.status {
+        match &self.state.status {
             SessionStatus::Broken(frame, fault) => progress.broken(frame, *fault),
-            SessionStatus::Open | SessionStatus::Ended => progress.lawful(
-                self.to_server.len,
-                self.to_client.len,
-            ),
-        };
-        (self.state.text, verdict)
+            SessionStatus::Open | SessionStatus::Ended => {
+                progress.lawful(self.to_server.len, self.to_client.len)
+            }
+        }
     }
 }
 
@@ -169,17 +241,36 @@ pub(crate) fn scan<A: Allocator + Clone>(
     ensures verdict { IfOk result
         (λ r. IsVerdictOf tables.now (session_of limit.bytes (map recorded_piece pieces.now)) r.1) }
 {
+    let rules = Rules { tables, limit };
     let mut scanner = Scanner::new(alloc, tables)?;
-    let mut args = ParsedArgs::new();
+    let lines = Vec::new(alloc.clone()?);
+    let mut journal = Journal {
+        sink: Sink {
+            output,
+            text: lines,
+        },
+        undo: UndoList::Off,
+    };
     'pieces: for piece in pieces {
-        let appended = append_piece(
-            piece,
-            &mut scanner.to_server.bytes,
-            &mut scanner.to_client.bytes,
-        )?;
-        scanner.judge(&appended, tables, limit, output, &mut args)?;
+        let lent = LentPiece {
+            direction: piece.direction,
+            bytes: piece.bytes.as_slice(),
+            tokens: piece.tokens as usize,
+        };
+        scanner.judge(&lent, &rules, &mut journal)?;
     }
-    Ok(scanner.finish())
+    let verdict = scanner.verdict();
+    Ok((journal.sink.text, verdict))
+}
+
+/// The bytes of a direction.
+fn bytes_of<'a>(direction: Direction, to_server: &'a [u8], to_client: &'a [u8]) -> &'a [u8]
+    ensures { result.now ≡ bytes_of direction to_server.now to_client.now }
+{
+    match direction {
+        Direction::ToServer => to_server,
+        Direction::ToClient => to_client,
+    }
 }
 
 /// Goes through the text of a recording, of which it keeps one piece at a time.
@@ -196,15 +287,29 @@ pub(crate) fn scan_text<A: Allocator + Clone>(
     ensures bad { IfErr result
         (λ e. (e ≡ Memory) ⊎ ((n : ℕ) × (e ≡ BadLine n) × IsFirstBad text.now n)) }
 {
+    let rules = Rules { tables, limit };
     let mut scanner = Scanner::new(alloc, tables)?;
-    let mut args = ParsedArgs::new();
+    let lines = Vec::new(alloc.clone()?);
+    let mut journal = Journal {
+        sink: Sink {
+            output,
+            text: lines,
+        },
+        undo: UndoList::Off,
+    };
+    let mut to_server = Vec::new(alloc.clone()?);
+    let mut to_client = Vec::new(alloc.clone()?);
     let mut reader = PieceReader::new(text);
-    'pieces: while let Some(piece) = append_next(
-        &mut reader,
-        &mut scanner.to_server.bytes,
-        &mut scanner.to_client.bytes,
-    )? {
-        scanner.judge(&piece, tables, limit, output, &mut args)?;
+    'pieces: while let Some(piece) = reader.append_next(&mut to_server, &mut to_client)? {
+        let lent = LentPiece {
+            direction: piece.direction,
+            bytes: bytes_of(piece.direction, to_server.as_slice(), to_client.as_slice()),
+            tokens: piece.tokens as usize,
+        };
+        scanner.judge(&lent, &rules, &mut journal)?;
+        to_server.clear();
+        to_client.clear();
     }
-    Ok(scanner.finish())
+    let verdict = scanner.verdict();
+    Ok((journal.sink.text, verdict))
 }

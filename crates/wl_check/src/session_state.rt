@@ -5,6 +5,7 @@ ghost use Rattle.wl_sigs.specs.Valid.{Valid};
 ghost use Rattle.wl_check.specs.Held.{undone_by, Held};
 ghost use Rattle.wl_check.specs.SessionState.{is_going, AllJudged, Comes, CutFollows, IsUnread};
 ghost use Rattle.wl_check.specs.SessionState.{gone_back, numbers_in, IsJudged, OthersStay, WentOn};
+ghost use Rattle.wl_check.specs.Printed.{PrintsOn};
 ghost use Rattle.wl_check.specs.Session.{Session};
 
 use crate::frames::{FramedMessage, size_in_front};
@@ -43,12 +44,33 @@ pub(crate) struct SessionState<A: Allocator = Global> {
     pub progress: Progress<A>,
     /// How many these are.
     pub count: u64,
-    /// What was written of them.
-    pub text: Vec<u8, A>,
     pub status: SessionStatus,
 }
 
-/// All of a state but what is held and what was written.
+/// By what messages are judged.
+#[derive(Clone, Copy)]
+pub(crate) struct Rules<'t> {
+    pub tables: &'t Tables,
+    pub limit: Limit,
+}
+
+/// Where what is wanted of judged messages goes.
+#[derive(Drop)]
+pub(crate) struct Sink<A: Allocator = Global> {
+    pub output: Output,
+    /// What was written of them.
+    pub text: Vec<u8, A>,
+}
+
+/// What is written while messages are judged.
+#[derive(Drop)]
+pub(crate) struct Journal<A: Allocator = Global> {
+    pub sink: Sink<A>,
+    /// What the messages overwrite of what is known.
+    pub undo: UndoList<A>,
+}
+
+/// All of a state but what is held.
 #[derive(Clone, Copy)]
 pub(crate) struct Numbers {
     used: u32,
@@ -70,36 +92,45 @@ impl<A: Allocator + Clone> SessionState<A> {
         Ok(SessionState {
             progress: Progress::new(alloc, tables)?,
             count: 0,
-            text: Vec::new(alloc.clone()?),
             status: SessionStatus::Open,
         })
     }
 
     /// Judges the messages that stand whole in these bytes of a direction, and returns where the
-    /// bytes of the next begin. One that breaks a rule or ends the session is the last.
+    /// bytes of the next begin. One that breaks a rule or ends the session is the last, and there is
+    /// no next behind it.
     pub(crate) fn judge_all(
         &mut self,
         bytes: &[u8],
         direction: Direction,
         tokens: u128,
-        tables: &Tables,
-        limit: Limit,
-        output: Output,
-        args: &mut ParsedArgs,
+        rules: &Rules<'_>,
+        journal: &mut Journal<A>,
     ) -> Result<usize, AllocError>
-        requires valid { Valid tables.now }
-        requires follows { (s : Session)
-            × CutFollows limit.bytes tables.now s output self.old direction tokens bytes.now }
+        requires valid { Valid rules.now.tables.now }
+        requires follows { ∥ ((s : Session) × CutFollows rules.now.limit.bytes rules.now.tables.now s
+            self.old direction tokens bytes.now) ∥₁ }
         ensures place { IfOk result (λ place. place ≤ length bytes.now) }
         ensures judged { IfOk result (λ place. (s : Session)
-            → CutFollows limit.bytes tables.now s output self.old direction tokens bytes.now
-            → AllJudged limit.bytes tables.now s output self.new direction (drop place bytes.now)) }
+            → CutFollows rules.now.limit.bytes rules.now.tables.now s self.old direction tokens
+            bytes.now
+            → AllJudged rules.now.limit.bytes rules.now.tables.now s self.new direction
+            (drop place bytes.now)) }
+        ensures lines { OnOk result ((s : Session)
+            → CutFollows rules.now.limit.bytes rules.now.tables.now s self.old direction tokens
+            bytes.now
+            → PrintsOn rules.now.tables.now s journal.old.sink.output self.old.count self.new.count
+            journal.old.sink.text.items journal.new.sink.text.items) }
         ensures other { OnOk result (OthersStay direction self.old self.new) }
+        ensures output { journal.new.sink.output ≡ journal.old.sink.output }
+        ensures undone { undone_by journal.new.undo self.new.progress.known.held
+            ≡ undone_by journal.old.undo self.old.progress.known.held }
     {
+        let mut args = ParsedArgs::new();
         let mut place = 0;
         'messages: loop {
             let rest = &bytes[place..];
-            let Some(size) = size_in_front(rest, limit) else {
+            let Some(size) = size_in_front(rest, rules.limit) else {
                 return Ok(place);
             };
             let frame = FramedMessage {
@@ -108,9 +139,9 @@ impl<A: Allocator + Clone> SessionState<A> {
                 size,
                 tokens,
             };
-            self.judge_next(rest, &frame, tables, limit, output, args)?;
+            self.judge_next(rest, &frame, rules, &mut args, journal)?;
             if !self.is_open() {
-                return Ok(place);
+                return Ok(bytes.len());
             }
             place += size as usize;
         }
@@ -121,32 +152,30 @@ impl<A: Allocator + Clone> SessionState<A> {
         &mut self,
         bytes: &[u8],
         frame: &FramedMessage,
-        tables: &Tables,
-        limit: Limit,
-        output: Output,
+        rules: &Rules<'_>,
         args: &mut ParsedArgs,
+        journal: &mut Journal<A>,
     ) -> Result<(), AllocError>
-        requires valid { Valid tables.now }
-        requires comes { (s : Session)
-            × Comes limit.bytes tables.now s output self.old frame.now bytes.now }
+        requires valid { Valid rules.now.tables.now }
+        requires comes { ∥ ((s : Session) × Comes rules.now.limit.bytes rules.now.tables.now s
+            self.old frame.now bytes.now) ∥₁ }
         ensures judged { OnOk result ((s : Session)
-            → Comes limit.bytes tables.now s output self.old frame.now bytes.now
-            → IsJudged tables.now s output self.new) }
+            → Comes rules.now.limit.bytes rules.now.tables.now s self.old frame.now bytes.now
+            → IsJudged rules.now.tables.now s self.new) }
+        ensures lines { OnOk result ((s : Session)
+            → Comes rules.now.limit.bytes rules.now.tables.now s self.old frame.now bytes.now
+            → PrintsOn rules.now.tables.now s journal.old.sink.output self.old.count self.new.count
+            journal.old.sink.text.items journal.new.sink.text.items) }
         ensures on { OnOk result (is_going self.new.status ≡ true
-            → WentOn limit.bytes frame.now self.old self.new) }
+            → WentOn rules.now.limit.bytes frame.now self.old self.new) }
         ensures other { OnOk result (OthersStay frame.now.direction self.old self.new) }
+        ensures output { journal.new.sink.output ≡ journal.old.sink.output }
+        ensures undone { undone_by journal.new.undo self.new.progress.known.held
+            ≡ undone_by journal.old.undo self.old.progress.known.held }
     {
         let known = &self.progress.known;
-        let changes = match judge(
-            args,
-            tables,
-            known,
-            bytes,
-            frame,
-            limit,
-            &mut self.text,
-            output,
-        )? {
+        let judged = judge(args, rules, known, bytes, frame, &mut journal.sink)?;
+        let changes = match judged {
             Ok(changes) => changes,
             Err(fault) => {
                 self.status = SessionStatus::Broken(*frame, fault);
@@ -155,7 +184,7 @@ impl<A: Allocator + Clone> SessionState<A> {
         };
         let place = self.count + 1;
         self.progress
-            .advance(place, frame, &changes, &mut UndoList::Off)?;
+            .advance(place, frame, &changes, &mut journal.undo)?;
         self.count = place;
         if changes.is_error {
             self.status = SessionStatus::Ended;
@@ -175,7 +204,7 @@ impl<A: Allocator> SessionState<A> {
         }
     }
 
-    /// All but what is held and what was written.
+    /// All but what is held.
     pub(crate) fn numbers(&self) -> Numbers
         ensures { result ≡ numbers_in self.now }
     {

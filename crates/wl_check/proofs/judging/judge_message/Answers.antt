@@ -12,85 +12,102 @@ use Rattle.wl_check.proofs.judging.judge_message.Goals as goal
 
 pub returns-in-Err-clause-changes : goal.returns-in-Err-clause-changes
 returns-in-Err-clause-changes g c =
-    let found = judged_is c.args.tables.now (known_in c.args.known.now) c.args.frame.now c.args.header c.args.body.now
+    let found = judged_is c.args.tables.now (known_in c.args.known.now) c.args.frame.now c.args.whole.now.header
+    c.args.whole.now.body.now
     c.count-waiting.result c.saturating_sub.result _ c.requires.valid c.count-waiting.ensures
     (c.saturating_sub.ensures ∙ rw c.taken-taken.ensures refl)
-    (from_side c.args.tables.now (known_in c.args.known.now) c.args.frame.now.direction c.args.header c.args.body.now
+    (from_side c.args.tables.now (known_in c.args.known.now) c.args.frame.now.direction c.args.whole.now.header
+    c.args.whole.now.body.now
     c.count-waiting.result c.side_of-side.result _ c.side_of-side.ensures c.receive-received.ensures.answer) in
     let is = sym (found ∙ rw c.in-Err.is refl) in
     no_changes c.args.tables.now _ c.in-Err.fault is
 
 pub returns-in-Err-clause-text : goal.returns-in-Err-clause-text
 returns-in-Err-clause-text g c =
-    let found = judged_is c.args.tables.now (known_in c.args.known.now) c.args.frame.now c.args.header c.args.body.now
+    let found = judged_is c.args.tables.now (known_in c.args.known.now) c.args.frame.now c.args.whole.now.header
+    c.args.whole.now.body.now
     c.count-waiting.result c.saturating_sub.result _ c.requires.valid c.count-waiting.ensures
     (c.saturating_sub.ensures ∙ rw c.taken-taken.ensures refl)
-    (from_side c.args.tables.now (known_in c.args.known.now) c.args.frame.now.direction c.args.header c.args.body.now
+    (from_side c.args.tables.now (known_in c.args.known.now) c.args.frame.now.direction c.args.whole.now.header
+    c.args.whole.now.body.now
     c.count-waiting.result c.side_of-side.result _ c.side_of-side.ensures c.receive-received.ensures.answer) in
     let is = sym (found ∙ rw c.in-Err.is refl) in
-    no_line c.args.tables.now (known_in c.args.known.now) c.args.output c.args.text.now.items _ c.in-Err.fault is
+    no_line c.args.tables.now (known_in c.args.known.now) c.args.sink.now.output c.args.sink.now.text.items _
+    c.in-Err.fault is
 
 pub returns-then-is_bad_bind-clause-changes : goal.returns-then-is_bad_bind-clause-changes
 returns-then-is_bad_bind-clause-changes g c =
-    let found = judged_is c.args.tables.now (known_in c.args.known.now) c.args.frame.now c.args.header c.args.body.now
+    let found = judged_is c.args.tables.now (known_in c.args.known.now) c.args.frame.now c.args.whole.now.header
+    c.args.whole.now.body.now
     c.count-waiting.result c.saturating_sub.result _ c.requires.valid c.count-waiting.ensures
     (c.saturating_sub.ensures ∙ rw c.taken-taken.ensures refl)
-    (from_side c.args.tables.now (known_in c.args.known.now) c.args.frame.now.direction c.args.header c.args.body.now
+    (from_side c.args.tables.now (known_in c.args.known.now) c.args.frame.now.direction c.args.whole.now.header
+    c.args.whole.now.body.now
     c.count-waiting.result c.side_of-side.result _ c.side_of-side.ensures c.receive-received.ensures.answer) in
     let message : received_in c.receive-received.result ≡ Ok (received_of c.in-Ok.message) = rw c.in-Ok.is refl in
     let is = sym (found ∙ ap (λ r. called c.args.tables.now
-    (known_in c.args.known.now) c.args.frame.now.direction c.args.header.opcode r) message
-    ∙ called_bad c.args.tables.now (known_in c.args.known.now) c.args.frame.now.direction c.args.header.opcode
+    (known_in c.args.known.now) c.args.frame.now.direction c.args.whole.now.header.opcode r) message
+    ∙ called_bad c.args.tables.now (known_in c.args.known.now) c.args.frame.now.direction c.args.whole.now.header.opcode
     (received_of c.in-Ok.message) (rw (← c.side_of-side.ensures) (sym c.is_bad_bind.ensures ∙ c.if-is_bad_bind.true)))
     in
     no_changes c.args.tables.now _ BadBind is
 
 pub returns-then-is_bad_bind-clause-text : goal.returns-then-is_bad_bind-clause-text
 returns-then-is_bad_bind-clause-text g c =
-    let found = judged_is c.args.tables.now (known_in c.args.known.now) c.args.frame.now c.args.header c.args.body.now
+    let found = judged_is c.args.tables.now (known_in c.args.known.now) c.args.frame.now c.args.whole.now.header
+    c.args.whole.now.body.now
     c.count-waiting.result c.saturating_sub.result _ c.requires.valid c.count-waiting.ensures
     (c.saturating_sub.ensures ∙ rw c.taken-taken.ensures refl)
-    (from_side c.args.tables.now (known_in c.args.known.now) c.args.frame.now.direction c.args.header c.args.body.now
+    (from_side c.args.tables.now (known_in c.args.known.now) c.args.frame.now.direction c.args.whole.now.header
+    c.args.whole.now.body.now
     c.count-waiting.result c.side_of-side.result _ c.side_of-side.ensures c.receive-received.ensures.answer) in
     let message : received_in c.receive-received.result ≡ Ok (received_of c.in-Ok.message) = rw c.in-Ok.is refl in
     let is = sym (found ∙ ap (λ r. called c.args.tables.now
-    (known_in c.args.known.now) c.args.frame.now.direction c.args.header.opcode r) message
-    ∙ called_bad c.args.tables.now (known_in c.args.known.now) c.args.frame.now.direction c.args.header.opcode
+    (known_in c.args.known.now) c.args.frame.now.direction c.args.whole.now.header.opcode r) message
+    ∙ called_bad c.args.tables.now (known_in c.args.known.now) c.args.frame.now.direction c.args.whole.now.header.opcode
     (received_of c.in-Ok.message) (rw (← c.side_of-side.ensures) (sym c.is_bad_bind.ensures ∙ c.if-is_bad_bind.true)))
     in
-    no_line c.args.tables.now (known_in c.args.known.now) c.args.output c.args.text.now.items _ BadBind is
+    no_line c.args.tables.now (known_in c.args.known.now) c.args.sink.now.output c.args.sink.now.text.items _ BadBind is
 
 pub returns-clause-changes : goal.returns-clause-changes
 returns-clause-changes g c =
-    let found = judged_is c.args.tables.now (known_in c.args.known.now) c.args.frame.now c.args.header c.args.body.now
+    let found = judged_is c.args.tables.now (known_in c.args.known.now) c.args.frame.now c.args.whole.now.header
+    c.args.whole.now.body.now
     c.count-waiting.result c.saturating_sub.result _ c.requires.valid c.count-waiting.ensures
     (c.saturating_sub.ensures ∙ rw c.taken-taken.ensures refl)
-    (from_side c.args.tables.now (known_in c.args.known.now) c.args.frame.now.direction c.args.header c.args.body.now
+    (from_side c.args.tables.now (known_in c.args.known.now) c.args.frame.now.direction c.args.whole.now.header
+    c.args.whole.now.body.now
     c.count-waiting.result c.side_of-side.result _ c.side_of-side.ensures c.receive-received.ensures.answer) in
     let message : received_in c.receive-received.result ≡ Ok (received_of c.in-Ok.message) = rw c.in-Ok.is refl in
     let is = sym (found ∙ ap (λ r. called c.args.tables.now
-    (known_in c.args.known.now) c.args.frame.now.direction c.args.header.opcode r) message
-    ∙ called_good c.args.tables.now (known_in c.args.known.now) c.args.frame.now.direction c.args.header.opcode
+    (known_in c.args.known.now) c.args.frame.now.direction c.args.whole.now.header.opcode r) message
+    ∙ called_good c.args.tables.now (known_in c.args.known.now) c.args.frame.now.direction
+    c.args.whole.now.header.opcode
     (received_of c.in-Ok.message) (rw (← c.side_of-side.ensures) (sym c.is_bad_bind.ensures ∙ c.if-is_bad_bind.false)))
     in
-    own_changes c.args.tables.now _ (call_of c.args.frame.now.direction c.args.header.opcode c.in-Ok.message)
+    own_changes c.args.tables.now _ (call_of c.args.frame.now.direction c.args.whole.now.header.opcode c.in-Ok.message)
     c.changes_of-changes.result c.changes_of-changes.ensures is
 
 pub returns-clause-text : goal.returns-clause-text
 returns-clause-text g c =
-    let found = judged_is c.args.tables.now (known_in c.args.known.now) c.args.frame.now c.args.header c.args.body.now
+    let found = judged_is c.args.tables.now (known_in c.args.known.now) c.args.frame.now c.args.whole.now.header
+    c.args.whole.now.body.now
     c.count-waiting.result c.saturating_sub.result _ c.requires.valid c.count-waiting.ensures
     (c.saturating_sub.ensures ∙ rw c.taken-taken.ensures refl)
-    (from_side c.args.tables.now (known_in c.args.known.now) c.args.frame.now.direction c.args.header c.args.body.now
+    (from_side c.args.tables.now (known_in c.args.known.now) c.args.frame.now.direction c.args.whole.now.header
+    c.args.whole.now.body.now
     c.count-waiting.result c.side_of-side.result _ c.side_of-side.ensures c.receive-received.ensures.answer) in
     let message : received_in c.receive-received.result ≡ Ok (received_of c.in-Ok.message) = rw c.in-Ok.is refl in
     let is = sym (found ∙ ap (λ r. called c.args.tables.now
-    (known_in c.args.known.now) c.args.frame.now.direction c.args.header.opcode r) message
-    ∙ called_good c.args.tables.now (known_in c.args.known.now) c.args.frame.now.direction c.args.header.opcode
+    (known_in c.args.known.now) c.args.frame.now.direction c.args.whole.now.header.opcode r) message
+    ∙ called_good c.args.tables.now (known_in c.args.known.now) c.args.frame.now.direction
+    c.args.whole.now.header.opcode
     (received_of c.in-Ok.message) (rw (← c.side_of-side.ensures) (sym c.is_bad_bind.ensures ∙ c.if-is_bad_bind.false)))
     in
-    own_line c.args.tables.now (known_in c.args.known.now) c.args.output c.args.text.now.items c.write.new.text.items _
-    (call_of c.args.frame.now.direction c.args.header.opcode c.in-Ok.message) (c.in_ok-write.ensures
-    ∙ (λ i. c.args.text.now.items ++ wanted c.args.output (line c.args.tables.now
-    (c.side_of-side.ensures i) (reader_by c.args.tables.now (known_in c.args.known.now) c.args.frame.now.direction).object
+    own_line c.args.tables.now (known_in c.args.known.now) c.args.sink.now.output c.args.sink.now.text.items
+    c.write.new.sink.text.items _
+    (call_of c.args.frame.now.direction c.args.whole.now.header.opcode c.in-Ok.message) (c.in_ok-write.ensures.text
+    ∙ (λ i. c.args.sink.now.text.items ++ wanted c.args.sink.now.output (line c.args.tables.now
+    (c.side_of-side.ensures i) (reader_by c.args.tables.now (known_in c.args.known.now)
+    c.args.frame.now.direction).object
     (received_of c.in-Ok.message) (c.taken-taken.ensures i)))) is

@@ -1,10 +1,9 @@
 use Rattle.std.proofs.Common.{◌≡◌, ◌-◌, ◌≤◌, ◌++◌, [], List, ℕ, length, drop, take, sym, ap, ◌∙◌, subst, arith}
 use Rattle.std.proofs.Math.Logic.{∥∥₁_map}
 use Rattle.std.proofs.lemmas.List.{nil_from_length}
-use Rattle.wl_check.specs.declared.session_state.Output.TheVariants.{Nothing}
 use Rattle.wl_check.specs.SessionState.{AllJudged, CutFollows}
 use Rattle.wl_check.proofs.SessionByMessage.{rest_is}
-use Rattle.wl_check.proofs.inspecting.print_bytes.Goals as goal
+use Rattle.wl_check.proofs.scanning.judge_bytes.Goals as goal
 
 -- where none waited, the bytes from a place on are left
 left_is : (none left bytes : List ℕ) (place : ℕ) → place ≤ length bytes → none ≡ []
@@ -12,15 +11,16 @@ left_is : (none left bytes : List ℕ) (place : ℕ) → place ≤ length bytes 
 left_is none left bytes place within empty is =
     is ∙ ap (λ (l : List ℕ). l ++ take (length bytes - place) (drop place bytes)) empty ∙ rest_is bytes place within
 
-pub print_all-requires-clause-follows : goal.print_all-requires-clause-follows
-print_all-requires-clause-follows g c =
+pub judge_all-requires-clause-follows : goal.judge_all-requires-clause-follows
+judge_all-requires-clause-follows g c =
     let len = c.len.ensures in
     let zero = c.if-len-eq0.true in
     let none = nil_from_length c.args.waiting.now (omega (arith, len, zero)) in
     ∥∥₁_map c.requires.follows (λ x. (
       x.0,
-      subst (CutFollows c.args.limit.bytes c.args.tables.now x.0 Nothing c.args.state.now c.args.direction c.args.tokens)
-          (ap (λ (l : List ℕ). l ++ c.args.bytes.now) none) x.1,
+      subst (CutFollows c.args.rules.now.limit.bytes c.args.rules.now.tables.now x.0 c.args.state.now
+          c.args.piece.now.direction c.args.tokens)
+          (ap (λ (l : List ℕ). l ++ c.args.piece.now.bytes.now) none) x.1,
     ))
 
 pub returns-then-len-eq0-clause-judged : goal.returns-then-len-eq0-clause-judged
@@ -28,26 +28,31 @@ returns-then-len-eq0-clause-judged g c s h =
     let len = c.len.ensures in
     let zero = c.if-len-eq0.true in
     let none = nil_from_length c.args.waiting.now (omega (arith, len, zero)) in
-    let left = left_is c.args.waiting.now _ c.args.bytes.now c.in_ok-place.place c.in_ok-place.ensures.place none
+    let left = left_is c.args.waiting.now _ c.args.piece.now.bytes.now c.in_ok-place.place
+    c.in_ok-place.ensures.place none
     c.in_ok-append.ensures.ok in
-    subst (AllJudged c.args.limit.bytes c.args.tables.now s Nothing c.print_all.new.state c.args.direction) (sym left)
-    (c.in_ok-place.ensures.judged s (subst (CutFollows c.args.limit.bytes c.args.tables.now s Nothing c.args.state.now
-    c.args.direction c.args.tokens) (ap (λ (l : List ℕ). l ++ c.args.bytes.now) none) h))
+    subst (AllJudged c.args.rules.now.limit.bytes c.args.rules.now.tables.now s c.judge_all.new.self
+    c.args.piece.now.direction) (sym left)
+    (c.in_ok-place.ensures.judged s (subst (CutFollows c.args.rules.now.limit.bytes c.args.rules.now.tables.now s
+    c.args.state.now
+    c.args.piece.now.direction c.args.tokens) (ap (λ (l : List ℕ). l ++ c.args.piece.now.bytes.now) none) h))
 
 pub returns-then-len-eq0-clause-lines : goal.returns-then-len-eq0-clause-lines
 returns-then-len-eq0-clause-lines g c s h =
     let len = c.len.ensures in
     let zero = c.if-len-eq0.true in
     let none = nil_from_length c.args.waiting.now (omega (arith, len, zero)) in
-    c.in_ok-place.ensures.lines s (subst (CutFollows c.args.limit.bytes c.args.tables.now s Nothing c.args.state.now
-    c.args.direction c.args.tokens) (ap (λ (l : List ℕ). l ++ c.args.bytes.now) none) h)
+    c.in_ok-place.ensures.lines s (subst (CutFollows c.args.rules.now.limit.bytes c.args.rules.now.tables.now s
+    c.args.state.now
+    c.args.piece.now.direction c.args.tokens) (ap (λ (l : List ℕ). l ++ c.args.piece.now.bytes.now) none) h)
 
-pub print_all-requires-2-clause-follows : goal.print_all-requires-2-clause-follows
-print_all-requires-2-clause-follows g c =
+pub judge_all-requires-2-clause-follows : goal.judge_all-requires-2-clause-follows
+judge_all-requires-2-clause-follows g c =
     let all = c.as_slice.ensures ∙ c.in_ok-append-2.ensures.ok in
     ∥∥₁_map c.requires.follows (λ x. (
       x.0,
-      subst (CutFollows c.args.limit.bytes c.args.tables.now x.0 Nothing c.args.state.now c.args.direction c.args.tokens)
+      subst (CutFollows c.args.rules.now.limit.bytes c.args.rules.now.tables.now x.0 c.args.state.now
+          c.args.piece.now.direction c.args.tokens)
           (sym all) x.1,
     ))
 
@@ -55,13 +60,14 @@ pub returns-clause-judged : goal.returns-clause-judged
 returns-clause-judged g c s h =
     let same = c.as_slice.ensures in
     let all = same ∙ c.in_ok-append-2.ensures.ok in
-    subst (AllJudged c.args.limit.bytes c.args.tables.now s Nothing c.print_all-2.new.state c.args.direction)
+    subst (AllJudged c.args.rules.now.limit.bytes c.args.rules.now.tables.now s c.judge_all-2.new.self
+    c.args.piece.now.direction)
     (ap (drop c.in_ok-place-2.place) same ∙ sym c.in_ok-keep_from.ensures.ok)
-    (c.in_ok-place-2.ensures.judged s (subst (CutFollows c.args.limit.bytes c.args.tables.now s Nothing
-    c.args.state.now c.args.direction c.args.tokens) (sym all) h))
+    (c.in_ok-place-2.ensures.judged s (subst (CutFollows c.args.rules.now.limit.bytes c.args.rules.now.tables.now s
+    c.args.state.now c.args.piece.now.direction c.args.tokens) (sym all) h))
 
 pub returns-clause-lines : goal.returns-clause-lines
 returns-clause-lines g c s h =
     let all = c.as_slice.ensures ∙ c.in_ok-append-2.ensures.ok in
-    c.in_ok-place-2.ensures.lines s (subst (CutFollows c.args.limit.bytes c.args.tables.now s Nothing
-    c.args.state.now c.args.direction c.args.tokens) (sym all) h)
+    c.in_ok-place-2.ensures.lines s (subst (CutFollows c.args.rules.now.limit.bytes c.args.rules.now.tables.now s
+    c.args.state.now c.args.piece.now.direction c.args.tokens) (sym all) h)
