@@ -73,7 +73,7 @@ module _ {M : Type 0} (sp : M → boxes.QueuedMessage) (limit : ℕ) (tables : L
     pub still : List M
     pub later_is : later ≡ fresh ++ still
     pub part : List ℕ
-    pub sound : c.is_bad ≡ false
+    pub sound : c.has_bad_size ≡ false
     pub rest : drop c.place (streams d) ≡ part
     pub bytes : all_bytes (map sp fresh) ++ part ≡ x
     pub own : (knowledge tables (judged_after limit tables streams e (map (framed d t) c.marks))).taken d
@@ -89,7 +89,7 @@ module _ {M : Type 0} (sp : M → boxes.QueuedMessage) (limit : ℕ) (tables : L
       → Walked e seen later x (cutting limit (length (streams d)) (streams d) p)
   unfolding judged_after
   stops e seen later p x f at within more =
-      let here : cutting limit (length (streams d)) (streams d) p ≡ record { marks = []; place = p; is_bad = false } =
+      let here : cutting limit (length (streams d)) (streams d) p ≡ record { marks = []; place = p; has_bad_size = false } =
       step limit (length (streams d)) (streams d) p within (omega arith)
       ∙ ap (λ (o : Front). cut_at p o (cutting limit (length (streams d)) (streams d)))
       (ap (front limit) at ∙ more) in
@@ -120,7 +120,7 @@ module _ {M : Type 0} (sp : M → boxes.QueuedMessage) (limit : ℕ) (tables : L
       let found : front limit (drop p (streams d)) ≡ Whole size =
       ap (front limit) (at ∙ is) ∙ front_message limit (sp m).bytes rest whole in
       let here : cutting limit (length (streams d)) (streams d) p
-      ≡ record { marks = mark p size ∷ c.marks; place = c.place; is_bad = c.is_bad } =
+      ≡ record { marks = mark p size ∷ c.marks; place = c.place; has_bad_size = c.has_bad_size } =
       step limit (length (streams d)) (streams d) p within (omega arith)
       ∙ ap (λ (f : Front). cut_at p f (cutting limit (length (streams d)) (streams d))) found in
       let e' = e ++ Ok o.call ∷ [] in

@@ -100,7 +100,7 @@ recorded_other limit tables d y ps qs bytes n inbox seen b apart taken r =
     record {
       same_limit = r.same_limit;
       part = r.part;
-      sound = ap (λ (s : List ℕ). (cut limit s).is_bad) stream ∙ r.sound;
+      sound = ap (λ (s : List ℕ). (cut limit s).has_bad_size) stream ∙ r.sound;
       rest = ap (λ (s : List ℕ). drop (cut limit s).place s) stream ∙ r.rest;
       waits = r.waits;
       tokens = (let a = r.tokens in let c = b.other_count y apart in omega (arith, a, c, taken));
@@ -167,11 +167,11 @@ module _ {M : Type 0} (sp : M → boxes.QueuedMessage) (limit : ℕ) (tables : L
       let whole : cut limit (streams d) ≡ record {
         marks = (cut limit s).marks ++ c.marks;
         place = c.place;
-        is_bad = c.is_bad;
+        has_bad_size = c.has_bad_size;
       } =
       ap (cut limit) brings.own ∙ fed_good limit s bytes r.sound
       ∙ ap (λ (l : List ℕ). (let y = cutting limit (length l) l place
-      in record { marks = (cut limit s).marks ++ y.marks; place = y.place; is_bad = y.is_bad })) (sym brings.own) in
+      in record { marks = (cut limit s).marks ++ y.marks; place = y.place; has_bad_size = y.has_bad_size })) (sym brings.own) in
       record {
         fresh = w.fresh;
         still = w.still;
@@ -179,7 +179,7 @@ module _ {M : Type 0} (sp : M → boxes.QueuedMessage) (limit : ℕ) (tables : L
         own = record {
           same_limit = new_limit;
           part = w.part;
-          sound = ap (λ (y : Cutting). y.is_bad) whole ∙ w.sound;
+          sound = ap (λ (y : Cutting). y.has_bad_size) whole ∙ w.sound;
           rest = ap (λ (y : Cutting). drop y.place (streams d)) whole ∙ w.rest;
           waits = waits ∙ ap (λ (l : List ℕ). all_bytes (map sp seen) ++ l) (sym w.bytes)
               ∙ sym (append_assoc (all_bytes (map sp seen)) (all_bytes (map sp w.fresh)) w.part)

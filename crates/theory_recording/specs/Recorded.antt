@@ -16,7 +16,7 @@ pub record Recorded (limit : ℕ) (direction : Direction) (pieces : List Piece)
     (inbox : Arrived) (taken : ℕ) (seen : List boxes.QueuedMessage) : Type 0 where
   pub same_limit : inbox.limit.bytes ≡ limit
   pub part : List ℕ
-  pub sound : (cut limit (stream_of direction pieces)).is_bad ≡ false
+  pub sound : (cut limit (stream_of direction pieces)).has_bad_size ≡ false
   pub rest : drop (cut limit (stream_of direction pieces)).place (stream_of direction pieces) ≡ part
   pub waits : inbox.bytes ≡ all_bytes seen ++ part
   pub tokens : piece_tokens direction pieces + length (all_tokens seen)

@@ -32,7 +32,7 @@ marks_other : (e d : Direction) (t : ℕ) (ms : List Mark) → same_direction e 
 marks_other e d t [] other = refl
 marks_other e d t (m ∷ ms) other = rw other (marks_other e d t ms other)
 
-both_step : (a : Cutting) (f : ℕ → Cutting) (b : Bool) → a.is_bad ≡ b
+both_step : (a : Cutting) (f : ℕ → Cutting) (b : Bool) → a.has_bad_size ≡ b
     → a.marks ++ drop (length a.marks) (goes_on a f).marks ≡ (goes_on a f).marks
 both_step a f true is = rw is (ap (λ (l : List Mark). a.marks ++ l) (drop_whole a.marks) ∙ append-nil a.marks)
 both_step a f false is = rw is (ap (λ (l : List Mark). a.marks ++ l) (drop_front a.marks (f a.place).marks))
@@ -42,7 +42,7 @@ both : (limit : ℕ) (s t : List ℕ) → (cut limit s).marks ++ drop (length (c
     ≡ (cut limit (s ++ t)).marks
 both limit s t = rw (more limit (length s) (length (s ++ t)) s t 0 (omega arith) (omega arith) (omega arith))
     (both_step (cutting limit (length s) s 0) (cutting limit (length (s ++ t)) (s ++ t))
-    (cutting limit (length s) s 0).is_bad refl)
+    (cutting limit (length s) s 0).has_bad_size refl)
 
 piece_step : (limit : ℕ) (d e : Direction) (b : Bool) (s : List ℕ) (t : List ℕ) (k : ℕ) (w : List ℕ)
     → same_direction e d ≡ b → (b ≡ true → w ≡ s)

@@ -54,15 +54,15 @@ within limit (suc n) b w p there after = within_step limit n b w p (front limit 
 -- ---- why a cutting stops
 
 why_step : (limit n : ℕ) (s : List ℕ) (p : ℕ) (f : Front) → front limit (drop p s) ≡ f → p ≤ length s
-    → ((z : ℕ) → 8 ≤ z → p + z ≤ length s → (cutting limit n s (p + z)).is_bad ≡ false
+    → ((z : ℕ) → 8 ≤ z → p + z ≤ length s → (cutting limit n s (p + z)).has_bad_size ≡ false
     → front limit (drop (cutting limit n s (p + z)).place s) ≡ More)
-    → (cut_at p f (cutting limit n s)).is_bad ≡ false
+    → (cut_at p f (cutting limit n s)).has_bad_size ≡ false
     → front limit (drop (cut_at p f (cutting limit n s)).place s) ≡ More
 why_step limit n s p More e within ih fine = e
 why_step limit n s p (Bad z) e within ih fine = absurd (cc)
 why_step limit n s p (Whole z) e within ih fine = let x = next_within limit s p z e within in ih z x.0 x.1 fine
 
-pub why : (limit n : ℕ) (s : List ℕ) (p : ℕ) → p ≤ length s → length s ≤ p + n → (cutting limit n s p).is_bad ≡ false
+pub why : (limit n : ℕ) (s : List ℕ) (p : ℕ) → p ≤ length s → length s ≤ p + n → (cutting limit n s p).has_bad_size ≡ false
     → front limit (drop (cutting limit n s p).place s) ≡ More
 unfolding cutting
 why limit zero s p within enough fine = front_past limit s p (omega arith)
@@ -121,7 +121,7 @@ fresh_step limit s t p (Whole z) there more apart e =
           (length s) (s ++ t) (p + z) in_all (omega (arith, less, length-drop p s, there)),
     )
 
-brings_step : (limit : ℕ) (s t : List ℕ) (b : Bool) → (cut limit s).is_bad ≡ b
+brings_step : (limit : ℕ) (s t : List ℕ) (b : Bool) → (cut limit s).has_bad_size ≡ b
     → Brings limit (length s) (length (s ++ t)) (cond b []
     (cutting limit (length (s ++ t)) (s ++ t) (cut limit s).place).marks)
 brings_step limit s t true is = tt
@@ -134,7 +134,7 @@ brings_step limit s t false is =
 
 pub piece_brings : (limit : ℕ) (s t : List ℕ) → Brings limit (length s) (length (s ++ t))
     (drop (length (cut limit s).marks) (cut limit (s ++ t)).marks)
-piece_brings limit s t = rw (new_marks limit s t) (brings_step limit s t (cut limit s).is_bad refl)
+piece_brings limit s t = rw (new_marks limit s t) (brings_step limit s t (cut limit s).has_bad_size refl)
 
 -- ---- the messages by their sizes
 

@@ -90,13 +90,13 @@ step limit j w p within enough = fuel limit j (suc j) w p within (omega arith) (
 
 -- a cutting that goes on, unless it stopped at a bad size
 abbrev pub goes_on : Cutting → (ℕ → Cutting) → Cutting
-goes_on a b = cond a.is_bad a (record {
+goes_on a b = cond a.has_bad_size a (record {
   marks = a.marks ++ (b a.place).marks;
   place = (b a.place).place;
-  is_bad = (b a.place).is_bad;
+  has_bad_size = (b a.place).has_bad_size;
 })
 
-then_goes : (m : Mark) (c : Cutting) (f : ℕ → Cutting) (b : Bool) → c.is_bad ≡ b
+then_goes : (m : Mark) (c : Cutting) (f : ℕ → Cutting) (b : Bool) → c.has_bad_size ≡ b
     → then_cut m (goes_on c f) ≡ goes_on (then_cut m c) f
 then_goes m c f true is = rw is refl
 then_goes m c f false is = rw is refl
@@ -117,7 +117,7 @@ more_step limit n j s t p (Whole z) e within enough ih =
     ap (front limit) (front_more s t p within) ∙ whole_stays limit (drop p s) t z e in
     step limit j (s ++ t) p (omega (arith, length-append s t)) enough
     ∙ (rw (there, ih z w.0 w.1) (then_goes (mark p z) (cutting limit n s (p + z)) (cutting limit j (s ++ t))
-    (cutting limit n s (p + z)).is_bad refl))
+    (cutting limit n s (p + z)).has_bad_size refl))
 
 pub more : (limit n j : ℕ) (s t : List ℕ) (p : ℕ) → p ≤ length s → length s ≤ p + n → length (s ++ t) ≤ j
     → cutting limit j (s ++ t) p ≡ goes_on (cutting limit n s p) (cutting limit j (s ++ t))
@@ -149,24 +149,24 @@ drop_front [] ys = refl
 drop_front (x ∷ xs) ys = drop_front xs ys
 
 -- a piece: what is complete with it and was not before
-new_step : (a : Cutting) (f : ℕ → Cutting) (b : Bool) → a.is_bad ≡ b
+new_step : (a : Cutting) (f : ℕ → Cutting) (b : Bool) → a.has_bad_size ≡ b
     → drop (length a.marks) (goes_on a f).marks ≡ cond b [] (f a.place).marks
 new_step a f true is = rw is (drop_whole a.marks)
 new_step a f false is = rw is (drop_front a.marks (f a.place).marks)
 
 pub new_marks : (limit : ℕ) (s t : List ℕ) → drop (length (cut limit s).marks) (cut limit (s ++ t)).marks
-    ≡ cond (cut limit s).is_bad [] (cutting limit (length (s ++ t)) (s ++ t) (cut limit s).place).marks
+    ≡ cond (cut limit s).has_bad_size [] (cutting limit (length (s ++ t)) (s ++ t) (cut limit s).place).marks
 new_marks limit s t = rw (more limit (length s) (length (s ++ t)) s t 0 (omega arith) (omega arith) (omega arith))
     (new_step (cutting limit (length s) s 0) (cutting limit (length (s ++ t)) (s ++ t))
-    (cutting limit (length s) s 0).is_bad refl)
+    (cutting limit (length s) s 0).has_bad_size refl)
 
 -- ---- a stream after more bytes
-pub fed_bad : (limit : ℕ) (s t : List ℕ) → (cut limit s).is_bad ≡ true → cut limit (s ++ t) ≡ cut limit s
+pub fed_bad : (limit : ℕ) (s t : List ℕ) → (cut limit s).has_bad_size ≡ true → cut limit (s ++ t) ≡ cut limit s
 fed_bad limit s t bad = more limit (length s) (length (s ++ t)) s t 0 (omega arith) (omega arith) (omega arith)
     ∙ rw bad refl
 
-pub fed_good : (limit : ℕ) (s t : List ℕ) → (cut limit s).is_bad ≡ false
+pub fed_good : (limit : ℕ) (s t : List ℕ) → (cut limit s).has_bad_size ≡ false
     → cut limit (s ++ t) ≡ (let x = cutting limit (length (s ++ t)) (s ++ t) (cut limit s).place
-    in record { marks = (cut limit s).marks ++ x.marks; place = x.place; is_bad = x.is_bad })
+    in record { marks = (cut limit s).marks ++ x.marks; place = x.place; has_bad_size = x.has_bad_size })
 fed_good limit s t fine = more limit (length s) (length (s ++ t)) s t 0 (omega arith) (omega arith) (omega arith)
     ∙ rw fine refl

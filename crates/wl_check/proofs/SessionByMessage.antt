@@ -338,7 +338,7 @@ follows_next limit tables s c n d tokens z start rest h some here went judged go
           ∙ drop_one_more s.frames _ c.count (frame_of d p z tokens) frames
           ∙ ap (λ (x : Cutting). map (framed d tokens) x.marks) (sym next);
       place = ap (λ (x : Cutting). x.place) (next) ∙ sym (ap (λ (x : Cutting). x.place) is) ∙ h.place;
-      is_bad = ap (λ (x : Cutting). x.is_bad) (next) ∙ sym (ap (λ (x : Cutting). x.is_bad) is) ∙ h.is_bad;
+      has_bad_size = ap (λ (x : Cutting). x.has_bad_size) (next) ∙ sym (ap (λ (x : Cutting). x.has_bad_size) is) ∙ h.has_bad_size;
     }
 
 nothing_left : {X : Type 0} (xs : List X) (k : ℕ) → drop k xs ≡ [] → length xs ≤ k
@@ -369,7 +369,7 @@ all_judged limit tables s c d tokens rest h none =
       left = λ going. record {
         rest_is = h.rest_is;
         place = sym (ap (λ (x : Cutting). x.place) is) ∙ h.place;
-        is_bad = sym h.is_bad ∙ ap (λ (x : Cutting). x.is_bad) is;
+        has_bad_size = sym h.has_bad_size ∙ ap (λ (x : Cutting). x.has_bad_size) is;
       };
     }
 

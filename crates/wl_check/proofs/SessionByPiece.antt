@@ -187,7 +187,7 @@ follows_piece limit tables ps p c stream len tokens bytes h going len_is small t
     let l = ap (λ (b : List ℕ). length b) whole in
     let a = length-append s p.bytes in
     let len_old = h.stream.len in
-    let good = fed_good limit s p.bytes left.is_bad in
+    let good = fed_good limit s p.bytes left.has_bad_size in
     let all : cut limit w ≡ _ = ap (cut limit) whole ∙ good in
     let place_is : cutting limit (length w) w end
     ≡ cutting limit (length (s ++ p.bytes)) (s ++ p.bytes) (cut limit s).place =
@@ -195,7 +195,7 @@ follows_piece limit tables ps p c stream len tokens bytes h going len_is small t
     let marks : drop (length (cut limit s).marks) (cut limit (s ++ p.bytes)).marks
     ≡ (cutting limit (length w) w end).marks =
     new_marks limit s p.bytes ∙ ap (λ (b : Bool). cond b []
-    (cutting limit (length (s ++ p.bytes)) (s ++ p.bytes) (cut limit s).place).marks) left.is_bad
+    (cutting limit (length (s ++ p.bytes)) (s ++ p.bytes) (cut limit s).place).marks) left.has_bad_size
     ∙ sym (ap (λ (x : Cutting). x.marks) place_is) in
     let count : piece_tokens d ps + p.tokens ≡ tokens =
     ap (λ (n : ℕ). n + p.tokens) (sym h.stream.tokens) ∙ sym tokens_is in
@@ -211,7 +211,7 @@ follows_piece limit tables ps p c stream len tokens bytes h going len_is small t
           ∙ drop_front (merged limit ps) (completed limit ps p) c.count (h.all going)
           ∙ (λ i. map (framed d (count i)) (marks i));
       place = ap (λ (x : Cutting). x.place) place_is ∙ sym (ap (λ (x : Cutting). x.place) all);
-      is_bad = ap (λ (x : Cutting). x.is_bad) place_is ∙ sym (ap (λ (x : Cutting). x.is_bad) all);
+      has_bad_size = ap (λ (x : Cutting). x.has_bad_size) place_is ∙ sym (ap (λ (x : Cutting). x.has_bad_size) all);
     }
 
 -- it was judged
@@ -234,7 +234,7 @@ along_piece limit tables ps p c n stream after rest h j len tokens bytes =
         left = λ going. (let x = j.left going in record {
           rest_is = x.rest_is ∙ sym bytes;
           place = x.place;
-          is_bad = x.is_bad;
+          has_bad_size = x.has_bad_size;
         });
       };
     }
@@ -277,7 +277,7 @@ other_stream limit d ps p c n stream away h going end =
       left = λ is. (let x = h.left (going is) in record {
         rest_is = (λ i. drop (end i) (same i)) ∙ x.rest_is;
         place = end ∙ x.place ∙ sym (ap (λ (b : List ℕ). (cut limit b).place) same);
-        is_bad = ap (λ (b : List ℕ). (cut limit b).is_bad) same ∙ x.is_bad;
+        has_bad_size = ap (λ (b : List ℕ). (cut limit b).has_bad_size) same ∙ x.has_bad_size;
       });
     }
 
@@ -347,7 +347,7 @@ along_client limit tables ps d s is h = record {
 
 left_none : (limit : ℕ) (d : Direction) → IsLeft limit [] 0 []
 unfolding cutting
-left_none limit d = record { rest_is = refl; place = refl; is_bad = refl }
+left_none limit d = record { rest_is = refl; place = refl; has_bad_size = refl }
 
 pub none_judged : {A : Type 0} (limit : ℕ) (tables : List Interface) (s : Scanner A) → IsUnread s.state
     → s.to_server.bytes ≡ [] → s.to_server.len ≡ 0 → s.to_server.tokens ≡ 0

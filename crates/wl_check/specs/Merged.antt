@@ -20,17 +20,17 @@ mark start size = record { start = start; size = size }
 pub record Cutting : Type 0 where
   pub marks : List Mark
   pub place : ℕ
-  pub is_bad : Bool
+  pub has_bad_size : Bool
 
 abbrev pub stopped : ℕ → Cutting
-stopped place = record { marks = []; place = place; is_bad = false }
+stopped place = record { marks = []; place = place; has_bad_size = false }
 
 abbrev pub bad_at : ℕ → ℕ → Cutting
-bad_at place size = record { marks = mark place size ∷ []; place = place; is_bad = true }
+bad_at place size = record { marks = mark place size ∷ []; place = place; has_bad_size = true }
 
 abbrev pub then_cut : Mark → Cutting → Cutting
 then_cut m others =
-    record { marks = m ∷ others.marks; place = others.place; is_bad = others.is_bad }
+    record { marks = m ∷ others.marks; place = others.place; has_bad_size = others.has_bad_size }
 
 -- what stands at a place, and then the others
 abbrev pub cut_at : ℕ → Front → (ℕ → Cutting) → Cutting

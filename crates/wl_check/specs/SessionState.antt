@@ -136,13 +136,13 @@ pub record CutFollows {A : Type 0} (limit : ℕ) (tables : List Interface) (s : 
   pub small : length (s.streams d) < 2 ^ 64
   pub frames : drop c.count s.frames ≡ map (framed d tokens) (cut_from limit s c d).marks
   pub place : (cut_from limit s c d).place ≡ (cut limit (s.streams d)).place
-  pub is_bad : (cut_from limit s c d).is_bad ≡ (cut limit (s.streams d)).is_bad
+  pub has_bad_size : (cut_from limit s c d).has_bad_size ≡ (cut limit (s.streams d)).has_bad_size
 
 -- these bytes are all behind the last message of a stream, and no bad size stands there
 pub record IsLeft (limit : ℕ) (stream : List ℕ) (end : ℕ) (rest : List ℕ) : Type 0 where
   pub rest_is : drop end stream ≡ rest
   pub place : end ≡ (cut limit stream).place
-  pub is_bad : (cut limit stream).is_bad ≡ false
+  pub has_bad_size : (cut limit stream).has_bad_size ≡ false
 
 -- All messages of the session were judged, unless one ended it or broke a rule.
 pub record AllJudged {A : Type 0} (limit : ℕ) (tables : List Interface) (s : Session)
