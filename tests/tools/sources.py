@@ -78,9 +78,7 @@ class Made(unittest.TestCase):
         texts = glob.glob("examples/tables/*.tables", root_dir=TOP)
         made.update(dict.fromkeys(texts, "tools/tables-from-xml"))
         for name, tool in made.items():
-            # A module of Rattle says so at the end of its first comment.
-            head = read(name).split("\n\n" if name.endswith(".rt") else "\n")[0]
-            self.assertRegex(head, rf"(?i)\bmade by \S*({tool})", name)
+            self.assertRegex(read(name).split("\n")[0], rf"(?i)\bmade by \S*({tool})", name)
 
 
 class Contracts(unittest.TestCase):

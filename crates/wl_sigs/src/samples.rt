@@ -10,10 +10,10 @@ ghost use Rattle.wl_sigs.specs.declared.signature.Side.TheVariants.{Request};
 #[tactic(auto, unfolding(crate::specs::Core::core_tables))]
 pub fn server_objects()
     ensures made { fault_of_text (codes
-        "interface dev 3\nrequest release D\nevent made N(off)\nevent show ?o(off)\ninterface off 3\nrequest destroy D")
+        "interface device 3\nrequest release D\nevent made N(offer)\nevent show ?o(offer)\ninterface offer 3\nrequest destroy D")
         ≡ None }
-    ensures nameless { fault_of_text (codes "interface dev 3\nevent made N") ≡ Some (BadLine 2) }
-    ensures of_client { fault_of_text (codes "interface dev 3\nevent made n(dev)")
+    ensures nameless { fault_of_text (codes "interface device 3\nevent made N") ≡ Some (BadLine 2) }
+    ensures of_client { fault_of_text (codes "interface device 3\nevent made n(device)")
         ≡ Some (BadTable 2 4) }
 {}
 
@@ -23,10 +23,10 @@ pub fn server_objects()
 pub fn extensions()
     ensures same { fault_of_text (codes "extend wl_seat 9") ≡ None }
     ensures newer { fault_of_text (codes
-        "extend wl_seat 10\nrequest make n(off) @10\nextend wl_seat 11\nevent show ?o(off) @11\ninterface off 1\nrequest destroy D")
+        "extend wl_seat 10\nrequest make n(offer) @10\nextend wl_seat 11\nevent show ?o(offer) @11\ninterface offer 1\nrequest destroy D")
         ≡ None }
     ensures of_text { fault_of_text (codes
-        "interface off 1\nrequest destroy D\nextend off 2\nrequest name s @2") ≡ None }
+        "interface offer 1\nrequest destroy D\nextend offer 2\nrequest name s @2") ≡ None }
     ensures at_its_place { version_in_text (codes "extend wl_seat 10\nextend wl_seat 12") 9
         ≡ Some 12 }
     ensures behind { message_in_text (codes "extend wl_seat 10\nrequest first\nrequest next") 9
@@ -46,19 +46,19 @@ pub fn extensions_out_of_place()
     ensures fixes { fault_of_text (codes "extend wl_fixes 2") ≡ Some (BadTable 1 2) }
     ensures lower { fault_of_text (codes "extend wl_seat 10\nextend wl_seat 9")
         ≡ Some (BadTable 2 8) }
-    ensures unknown { fault_of_text (codes "extend dev 2") ≡ Some (BadTable 1 9) }
-    ensures above { fault_of_text (codes "extend dev 2\ninterface dev 1") ≡ Some (BadTable 1 9) }
+    ensures unknown { fault_of_text (codes "extend device 2") ≡ Some (BadTable 1 9) }
+    ensures above { fault_of_text (codes "extend device 2\ninterface device 1") ≡ Some (BadTable 1 9) }
     ensures named_again { fault_of_text (codes "extend wl_seat 10\nrequest release D @10")
         ≡ Some (BadTable 2 1) }
     ensures has_requests { fault_of_text (codes "extend wl_seat 10\nevent gone D @10")
         ≡ Some (BadTable 2 7) }
     ensures is_argument { fault_of_text (codes
-        "interface dev 1\nrequest take o(off)\ninterface off 1\nextend off 2\nevent gone D")
+        "interface device 1\nrequest take o(offer)\ninterface offer 1\nextend offer 2\nevent gone D")
         ≡ Some (BadTable 2 7) }
     ensures later { fault_of_text (codes "extend wl_seat 10\nrequest newer @11")
         ≡ Some (BadTable 2 8) }
     ensures is_made { fault_of_text (codes
-        "interface dev 1\nevent made N(off)\ninterface off 1\nextend off 2\nevent gone D")
+        "interface device 1\nevent made N(offer)\ninterface offer 1\nextend offer 2\nevent gone D")
         ≡ Some (BadTable 2 11) }
 {}
 
@@ -66,19 +66,19 @@ pub fn extensions_out_of_place()
 /// of each of the four that are always the same.
 #[tactic(auto, unfolding(crate::specs::Core::core_tables))]
 pub fn server_objects_out_of_place()
-    ensures request { fault_of_text (codes "interface dev 3\nrequest make N(dev)")
+    ensures request { fault_of_text (codes "interface device 3\nrequest make N(device)")
         ≡ Some (BadTable 2 11) }
-    ensures two { fault_of_text (codes "interface dev 3\nevent made N(dev) N(dev)")
+    ensures two { fault_of_text (codes "interface device 3\nevent made N(device) N(device)")
         ≡ Some (BadTable 2 11) }
     ensures ended { fault_of_text (codes
-        "interface dev 3\nevent made N(off)\ninterface off 3\nevent gone D")
+        "interface device 3\nevent made N(offer)\ninterface offer 3\nevent gone D")
         ≡ Some (BadTable 2 11) }
-    ensures display { fault_of_text (codes "interface dev 3\nevent made N(wl_display)")
+    ensures display { fault_of_text (codes "interface device 3\nevent made N(wl_display)")
         ≡ Some (BadTable 2 11) }
-    ensures registry { fault_of_text (codes "interface dev 3\nevent made N(wl_registry)")
+    ensures registry { fault_of_text (codes "interface device 3\nevent made N(wl_registry)")
         ≡ Some (BadTable 2 11) }
-    ensures callback { fault_of_text (codes "interface dev 3\nevent made N(wl_callback)")
+    ensures callback { fault_of_text (codes "interface device 3\nevent made N(wl_callback)")
         ≡ Some (BadTable 2 11) }
-    ensures fixes { fault_of_text (codes "interface dev 3\nevent made N(wl_fixes)")
+    ensures fixes { fault_of_text (codes "interface device 3\nevent made N(wl_fixes)")
         ≡ Some (BadTable 2 11) }
 {}
