@@ -62,9 +62,9 @@ impl<'a> PieceReader<'a> {
     /// Reads on to the next piece, if there is one, and appends its bytes to those of its
     /// direction.
     ///
-    /// `BadLine` and `Memory` come as from `Recording::parse`, and leave the bytes of both directions
-    /// as they were. `Memory` comes only at a line that is a piece: one that is none asks for no
-    /// memory. Either way the line is passed over.
+    /// `BadLine` comes at the first line of the text that a recording cannot have, and `Memory` only
+    /// at a line that is a piece: one that is none asks for no memory. Both pass over the line, and
+    /// leave the bytes of both directions as they were.
     pub fn append_next<A: Allocator>(
         &mut self,
         to_server: &mut Vec<u8, A>,
