@@ -11,7 +11,7 @@ use crate::session_state::{Journal, Output, Rules, Sink};
 use crate::verdict::Verdict;
 use std::alloc::{AllocError, Allocator, Global};
 use wl_message::Limit;
-use wl_objects::DISPLAY;
+use wl_objects::{DISPLAY, ParsedArgs};
 use wl_recording::Direction;
 use wl_sigs::Tables;
 
@@ -69,6 +69,7 @@ impl<'t, A: Allocator + Clone> Inspector<'t, A> {
         let text = Vec::new(self.lines.allocator().clone()?);
         let overwritten = Vec::new(self.lines.allocator().clone()?);
         let mut journal = Journal {
+            args: ParsedArgs::new(),
             sink: Sink {
                 output: Output::Lines,
                 text,

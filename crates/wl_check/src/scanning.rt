@@ -20,6 +20,7 @@ use crate::session_state::{Journal, Output, Rules, SessionState, SessionStatus, 
 use crate::verdict::Verdict;
 use std::alloc::{AllocError, Allocator, Global};
 use wl_message::Limit;
+use wl_objects::ParsedArgs;
 use wl_recording::{Direction, Passed, PieceReader, RecordingError};
 use wl_sigs::Tables;
 
@@ -245,6 +246,7 @@ pub(crate) fn scan<A: Allocator + Clone>(
     let mut scanner = Scanner::new(alloc, tables)?;
     let lines = Vec::new(alloc.clone()?);
     let mut journal = Journal {
+        args: ParsedArgs::new(),
         sink: Sink {
             output,
             text: lines,
@@ -291,6 +293,7 @@ pub(crate) fn scan_text<A: Allocator + Clone>(
     let mut scanner = Scanner::new(alloc, tables)?;
     let lines = Vec::new(alloc.clone()?);
     let mut journal = Journal {
+        args: ParsedArgs::new(),
         sink: Sink {
             output,
             text: lines,

@@ -65,6 +65,8 @@ pub(crate) struct Sink<A: Allocator = Global> {
 /// What is written while messages are judged.
 #[derive(Drop)]
 pub(crate) struct Journal<A: Allocator = Global> {
+    /// The arguments of the last message, into which those of the next are read.
+    pub args: ParsedArgs,
     pub sink: Sink<A>,
     /// What the messages overwrite of what is known.
     pub undo: UndoList<A>,
@@ -126,7 +128,6 @@ impl<A: Allocator + Clone> SessionState<A> {
         ensures undone { undone_by journal.new.undo self.new.progress.known.held
             ≡ undone_by journal.old.undo self.old.progress.known.held }
     {
-        let mut args = ParsedArgs::new();
         let mut place = 0;
         'messages: loop {
             let rest = &bytes[place..];
@@ -139,7 +140,7 @@ impl<A: Allocator + Clone> SessionState<A> {
                 size,
                 tokens,
             };
-            self.judge_next(rest, &frame, rules, &mut args, journal)?;
+            self.judge_next(rest, &frame, rules, journal)?;
             if !self.is_open() {
                 return Ok(bytes.len());
             }
@@ -153,7 +154,6 @@ impl<A: Allocator + Clone> SessionState<A> {
         bytes: &[u8],
         frame: &FramedMessage,
         rules: &Rules<'_>,
-        args: &mut ParsedArgs,
         journal: &mut Journal<A>,
     ) -> Result<(), AllocError>
         requires valid { Valid rules.now.tables.now }
@@ -173,8 +173,8 @@ impl<A: Allocator + Clone> SessionState<A> {
         ensures undone { undone_by journal.new.undo self.new.progress.known.held
             ≡ undone_by journal.old.undo self.old.progress.known.held }
     {
-        let known = &self.progress.known;
-        let judged = judge(args, rules, known, bytes, frame, &mut journal.sink)?;
+        let Journal { args, sink, undo } = journal;
+        let judged = judge(args, rules, &self.progress.known, bytes, frame, sink)?;
         let changes = match judged {
             Ok(changes) => changes,
             Err(fault) => {
@@ -183,8 +183,7 @@ impl<A: Allocator + Clone> SessionState<A> {
             }
         };
         let place = self.count + 1;
-        self.progress
-            .advance(place, frame, &changes, &mut journal.undo)?;
+        self.progress.advance(place, frame, &changes, undo)?;
         self.count = place;
         if changes.is_error {
             self.status = SessionStatus::Ended;
