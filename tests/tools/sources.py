@@ -167,12 +167,9 @@ class Definitions(unittest.TestCase):
 
     defines = re.compile(r"(?:(?:abbrev|unfoldable|pub|record|data) )+(?!use |mod )([^\s:({]+)")
     ends = ["wl_client", "wl_server"]
-    # The rule F9 of a bind, which the server and the checker test by what each of them knows.
-    of_both = {"is_bad_bind": ["wl_check", "wl_server"]}
 
     def test_one_name_for_one_thing(self):
-        """What both ends have of a kind has one name in both, and so has the bind's rule at the server
-        and at the checker; no other name stands twice."""
+        """What both ends have of a kind has one name in both, and no other name stands twice."""
         places = {}
         for path in sorted(glob.glob(f"{TOP}/crates/*/specs/*.antt")):
             with open(path, encoding="utf-8") as file:
@@ -182,7 +179,6 @@ class Definitions(unittest.TestCase):
         twice = {
             name: files
             for name, files in places.items()
-            if len(files) > 1
-            and [file.split("/")[0] for file in files] != self.of_both.get(name, self.ends)
+            if len(files) > 1 and [file.split("/")[0] for file in files] != self.ends
         }
         self.assertEqual(twice, {})

@@ -22,7 +22,7 @@ use Rattle.wl_server.specs.Calls.{version_in}
 use Rattle.wl_recording.specs.declared.piece.Direction.TheVariants.{ToServer}
 use Rattle.wl_check.specs.Changes.{first_number}
 use Rattle.wl_check.specs.Places.{KnownAtPlace as Knows}
-use Rattle.wl_check.specs.Rules.{version_of, allows_bind as may_bind, is_bad_bind}
+use Rattle.wl_check.specs.Rules.{version_of, allows_bind as may_bind, is_disallowed_bind}
 use Rattle.theory_connection.specs.Meant.{Known, Message, Coming, Event, Delete, Arg, made_in, wire}
 use Rattle.theory_connection.specs.World.{Each, IfThere}
 use Rattle.theory_connection.specs.Stands.{SuitKinds, AsksFitly, IsGlobal}
@@ -154,7 +154,7 @@ bad_bind_at : (tables : List Interface) (given : List Global) (k : Knows) (m : M
     (fit : AsksFitly tables given m) (b : Bool) → Valid tables → Each (IsGlobal tables) given
     → entry.iface ≡ m.target.born.iface → entry.version ≡ m.target.born.version → BindsAdvertised k m
     → is_bind Request entry.iface m.opcode ≡ b
-    → is_bad_bind tables k Request m.opcode (call_as ToServer m entry fit.fits.signature).received ≡ false
+    → is_disallowed_bind tables k Request m.opcode (call_as ToServer m entry fit.fits.signature).received ≡ false
 bad_bind_at tables given k m entry fit false v c iface version told is = rw is refl
 bad_bind_at tables given k m entry fit true v c iface version told is =
     let f = fit.fits in
@@ -179,6 +179,6 @@ bad_bind_at tables given k m entry fit true v c iface version told is =
 pub no_bad_bind : (tables : List Interface) (given : List Global) (k : Knows) (m : Message Known) (entry : Entry)
     (fit : AsksFitly tables given m) → Valid tables → Each (IsGlobal tables) given
     → entry.iface ≡ m.target.born.iface → entry.version ≡ m.target.born.version → BindsAdvertised k m
-    → is_bad_bind tables k Request m.opcode (call_as ToServer m entry fit.fits.signature).received ≡ false
+    → is_disallowed_bind tables k Request m.opcode (call_as ToServer m entry fit.fits.signature).received ≡ false
 no_bad_bind tables given k m entry fit v c iface version told =
     bad_bind_at tables given k m entry fit (is_bind Request entry.iface m.opcode) v c iface version told refl

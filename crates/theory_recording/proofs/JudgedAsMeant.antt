@@ -21,7 +21,7 @@ use Rattle.wl_recording.specs.declared.piece.Direction.{Direction}
 use Rattle.wl_check.specs.Merged.{mark, framed}
 use Rattle.wl_check.specs.Changes.{Call, side_of}
 use Rattle.wl_check.specs.Places.{KnownAtPlace as Knows}
-use Rattle.wl_check.specs.Rules.{reader_by, called, judged, judged_message, is_bad_bind}
+use Rattle.wl_check.specs.Rules.{reader_by, called, judged, judged_message, is_disallowed_bind}
 use Rattle.theory_connection.specs.Meant.{Known, Message, Arg, objects, new_object_in, wire, tokens, spelled_meant}
 use Rattle.theory_connection.specs.World.{Each, IfThere}
 use Rattle.theory_connection.specs.Stands.{FitsSignature}
@@ -73,7 +73,7 @@ pub frame_called : (limit : ℕ) (tables : List Interface) (k : Knows) (d : Dire
     → IsMessage limit (spelled_meant m).bytes → drop p stream ≡ (spelled_meant m).bytes ++ more
     → Each (Finds (reader_by tables k d)) m.args
     → k.taken d + length (tokens m.args) ≤ t
-    → is_bad_bind tables k (side_of d) m.opcode (call_as d m o.entry f.signature).received ≡ false
+    → is_disallowed_bind tables k (side_of d) m.opcode (call_as d m o.entry f.signature).received ≡ false
     → judged limit tables k stream (framed d t (mark p (length (spelled_meant m).bytes)))
     ≡ Ok (call_as d m o.entry f.signature)
 frame_called limit tables k d m stream more p t o f whole e args w good =

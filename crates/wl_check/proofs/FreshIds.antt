@@ -42,7 +42,7 @@ use Rattle.wl_check.specs.Session.{Session, Judged, changes_of, changes_at, mess
 use Rattle.wl_check.proofs.KnownAtPlace.{IsFresh}
 use Rattle.wl_check.proofs.JudgedByPlaces.{reading, length_messages}
 use Rattle.std.proofs.lemmas.Option.{slice_get_within}
-use Rattle.wl_check.specs.Rules.{reader_by, is_free_id, is_free_server_id, waits_for_request, is_bad_bind, called}
+use Rattle.wl_check.specs.Rules.{reader_by, is_free_id, is_free_server_id, waits_for_request, is_disallowed_bind, called}
 use Rattle.wl_check.specs.Rules.{judged_message, judged}
 use Rattle.wl_sigs.specs.Rules.{is_empty}
 
@@ -230,7 +230,7 @@ new_made tables k ToClient r h m e = new_of_server tables k m.id (h.of_server m 
 free_called : (tables : List Interface) (k : KnownAtPlace) (d : Direction) (opcode : ℕ) (x : Result Received Fault)
     → Free_made tables (reader_by tables k d) x → Free_changes tables k (called tables k d opcode x)
 free_called tables k d opcode (Err fault) h = tt
-free_called tables k d opcode (Ok r) h = elim (cases_Bool (is_bad_bind tables k (side_of d) opcode r)) [
+free_called tables k d opcode (Ok r) h = elim (cases_Bool (is_disallowed_bind tables k (side_of d) opcode r)) [
   | inl bad ↦ rw bad tt
   | inr fine ↦ rw fine (new_made tables k d r h)
 ]

@@ -23,7 +23,7 @@ use Rattle.wl_check.specs.Changes.{Call, side_of}
 use Rattle.wl_check.specs.Places.{KnownAtPlace}
 use Rattle.wl_message.specs.Cut.{is_size}
 use Rattle.wl_wire.specs.Word.{header_at}
-use Rattle.wl_check.specs.Rules.{reader_by, is_bad_bind, called, judged_message, judged_front}
+use Rattle.wl_check.specs.Rules.{reader_by, is_disallowed_bind, called, judged_message, judged_front}
 
 few_step : (b : Bool) (n m : ℕ) → n ≤ m → cond b 1 0 + n ≤ m + 1
 few_step true n m h = omega arith
@@ -80,11 +80,11 @@ judged_is tables k frame header body n w x valid n_is w_is x_is =
     ∙ ap (received tables (side_of frame.direction) (reader_by tables k frame.direction) header body) w_is))
 
 pub called_bad : (tables : List Interface) (k : KnownAtPlace) (d : Direction) (opcode : ℕ) (r : Received)
-    → is_bad_bind tables k (side_of d) opcode r ≡ true → called tables k d opcode (Ok r) ≡ Err BadBind
+    → is_disallowed_bind tables k (side_of d) opcode r ≡ true → called tables k d opcode (Ok r) ≡ Err BadBind
 called_bad tables k d opcode r h = rw h refl
 
 pub called_good : (tables : List Interface) (k : KnownAtPlace) (d : Direction) (opcode : ℕ) (r : Received)
-    → is_bad_bind tables k (side_of d) opcode r ≡ false
+    → is_disallowed_bind tables k (side_of d) opcode r ≡ false
     → called tables k d opcode (Ok r) ≡ Ok (record { direction = d; opcode = opcode; received = r })
 called_good tables k d opcode r h = rw h refl
 

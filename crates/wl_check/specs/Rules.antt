@@ -76,8 +76,8 @@ allows_bind tables k (Some name) (Some new) =
     && nat_le new.version (k.advertised_version name new.iface.0)
 allows_bind tables k _ _ = false
 
-abbrev pub is_bad_bind : List Interface → KnownAtPlace → Side → ℕ → Received → Bool
-is_bad_bind tables k side opcode r =
+abbrev pub is_disallowed_bind : List Interface → KnownAtPlace → Side → ℕ → Received → Bool
+is_disallowed_bind tables k side opcode r =
     is_bind side r.entry.iface opcode
     && not (allows_bind tables k (first_number r.values)
     (made tables r.entry.version r.signature.kinds r.values))
@@ -87,7 +87,7 @@ abbrev pub called : List Interface → KnownAtPlace → Direction → ℕ → Re
     → Result Call Fault
 called tables k direction opcode (Err fault) = Err fault
 called tables k direction opcode (Ok r) =
-    if is_bad_bind tables k (side_of direction) opcode r then Err BadBind
+    if is_disallowed_bind tables k (side_of direction) opcode r then Err BadBind
     else Ok (record { direction = direction; opcode = opcode; received = r })
 
 -- the message with this header, and what stands behind it

@@ -7,7 +7,7 @@ ghost use Rattle.wl_objects.specs.Reading.{descriptors};
 ghost use Rattle.wl_objects.specs.Seen.{received_of};
 ghost use Rattle.wl_check.specs.Changes.{advertised, changes, first_number, is_global, side_of};
 ghost use Rattle.wl_trace_line.specs.Line.{line};
-ghost use Rattle.wl_check.specs.Rules.{allows_bind, is_bad_bind, judged_message, judged_front};
+ghost use Rattle.wl_check.specs.Rules.{allows_bind, is_disallowed_bind, judged_message, judged_front};
 ghost use Rattle.wl_check.specs.Rules.{reader_by};
 ghost use Rattle.wl_check.specs.Seen.{call_of, changes_in, known_in, taken_of_direction};
 ghost use Rattle.wl_check.specs.Trace.{judged_line, wanted};
@@ -121,7 +121,7 @@ fn judge_message<A: Allocator>(
         Err(fault) => return Ok(Err(fault)),
     };
     let changes = changes_of(tables, direction, side, header.opcode, &message);
-    if is_bad_bind(tables, known, side, header.opcode, &message, &changes) {
+    if is_disallowed_bind(tables, known, side, header.opcode, &message, &changes) {
         return Ok(Err(Fault::BadBind));
     }
     write(sink, side, &lookup, &message, taken)?;
@@ -161,7 +161,7 @@ fn count(tokens: u128) -> usize
 }
 
 /// Whether a message that does this is a bind that no `global` event allows.
-fn is_bad_bind<A: Allocator>(
+fn is_disallowed_bind<A: Allocator>(
     tables: &Tables,
     known: &KnownState<A>,
     side: Side,
@@ -171,7 +171,7 @@ fn is_bad_bind<A: Allocator>(
 ) -> bool
     requires side { side ≡ side_of done.now.direction }
     requires done { done.now ≡ changes tables.now (call_of done.now.direction opcode message.now) }
-    ensures { result ≡ is_bad_bind tables.now (known_in known.now) side opcode
+    ensures { result ≡ is_disallowed_bind tables.now (known_in known.now) side opcode
         (received_of message.now) }
 {
     if !is_bind(side, message.entry.iface, opcode) {

@@ -35,8 +35,8 @@ returns-in-Err-clause-text g c =
     no_line c.args.tables.now (known_in c.args.known.now) c.args.sink.now.output c.args.sink.now.text.items _
     c.in-Err.fault is
 
-pub returns-then-is_bad_bind-clause-changes : goal.returns-then-is_bad_bind-clause-changes
-returns-then-is_bad_bind-clause-changes g c =
+pub returns-then-is_disallowed_bind-clause-changes : goal.returns-then-is_disallowed_bind-clause-changes
+returns-then-is_disallowed_bind-clause-changes g c =
     let found = judged_is c.args.tables.now (known_in c.args.known.now) c.args.frame.now c.args.whole.now.header
     c.args.whole.now.body.now
     c.count-waiting.result c.saturating_sub.result _ c.requires.valid c.count-waiting.ensures
@@ -48,12 +48,12 @@ returns-then-is_bad_bind-clause-changes g c =
     let is = sym (found ∙ ap (λ r. called c.args.tables.now
     (known_in c.args.known.now) c.args.frame.now.direction c.args.whole.now.header.opcode r) message
     ∙ called_bad c.args.tables.now (known_in c.args.known.now) c.args.frame.now.direction c.args.whole.now.header.opcode
-    (received_of c.in-Ok.message) (rw (← c.side_of-side.ensures) (sym c.is_bad_bind.ensures ∙ c.if-is_bad_bind.true)))
+    (received_of c.in-Ok.message) (rw (← c.side_of-side.ensures) (sym c.is_disallowed_bind.ensures ∙ c.if-is_disallowed_bind.true)))
     in
     no_changes c.args.tables.now _ BadBind is
 
-pub returns-then-is_bad_bind-clause-text : goal.returns-then-is_bad_bind-clause-text
-returns-then-is_bad_bind-clause-text g c =
+pub returns-then-is_disallowed_bind-clause-text : goal.returns-then-is_disallowed_bind-clause-text
+returns-then-is_disallowed_bind-clause-text g c =
     let found = judged_is c.args.tables.now (known_in c.args.known.now) c.args.frame.now c.args.whole.now.header
     c.args.whole.now.body.now
     c.count-waiting.result c.saturating_sub.result _ c.requires.valid c.count-waiting.ensures
@@ -65,7 +65,7 @@ returns-then-is_bad_bind-clause-text g c =
     let is = sym (found ∙ ap (λ r. called c.args.tables.now
     (known_in c.args.known.now) c.args.frame.now.direction c.args.whole.now.header.opcode r) message
     ∙ called_bad c.args.tables.now (known_in c.args.known.now) c.args.frame.now.direction c.args.whole.now.header.opcode
-    (received_of c.in-Ok.message) (rw (← c.side_of-side.ensures) (sym c.is_bad_bind.ensures ∙ c.if-is_bad_bind.true)))
+    (received_of c.in-Ok.message) (rw (← c.side_of-side.ensures) (sym c.is_disallowed_bind.ensures ∙ c.if-is_disallowed_bind.true)))
     in
     no_line c.args.tables.now (known_in c.args.known.now) c.args.sink.now.output c.args.sink.now.text.items _ BadBind is
 
@@ -83,7 +83,7 @@ returns-clause-changes g c =
     (known_in c.args.known.now) c.args.frame.now.direction c.args.whole.now.header.opcode r) message
     ∙ called_good c.args.tables.now (known_in c.args.known.now) c.args.frame.now.direction
     c.args.whole.now.header.opcode
-    (received_of c.in-Ok.message) (rw (← c.side_of-side.ensures) (sym c.is_bad_bind.ensures ∙ c.if-is_bad_bind.false)))
+    (received_of c.in-Ok.message) (rw (← c.side_of-side.ensures) (sym c.is_disallowed_bind.ensures ∙ c.if-is_disallowed_bind.false)))
     in
     own_changes c.args.tables.now _ (call_of c.args.frame.now.direction c.args.whole.now.header.opcode c.in-Ok.message)
     c.changes_of-changes.result c.changes_of-changes.ensures is
@@ -102,7 +102,7 @@ returns-clause-text g c =
     (known_in c.args.known.now) c.args.frame.now.direction c.args.whole.now.header.opcode r) message
     ∙ called_good c.args.tables.now (known_in c.args.known.now) c.args.frame.now.direction
     c.args.whole.now.header.opcode
-    (received_of c.in-Ok.message) (rw (← c.side_of-side.ensures) (sym c.is_bad_bind.ensures ∙ c.if-is_bad_bind.false)))
+    (received_of c.in-Ok.message) (rw (← c.side_of-side.ensures) (sym c.is_disallowed_bind.ensures ∙ c.if-is_disallowed_bind.false)))
     in
     own_line c.args.tables.now (known_in c.args.known.now) c.args.sink.now.output c.args.sink.now.text.items
     c.write.new.sink.text.items _
