@@ -23,11 +23,11 @@ use Rattle.wl_check.specs.Session.{Judged}
 use Rattle.wl_check.specs.Trace.{judged_line}
 
 -- the places of the interfaces behind the core ones, and of wl_buffer; the first id of the server
-abbrev dev_place : Iface
-dev_place = record { 0 = 19 }
+abbrev device_place : Iface
+device_place = record { 0 = 19 }
 
-abbrev pub off : Iface
-off = record { 0 = 20 }
+abbrev pub offer_place : Iface
+offer_place = record { 0 = 20 }
 
 abbrev params_place : Iface
 params_place = record { 0 = 21 }
@@ -42,14 +42,14 @@ abbrev pub first_id : ℕ
 first_id = 4278190080
 
 -- It makes offers, shows one of them, and makes modes.
-abbrev dev : Interface
-dev = record {
-  name = codes "dev";
+abbrev device : Interface
+device = record {
+  name = codes "device";
   version = 3;
   requests = message (codes "release") 1 [] Target ∷ [];
   events =
-      message (codes "made") 1 (kinds.NewByServer off ∷ []) Nothing ∷
-      message (codes "show") 1 (object_or_null off ∷ []) Nothing ∷
+      message (codes "made") 1 (kinds.NewByServer offer_place ∷ []) Nothing ∷
+      message (codes "show") 1 (object_or_null offer_place ∷ []) Nothing ∷
       message (codes "mode") 1 (kinds.NewByServer mode ∷ []) Nothing ∷
       [];
 }
@@ -57,7 +57,7 @@ dev = record {
 -- An offer, which a request ends.
 abbrev offer : Interface
 offer = record {
-  name = codes "off";
+  name = codes "offer";
   version = 3;
   requests = message (codes "destroy") 1 [] Target ∷ [];
   events = message (codes "says") 1 (uint ∷ []) Nothing ∷ [];
@@ -85,7 +85,7 @@ output_mode = record {
 }
 
 abbrev pub sample_tables : List Interface
-sample_tables = core_tables ++ dev ∷ offer ∷ params ∷ output_mode ∷ []
+sample_tables = core_tables ++ device ∷ offer ∷ params ∷ output_mode ∷ []
 
 -- the bytes of a message: its object, its opcode, and its body
 abbrev pub spelled_message : ℕ → ℕ → List ℕ → List ℕ
@@ -112,7 +112,7 @@ did_nothing direction = record changes_nothing { direction = direction }
 
 -- An event made an offer, a buffer or a mode, with the first id; and a request destroyed it.
 abbrev pub an_offer : MessageChanges
-an_offer = did_make ToClient first_id off 3
+an_offer = did_make ToClient first_id offer_place 3
 
 abbrev pub a_buffer : MessageChanges
 a_buffer = did_make ToClient first_id buffer_place 1
@@ -120,16 +120,16 @@ a_buffer = did_make ToClient first_id buffer_place 1
 abbrev pub a_mode : ℕ → MessageChanges
 a_mode version = did_make ToClient first_id mode version
 
-abbrev pub its_end : MessageChanges
-its_end = did_destroy ToServer first_id
+abbrev pub its_destruction : MessageChanges
+its_destruction = did_destroy ToServer first_id
 
 -- A request made another buffer, with id 4.
 abbrev pub own_buffer : MessageChanges
 own_buffer = did_make ToServer 4 buffer_place 1
 
--- A registry and a dev of a version stand at ids 2 and 3.
-abbrev pub with_dev : ℕ → List MessageChanges
-with_dev version = did_make ToServer 2 registry 1 ∷ did_make ToServer 3 dev_place version ∷ []
+-- A registry and a device of a version stand at ids 2 and 3.
+abbrev pub with_device : ℕ → List MessageChanges
+with_device version = did_make ToServer 2 registry 1 ∷ did_make ToServer 3 device_place version ∷ []
 
 -- Or params at id 3.
 abbrev pub with_params : List MessageChanges

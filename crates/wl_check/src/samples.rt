@@ -9,75 +9,78 @@ ghost use Rattle.wl_objects.specs.declared.lookup.NewId.TheVariants.{Free, Wrong
 ghost use Rattle.wl_recording.specs.declared.piece.Direction.TheVariants.{ToServer, ToClient};
 ghost use Rattle.wl_check.specs.Samples.{a_buffer, a_mode, an_offer, buffer_place, comes_behind};
 ghost use Rattle.wl_check.specs.Samples.{did_delete, did_destroy, did_make, did_nothing, first_id};
-ghost use Rattle.wl_check.specs.Samples.{its_end, line_behind, mode, named_behind, new_server_id};
-ghost use Rattle.wl_check.specs.Samples.{off, own_buffer, spelled_message, with_dev, with_params};
+ghost use Rattle.wl_check.specs.Samples.{its_destruction, line_behind, mode, named_behind};
+ghost use Rattle.wl_check.specs.Samples.{new_server_id, offer_place, own_buffer, spelled_message};
+ghost use Rattle.wl_check.specs.Samples.{with_device, with_params};
 
 /// The bytes of an event that makes an offer, of the request that destroys it, and of an event that
 /// shows it; then the event of the same bytes makes the next offer of the same id.
 pub fn an_offer_and_the_next()
-    ensures made { comes_behind (with_dev 3) ToClient
+    ensures made { comes_behind (with_device 3) ToClient
         (3 ∷ 0 ∷ 0 ∷ 0 ∷ 0 ∷ 0 ∷ 12 ∷ 0 ∷ 0 ∷ 0 ∷ 0 ∷ 255 ∷ [])
         ≡ Ok an_offer }
-    ensures destroyed { comes_behind (with_dev 3 ++ an_offer ∷ []) ToServer
+    ensures destroyed { comes_behind (with_device 3 ++ an_offer ∷ []) ToServer
         (0 ∷ 0 ∷ 0 ∷ 255 ∷ 0 ∷ 0 ∷ 8 ∷ 0 ∷ [])
-        ≡ Ok its_end }
-    ensures shown { comes_behind (with_dev 3 ++ an_offer ∷ its_end ∷ []) ToClient
+        ≡ Ok its_destruction }
+    ensures shown { comes_behind (with_device 3 ++ an_offer ∷ its_destruction ∷ []) ToClient
         (3 ∷ 0 ∷ 0 ∷ 0 ∷ 1 ∷ 0 ∷ 12 ∷ 0 ∷ 0 ∷ 0 ∷ 0 ∷ 255 ∷ [])
         ≡ Ok (did_nothing ToClient) }
-    ensures again { comes_behind (with_dev 3 ++ an_offer ∷ its_end ∷ did_nothing ToClient ∷ [])
+    ensures again { comes_behind
+        (with_device 3 ++ an_offer ∷ its_destruction ∷ did_nothing ToClient ∷ [])
         ToClient (3 ∷ 0 ∷ 0 ∷ 0 ∷ 0 ∷ 0 ∷ 12 ∷ 0 ∷ 0 ∷ 0 ∷ 0 ∷ 255 ∷ [])
         ≡ Ok an_offer }
-    ensures open { named_behind (with_dev 3 ++ an_offer ∷ []) first_id
-        ≡ Some (record { birth = 3; iface = off; version = 3; state = Live }) }
-    ensures ending { named_behind (with_dev 3 ++ an_offer ∷ its_end ∷ did_nothing ToClient ∷ [])
-        first_id
-        ≡ Some (record { birth = 3; iface = off; version = 3; state = Zombie }) }
+    ensures open { named_behind (with_device 3 ++ an_offer ∷ []) first_id
+        ≡ Some (record { birth = 3; iface = offer_place; version = 3; state = Live }) }
+    ensures ending { named_behind
+        (with_device 3 ++ an_offer ∷ its_destruction ∷ did_nothing ToClient ∷ []) first_id
+        ≡ Some (record { birth = 3; iface = offer_place; version = 3; state = Zombie }) }
     ensures born_again { named_behind
-        (with_dev 3 ++ an_offer ∷ its_end ∷ did_nothing ToClient ∷ an_offer ∷ []) first_id
-        ≡ Some (record { birth = 6; iface = off; version = 3; state = Live }) }
-    ensures line { line_behind (with_dev 3) ToClient (spelled_message 3 0 (word first_id))
-        ≡ codes "<- dev@3.made(new id off@4278190080)\n" }
-    ensures shown_line { line_behind (with_dev 3 ++ an_offer ∷ its_end ∷ []) ToClient
+        (with_device 3 ++ an_offer ∷ its_destruction ∷ did_nothing ToClient ∷ an_offer ∷ [])
+        first_id
+        ≡ Some (record { birth = 6; iface = offer_place; version = 3; state = Live }) }
+    ensures line { line_behind (with_device 3) ToClient (spelled_message 3 0 (word first_id))
+        ≡ codes "<- device@3.made(new id offer@4278190080)\n" }
+    ensures shown_line { line_behind (with_device 3 ++ an_offer ∷ its_destruction ∷ []) ToClient
         (spelled_message 3 1 (word first_id))
-        ≡ codes "<- dev@3.show(off@4278190080)\n" }
+        ≡ codes "<- device@3.show(offer@4278190080)\n" }
 {}
 
 /// An event for an offer that has ended, before its id is used again and after that; a request for
 /// it; and its delete_id, which changes nothing.
 pub fn offers_that_ended()
-    ensures before { comes_behind (with_dev 3 ++ an_offer ∷ its_end ∷ []) ToClient
+    ensures before { comes_behind (with_device 3 ++ an_offer ∷ its_destruction ∷ []) ToClient
         (spelled_message first_id 0 (word 9))
         ≡ Ok (did_nothing ToClient) }
-    ensures after { comes_behind (with_dev 3 ++ an_offer ∷ its_end ∷ an_offer ∷ []) ToClient
-        (spelled_message first_id 0 (word 9))
+    ensures after { comes_behind (with_device 3 ++ an_offer ∷ its_destruction ∷ an_offer ∷ [])
+        ToClient (spelled_message first_id 0 (word 9))
         ≡ Ok (did_nothing ToClient) }
-    ensures request { comes_behind (with_dev 3 ++ an_offer ∷ its_end ∷ []) ToServer
+    ensures request { comes_behind (with_device 3 ++ an_offer ∷ its_destruction ∷ []) ToServer
         (spelled_message first_id 0 [])
         ≡ Err UnknownObject }
-    ensures delete_id { comes_behind (with_dev 3 ++ an_offer ∷ []) ToClient
+    ensures delete_id { comes_behind (with_device 3 ++ an_offer ∷ []) ToClient
         (spelled_message 1 1 (word first_id))
         ≡ Ok (did_delete first_id) }
-    ensures kept { named_behind (with_dev 3 ++ an_offer ∷ did_delete first_id ∷ []) first_id
-        ≡ Some (record { birth = 3; iface = off; version = 3; state = Live }) }
+    ensures kept { named_behind (with_device 3 ++ an_offer ∷ did_delete first_id ∷ []) first_id
+        ≡ Some (record { birth = 3; iface = offer_place; version = 3; state = Live }) }
 {}
 
-/// A dev that was destroyed makes an offer all the same: it can be shown and destroyed, and its id
-/// was used.
-pub fn an_offer_of_an_ended_dev()
-    ensures made { comes_behind (with_dev 3 ++ did_destroy ToServer 3 ∷ []) ToClient
+/// A device that was destroyed makes an offer all the same: it can be shown and destroyed, and its
+/// id was used.
+pub fn an_offer_of_an_ended_device()
+    ensures made { comes_behind (with_device 3 ++ did_destroy ToServer 3 ∷ []) ToClient
         (spelled_message 3 0 (word first_id))
         ≡ Ok an_offer }
-    ensures open { named_behind (with_dev 3 ++ did_destroy ToServer 3 ∷ an_offer ∷ []) first_id
-        ≡ Some (record { birth = 4; iface = off; version = 3; state = Live }) }
-    ensures shown { comes_behind (with_dev 3 ++ did_destroy ToServer 3 ∷ an_offer ∷ []) ToClient
+    ensures open { named_behind (with_device 3 ++ did_destroy ToServer 3 ∷ an_offer ∷ []) first_id
+        ≡ Some (record { birth = 4; iface = offer_place; version = 3; state = Live }) }
+    ensures shown { comes_behind (with_device 3 ++ did_destroy ToServer 3 ∷ an_offer ∷ []) ToClient
         (spelled_message 3 1 (word first_id))
         ≡ Ok (did_nothing ToClient) }
-    ensures destroyed { comes_behind (with_dev 3 ++ did_destroy ToServer 3 ∷ an_offer ∷ [])
+    ensures destroyed { comes_behind (with_device 3 ++ did_destroy ToServer 3 ∷ an_offer ∷ [])
         ToServer (spelled_message first_id 0 [])
-        ≡ Ok its_end }
-    ensures next { comes_behind (with_dev 3 ++ did_destroy ToServer 3 ∷ an_offer ∷ []) ToClient
+        ≡ Ok its_destruction }
+    ensures next { comes_behind (with_device 3 ++ did_destroy ToServer 3 ∷ an_offer ∷ []) ToClient
         (spelled_message 3 0 (word 4278190081))
-        ≡ Ok (did_make ToClient 4278190081 off 3) }
+        ≡ Ok (did_make ToClient 4278190081 offer_place 3) }
 {}
 
 /// A buffer that a request makes, and one that an event makes: each is destroyed by the same
@@ -93,12 +96,12 @@ pub fn buffers_made_both_ways()
         ≡ Ok (did_destroy ToServer 4) }
     ensures destroyed_too { comes_behind (with_params ++ own_buffer ∷ a_buffer ∷ []) ToServer
         (spelled_message first_id 0 [])
-        ≡ Ok its_end }
+        ≡ Ok its_destruction }
     ensures freed { named_behind (with_params ++ own_buffer ∷ a_buffer ∷ did_destroy ToServer 4
-        ∷ its_end ∷ did_delete 4 ∷ did_delete first_id ∷ []) 4
+        ∷ its_destruction ∷ did_delete 4 ∷ did_delete first_id ∷ []) 4
         ≡ None }
     ensures kept { named_behind (with_params ++ own_buffer ∷ a_buffer ∷ did_destroy ToServer 4
-        ∷ its_end ∷ did_delete 4 ∷ did_delete first_id ∷ []) first_id
+        ∷ its_destruction ∷ did_delete 4 ∷ did_delete first_id ∷ []) first_id
         ≡ Some (record { birth = 4; iface = buffer_place; version = 1; state = Zombie }) }
 {}
 
@@ -106,22 +109,22 @@ pub fn buffers_made_both_ways()
 /// offer; and in a request an id of the server's range, be it next or used. F5: an offer that was
 /// not made.
 pub fn wrong_ids()
-    ensures below { comes_behind (with_dev 3) ToClient (spelled_message 3 0 (word 4))
+    ensures below { comes_behind (with_device 3) ToClient (spelled_message 3 0 (word 4))
         ≡ Err (BadNewId 0) }
-    ensures null { comes_behind (with_dev 3) ToClient (spelled_message 3 0 (word 0))
+    ensures null { comes_behind (with_device 3) ToClient (spelled_message 3 0 (word 0))
         ≡ Err (BadNewId 0) }
-    ensures past { comes_behind (with_dev 3) ToClient (spelled_message 3 0 (word 4278190081))
+    ensures past { comes_behind (with_device 3) ToClient (spelled_message 3 0 (word 4278190081))
         ≡ Err (BadNewId 0) }
-    ensures open { comes_behind (with_dev 3 ++ an_offer ∷ []) ToClient
+    ensures open { comes_behind (with_device 3 ++ an_offer ∷ []) ToClient
         (spelled_message 3 0 (word first_id))
         ≡ Err (BadNewId 0) }
     ensures next_in_request { comes_behind with_params ToServer
         (spelled_message 3 1 (word first_id))
         ≡ Err (BadNewId 0) }
-    ensures used_in_request { comes_behind (with_params ++ a_buffer ∷ its_end ∷ []) ToServer
+    ensures used_in_request { comes_behind (with_params ++ a_buffer ∷ its_destruction ∷ []) ToServer
         (spelled_message 3 1 (word first_id))
         ≡ Err (BadNewId 0) }
-    ensures not_made { comes_behind (with_dev 3) ToClient (spelled_message 3 1 (word first_id))
+    ensures not_made { comes_behind (with_device 3) ToClient (spelled_message 3 1 (word first_id))
         ≡ Err (BadObject 0) }
 {}
 
@@ -136,12 +139,12 @@ pub fn the_last_id()
 /// A mode that no request can end at its version gives its place to the next, and one that a
 /// request can end does not.
 pub fn modes_that_end_alone()
-    ensures replaced { comes_behind (with_dev 2 ++ a_mode 2 ∷ []) ToClient
+    ensures replaced { comes_behind (with_device 2 ++ a_mode 2 ∷ []) ToClient
         (spelled_message 3 2 (word first_id))
         ≡ Ok (a_mode 2) }
-    ensures born { named_behind (with_dev 2 ++ a_mode 2 ∷ a_mode 2 ∷ []) first_id
+    ensures born { named_behind (with_device 2 ++ a_mode 2 ∷ a_mode 2 ∷ []) first_id
         ≡ Some (record { birth = 4; iface = mode; version = 2; state = Live }) }
-    ensures kept { comes_behind (with_dev 3 ++ a_mode 3 ∷ []) ToClient
+    ensures kept { comes_behind (with_device 3 ++ a_mode 3 ∷ []) ToClient
         (spelled_message 3 2 (word first_id))
         ≡ Err (BadNewId 0) }
 {}

@@ -1,7 +1,7 @@
 use Rattle.std.proofs.Common.{refl}
 use Rattle.wl_sigs.specs.Core.{core_tables}
 use Rattle.wl_check.specs.Places.{holder, is_ending, used, server_used, advertised_version, taken}
-use Rattle.wl_check.proofs.samples.an_offer_of_an_ended_dev.Goals as goal
+use Rattle.wl_check.proofs.samples.an_offer_of_an_ended_device.Goals as goal
 
 pub returns-clause-made : goal.returns-clause-made
 unfolding core_tables holder is_ending used server_used advertised_version taken
