@@ -9,6 +9,10 @@ use wl_message::Limit;
 use wl_recording::Direction;
 use wl_wire::Header;
 
+/// How much room is kept at most for bytes that wait, beside what they take: most messages have
+/// fewer, and so the next finds room.
+const ROOM_KEPT: usize = 64;
+
 /// A message of the list.
 #[derive(Clone, Copy, Debug)]
 pub(crate) struct FramedMessage {
@@ -123,21 +127,18 @@ impl<A: Allocator> WaitingBytes<A> {
         self.items.truncate(len);
         self.items.shrink_to_fit();
     }
-}
 
-impl<A: Allocator + Clone> WaitingBytes<A> {
-    /// Leaves those from a place on. Those before it leave no room behind.
-    pub(crate) fn keep_from(&mut self, place: usize) -> Result<(), AllocError>
+    /// Leaves those from a place on. Those before it leave little room behind.
+    pub(crate) fn keep_from(&mut self, place: usize)
         requires { place ≤ length self.old }
-        ensures ok { OnOk result (self.new ≡ drop place self.old) }
-        ensures err { OnErr result (self.new ≡ self.old) }
+        ensures { self.new ≡ drop place self.old }
     {
         if place == 0 {
-            return Ok(());
+            return;
         }
-        let mut rest = Vec::new(self.items.allocator().clone()?);
-        rest.extend_from_slice(&self.items[place..])?;
-        self.items = rest;
-        Ok(())
+        drop(self.items.drain(..place));
+        if self.items.capacity() > ROOM_KEPT {
+            self.items.shrink_to_fit();
+        }
     }
 }

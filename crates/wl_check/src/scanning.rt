@@ -68,7 +68,7 @@ fn judge_bytes<A: Allocator + Clone>(
     }
     waiting.append(piece.bytes)?;
     let place = state.judge_all(waiting.as_slice(), piece.direction, tokens, rules, journal)?;
-    waiting.keep_from(place)?;
+    waiting.keep_from(place);
     Ok(())
 }
 

@@ -62,7 +62,7 @@ returns-clause-judged g c s h =
     let all = same ∙ c.in_ok-append-2.ensures.ok in
     subst (AllJudged c.args.rules.now.limit.bytes c.args.rules.now.tables.now s c.judge_all-2.new.self
     c.args.piece.now.direction)
-    (ap (drop c.in_ok-place-2.place) same ∙ sym c.in_ok-keep_from.ensures.ok)
+    (ap (drop c.in_ok-place-2.place) same ∙ sym c.keep_from.ensures)
     (c.in_ok-place-2.ensures.judged s (subst (CutFollows c.args.rules.now.limit.bytes c.args.rules.now.tables.now s
     c.args.state.now c.args.piece.now.direction c.args.tokens) (sym all) h))
 
