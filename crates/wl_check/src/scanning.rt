@@ -100,12 +100,14 @@ fn judge_or_go_back<A: Allocator + Clone>(
         ≡ Some state.old.progress.known.held → state.new ≡ state.old) }
     ensures waiting { OnErr result (waiting.new ≡ waiting.old) }
 {
-    let numbers = state.numbers();
+    let numbers = state.numbers(&journal.undo);
     let len = waiting.len();
     match judge_bytes(state, waiting, piece, tokens, rules, journal) {
         Ok(()) => Ok(()),
         Err(error) => {
-            state.go_back(numbers, &mut journal.undo);
+            if let Some(numbers) = numbers {
+                state.go_back(numbers, &mut journal.undo);
+            }
             waiting.go_back(len);
             Err(error)
         }
