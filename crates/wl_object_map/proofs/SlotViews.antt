@@ -17,7 +17,7 @@ use Rattle.wl_object_map.specs.View.{View, Sound, is_held, times, without, free_
 use Rattle.wl_object_map.specs.View.{opened_at, closed, zombie, with_zombie, zombied}
 use Rattle.wl_object_map.specs.Views.{in_row, in_list, at_null, unused, place_of_id, times-without}
 use Rattle.wl_object_map.specs.Views.{length-without, without-absent, free_or_next-rows, unheld_is_free}
-use Rattle.wl_object_map.specs.Sounds.{used_of_freed}
+use Rattle.wl_object_map.specs.Sounds.{used_of_freed, held_place, freed-reopened, used-reopened}
 use Rattle.wl_object_map.specs.Slots.{slot_at, slot_of_entry, row_in, rows_from, followed, view_of, new_row}
 use Rattle.wl_object_map.specs.Slots.{IsChain, IsPut, IsTakenOut, IsPutFirst, HasSameRows}
 use Rattle.wl_object_map.specs.Slots.{HasNoRowAt, IsSoundChain}
@@ -41,15 +41,6 @@ row_put : (b : Bool) (e : Entry) (s : Option Slot) → row_in (cond b (Some (slo
     ≡ cond b (Some e) (row_in s)
 row_put true e s = refl
 row_put false e s = refl
-
-held_place : (view : View) (id : ℕ) → Sound view → is_held view id ≡ true
-    → (times id view.freed ≡ 0) × ((0 < id) × (id ≤ view.used))
-held_place view id s held = elim (place_of_id view s id) [
-  | in_row e l t a b ↦ (t, (a, b))
-  | in_list l t a b ↦ let no : false ≡ true = sym (ap is_some l) ∙ held in cc
-  | at_null l t e ↦ let no : false ≡ true = sym (ap is_some l) ∙ held in cc
-  | unused l t a ↦ let no : false ≡ true = sym (ap is_some l) ∙ held in cc
-]
 
 -- an id with a row has a place, and is not in the chain
 pub row_place : (slots : List Slot) (first free births id : ℕ) → IsSoundChain slots first free births
@@ -194,4 +185,28 @@ becomes_zombied old new first free births id e h at put long =
           (follows new first ids chain free (sym (length-followed free old first)))
           long;
       chain = chain;
+    }
+
+-- An opening in place of a row: the new row was put there.
+pub becomes_replaced : (old new : List Slot) (first free births id : ℕ) (iface : Iface) (version : ℕ)
+    → IsSoundChain old first free births
+    → is_held (view_of old first free births) id ≡ true
+    → IsPut id (slot_of_entry (new_row births iface version)) old new
+    → length new ≡ length old
+    → Becomes new first free (births + 1) (opened_at (view_of old first free births) id iface version)
+becomes_replaced old new first free births id iface version h held put long =
+    let ids = followed free old first in
+    let e : Entry = new_row births iface version in
+    let out = (row_place old first free births id h held).0 in
+    let chain : IsChain new first ids = kept old new first ids h.chain (λ q p.
+    let other : eqb q id ≡ false = grind (arith, common_steps, nat_tests, out, p) in
+    put q ∙ ap (λ b. cond b (Some (slot_of_entry e)) (slot_at old q)) other) in
+    let same = freed-reopened (view_of old first free births) id iface version h.sound held in
+    let used = used-reopened (view_of old first free births) id iface version h.sound held in
+    record {
+      stands_for = same_view (births + 1)
+          (rows_with old new id e (λ q. ap row_in (put q) ∙ row_put (eqb q id) e (slot_at old q)))
+          (follows new first ids chain free (sym (length-followed free old first)) ∙ sym same)
+          (long ∙ sym used);
+      chain = subst (IsChain new first) (sym same) chain;
     }

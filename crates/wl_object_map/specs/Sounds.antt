@@ -90,11 +90,8 @@ id_with-old : (id_of : ℕ → ℕ) (births id birth : ℕ) → birth < births
 id_with-old id_of births id birth h = grind (arith, common_steps, nat_tests, h)
 
 ids-opened_at : (view : View) (id : ℕ) (iface : Iface) (version : ℕ) → Sound view
-    → free_or_next view id ≡ true → IdsOfBirths (opened_at view id iface version)
-ids-opened_at view id iface version s free =
-    let f = Views.free_is view id s free in
-    let top = f.at_most_next in
-    let null = f.above_null in
+    → 0 < id → id ≤ view.used + 1 → IdsOfBirths (opened_at view id iface version)
+ids-opened_at view id iface version s null top =
     let ids = s.ids in
     let new = id_with-new ids.id_of view.births id in
     let old = id_with-old ids.id_of view.births id in
@@ -123,17 +120,16 @@ ids-opened_at view id iface version s free =
           (Views.row-opened_at view id iface version q e at);
     }
 
--- an opening at an id that is freed or next keeps a view sound
-pub Sound-opened_at : (view : View) (id : ℕ) (iface : Iface) (version : ℕ) → Sound view
-    → free_or_next view id ≡ true → has_room view id ≡ true
+-- an opening at an id other than 1, from 1 to one past the ids used, keeps a view sound, where the
+-- rows and the freed ids come out as many as the ids used
+Sound-put : (view : View) (id : ℕ) (iface : Iface) (version : ℕ) → Sound view
+    → 0 < id → id ≤ view.used + 1 → id ≢ 1 → has_room view id ≡ true
+    → len (opened_at view id iface version).rows + length (without id view.freed)
+    ≡ max view.used id
     → Sound (opened_at view id iface version)
-Sound-opened_at view id iface version s free room =
-    let f = Views.free_is view id s free in
+Sound-put view id iface version s null top other room count =
     let row = Views.look-opened_at view id iface version in
     let place = Views.places-opened_at view id iface version in
-    let u = used-opened_at view id iface version s free in
-    let top = f.at_most_next in
-    let null = f.above_null in
     record {
       once = λ q a b.
           let p = place q in let o = s.once q a in
@@ -144,12 +140,7 @@ Sound-opened_at view id iface version s free room =
       no_further = λ q a.
           let p = place q in let o = s.no_further q in
           grind (arith, common_steps, nat_tests, p, o, a);
-      count =
-          let c = s.count in let l = f.listed in let n = ap is_some f.no_row in
-          let k = len-insert nat_cmp_total view.rows id
-          (record { birth = view.births; iface = iface; version = version; state = Live }) in
-          let w = Views.length-without id view.freed in
-          grind (arith, common_steps, nat_tests, c, l, n, k, w, u, top);
+      count = count;
       one_birth = λ p q e d at_p at_q same. ⊎_elim
           (λ new_p. ⊎_elim
           (λ new_q. new_p.0 ∙ sym new_q.0)
@@ -168,16 +159,65 @@ Sound-opened_at view id iface version s free room =
           (λ new. let n = ap entry_birth new.1 in omega arith)
           (λ old. let b = s.born q e old.1 in omega arith)
           (Views.row-opened_at view id iface version q e at);
-      ids = ids-opened_at view id iface version s free;
+      ids = ids-opened_at view id iface version s null top;
       display = (
         s.display.0,
-        row 1
-            ∙ grind
-            (common_steps, arith, nat_tests, s.display.1, Views.free_not_display view id s free),
+        row 1 ∙ grind (common_steps, arith, nat_tests, s.display.1, other),
       );
       ids_end = let e = s.ids_end in grind (arith, common_steps, nat_tests, room, e);
       births_end = grind (arith, common_steps, nat_tests, room);
     }
+
+-- an opening at an id that is freed or next keeps a view sound
+pub Sound-opened_at : (view : View) (id : ℕ) (iface : Iface) (version : ℕ) → Sound view
+    → free_or_next view id ≡ true → has_room view id ≡ true
+    → Sound (opened_at view id iface version)
+Sound-opened_at view id iface version s free room =
+    let f = Views.free_is view id s free in
+    Sound-put view id iface version s f.above_null f.at_most_next
+    (Views.free_not_display view id s free) room
+    (let u = used-opened_at view id iface version s free in
+    let top = f.at_most_next in
+    let c = s.count in let l = f.listed in let n = ap is_some f.no_row in
+    let k = len-insert nat_cmp_total view.rows id
+    (record { birth = view.births; iface = iface; version = version; state = Live }) in
+    let w = Views.length-without id view.freed in
+    grind (arith, common_steps, nat_tests, c, l, n, k, w, u, top))
+
+-- an id that has a row is one of those used, and none of the freed
+pub held_place : (view : View) (id : ℕ) → Sound view → is_held view id ≡ true
+    → (times id view.freed ≡ 0) × ((0 < id) × (id ≤ view.used))
+held_place view id s held = elim (Views.place_of_id view s id) [
+  | in_row e l t a b ↦ (t, (a, b))
+  | in_list l t a b ↦ let no : false ≡ true = sym (ap is_some l) ∙ held in cc
+  | at_null l t e ↦ let no : false ≡ true = sym (ap is_some l) ∙ held in cc
+  | unused l t a ↦ let no : false ≡ true = sym (ap is_some l) ∙ held in cc
+]
+
+-- so an opening there leaves the freed ids and the number of ids used
+pub freed-reopened : (view : View) (id : ℕ) (iface : Iface) (version : ℕ) → Sound view
+    → is_held view id ≡ true → (opened_at view id iface version).freed ≡ view.freed
+freed-reopened view id iface version s held =
+    Views.without-absent id view.freed (held_place view id s held).0
+
+pub used-reopened : (view : View) (id : ℕ) (iface : Iface) (version : ℕ) → Sound view
+    → is_held view id ≡ true → (opened_at view id iface version).used ≡ view.used
+used-reopened view id iface version s held =
+    let b = (held_place view id s held).1.1 in grind (arith, common_steps, nat_tests, b)
+
+-- an opening at an id that has a row, in place of it, keeps a view sound
+pub Sound-reopened : (view : View) (id : ℕ) (iface : Iface) (version : ℕ) → Sound view
+    → is_held view id ≡ true → id ≢ 1 → has_room view id ≡ true
+    → Sound (opened_at view id iface version)
+Sound-reopened view id iface version s held other room =
+    let p = held_place view id s held in
+    Sound-put view id iface version s p.1.0
+    (let b = p.1.1 in omega (arith, b)) other room
+    (let c = s.count in let b = p.1.1 in
+    let k = len-insert nat_cmp_total view.rows id
+    (record { birth = view.births; iface = iface; version = version; state = Live }) in
+    let f = ap (length {A = ℕ}) (freed-reopened view id iface version s held) in
+    grind (arith, common_steps, nat_tests, c, k, f, b, held))
 
 -- an opening at the next id keeps a view sound
 pub Sound-opened : (view : View) (iface : Iface) (version : ℕ) → Sound view → can_open view ≡ true

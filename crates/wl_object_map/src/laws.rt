@@ -14,6 +14,9 @@ pub fn tables_stay_sound()
         → Sound (opened_at table id iface version) }
     ensures opened { (table : View) (iface : Iface) (version : ℕ) → Sound table
         → can_open table ≡ true → Sound (opened table iface version) }
+    ensures reopened { (table : View) (id : ℕ) (iface : Iface) (version : ℕ) → Sound table
+        → is_held table id ≡ true → id ≢ 1 → has_room table id ≡ true
+        → Sound (opened_at table id iface version) }
     ensures zombied { (table : View) (id : ℕ) → Sound table → id ≢ 1 → Sound (zombied table id) }
     ensures closed { (table : View) (id : ℕ) → Sound table → is_held table id ≡ true → id ≢ 1
         → Sound (closed table id) }
@@ -32,4 +35,12 @@ pub fn free_ids_have_no_row()
     ensures used { (table : View) (iface : Iface) (version : ℕ) → Sound table
         → (opened table iface version).used
         ≡ (if eqb (length table.freed) 0 then table.used + 1 else table.used) }
+{}
+
+/// An opening at an id that has a row leaves the freed ids and the number of ids used.
+pub fn reopening_uses_no_id()
+    ensures freed { (table : View) (id : ℕ) (iface : Iface) (version : ℕ) → Sound table
+        → is_held table id ≡ true → (opened_at table id iface version).freed ≡ table.freed }
+    ensures used { (table : View) (id : ℕ) (iface : Iface) (version : ℕ) → Sound table
+        → is_held table id ≡ true → (opened_at table id iface version).used ≡ table.used }
 {}

@@ -201,6 +201,24 @@ impl<A: Allocator + Clone + Drop> Table for MapTable<A> {
         self.open(id, iface, version)
     }
 
+    fn reopen(&mut self, id: u32, iface: Iface, version: u32) -> Object {
+        let object = Object {
+            id,
+            birth: self.births,
+        };
+        let Some(entry) = self.rows.get_mut(&id) else {
+            return object;
+        };
+        *entry = Entry {
+            birth: object.birth,
+            iface,
+            version,
+            state: State::Live,
+        };
+        self.births += 1;
+        object
+    }
+
     fn make_zombie(&mut self, id: u32) {
         let Some(entry) = self.rows.get_mut(&id) else {
             return;

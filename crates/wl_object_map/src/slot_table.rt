@@ -290,6 +290,20 @@ impl<A: Allocator + Clone + Drop> Table for SlotTable<A> {
         self.open(id, iface, version)
     }
 
+    fn reopen(&mut self, id: u32, iface: Iface, version: u32) -> Object {
+        let object = Object {
+            id,
+            birth: self.births,
+        };
+        put(
+            &mut self.slots,
+            id,
+            Slot::live(object.birth, iface, version),
+        );
+        self.births += 1;
+        object
+    }
+
     fn make_zombie(&mut self, id: u32) {
         let Some(entry) = self.look(id) else {
             return;

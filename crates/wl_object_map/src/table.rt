@@ -94,6 +94,18 @@ pub trait Table {
         // So an id that is free has no entry.
         ensures sound { Sound (view self.old) };
 
+    /// Opens an object at an id that has an entry, live or zombie, in that entry's place: the id
+    /// stays in use, and the object gets the next birth. It allocates nothing, so it cannot be
+    /// refused.
+    fn reopen(&mut self, id: u32, iface: Iface, version: u32) -> Object
+        requires held { IsTrue (is_held (view self.old) id) }
+        requires not_display { id ≢ 1 }
+        requires room { IsTrue (has_room (view self.old) id) }
+        // With an entry the id is none of the freed ones, and at most the number of ids used: both
+        // stay.
+        ensures table { view self.new ≡ opened_at (view self.old) id iface version }
+        ensures object { result ≡ record { id = id; birth = (view self.old).births } };
+
     /// Makes a live object a zombie: its id stays in use. It allocates nothing.
     fn make_zombie(&mut self, id: u32)
         requires live { IsTrue (is_live (view self.old) id) }
