@@ -3,3 +3,4 @@ pub mod Freed
 pub mod Chain
 pub mod SlotRows
 pub mod SlotViews
+pub mod ObjectsCalls

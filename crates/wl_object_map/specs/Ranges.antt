@@ -1,5 +1,5 @@
 -- The two ranges of ids: the client makes those from 1 on, the server those from 0xff000000 on.
-use Rattle.std.specs.Prelude.{ℕ, Bool, nat_le}
+use Rattle.std.specs.Prelude.{ℕ, ◌+◌, ◌-◌, Bool, nat_le}
 
 -- the first id of the server's range
 abbrev pub first_server_id : ℕ
@@ -12,3 +12,13 @@ max_server_id = 4279238654
 -- whether an id is of the server's range
 abbrev pub is_of_server : ℕ → Bool
 is_of_server id = nat_le first_server_id id
+
+-- The table of the server's range counts its ids from 2 on, so that its row 1 stands for nothing.
+
+-- the id that this table has for an id of the range
+abbrev pub place_of : ℕ → ℕ
+place_of id = id - 4278190078
+
+-- the id for which this table has one
+abbrev pub id_at : ℕ → ℕ
+id_at place = place + 4278190078

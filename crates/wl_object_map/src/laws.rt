@@ -5,6 +5,9 @@ ghost use Rattle.std.specs.Prelude.{if◌then◌else◌};
 ghost use Rattle.wl_wire.specs.declared.kind.Iface.{Iface};
 ghost use Rattle.wl_object_map.specs.View.{View, Sound, is_held, free_or_next, has_room, can_open};
 ghost use Rattle.wl_object_map.specs.View.{next_id, opening, opened, opened_at, closed, zombied};
+ghost use Rattle.wl_object_map.specs.declared.object.Maker.{Maker};
+ghost use Rattle.wl_object_map.specs.Objects as objects;
+ghost use Rattle.wl_object_map.specs.Objects.{Objects, AreSound};
 
 /// What each call makes of a sound table is sound.
 pub fn tables_stay_sound()
@@ -43,4 +46,21 @@ pub fn reopening_uses_no_id()
         → is_held table id ≡ true → (opened_at table id iface version).freed ≡ table.freed }
     ensures used { (table : View) (id : ℕ) (iface : Iface) (version : ℕ) → Sound table
         → is_held table id ≡ true → (opened_at table id iface version).used ≡ table.used }
+{}
+
+/// What each call makes of both tables of an end is sound.
+pub fn objects_stay_sound()
+    ensures opening { (display : Iface) → AreSound (objects.opening display) }
+    ensures opened_at { (o : Objects) (id : ℕ) (iface : Iface) (version : ℕ) → AreSound o
+        → objects.free_or_next o id ≡ true → objects.has_room o id ≡ true
+        → AreSound (objects.opened_at o id iface version) }
+    ensures opened { (maker : Maker) (o : Objects) (iface : Iface) (version : ℕ) → AreSound o
+        → objects.can_open maker o ≡ true → AreSound (objects.opened maker o iface version) }
+    ensures reopened { (o : Objects) (id : ℕ) (iface : Iface) (version : ℕ) → AreSound o
+        → objects.is_held o id ≡ true → id ≢ 1 → objects.has_room o id ≡ true
+        → AreSound (objects.opened_at o id iface version) }
+    ensures zombied { (o : Objects) (id : ℕ) → AreSound o → id ≢ 1
+        → AreSound (objects.zombied o id) }
+    ensures closed { (o : Objects) (id : ℕ) → AreSound o → objects.is_held o id ≡ true → id ≢ 1
+        → AreSound (objects.closed o id) }
 {}

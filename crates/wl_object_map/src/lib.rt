@@ -8,10 +8,12 @@
 pub mod laws;
 mod map_table;
 mod object;
+mod objects;
 mod slot_table;
 mod table;
 
 pub use map_table::MapTable;
-pub use object::{Entry, Object, State, TableError};
+pub use object::{Entry, Maker, Object, State, TableError};
+pub use objects::Objects;
 pub use slot_table::SlotTable;
 pub use table::{DISPLAY_ID, FIRST_SERVER_ID, MAX_IDS, MAX_SERVER_ID, Table};

@@ -14,6 +14,16 @@ pub enum State {
     Zombie,
 }
 
+/// Who makes an object and picks its id. Each has a range of ids, and each range its own count of
+/// births.
+#[derive(Clone, Copy, Debug, PartialEq, Eq)]
+pub enum Maker {
+    /// The client, with the ids from 1 on.
+    Client,
+    /// The server, with the ids from 0xff000000 on.
+    Server,
+}
+
 /// What a table keeps of an object, beside its id.
 #[derive(Clone, Copy, Debug, PartialEq, Eq)]
 pub struct Entry {

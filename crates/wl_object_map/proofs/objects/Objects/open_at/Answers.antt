@@ -1,0 +1,21 @@
+use Rattle.std.proofs.Common.{ap, subst}
+use Rattle.wl_object_map.specs.View.{Sound}
+use Rattle.wl_object_map.specs.Objects.{server_view}
+use Rattle.wl_object_map.proofs.ObjectsCalls.{opened_at_or_same}
+use Rattle.wl_object_map.proofs.objects.Objects.open_at.Goals as goal
+
+pub invariant_of-self : goal.invariant_of-self
+invariant_of-self g c = let e = c.open_at.ensures in record {
+  client = opened_at_or_same c.open_at.result (g.T.Table.view c.self.inside.client) (g.T.Table.view c.open_at.new.self)
+      c.args.id c.args.iface c.args.version c.self.invariant.client e.ok e.err e.in_use.1 e.not_next.1 e.no_ids.1;
+  server = c.self.invariant.server;
+}
+
+pub invariant_of-self-2 : goal.invariant_of-self-2
+invariant_of-self-2 g c = let e = c.open_at-2.ensures in record {
+  client = c.self.invariant.client;
+  server = opened_at_or_same c.open_at-2.result _ (g.T.Table.view c.open_at-2.new.self) c.place_of.result
+      c.args.iface c.args.version
+      (subst Sound (ap (server_view g.T.Table.view) c.in-Some.is) c.self.invariant.server)
+      e.ok e.err e.in_use.1 e.not_next.1 e.no_ids.1;
+}

@@ -1,0 +1,116 @@
+-- What one end's objects are, in both ranges of ids, and what opening, closing and zombie-making
+-- make of them. Each definition has the name of that of `View` for one table, and goes by the id on
+-- the wire.
+use Rattle.std.specs.Prelude.{◌≡◌, ℕ, ◌-◌, Bool, cond, refl, Option, Some, None, is_some}
+use Rattle.std.specs.Coded.{Coded, code_by, coded×}
+use Rattle.wl_wire.specs.declared.kind.Iface.{Iface}
+use Rattle.wl_object_map.specs.declared.object.Entry.{Entry}
+use Rattle.wl_object_map.specs.declared.object.Maker.{Maker}
+use Rattle.wl_object_map.specs.declared.object.Maker.TheVariants.{Client, Server}
+use Rattle.wl_object_map.specs.Ranges.{is_of_server, place_of, id_at}
+use Rattle.wl_object_map.specs.View as table
+use Rattle.wl_object_map.specs.View.{View}
+
+-- The table of the client's range, and that of the server's range.
+pub record Objects : Type 0 where
+  pub client : View
+  pub server : View
+
+-- what is said of the table of an id's range, and of the id there
+abbrev pub at : {X : Type 0} → (View → ℕ → X) → Objects → ℕ → X
+at says objects id = cond (is_of_server id) (says objects.server (place_of id)) (says objects.client id)
+
+-- after a change of the table of an id's range, at the id there
+abbrev pub changed_at : (View → ℕ → View) → Objects → ℕ → Objects
+changed_at change objects id = record {
+  client = cond (is_of_server id) objects.client (change objects.client id);
+  server = cond (is_of_server id) (change objects.server (place_of id)) objects.server;
+}
+
+-- the row of an id, if it has one
+abbrev pub look : Objects → ℕ → Option Entry
+look objects id = at table.look objects id
+
+-- whether an id has a row
+abbrev pub is_held : Objects → ℕ → Bool
+is_held objects id = is_some (look objects id)
+
+-- whether an id has the row of a live object
+abbrev pub is_live : Objects → ℕ → Bool
+is_live objects id = table.lives_in (look objects id)
+
+-- how many objects were born in an id's range: the birth that the next object gets there
+abbrev pub births : Objects → ℕ → ℕ
+births objects id = at (λ view place. view.births) objects id
+
+-- how many ids of a maker's range were used
+abbrev pub used : Maker → Objects → ℕ
+used Client objects = objects.client.used
+used Server objects = objects.server.used - 1
+
+-- whether an id is freed, or the next new one of its range
+abbrev pub free_or_next : Objects → ℕ → Bool
+free_or_next objects id = at table.free_or_next objects id
+
+-- whether the limits of an id's range leave room for an object at the id
+abbrev pub has_room : Objects → ℕ → Bool
+has_room objects id = at table.has_room objects id
+
+-- the id that a maker's next object gets: the one of its range that was freed last, or the next new
+-- one where none is free
+abbrev pub next_id : Maker → Objects → ℕ
+next_id Client objects = table.next_id objects.client
+next_id Server objects = id_at (table.next_id objects.server)
+
+-- whether the limits leave room for one more object of a maker's
+abbrev pub can_open : Maker → Objects → Bool
+can_open Client objects = table.can_open objects.client
+can_open Server objects = table.can_open objects.server
+
+-- the interface of row 1 of the server's table, which stands for nothing
+abbrev pub no_interface : Iface
+no_interface = record { 0 = 0 }
+
+-- a new end's: wl_display alone, with id 1, birth 0 and version 1. So too is an end's that never
+-- has a table of the server's range.
+abbrev pub opening : Iface → Objects
+opening display = record {
+  client = table.opening display;
+  server = table.opening no_interface;
+}
+
+-- after an object was opened at an id, with the next birth of the id's range
+abbrev pub opened_at : Objects → ℕ → Iface → ℕ → Objects
+opened_at objects id iface version =
+    changed_at (λ view place. table.opened_at view place iface version) objects id
+
+-- after a maker's object was opened at the next id
+abbrev pub opened : Maker → Objects → Iface → ℕ → Objects
+opened maker objects iface version = opened_at objects (next_id maker objects) iface version
+
+-- after an object's row is gone and its id freed
+abbrev pub closed : Objects → ℕ → Objects
+closed objects id = changed_at table.closed objects id
+
+-- after an object has become a zombie
+abbrev pub zombied : Objects → ℕ → Objects
+zombied objects id = changed_at table.zombied objects id
+
+-- What always holds of them.
+pub record AreSound (objects : Objects) : Type 0 where
+  pub client : table.Sound objects.client
+  pub server : table.Sound objects.server
+
+-- Objects as a value that both tables stand for.
+
+-- the table of the server's range, where there is one
+abbrev pub server_view : {X : Type 0} → (X → View) → Option X → View
+server_view says None = table.opening no_interface
+server_view says (Some held) = says held
+
+abbrev pub objects_code : Coded Objects
+objects_code =
+    code_by (View × View) (coded× table.view_code table.view_code)
+    (λ o. (o.client, o.server))
+    (λ p. record { client = p.0; server = p.1 })
+    (λ _. refl)

@@ -1,0 +1,327 @@
+//! The objects of one end in both ranges of ids: a table for each.
+ghost use Rattle.std.specs.Prelude.{◌≡◌, ◌≢◌, ◌≤◌, ◌↔◌, ◌&&◌, not, Err, IfOk, OnOk, OnErr, IsTrue};
+ghost use Rattle.wl_object_map.specs.Ranges.{is_of_server, place_of, id_at};
+ghost use Rattle.wl_object_map.specs.View.{max_ids};
+ghost use Rattle.wl_object_map.specs.Objects.{Objects, AreSound, look, is_held, is_live, births};
+ghost use Rattle.wl_object_map.specs.Objects.{used, free_or_next, has_room, can_open, next_id};
+ghost use Rattle.wl_object_map.specs.Objects.{opening, opened, opened_at, closed, zombied};
+
+use super::table::{FIRST_SERVER_ID, MAX_SERVER_ID};
+use super::{Entry, Maker, Object, Table, TableError};
+use std::alloc::AllocError;
+use std::marker::Model;
+use wl_wire::Iface;
+
+/// The interface of row 1 of the server's table, which stands for nothing.
+const NO_INTERFACE: Iface = Iface(0);
+
+/// How far an id of the server's range is above the one that its table has for it: the first of the
+/// range is 2 there.
+const ABOVE_PLACE: u32 = FIRST_SERVER_ID - 2;
+
+/// The objects of one end, in both ranges of ids: the client makes those from 1 on, the server
+/// those from 0xff000000 on.
+///
+/// Each range has a table, with freed ids and a count of births of its own, so an id and a birth
+/// together tell an object. Calls take and return ids as they stand on the wire. The last id of the
+/// client's range is 1,048,576. The last of the server's is 0xff0ffffe, its 1,048,575th.
+///
+/// An end whose tables of signatures have no message by which the server makes an object has the
+/// table of the client's range alone. Then no id of the server's range has an entry, and an opening
+/// there is refused: at 0xff000000 with O4, at any other id with O2.
+///
+/// Id 1 is wl_display for good. Every call that is refused leaves the objects as they were.
+#[derive(Drop)]
+pub struct Objects<T: Table> {
+    client: T,
+    // None where the server makes no objects.
+    server: Option<T>,
+}
+
+impl<T: Table> Model for Objects<T> {
+    ghost use Rattle.wl_object_map.specs.Objects.{Objects, AreSound, objects_code, server_view};
+
+    ghost Value = { Objects };
+
+    ghost coded = { objects_code };
+
+    ghost view = { λ o. record {
+      client = T.view o.client;
+      server = server_view T.view o.server;
+    } };
+
+    ghost invariant = { λ o. AreSound (record {
+      client = T.view o.client;
+      server = server_view T.view o.server;
+    }) };
+}
+
+/// The id that the server's table has for an id of its range.
+fn place_of(id: u32) -> u32
+    requires { IsTrue (is_of_server id) }
+    ensures { result ≡ place_of id }
+{
+    id - ABOVE_PLACE
+}
+
+/// An object of the server's table, with its id on the wire.
+fn on_wire(object: Object) -> Object
+    requires { object.id ≤ max_ids }
+    ensures { result ≡ record { id = id_at object.id; birth = object.birth } }
+{
+    Object {
+        id: object.id + ABOVE_PLACE,
+        birth: object.birth,
+    }
+}
+
+impl<T: Table> Objects<T> {
+    /// The objects of an end whose server makes none: wl_display alone, with id 1, birth 0 and
+    /// version 1.
+    pub fn new(alloc: T::Alloc, display: Iface) -> Result<Self, AllocError>
+        ensures { IfOk result (λ objects. objects ≡ opening display) }
+    {
+        Ok(Objects {
+            client: T::new(alloc, display)?,
+            server: None,
+        })
+    }
+
+    /// The table of the client's range.
+    pub fn client(&self) -> &T
+        ensures { T.view result.now ≡ self.now.client }
+    {
+        &self.client
+    }
+
+    /// The entry of an id, live or zombie.
+    pub fn look(&self, id: u32) -> Option<Entry>
+        ensures entry { result ≡ look self.now id }
+        ensures sound { AreSound self.now }
+    {
+        if id < FIRST_SERVER_ID {
+            return self.client.look(id);
+        }
+        let Some(table) = &self.server else {
+            return None;
+        };
+        table.look(place_of(id))
+    }
+
+    /// Whether an id is freed or the next new one of its range, so that `open_at` returns neither
+    /// O2 nor O3.
+    pub fn is_free(&self, id: u32) -> bool
+        ensures { result ≡ free_or_next self.now id }
+    {
+        if id < FIRST_SERVER_ID {
+            return self.client.is_free(id);
+        }
+        let Some(table) = &self.server else {
+            return id == FIRST_SERVER_ID;
+        };
+        table.is_free(place_of(id))
+    }
+
+    /// Whether the limits of O1 leave room for an object at this id, in the id's range.
+    pub fn has_room(&self, id: u32) -> bool
+        ensures { result ≡ has_room self.now id }
+    {
+        if id < FIRST_SERVER_ID {
+            return self.client.has_room(id);
+        }
+        let Some(table) = &self.server else {
+            return id <= MAX_SERVER_ID;
+        };
+        table.has_room(place_of(id))
+    }
+
+    /// Whether the limits leave room for one more object of this maker's, so that `open_next` does
+    /// not return O1.
+    pub fn can_open(&self, maker: Maker) -> bool
+        ensures { result ≡ can_open maker self.now }
+    {
+        match maker {
+            Maker::Client => self.client.can_open(),
+            Maker::Server => match &self.server {
+                Some(table) => table.can_open(),
+                None => true,
+            },
+        }
+    }
+
+    /// How many ids of this maker's range were ever used.
+    pub fn used(&self, maker: Maker) -> u32
+        ensures { result ≡ used maker self.now }
+    {
+        match maker {
+            Maker::Client => self.client.used(),
+            Maker::Server => match &self.server {
+                Some(table) => table.used() - 1,
+                None => 0,
+            },
+        }
+    }
+
+    /// The birth that the next object gets at this id: how many objects were opened in the id's
+    /// range, with one counted that every range begins with.
+    pub fn births(&self, id: u32) -> u64
+        ensures { result ≡ births self.now id }
+    {
+        if id < FIRST_SERVER_ID {
+            return self.client.births();
+        }
+        let Some(table) = &self.server else {
+            return 1;
+        };
+        table.births()
+    }
+
+    /// Opens an object of this maker's: at the id of its range that was freed last, or at the next
+    /// new one where none is free. O1 is tested before O4.
+    pub fn open_next(
+        &mut self,
+        maker: Maker,
+        iface: Iface,
+        version: u32,
+    ) -> Result<Object, TableError>
+        ensures ok { OnOk result (self.new ≡ opened maker self.old iface version) }
+        ensures object { IfOk result
+            (λ object. object ≡ record {
+              id = next_id maker self.old;
+              birth = births self.old (next_id maker self.old);
+            }) }
+        ensures err { OnErr result (self.new ≡ self.old) }
+
+        ensures no_ids { (result ≡ Err TableError.NoIds) ↔ IsTrue (not (can_open maker self.old)) }
+        ensures not_next { result ≢ Err TableError.NotNext }
+        ensures in_use { result ≢ Err TableError.InUse }
+    {
+        match maker {
+            Maker::Client => self.client.open_next(iface, version),
+            Maker::Server => self.open_next_of_server(iface, version),
+        }
+    }
+
+    /// Opens an object of the server's, as `open_next` does.
+    fn open_next_of_server(&mut self, iface: Iface, version: u32) -> Result<Object, TableError>
+        ensures ok { OnOk result (self.new ≡ opened Maker.Server self.old iface version) }
+        ensures object { IfOk result
+            (λ object. object ≡ record {
+              id = next_id Maker.Server self.old;
+              birth = births self.old (next_id Maker.Server self.old);
+            }) }
+        ensures err { OnErr result (self.new ≡ self.old) }
+
+        ensures no_ids { (result ≡ Err TableError.NoIds)
+            ↔ IsTrue (not (can_open Maker.Server self.old)) }
+        ensures not_next { result ≢ Err TableError.NotNext }
+        ensures in_use { result ≢ Err TableError.InUse }
+    {
+        let Some(table) = &mut self.server else {
+            return Err(TableError::Memory);
+        };
+        let object = table.open_next(iface, version)?;
+        Ok(on_wire(object))
+    }
+
+    /// Opens an object at a given id: a freed one, wherever it stands in the list of its range, or
+    /// the next new one of the range. O3 is tested first, then O2, O1 and O4.
+    pub fn open_at(&mut self, id: u32, iface: Iface, version: u32) -> Result<Object, TableError>
+        ensures ok { OnOk result (self.new ≡ opened_at self.old id iface version) }
+        ensures object { IfOk result
+            (λ object. object ≡ record { id = id; birth = births self.old id }) }
+        ensures err { OnErr result (self.new ≡ self.old) }
+
+        ensures in_use { (result ≡ Err TableError.InUse) ↔ IsTrue (is_held self.old id) }
+        ensures not_next { (result ≡ Err TableError.NotNext)
+            ↔ IsTrue (not (is_held self.old id) && not (free_or_next self.old id)) }
+        ensures no_ids { (result ≡ Err TableError.NoIds)
+            ↔ IsTrue (free_or_next self.old id && not (has_room self.old id)) }
+        // So an id that is free has no entry.
+        ensures sound { AreSound self.old }
+    {
+        if id < FIRST_SERVER_ID {
+            return self.client.open_at(id, iface, version);
+        }
+        let Some(table) = &mut self.server else {
+            return Err(if id == FIRST_SERVER_ID {
+                TableError::Memory
+            } else {
+                TableError::NotNext
+            });
+        };
+        let object = table.open_at(place_of(id), iface, version)?;
+        Ok(Object {
+            id,
+            birth: object.birth,
+        })
+    }
+
+    /// Opens an object at an id that has an entry, live or zombie, in that entry's place: the id
+    /// stays in use, and the object gets the next birth of the id's range. It allocates nothing, so
+    /// it cannot be refused.
+    pub fn reopen(&mut self, id: u32, iface: Iface, version: u32) -> Object
+        requires held { IsTrue (is_held self.old id) }
+        requires not_display { id ≢ 1 }
+        requires room { IsTrue (has_room self.old id) }
+        ensures objects { self.new ≡ opened_at self.old id iface version }
+        ensures object { result ≡ record { id = id; birth = births self.old id } }
+    {
+        if id < FIRST_SERVER_ID {
+            return self.client.reopen(id, iface, version);
+        }
+        let Some(table) = &mut self.server else {
+            return Object { id, birth: 0 };
+        };
+        let object = table.reopen(place_of(id), iface, version);
+        Object {
+            id,
+            birth: object.birth,
+        }
+    }
+
+    /// Makes a live object a zombie: its id stays in use. It allocates nothing.
+    pub fn make_zombie(&mut self, id: u32)
+        requires live { IsTrue (is_live self.old id) }
+        requires not_display { id ≢ 1 }
+        ensures { self.new ≡ zombied self.old id }
+    {
+        if id < FIRST_SERVER_ID {
+            self.client.make_zombie(id);
+            return;
+        }
+        let Some(table) = &mut self.server else {
+            return;
+        };
+        table.make_zombie(place_of(id));
+    }
+
+    /// Removes an object's entry and frees its id, which is then the first of its range to be used
+    /// again. It allocates nothing.
+    pub fn close(&mut self, id: u32)
+        requires held { IsTrue (is_held self.old id) }
+        requires not_display { id ≢ 1 }
+        ensures { self.new ≡ closed self.old id }
+    {
+        if id < FIRST_SERVER_ID {
+            self.client.close(id);
+            return;
+        }
+        let Some(table) = &mut self.server else {
+            return;
+        };
+        table.close(place_of(id));
+    }
+}
+
+impl<T: Table + Drop> Objects<T> {
+    /// The objects of an end whose server makes some too: wl_display alone, as `new` has it, and an
+    /// empty range of the server's, for which memory is taken at once.
+    pub fn with_server_range(alloc: T::Alloc, display: Iface) -> Result<Self, AllocError>
+        ensures { IfOk result (λ objects. objects ≡ opening display) }
+    {
+        let client = T::new(alloc.clone()?, display)?;
+        let server = Some(T::new(alloc, NO_INTERFACE)?);
+        Ok(Objects { client, server })
+    }
+}
