@@ -10,14 +10,23 @@ use std::alloc::{AllocError, Allocator, Global};
 use std::collections::BTreeMap;
 use wl_objects::{Arg, GotRef, Object};
 
-/// The objects of a server and of a client that stand for each other. They are told apart by their
-/// births, so an object of the past is nobody's twin, whatever has its id now.
+/// An object's id and birth. A birth alone does not tell it: each end counts those of its own ids
+/// and those of the server's apart.
+fn key_of(object: Object) -> (u32, u64)
+    ensures { result ≡ (object.id, object.birth) }
+{
+    let Object { id, birth } = object;
+    (id, birth)
+}
+
+/// The objects of a server and of a client that stand for each other. An object is told by its id
+/// and its birth, so one of the past is nobody's twin, whatever has its id now.
 #[derive(Drop)]
 pub struct Twins<A: Allocator = Global> {
-    /// The client's objects, by the births of the server's.
-    at_client: BTreeMap<u64, Object, A>,
-    /// The server's objects, by the births of the client's.
-    at_server: BTreeMap<u64, Object, A>,
+    /// The client's objects, by the server's.
+    at_client: BTreeMap<(u32, u64), Object, A>,
+    /// The server's objects, by the client's.
+    at_server: BTreeMap<(u32, u64), Object, A>,
 }
 
 impl<A: Allocator + Clone + Drop> Twins<A> {
@@ -38,13 +47,13 @@ impl<A: Allocator + Clone + Drop> Twins<A> {
     pub fn add(&mut self, at_server: Object, at_client: Object) -> Result<(), AllocError>
         ensures client { OnOk result (client_twin self.new at_server ≡ Some at_client) }
         ensures server { OnOk result (server_twin self.new at_client ≡ Some at_server) }
-        ensures others_at_client { (other : AnObject) → other.birth ≢ at_server.birth
+        ensures others_at_client { (other : AnObject) → other ≢ at_server
             → client_twin self.new other ≡ client_twin self.old other }
-        ensures others_at_server { (other : AnObject) → other.birth ≢ at_client.birth
+        ensures others_at_server { (other : AnObject) → other ≢ at_client
             → server_twin self.new other ≡ server_twin self.old other }
     {
-        self.at_client.insert(at_server.birth, at_client)?;
-        self.at_server.insert(at_client.birth, at_server)?;
+        self.at_client.insert(key_of(at_server), at_client)?;
+        self.at_server.insert(key_of(at_client), at_server)?;
         Ok(())
     }
 
@@ -52,14 +61,14 @@ impl<A: Allocator + Clone + Drop> Twins<A> {
     pub fn at_client(&self, of_server: Object) -> Option<Object>
         ensures { result ≡ client_twin self.now of_server }
     {
-        self.at_client.get(&of_server.birth).copied()
+        self.at_client.get(&key_of(of_server)).copied()
     }
 
     /// The server's twin of an object of the client's.
     pub fn at_server(&self, of_client: Object) -> Option<Object>
         ensures { result ≡ server_twin self.now of_client }
     {
-        self.at_server.get(&of_client.birth).copied()
+        self.at_server.get(&key_of(of_client)).copied()
     }
 
     /// Takes out an object of the client's with its twin, which is returned. All others keep theirs.
@@ -68,14 +77,14 @@ impl<A: Allocator + Clone + Drop> Twins<A> {
         ensures gone { server_twin self.new of_client ≡ None }
         ensures gone_with_it { IfSome (server_twin self.old of_client)
             (λ twin. client_twin self.new twin ≡ None) }
-        ensures others_at_server { (other : AnObject) → other.birth ≢ of_client.birth
+        ensures others_at_server { (other : AnObject) → other ≢ of_client
             → server_twin self.new other ≡ server_twin self.old other }
         ensures others_at_client { (other : AnObject)
-            → IfSome (server_twin self.old of_client) (λ twin. other.birth ≢ twin.birth)
+            → IfSome (server_twin self.old of_client) (λ twin. other ≢ twin)
             → client_twin self.new other ≡ client_twin self.old other }
     {
-        let twin = self.at_server.remove(&of_client.birth)?;
-        let _ = self.at_client.remove(&twin.birth);
+        let twin = self.at_server.remove(&key_of(of_client))?;
+        let _ = self.at_client.remove(&key_of(twin));
         Some(twin)
     }
 
