@@ -1,4 +1,5 @@
-//! The tests of `wl_wire`, `wl_sigs`, `wl_message` and `wl_object_map`, over their public calls.
+//! The tests of `wl_wire`, `wl_sigs`, `wl_message`, `wl_object_map` and `wl_twins`, over their public
+//! calls.
 #![tactic(auto)]
 
 #[cfg(test)]
@@ -13,5 +14,7 @@ mod sigs_text;
 mod streams;
 #[cfg(test)]
 mod table;
+#[cfg(test)]
+mod twins;
 #[cfg(test)]
 mod wire;
