@@ -55,9 +55,10 @@ include/waywire-version.h: $(numbered) Makefile
 		'#define WAYWIRE_VERSION_PATCH $(word 3,$(numbers))' > $@
 
 # The calls over the exports, without which they cannot be linked.
-calls = out/c/waywire-calls.o out/c/tables-calls.o out/c/inspector-calls.o out/c/line-calls.o
+calls = out/c/waywire-calls.o out/c/users-calls.o out/c/tables-calls.o out/c/inspector-calls.o \
+	out/c/line-calls.o
 
-out/c/%-calls.o: c/%.c c/calls.h include/waywire.h include/waywire-version.h
+out/c/%-calls.o: c/%.c c/calls.h c/users.h include/waywire.h include/waywire-version.h
 	@mkdir -p out/c
 	$(CC) $(CFLAGS) -std=c99 -Wall -Wextra -Wpedantic -fPIC -Iinclude -c $< -o $@
 

@@ -4,7 +4,7 @@
  * at most PTRDIFF_MAX, and an out-parameter is never null. So each call here tests what C may pass
  * wrongly. An export takes the address of a handle, which ends begin with here; that of tables, which any calls
  * have at one time, it takes as it is. */
-#include "calls.h"
+#include "users.h"
 
 #define EXPORTS_OF_BOTH(end) \
 	uint32_t waywire_c_##end##_new(struct handle tables, const waywire_sizes *, void **made); \
@@ -135,53 +135,6 @@ static void list_tokens(waywire_report *report, uint32_t tokens[WAYWIRE_MAX_ARGS
 			tokens[report->token_count++] = arg->u;
 			report->tokens = tokens;
 		}
-}
-
-/* ---- pointers of the caller's
- *
- * They lie beside an end, by the id of their object, and hold for the object that has the birth. A birth never
- * comes twice, so a pointer of an object that ended is never that of another, and nothing need be undone. */
-
-struct user {
-	uint64_t birth;
-	void *pointer;
-};
-
-struct users {
-	struct user *at; /* by ids */
-	size_t count;
-};
-
-static void *user_of(const struct users *users, waywire_object object)
-{
-	if (object.id >= users->count || users->at[object.id].birth != object.birth)
-		return NULL;
-	return users->at[object.id].pointer;
-}
-
-/* Makes room for the pointer of an id. */
-static waywire_status reach(struct users *users, uint32_t id)
-{
-	if (id < users->count)
-		return WAYWIRE_OK;
-	size_t count = (size_t)id < 2 * users->count ? 2 * users->count : (size_t)id + 1;
-	struct user *more = realloc(users->at, count * sizeof *more);
-	if (!more)
-		return WAYWIRE_NO_MEMORY;
-	memset(more + users->count, 0, (count - users->count) * sizeof *more);
-	users->at = more;
-	users->count = count;
-	return WAYWIRE_OK;
-}
-
-static waywire_status set_user(struct users *users, waywire_object object, void *pointer)
-{
-	waywire_status status = pointer || user_of(users, object) ? reach(users, object.id) : WAYWIRE_OK;
-	if (!status && object.id < users->count) {
-		users->at[object.id].birth = object.birth;
-		users->at[object.id].pointer = pointer;
-	}
-	return status;
 }
 
 /* ---- what both ends have */
