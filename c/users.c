@@ -1,27 +1,41 @@
 /* Pointers of the caller's: how one is set. */
 #include "users.h"
 
-/* Makes room for the pointer of an id. */
-static waywire_status reach(struct users *users, uint32_t id)
+/* Makes room for the pointer at a place. */
+static waywire_status reach(struct user_range *range, size_t place)
 {
-	if (id < users->count)
+	if (place < range->count)
 		return WAYWIRE_OK;
-	size_t count = (size_t)id < 2 * users->count ? 2 * users->count : (size_t)id + 1;
-	struct user *more = realloc(users->at, count * sizeof *more);
+	size_t count = place < 2 * range->count ? 2 * range->count : place + 1;
+	struct user *more = realloc(range->at, count * sizeof *more);
 	if (!more)
 		return WAYWIRE_NO_MEMORY;
-	memset(more + users->count, 0, (count - users->count) * sizeof *more);
-	users->at = more;
-	users->count = count;
+	memset(more + range->count, 0, (count - range->count) * sizeof *more);
+	range->at = more;
+	range->count = count;
 	return WAYWIRE_OK;
+}
+
+static waywire_status set_in(struct user_range *range, size_t place, uint64_t birth,
+	void *pointer)
+{
+	waywire_status status = pointer ? reach(range, place) : WAYWIRE_OK;
+	if (!status && place < range->count) {
+		range->at[place].birth = birth;
+		range->at[place].pointer = pointer;
+	}
+	return status;
 }
 
 waywire_status set_user(struct users *users, waywire_object object, void *pointer)
 {
-	waywire_status status = pointer || user_of(users, object) ? reach(users, object.id) : WAYWIRE_OK;
-	if (!status && object.id < users->count) {
-		users->at[object.id].birth = object.birth;
-		users->at[object.id].pointer = pointer;
-	}
-	return status;
+	if (object.id < FIRST_SERVER_ID)
+		return set_in(&users->of_client, object.id, object.birth, pointer);
+	return set_in(&users->of_server, object.id - FIRST_SERVER_ID, object.birth, pointer);
+}
+
+void free_users(struct users *users)
+{
+	free(users->of_client.at);
+	free(users->of_server.at);
 }

@@ -163,8 +163,7 @@ static void list_tokens(waywire_report *report, uint32_t tokens[WAYWIRE_MAX_ARGS
 			return status; \
 		} \
 		it->tables = used(tables); \
-		it->users.at = NULL; \
-		it->users.count = 0; \
+		memset(&it->users, 0, sizeof it->users); \
 		it->untold = 0; \
 		*made = it; \
 		return WAYWIRE_OK; \
@@ -176,7 +175,7 @@ static void list_tokens(waywire_report *report, uint32_t tokens[WAYWIRE_MAX_ARGS
 			return; \
 		waywire_c_##end##_free(it->handle); \
 		waywire_tables_free(it->tables); \
-		free(it->users.at); \
+		free_users(&it->users); \
 		free(it); \
 	} \
 \

@@ -524,8 +524,8 @@ waywire_status waywire_client_live(const waywire_client *client, waywire_object 
  * report whose target is the object has it, also after the client has destroyed the object (WAYWIRE_DISCARDED)
  * and when the object ends (WAYWIRE_DELETED). The library never follows it. The caller frees what it points to:
  * at the object's last report, and for the objects that are left (`object_after`) before the client is freed. The
- * call may allocate: 16 bytes for each id up to the object's. WAYWIRE_STALE if the object is not live,
- * WAYWIRE_NO_MEMORY. */
+ * call may allocate: at most 32 bytes for each id up to the object's, from the first that its maker
+ * gives (1 or 0xff000000) on. WAYWIRE_STALE if the object is not live, WAYWIRE_NO_MEMORY. */
 waywire_status waywire_client_set_user(waywire_client *client, waywire_object object, void *user);
 
 /* The pointer that was set for an object, also once it has ended, as long as none was set for a later object

@@ -1,0 +1,153 @@
+/* Pointers of the caller's at objects of both ranges of ids, and what they ask for. No end has an
+ * object of a server's id yet, so beside the calls of ends those of c/users.c are tested. The
+ * program is linked with that file, and with `--wrap` for what allocates. */
+#include "../../c/users.h"
+#include "must.h"
+
+#define LAST_SERVER_ID 0xff0ffffeu
+#define LAST_CLIENT_ID 1048577
+
+void *__real_malloc(size_t size);
+void *__real_realloc(void *at, size_t size);
+
+static long asks;    /* calls for memory */
+static size_t asked; /* bytes, by the last of them */
+static bool refuses;
+
+void *__wrap_malloc(size_t size)
+{
+	asks++;
+	asked = size;
+	return refuses ? NULL : __real_malloc(size);
+}
+
+void *__wrap_realloc(void *at, size_t size)
+{
+	asks++;
+	asked = size;
+	return refuses ? NULL : __real_realloc(at, size);
+}
+
+static const waywire_object display = { 0, 1 };
+/* The first objects of a server's range, and a later one that has the first id again. */
+static const waywire_object first = { 1, 0xff000000 }, second = { 2, 0xff000001 },
+	again = { 3, 0xff000000 };
+static char one, other, third;
+
+/* Calls know no object of a server's id, and ask for no memory. */
+static void end_has_none(waywire_client *client, waywire_server *server)
+{
+	static const uint32_t ids[] = { FIRST_SERVER_ID - 1, FIRST_SERVER_ID, FIRST_SERVER_ID + 1,
+		FIRST_SERVER_ID + 2, LAST_SERVER_ID, UINT32_MAX };
+	long before = asks;
+	for (size_t at = 0; at < sizeof ids / sizeof *ids; at++)
+		for (uint64_t birth = 0; birth < 3; birth++) {
+			waywire_object object = { birth, ids[at] };
+			MUST(!waywire_client_user(client, object) && !waywire_server_user(server, object));
+			MUST(waywire_client_set_user(client, object, &one) == WAYWIRE_STALE);
+			MUST(waywire_server_set_user(server, object, &one) == WAYWIRE_STALE);
+			MUST(waywire_client_set_user(client, object, NULL) == WAYWIRE_STALE);
+			MUST(waywire_server_set_user(server, object, NULL) == WAYWIRE_STALE);
+		}
+	MUST(asks == before);
+}
+
+static void ends_have_none(void)
+{
+	static const waywire_sizes sizes = { 4096, 64, 4096, 64, 0 };
+	waywire_tables *tables;
+	waywire_client *client;
+	waywire_server *server;
+	MUST(!waywire_tables_core(&tables));
+	MUST(!waywire_client_new(tables, &sizes, &client));
+	MUST(!waywire_server_new(tables, &sizes, &server));
+	end_has_none(client, server);
+	MUST(!waywire_client_set_user(client, display, &one) && asked == 2 * sizeof(struct user));
+	MUST(!waywire_server_set_user(server, display, &other) && asked == 2 * sizeof(struct user));
+	end_has_none(client, server);
+	MUST(waywire_client_user(client, display) == &one);
+	MUST(waywire_server_user(server, display) == &other);
+	waywire_client_free(client);
+	waywire_server_free(server);
+	waywire_tables_free(tables);
+}
+
+/* Whether an object's pointer is set with one call for memory, of room for so many. */
+static bool is_set_by_one(struct users *users, waywire_object object, void *pointer, size_t count)
+{
+	long before = asks;
+	return !set_user(users, object, pointer) && user_of(users, object) == pointer
+		&& asks == before + 1 && asked == count * sizeof(struct user);
+}
+
+/* Whether an object's pointer is set without a call for memory. */
+static bool is_set_by_none(struct users *users, waywire_object object, void *pointer)
+{
+	long before = asks;
+	return !set_user(users, object, pointer) && user_of(users, object) == pointer && asks == before;
+}
+
+static void ranges_lie_apart(void)
+{
+	/* Of the client's range, at the place and of the birth of `second`. */
+	static const waywire_object same = { 2, 1 };
+	struct users users = { { NULL, 0 }, { NULL, 0 } };
+	MUST(is_set_by_none(&users, first, NULL) && is_set_by_none(&users, display, NULL));
+	MUST(is_set_by_one(&users, first, &one, 1) && !users.of_client.at);
+	MUST(is_set_by_one(&users, second, &other, 2) && !users.of_client.at);
+	MUST(!user_of(&users, same));
+	MUST(is_set_by_one(&users, same, &third, 2));
+	MUST(user_of(&users, first) == &one && user_of(&users, second) == &other);
+	MUST(!user_of(&users, again));
+	MUST(is_set_by_none(&users, again, &third) && !user_of(&users, first));
+	MUST(is_set_by_none(&users, second, NULL) && user_of(&users, same) == &third);
+	free_users(&users);
+}
+
+/* Where memory is refused, what was set stays. */
+static void refused(void)
+{
+	static const waywire_object far = { 4, FIRST_SERVER_ID + 1000 }, client_far = { 4, 1000 };
+	static const waywire_object between = { 0, FIRST_SERVER_ID + 500 }, client_between = { 0, 500 };
+	struct users users = { { NULL, 0 }, { NULL, 0 } };
+	refuses = true;
+	MUST(set_user(&users, first, &one) == WAYWIRE_NO_MEMORY && !user_of(&users, first));
+	refuses = false;
+	MUST(!set_user(&users, first, &one) && !set_user(&users, display, &other));
+	refuses = true;
+	MUST(set_user(&users, far, &third) == WAYWIRE_NO_MEMORY && !user_of(&users, far));
+	MUST(set_user(&users, client_far, &third) == WAYWIRE_NO_MEMORY && !user_of(&users, client_far));
+	refuses = false;
+	MUST(user_of(&users, first) == &one && user_of(&users, display) == &other);
+	MUST(is_set_by_one(&users, far, &third, 1001));
+	MUST(is_set_by_one(&users, client_far, &third, 1001));
+	MUST(!user_of(&users, between) && !user_of(&users, client_between));
+	free_users(&users);
+}
+
+/* All ids of a range, the first object's birth 1: at most 32 bytes for each, in few calls. */
+static void asks_by_count(uint32_t from, uint32_t last)
+{
+	struct users users = { { NULL, 0 }, { NULL, 0 } };
+	long before = asks;
+	for (uint32_t id = from; id <= last; id++) {
+		waywire_object object = { id - from + 1, id };
+		MUST(!set_user(&users, object, &one) && asks - before <= 22);
+		MUST(asked <= (id - from + 1) * 2 * sizeof(struct user));
+	}
+	for (uint32_t id = from; id <= last; id++) {
+		waywire_object object = { id - from + 1, id };
+		MUST(user_of(&users, object) == &one);
+	}
+	free_users(&users);
+}
+
+int main(void)
+{
+	ends_have_none();
+	ranges_lie_apart();
+	refused();
+	asks_by_count(FIRST_SERVER_ID, LAST_SERVER_ID);
+	asks_by_count(1, LAST_CLIENT_ID);
+	return 0;
+}
