@@ -53,6 +53,31 @@ const BYTES: Course = Course {
     bytes: true,
 };
 
+/// A session that is played: its kind, how much of it, and by which dice.
+#[derive(Clone, Copy)]
+struct Script {
+    course: Course,
+    amount: Amount,
+    /// The place of its dice.
+    place: usize,
+}
+
+impl Script {
+    /// The session before its first turn.
+    fn session(self) -> Session {
+        Session::new(self.amount.dice(self.place), self.course.title)
+    }
+
+    /// How many pieces bring the surfaces that stay open.
+    fn pieces_of_surfaces(self) -> u32 {
+        self.amount.of(self.course.open) / AT_ONCE
+    }
+
+    fn turns(self) -> u32 {
+        self.amount.of(self.course.turns)
+    }
+}
+
 /// How many surfaces are made in one piece.
 const AT_ONCE: u32 = 300;
 
@@ -81,13 +106,12 @@ fn pass_events_first<P: Pieces>(pieces: &mut P, turn: &mut Turn) -> Option<()> {
     pass(pieces, turn)
 }
 
-/// A session of this kind, up to its last turn.
+/// Plays a session up to its last turn.
 fn play<P: Pieces>(
     pieces: &mut P,
     session: &mut Session,
     turn: &mut Turn,
-    course: Course,
-    amount: Amount,
+    script: Script,
 ) -> Option<()> {
     session.ask(turn)?;
     pass(pieces, turn)?;
@@ -97,13 +121,13 @@ fn play<P: Pieces>(
     pass(pieces, turn)?;
     session.warm(turn)?;
     pass(pieces, turn)?;
-    for _ in 0..amount.of(course.open) / AT_ONCE {
+    for _ in 0..script.pieces_of_surfaces() {
         for _ in 0..AT_ONCE {
             session.grow(turn)?;
         }
         pass(pieces, turn)?;
     }
-    for _ in 0..amount.of(course.turns) {
+    for _ in 0..script.turns() {
         session.turn(turn)?;
         pass(pieces, turn)?;
     }
@@ -171,23 +195,21 @@ fn work_on(
 }
 
 /// Works on the text of a session, and once more where its last message breaks a rule.
-fn work_on_course(
+fn work_on_session(
     alloc: Global,
     work: Work,
     tables: &Tables,
-    course: Course,
-    place: usize,
-    amount: Amount,
+    script: Script,
     digest: &mut Digest,
 ) -> Option<()> {
     let mut text = Vec::new(alloc);
     let mut turn = empty_turn(alloc);
-    let mut session = Session::new(amount.dice(place), course.title);
+    let mut session = script.session();
     let mut pieces = TextPieces {
         text: &mut text,
-        bytes: course.bytes,
+        bytes: script.course.bytes,
     };
-    play(&mut pieces, &mut session, &mut turn, course, amount)?;
+    play(&mut pieces, &mut session, &mut turn, script)?;
     work_on(alloc, work, &text, tables, digest)?;
     session.break_rule(&mut turn)?;
     line(&mut text, Direction::ToServer, &turn.requests, 0)?;
@@ -204,7 +226,12 @@ fn work_on_all(
 ) -> Option<()> {
     let courses = [USUAL, MANY, LONG, USUAL, BYTES, USUAL];
     for (place, course) in courses.iter().enumerate() {
-        work_on_course(alloc, work, tables, *course, place, amount, digest)?;
+        let script = Script {
+            course: *course,
+            amount,
+            place,
+        };
+        work_on_session(alloc, work, tables, script, digest)?;
     }
     Some(())
 }
@@ -244,23 +271,21 @@ impl Pieces for InspectedPieces<'_, '_> {
     }
 }
 
-/// Judges a session of this kind as it passes.
-fn inspect_course(
+/// Judges a session as it passes.
+fn inspect_session(
     alloc: Global,
     tables: &Tables,
-    course: Course,
-    place: usize,
-    amount: Amount,
+    script: Script,
     digest: &mut Digest,
 ) -> Option<()> {
     let mut inspector = Inspector::new(alloc, tables, Limit::USUAL).ok()?;
     let mut turn = empty_turn(alloc);
-    let mut session = Session::new(amount.dice(place), course.title);
+    let mut session = script.session();
     let mut pieces = InspectedPieces {
         inspector: &mut inspector,
         digest,
     };
-    play(&mut pieces, &mut session, &mut turn, course, amount)?;
+    play(&mut pieces, &mut session, &mut turn, script)?;
     session.break_rule(&mut turn)?;
     pass(&mut pieces, &mut turn)?;
     add_verdict(alloc, inspector.verdict(), digest)
@@ -276,7 +301,12 @@ pub(crate) fn inspect(
     let beside_many = Course { turns: 400, ..MANY };
     let courses = [USUAL, beside_many, USUAL, LONG];
     for (place, course) in courses.iter().enumerate() {
-        inspect_course(alloc, tables, *course, place, amount, digest)?;
+        let script = Script {
+            course: *course,
+            amount,
+            place,
+        };
+        inspect_session(alloc, tables, script, digest)?;
     }
     Some(())
 }
