@@ -277,19 +277,8 @@ class Module:
                 yield self.name(it), self.handle(interface, it.interface)
 
     def handlers(self, interface, side, messages):
-        """The trait of the messages of a side, and the function that calls its methods."""
-        handle = type_name(interface.name)
-        self.say("", f"    /// What becomes of the {side}s. A method that is not written does nothing.",
-                 f"    pub trait {side.title()}s {{")
-        for place, it in enumerate(messages):
-            target = self.target(interface, it)
-            pairs = [(target, handle), *self.parameters(interface, it)]
-            names = [name for name, _ in pairs]
-            self.say(*([""] if place else []), *documented(self.said(it), "        "))
-            self.say(*wrapped("        ", f"fn {word(it.name)}", ["&mut self", *(f"{a}: {b}" for a, b in pairs)], " {"))
-            self.say(*wrapped("            ", "let _ = ", names, ";") if len(names) > 1 else
-                     [f"            let _ = {names[0]};"], "        }")
-        self.say("    }")
+        """The trait of the messages of a side, and the functions that call its methods."""
+        self.trait(interface, side, messages)
         article = "an" if side == "event" else "a"
         self.say("", *documented([
             f"Calls the method of {article} {side}. False where the message is for another interface, or the interface "
@@ -302,30 +291,41 @@ class Module:
         self.say(*wrapped("    ", f"fn {side}_of", [parameters[0], parameters[2]], " -> Option<()> {"))
         if any(it.args for it in messages):
             self.say("        let mut fields = waywire::typed::fields(message);")
-        self.say(f"        let target = {handle}(message.target());", "        match message.opcode() {")
+        self.say(f"        let target = {type_name(interface.name)}(message.target());",
+                 "        match message.opcode() {")
         for it in messages:
-            given = ["target"]
-            bound = any(one.type == "new_id" and one.interface is None for one in it.args) and side == "request"
-            lines = []
-            for one in it.args:
-                if bound and one.type == "new_id":
-                    lines = ["let (interface, version, object) = fields.bound()?;"]
-                    given += ["interface", "version", "object"]
-                else:
-                    given.append(self.read(interface, one))
-            head = f"            {side}::{constant(it.name)} => "
-            call = f"handler.{word(it.name)}"
-            if lines:
-                first = [f"let {self.name(one)} = {self.read(interface, one)};" for one in it.args
-                         if one.type != "new_id"]
-                given = ["target", *(self.name(one) for one in it.args if one.type != "new_id"), "interface",
-                         "version", "object"]
-                self.say(f"{head}{{", *(f"                {one}" for one in [*first, *lines]),
-                         f"                {call}({', '.join(given)})", "            }")
-            else:
-                found = wrapped("            ", f"{side}::{constant(it.name)} => {call}", given, ",")
-                self.say(*found)
+            self.call(interface, side, it)
         self.say("            _ => return None,", "        }", "        Some(())", "    }")
+
+    def trait(self, interface, side, messages):
+        """The trait of the messages of a side."""
+        handle = type_name(interface.name)
+        self.say("", f"    /// What becomes of the {side}s. A method that is not written does nothing.",
+                 f"    pub trait {side.title()}s {{")
+        for place, it in enumerate(messages):
+            target = self.target(interface, it)
+            pairs = [(target, handle), *self.parameters(interface, it)]
+            names = [name for name, _ in pairs]
+            self.say(*([""] if place else []), *documented(self.said(it), "        "))
+            self.say(*wrapped("        ", f"fn {word(it.name)}", ["&mut self", *(f"{a}: {b}" for a, b in pairs)], " {"))
+            self.say(*wrapped("            ", "let _ = ", names, ";") if len(names) > 1 else
+                     [f"            let _ = {names[0]};"], "        }")
+        self.say("    }")
+
+    def call(self, interface, side, message):
+        """The arm that reads the arguments of a message and calls its method."""
+        head = f"{side}::{constant(message.name)} =>"
+        call = f"handler.{word(message.name)}"
+        if side == "event" or all(it.type != "new_id" or it.interface for it in message.args):
+            given = ["target", *(self.read(interface, it) for it in message.args)]
+            self.say(*wrapped("            ", f"{head} {call}", given, ","))
+            return
+        others = [it for it in message.args if it.type != "new_id"]
+        given = ["target", *map(self.name, others), "interface", "version", "object"]
+        self.say(f"            {head} {{",
+                 *(f"                let {self.name(it)} = {self.read(interface, it)};" for it in others),
+                 "                let (interface, version, object) = fields.bound()?;",
+                 f"                {call}({', '.join(given)})", "            }")
 
     def interface(self, interface):
         name = type_name(interface.name)

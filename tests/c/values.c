@@ -230,33 +230,19 @@ static void more_tables(void)
 static void messages(void)
 {
 	waywire_message message = { 9, 9, 9, 9 };
-	waywire_kind kind = { 9, true, 9 };
-	uint16_t registry, surface, buffer, fixes, output;
+	uint16_t surface, fixes;
 	const char *name = NULL;
 	size_t length = 9;
-	MUST(!waywire_tables_interface(tables, "wl_registry", &registry));
 	MUST(!waywire_tables_interface(tables, "wl_surface", &surface));
-	MUST(!waywire_tables_interface(tables, "wl_buffer", &buffer));
 	MUST(!waywire_tables_interface(tables, "wl_fixes", &fixes));
-	MUST(!waywire_tables_interface(tables, "wl_output", &output));
 	MUST(!waywire_tables_message(tables, surface, WAYWIRE_FROM_CLIENT, 1, &message, &name, &length));
 	MUST(length == 6 && !memcmp(name, "attach", 6) && message.arg_count == 3);
 	MUST(message.since == 1 && message.destroys == WAYWIRE_DESTROYS_NOTHING && message.destroyed == 0);
-	MUST(!waywire_tables_kind(tables, surface, WAYWIRE_FROM_CLIENT, 1, 0, &kind));
-	MUST(kind.kind == WAYWIRE_OBJECT && kind.nullable && kind.interface == buffer);
-	MUST(!waywire_tables_kind(tables, surface, WAYWIRE_FROM_CLIENT, 1, 2, &kind));
-	MUST(kind.kind == WAYWIRE_INT && !kind.nullable && kind.interface == WAYWIRE_ANY_INTERFACE);
-	MUST(waywire_tables_kind(tables, surface, WAYWIRE_FROM_CLIENT, 1, 3, &kind) == WAYWIRE_NOT_FOUND);
-	MUST(kind.kind == WAYWIRE_INT);
-	MUST(!waywire_tables_kind(tables, surface, WAYWIRE_FROM_SERVER, 0, 0, &kind));
-	MUST(kind.kind == WAYWIRE_OBJECT && !kind.nullable && kind.interface == output);
 	MUST(!waywire_tables_message(tables, surface, WAYWIRE_FROM_CLIENT, 0, &message, NULL, NULL));
 	MUST(message.destroys == WAYWIRE_DESTROYS_TARGET && message.arg_count == 0);
 	MUST(!waywire_tables_message(tables, fixes, WAYWIRE_FROM_CLIENT, 1, &message, NULL, &length));
 	MUST(length == strlen("destroy_registry"));
 	MUST(message.destroys == WAYWIRE_DESTROYS_ARG && message.destroyed == 0 && message.arg_count == 1);
-	MUST(!waywire_tables_kind(tables, registry, WAYWIRE_FROM_CLIENT, 0, 1, &kind));
-	MUST(kind.kind == WAYWIRE_NEW && kind.interface == WAYWIRE_ANY_INTERFACE);
 	MUST(waywire_tables_message(tables, 999, WAYWIRE_FROM_CLIENT, 0, &message, &name, &length)
 		== WAYWIRE_NOT_FOUND);
 	MUST(waywire_tables_message(tables, surface, (waywire_sender)2, 0, &message, &name, &length)
@@ -266,6 +252,26 @@ static void messages(void)
 	MUST(message.arg_count == 1 && length == strlen("destroy_registry"));
 	MUST(waywire_tables_message(NULL, 0, WAYWIRE_FROM_CLIENT, 0, &message, NULL, NULL) == WAYWIRE_NULL);
 	MUST(waywire_tables_message(tables, 0, WAYWIRE_FROM_CLIENT, 0, NULL, NULL, NULL) == WAYWIRE_NULL);
+}
+
+static void kinds_of_arguments(void)
+{
+	waywire_kind kind = { 9, true, 9 };
+	uint16_t registry, surface, buffer, output;
+	MUST(!waywire_tables_interface(tables, "wl_registry", &registry));
+	MUST(!waywire_tables_interface(tables, "wl_surface", &surface));
+	MUST(!waywire_tables_interface(tables, "wl_buffer", &buffer));
+	MUST(!waywire_tables_interface(tables, "wl_output", &output));
+	MUST(!waywire_tables_kind(tables, surface, WAYWIRE_FROM_CLIENT, 1, 0, &kind));
+	MUST(kind.kind == WAYWIRE_OBJECT && kind.nullable && kind.interface == buffer);
+	MUST(!waywire_tables_kind(tables, surface, WAYWIRE_FROM_CLIENT, 1, 2, &kind));
+	MUST(kind.kind == WAYWIRE_INT && !kind.nullable && kind.interface == WAYWIRE_ANY_INTERFACE);
+	MUST(waywire_tables_kind(tables, surface, WAYWIRE_FROM_CLIENT, 1, 3, &kind) == WAYWIRE_NOT_FOUND);
+	MUST(kind.kind == WAYWIRE_INT);
+	MUST(!waywire_tables_kind(tables, surface, WAYWIRE_FROM_SERVER, 0, 0, &kind));
+	MUST(kind.kind == WAYWIRE_OBJECT && !kind.nullable && kind.interface == output);
+	MUST(!waywire_tables_kind(tables, registry, WAYWIRE_FROM_CLIENT, 0, 1, &kind));
+	MUST(kind.kind == WAYWIRE_NEW && kind.interface == WAYWIRE_ANY_INTERFACE);
 	MUST(waywire_tables_kind(NULL, 0, WAYWIRE_FROM_CLIENT, 0, 0, &kind) == WAYWIRE_NULL);
 	MUST(waywire_tables_kind(tables, 0, WAYWIRE_FROM_CLIENT, 0, 0, NULL) == WAYWIRE_NULL);
 }
@@ -531,6 +537,7 @@ int main(void)
 	misspelled();
 	more_tables();
 	messages();
+	kinds_of_arguments();
 	server_objects();
 	newer_seat();
 	limits();

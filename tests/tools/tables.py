@@ -11,6 +11,58 @@ from checks import TOP, module_of
 import protocol
 import table_text
 
+MANY_EVENTS = " / ".join(f"event e{place}" for place in range(257))
+# Texts of tables, with the line and the rule that each breaks. `/` ends a line.
+BROKEN = (
+    ("interface note 1 / event gone D / request poke", 2, 7),
+    ("interface x 1 / event made n(x)", 2, 4),
+    ("interface wl_seat 9", 1, 1),
+    ("interface a 1 / request r o(b)", 2, 9),
+    ("interface a 1 / request r @2", 2, 8),
+    ("interface a 1 / request r n", 2, 5),
+    ("interface a 1 / request r o", 2, 6),
+    ("interface A 1", 1, 1),
+    (f"interface {'a' * 257} 1", 1, 1),
+    ("interface a 1 / interface a 1", 2, 1),
+    ("interface a 1 / event r / request r / request r", 4, 1),
+    ("interface a 1 / request D", 2, 1),
+    ("interface a 1 / request x\r", 2, 1),
+    (f"interface a 1 / request r{' i' * 21}", 2, 3),
+    (f"interface a 1 / {MANY_EVENTS}", 258, 3),
+    ("interface a 1 / request r n(a) n(a)", 2, 4),
+    ("interface a 1 / event e n", 2, 4),
+    ("interface a 1 / request r o(wl_callback)", 2, 7),
+    ("interface a 1 / event e o(wl_callback) / request r ?o(b) / interface b 1 / event e D", 3, 7),
+    ("interface a 0", 1, 8),
+    ("interface a 0 / request r", 1, 8),
+    ("interface a 1 / request r @0", 2, 8),
+    ("interface a 1 / request r n(any)", 2, 9),
+    ("interface a 1 / request r n(b) o @2", 2, 6),
+    ("extend wl_display 2", 1, 2),
+    ("extend wl_registry 0", 1, 2),
+    ("extend wl_callback 1", 1, 2),
+    ("extend wl_fixes 2", 1, 2),
+    ("extend wl_seat 8", 1, 8),
+    ("extend wl_seat 10 / extend wl_seat 9", 2, 8),
+    ("interface a 2 / request r @2 / extend a 1", 3, 8),
+    ("extend a 2", 1, 9),
+    ("extend a 2 / interface a 1", 1, 9),
+    ("extend wl_seat 10 / request release D @10", 2, 1),
+    ("interface a 1 / event e / extend a 2 / event e @2", 4, 1),
+    (f"extend wl_seat 10 / {MANY_EVENTS}", 256, 3),
+    ("extend wl_seat 10 / request r n(wl_seat) n(wl_seat)", 2, 4),
+    ("extend wl_seat 10 / request r o", 2, 6),
+    ("extend wl_seat 10 / request r o(wl_callback)", 2, 7),
+    # An event that destroys, where a request stands above or is an argument of it.
+    ("extend wl_seat 10 / event gone D", 2, 7),
+    ("interface a 1 / request r / extend a 2 / event gone D @2", 4, 7),
+    ("interface a 1 / event gone D / extend a 2 / request r @2", 2, 7),
+    ("extend wl_seat 10 / request r @11", 2, 8),
+    ("extend wl_seat 10 / request r o(b)", 2, 9),
+    ("extend wl_seat 10 / request r N(wl_seat)", 2, 11),
+    ("interface a 1 / event e N(b) / interface b 1 / extend b 2 / event gone D", 2, 11),
+)
+
 
 class TextOfTables(unittest.TestCase):
     """The grammar of a text of tables and the rules of valid tables, as `table_text` has them."""
@@ -85,61 +137,13 @@ request destroy D\nextend wl_seat 12\nrequest more @11\nextend pad 2\nevent told
         self.assertEqual(self.verdict("interface a 1\r"), "line 1: bad line")
 
     def test_broken_rules(self):
-        kinds = " i" * 21
-        most = " / ".join(f"event e{place}" for place in range(257))
-        room = 1024 - len(table_text.core_tables())
-        interfaces = " / ".join(f"interface a{place} 1" for place in range(room + 1))
-        for text, line, rule in (
-            ("interface note 1 / event gone D / request poke", 2, 7),
-            ("interface x 1 / event made n(x)", 2, 4),
-            ("interface wl_seat 9", 1, 1),
-            ("interface a 1 / request r o(b)", 2, 9),
-            ("interface a 1 / request r @2", 2, 8),
-            ("interface a 1 / request r n", 2, 5),
-            ("interface a 1 / request r o", 2, 6),
-            ("interface A 1", 1, 1),
-            (f"interface {'a' * 257} 1", 1, 1),
-            ("interface a 1 / interface a 1", 2, 1),
-            ("interface a 1 / event r / request r / request r", 4, 1),
-            ("interface a 1 / request D", 2, 1),
-            ("interface a 1 / request x\r", 2, 1),
-            (f"interface a 1 / request r{kinds}", 2, 3),
-            (f"interface a 1 / {most}", 258, 3),
-            (interfaces, room + 1, 3),
-            ("interface a 1 / request r n(a) n(a)", 2, 4),
-            ("interface a 1 / event e n", 2, 4),
-            ("interface a 1 / request r o(wl_callback)", 2, 7),
-            ("interface a 1 / event e o(wl_callback) / request r ?o(b) / interface b 1 / event e D", 3, 7),
-            ("interface a 0", 1, 8),
-            ("interface a 0 / request r", 1, 8),
-            ("interface a 1 / request r @0", 2, 8),
-            ("interface a 1 / request r n(any)", 2, 9),
-            ("interface a 1 / request r n(b) o @2", 2, 6),
-            ("extend wl_display 2", 1, 2),
-            ("extend wl_registry 0", 1, 2),
-            ("extend wl_callback 1", 1, 2),
-            ("extend wl_fixes 2", 1, 2),
-            ("extend wl_seat 8", 1, 8),
-            ("extend wl_seat 10 / extend wl_seat 9", 2, 8),
-            ("interface a 2 / request r @2 / extend a 1", 3, 8),
-            ("extend a 2", 1, 9),
-            ("extend a 2 / interface a 1", 1, 9),
-            ("extend wl_seat 10 / request release D @10", 2, 1),
-            ("interface a 1 / event e / extend a 2 / event e @2", 4, 1),
-            (f"extend wl_seat 10 / {most}", 256, 3),
-            ("extend wl_seat 10 / request r n(wl_seat) n(wl_seat)", 2, 4),
-            ("extend wl_seat 10 / request r o", 2, 6),
-            ("extend wl_seat 10 / request r o(wl_callback)", 2, 7),
-            # An event that destroys, where a request stands above or is an argument of it.
-            ("extend wl_seat 10 / event gone D", 2, 7),
-            ("interface a 1 / request r / extend a 2 / event gone D @2", 4, 7),
-            ("interface a 1 / event gone D / extend a 2 / request r @2", 2, 7),
-            ("extend wl_seat 10 / request r @11", 2, 8),
-            ("extend wl_seat 10 / request r o(b)", 2, 9),
-            ("extend wl_seat 10 / request r N(wl_seat)", 2, 11),
-            ("interface a 1 / event e N(b) / interface b 1 / extend b 2 / event gone D", 2, 11),
-        ):
+        for text, line, rule in BROKEN:
             self.assertEqual(self.verdict(text), f"line {line}: breaks V{rule}", text)
+
+    def test_too_many_interfaces(self):
+        room = 1024 - len(table_text.core_tables())
+        text = " / ".join(f"interface a{place} 1" for place in range(room + 1))
+        self.assertEqual(self.verdict(text), f"line {room + 1}: breaks V3")
 
     def test_what_an_earlier_text_has(self):
         """An added message that does not go with those of tables that were read before."""
