@@ -1,8 +1,8 @@
 //! The jobs that a user of waywire waits for, on inputs that a number makes. Prints a digest of all
 //! that the library answered. bench/run times it, and bench/workloads.txt says with which words.
 //!
-//! The words are the jobs, the number, how large each is, in parts of a hundred, and how often it is
-//! done, each time on another input.
+//! The words are the jobs, the number, how large each is, in parts of a hundred, and how often it
+//! is done, each time on another input.
 #![tactic(auto)]
 
 mod dice;
