@@ -22,6 +22,15 @@ use wl_verdict::write_verdict;
 /// The most bytes of a file.
 const MAX_FILE_BYTES: u64 = 16_777_216;
 
+/// Where a job writes.
+#[derive(Drop)]
+pub struct Writers<O, E> {
+    /// What the job prints.
+    pub out: O,
+    /// What is said of a failure or of a fault of usage.
+    pub err: E,
+}
+
 /// What a job prints, whole, and the exit status that goes with it.
 #[derive(Debug, Drop)]
 pub(crate) struct Printed<A: Allocator> {
@@ -160,25 +169,26 @@ fn output<'a, 'b, A: Allocator, T: Read, R: Read>(
 /// status.
 pub(crate) fn finish<A: Allocator, O: Write, E: Write>(
     output: Result<Printed<A>, Failure<'_>>,
-    out: &mut O,
-    err: &mut E,
+    writers: &mut Writers<O, E>,
 ) -> u8
     ensures acted { (job : Job) (known_tables known : Option (List ℕ))
         → IfOk output.entry (λ o. IsDone job known_tables known o.text.items o.status)
         → IfErr output.entry (IsRefused job known_tables known)
-        → Acted O.contents E.contents job known_tables known out.old out.new err.old err.new
-        result }
+        → Acted O.contents E.contents job known_tables known writers.old.out writers.new.out
+        writers.old.err writers.new.err result }
     ensures refused { IsErr output.entry
-        → ((result ≡ 3) ⊎ (result ≡ 4)) × (O.contents out.new ≡ O.contents out.old) }
-    ensures unwritten { result ≡ 4 → O.contents out.new ≡ O.contents out.old }
+        → ((result ≡ 3) ⊎ (result ≡ 4))
+        × (O.contents writers.new.out ≡ O.contents writers.old.out) }
+    ensures unwritten { result ≡ 4
+        → O.contents writers.new.out ≡ O.contents writers.old.out }
     ensures statuses { (result ≤ 4) × (result ≢ 2) }
 {
     match output {
-        Ok(output) => match write_through(out, &output.text) {
+        Ok(output) => match write_through(&mut writers.out, &output.text) {
             Ok(()) => output.status,
-            Err(_) => Failure::CannotWrite.report(err),
+            Err(_) => Failure::CannotWrite.report(&mut writers.err),
         },
-        Err(failure) => failure.report(err),
+        Err(failure) => failure.report(&mut writers.err),
     }
 }
 
@@ -194,20 +204,22 @@ pub fn act<A: Allocator, T: Read, R: Read, O: Write, E: Write>(
     job: &Job,
     tables: &mut T,
     file: &mut R,
-    out: &mut O,
-    err: &mut E,
+    writers: &mut Writers<O, E>,
 ) -> u8
     // The output was written whole, and nothing to `err`: 0 stands for a lawful session or a
     // demonstration, 1 for a broken session; or no output was written; or writing it failed, and a
     // beginning of it was written. In the last two cases `err` was given the failure's line.
     ensures acted { Acted O.contents E.contents job.now (T.remaining tables.old)
-        (R.remaining file.old) out.old out.new err.old err.new result }
+        (R.remaining file.old) writers.old.out writers.new.out writers.old.err writers.new.err
+        result }
     // A recording with a bad line is refused, where the job reads one.
     ensures bad { (text : List ℕ) (n : ℕ) → R.remaining file.old ≡ Some text → IsFirstBad text n
         → ReadsFile job.now
-        → ((result ≡ 3) ⊎ (result ≡ 4)) × (O.contents out.new ≡ O.contents out.old) }
-    ensures unwritten { result ≡ 4 → O.contents out.new ≡ O.contents out.old }
+        → ((result ≡ 3) ⊎ (result ≡ 4))
+        × (O.contents writers.new.out ≡ O.contents writers.old.out) }
+    ensures unwritten { result ≡ 4
+        → O.contents writers.new.out ≡ O.contents writers.old.out }
     ensures statuses { (result ≤ 4) × (result ≢ 2) }
 {
-    finish(output(&alloc, global, job, tables, file), out, err)
+    finish(output(&alloc, global, job, tables, file), writers)
 }

@@ -11,7 +11,7 @@ mod socket;
 mod verdict;
 mod writing;
 
-pub use acting::act;
+pub use acting::{Writers, act};
 pub use failure::Failure;
 pub use program_arguments::{Job, Stop, job_of};
 pub use running::{ExitStatus, run};

@@ -6,7 +6,7 @@ ghost use Rattle.std.specs.Process.{exit_status};
 ghost use Rattle.program_jobs.specs.Running.{IsOpenFailure, Opened, OpensFile, RunsWords, StopTold};
 ghost use Rattle.program_jobs.specs.Running.{Unread};
 
-use crate::acting::{act, finish};
+use crate::acting::{Writers, act, finish};
 use crate::failure::Failure;
 use crate::socket::{BoundSocket, run_over_socket};
 use crate::writing::{write_through, write_whole};
@@ -35,15 +35,13 @@ impl Termination for ExitStatus {
 /// Does what the words of a command line ask for, of which the first is the program's name.
 ///
 /// `opener` opens the files that a job reads, all of them before one is read, and `binder` binds
-/// the socket of one that needs it. The output, help and the version go to `out`, and what is said
-/// of a failure or of a fault of usage to `err`.
+/// the socket of one that needs it. Help and the version are printed as a job's output is.
 pub fn run<R, F, S, B, O, E>(
     alloc: Global,
     words: io::Result<Vec<String>>,
     opener: F,
     binder: B,
-    out: &mut O,
-    err: &mut E,
+    writers: &mut Writers<O, E>,
 ) -> ExitStatus
 where
     R: Read + Drop,
@@ -55,14 +53,15 @@ where
     requires opens { F.IsAlwaysCallable opener }
     requires binds { B.IsAlwaysCallable binder }
     ensures { RunsWords words R.remaining O.contents E.contents (FnReturnsAt F.Fn opener)
-        (FnOnceReturnsAt B.FnOnce binder) S.removes out.old out.new err.old err.new result.status }
+        (FnOnceReturnsAt B.FnOnce binder) S.removes writers.old.out writers.new.out writers.old.err
+        writers.new.err result.status }
 {
     let status = match words {
         Ok(words) => match job_of(alloc, words.as_slice()) {
-            Ok(job) => run_job(alloc, &job, opener, binder, out, err),
-            Err(stop) => report_stop(&stop, out, err),
+            Ok(job) => run_job(alloc, &job, opener, binder, writers),
+            Err(stop) => report_stop(&stop, writers),
         },
-        Err(error) => not_read(&error, err),
+        Err(error) => not_read(&error, &mut writers.err),
     };
     ExitStatus { status }
 }
@@ -80,17 +79,18 @@ fn not_read<E: Write>(error: &io::Error, err: &mut E) -> u8
 
 /// Prints help or the version to `out`, and anything else to `err`, and returns the exit status:
 /// that of the stop, or 3 where `out` does not take the text.
-fn report_stop<O: Write, E: Write>(stop: &Stop, out: &mut O, err: &mut E) -> u8
-    ensures { StopTold O.contents E.contents stop.now out.old out.new err.old err.new result }
+fn report_stop<O: Write, E: Write>(stop: &Stop, writers: &mut Writers<O, E>) -> u8
+    ensures { StopTold O.contents E.contents stop.now writers.old.out writers.new.out
+        writers.old.err writers.new.err result }
 {
     match stop.status {
-        status::SUCCESS => match write_through(out, stop.text.as_str().as_bytes()) {
+        status::SUCCESS => match write_through(&mut writers.out, stop.text.as_str().as_bytes()) {
             Ok(()) => status::SUCCESS,
-            Err(_) => Failure::CannotWrite.report(err),
+            Err(_) => Failure::CannotWrite.report(&mut writers.err),
         },
-        status::OUT_OF_MEMORY => Failure::Memory.report(err),
+        status::OUT_OF_MEMORY => Failure::Memory.report(&mut writers.err),
         status => {
-            let _ = write_whole(err, stop.text.as_str().as_bytes());
+            let _ = write_whole(&mut writers.err, stop.text.as_str().as_bytes());
             status
         }
     }
@@ -112,8 +112,7 @@ fn run_job<R, F, S, B, O, E>(
     job: &Job,
     opener: F,
     binder: B,
-    out: &mut O,
-    err: &mut E,
+    writers: &mut Writers<O, E>,
 ) -> u8
 where
     R: Read + Drop,
@@ -125,7 +124,8 @@ where
     requires opens { F.IsAlwaysCallable opener }
     requires binds { B.IsAlwaysCallable binder }
     ensures { Opened R.remaining O.contents E.contents (FnReturnsAt F.Fn opener)
-        (FnOnceReturnsAt B.FnOnce binder) S.removes job.now out.old out.new err.old err.new result }
+        (FnOnceReturnsAt B.FnOnce binder) S.removes job.now writers.old.out writers.new.out
+        writers.old.err writers.new.err result }
 {
     match job {
         Job::Trace {
@@ -139,10 +139,10 @@ where
             file: name,
         } => match tables {
             Some(tables) => match opener(tables.as_str()) {
-                Ok(mut tables) => run_over_file(alloc, job, &mut tables, name, &opener, out, err),
-                Err(error) => open_failure(tables.as_str(), &error).report(err),
+                Ok(mut tables) => run_over_file(alloc, job, &mut tables, name, &opener, writers),
+                Err(error) => open_failure(tables.as_str(), &error).report(&mut writers.err),
             },
-            None => run_over_file(alloc, job, &mut io::empty(), name, &opener, out, err),
+            None => run_over_file(alloc, job, &mut io::empty(), name, &opener, writers),
         },
         Job::Demo { .. } => act(
             alloc,
@@ -150,12 +150,11 @@ where
             job,
             &mut io::empty(),
             &mut io::empty(),
-            out,
-            err,
+            writers,
         ),
         Job::Socket { path } => match binder(path.as_str()) {
-            Ok(bound) => finish(run_over_socket(alloc, alloc, bound), out, err),
-            Err(error) => Failure::of_socket(&error).report(err),
+            Ok(bound) => finish(run_over_socket(alloc, alloc, bound), writers),
+            Err(error) => Failure::of_socket(&error).report(&mut writers.err),
         },
     }
 }
@@ -167,8 +166,7 @@ fn run_over_file<T, R, F, O, E>(
     tables: &mut T,
     name: &String,
     opener: &F,
-    out: &mut O,
-    err: &mut E,
+    writers: &mut Writers<O, E>,
 ) -> u8
 where
     T: Read,
@@ -178,10 +176,11 @@ where
     E: Write,
     requires opens { F.IsAlwaysCallable opener.now }
     ensures { OpensFile R.remaining O.contents E.contents (FnReturnsAt F.Fn opener.now) job.now
-        (T.remaining tables.old) (string_bytes name.now) out.old out.new err.old err.new result }
+        (T.remaining tables.old) (string_bytes name.now) writers.old.out writers.new.out
+        writers.old.err writers.new.err result }
 {
     match opener(name.as_str()) {
-        Ok(mut file) => act(alloc, alloc, job, tables, &mut file, out, err),
-        Err(error) => open_failure(name.as_str(), &error).report(err),
+        Ok(mut file) => act(alloc, alloc, job, tables, &mut file, writers),
+        Err(error) => open_failure(name.as_str(), &error).report(&mut writers.err),
     }
 }

@@ -1,5 +1,5 @@
 use program_arguments::Job;
-use program_jobs::{Failure, act};
+use program_jobs::{Failure, Writers, act};
 use std::alloc::{AllocError, Global};
 use std::io::{self, Error, ErrorKind, Read, Write};
 use std::test::Fail;
@@ -211,18 +211,12 @@ const REFUSED: [(&[u8], &[u8]); 3] = [
 /// nothing to standard error.
 fn prints(alloc: Global, job: &Job, text: &[u8], status: u8, first: &[u8], last: &[u8]) -> bool {
     let mut file = text;
-    let mut out = Vec::new(alloc);
-    let mut err = Vec::new(alloc);
-    let answer = act(
-        alloc,
-        alloc,
-        job,
-        &mut io::empty(),
-        &mut file,
-        &mut out,
-        &mut err,
-    );
-    answer == status && out.strip_prefix(first) == Some(last) && err.is_empty()
+    let mut writers = Writers {
+        out: Vec::new(alloc),
+        err: Vec::new(alloc),
+    };
+    let answer = act(alloc, alloc, job, &mut io::empty(), &mut file, &mut writers);
+    answer == status && writers.out.strip_prefix(first) == Some(last) && writers.err.is_empty()
 }
 
 /// Whether each lawful session is traced and checked.
@@ -259,18 +253,12 @@ fn traces_and_checks_broken_sessions(rt: HostRuntime) -> Result<(), Fail> {
 
 /// Whether a job ends with this status, writes no output, and this to standard error.
 fn says<R: Read>(alloc: Global, job: &Job, file: &mut R, status: u8, said: &[u8]) -> bool {
-    let mut out = Vec::new(alloc);
-    let mut err = Vec::new(alloc);
-    let answer = act(
-        alloc,
-        alloc,
-        job,
-        &mut io::empty(),
-        file,
-        &mut out,
-        &mut err,
-    );
-    answer == status && out.is_empty() && err.as_slice() == said
+    let mut writers = Writers {
+        out: Vec::new(alloc),
+        err: Vec::new(alloc),
+    };
+    let answer = act(alloc, alloc, job, &mut io::empty(), file, &mut writers);
+    answer == status && writers.out.is_empty() && writers.err.as_slice() == said
 }
 
 /// The same of a file of this text.
@@ -328,31 +316,35 @@ fn says_that_reading_failed(alloc: Global, _trace: &Job, check: &Job) -> bool {
 /// Whether an output that cannot be written is told of.
 fn says_that_writing_failed(alloc: Global, _trace: &Job, check: &Job) -> bool {
     let mut file = LAWFUL[0].0;
-    let mut err = Vec::new(alloc);
+    let mut writers = Writers {
+        out: Failing,
+        err: Vec::new(alloc),
+    };
     let status = act(
         alloc,
         alloc,
         check,
         &mut io::empty(),
         &mut file,
-        &mut Failing,
-        &mut err,
+        &mut writers,
     );
-    status == 3 && err.as_slice() == b"waywire: cannot write\n".as_slice()
+    status == 3 && writers.err.as_slice() == b"waywire: cannot write\n".as_slice()
 }
 
 /// A standard error that fails changes no status.
 fn answers_the_same(alloc: Global, _trace: &Job, check: &Job) -> bool {
     let mut file = REFUSED[0].0;
-    let mut out = Vec::new(alloc);
+    let mut writers = Writers {
+        out: Vec::new(alloc),
+        err: Failing,
+    };
     act(
         alloc,
         alloc,
         check,
         &mut io::empty(),
         &mut file,
-        &mut out,
-        &mut Failing,
+        &mut writers,
     ) == 3
 }
 
@@ -377,21 +369,22 @@ fn is_refused_or_whole(
 ) -> bool {
     let (text, lines, verdict) = BROKEN[10];
     let mut file = text;
-    let mut out = Vec::new(alloc);
-    let mut err = Vec::new(alloc);
+    let mut writers = Writers {
+        out: Vec::new(alloc),
+        err: Vec::new(alloc),
+    };
     let status = act(
         memory,
         alloc,
         job,
         &mut io::empty(),
         &mut file,
-        &mut out,
-        &mut err,
+        &mut writers,
     );
     if told.has_refused() {
-        status == 4 && out.is_empty() && err.as_slice() == NO_MEMORY
+        status == 4 && writers.out.is_empty() && writers.err.as_slice() == NO_MEMORY
     } else {
-        status == 1 && out.strip_prefix(lines) == Some(verdict)
+        status == 1 && writers.out.strip_prefix(lines) == Some(verdict)
     }
 }
 

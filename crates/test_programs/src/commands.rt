@@ -1,7 +1,7 @@
 //! Worked commands, from their words to what is printed.
 use crate::words::asked;
 use program_arguments::Job;
-use program_jobs::act;
+use program_jobs::{Writers, act};
 use std::alloc::{AllocError, Global};
 use std::io;
 use std::test::Fail;
@@ -100,18 +100,12 @@ const RUNS: [Run; 9] = [
 /// Whether a job over the file of this run does what the run does.
 fn does(alloc: Global, job: &Job, run: &Run) -> bool {
     let mut file = run.file;
-    let mut out = Vec::new(alloc);
-    let mut err = Vec::new(alloc);
-    let status = act(
-        alloc,
-        alloc,
-        job,
-        &mut io::empty(),
-        &mut file,
-        &mut out,
-        &mut err,
-    );
-    status == run.status && out.as_slice() == run.out && err.as_slice() == run.err
+    let mut writers = Writers {
+        out: Vec::new(alloc),
+        err: Vec::new(alloc),
+    };
+    let status = act(alloc, alloc, job, &mut io::empty(), &mut file, &mut writers);
+    status == run.status && writers.out.as_slice() == run.out && writers.err.as_slice() == run.err
 }
 
 /// Whether the words of this run ask for a job that does what the run does.

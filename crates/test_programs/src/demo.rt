@@ -1,7 +1,7 @@
 //! The lines of the whole session, by words of a command line.
 use crate::words::asked;
 use program_arguments::Job;
-use program_jobs::act;
+use program_jobs::{Writers, act};
 use std::alloc::{AllocError, Global};
 use std::io;
 use std::test::Fail;
@@ -25,19 +25,13 @@ agree: 4 objects
 
 /// Whether a job ends with 0 and writes these lines, and nothing to standard error.
 fn shows(alloc: Global, job: &Job) -> bool {
-    let mut out = Vec::new(alloc);
-    let mut err = Vec::new(alloc);
+    let mut writers = Writers {
+        out: Vec::new(alloc),
+        err: Vec::new(alloc),
+    };
     let (mut tables, mut file) = (io::empty(), io::empty());
-    let status = act(
-        alloc,
-        alloc,
-        job,
-        &mut tables,
-        &mut file,
-        &mut out,
-        &mut err,
-    );
-    status == 0 && out.as_slice() == LINES && err.is_empty()
+    let status = act(alloc, alloc, job, &mut tables, &mut file, &mut writers);
+    status == 0 && writers.out.as_slice() == LINES && writers.err.is_empty()
 }
 
 /// Whether these words ask for a job that shows the session.
@@ -62,20 +56,16 @@ fn shows_the_same_session_in_any_pieces(rt: HostRuntime) -> Result<(), Fail> {
 
 /// Whether a demonstration in this memory is out of memory, and does nothing else.
 fn is_refused(alloc: Global, memory: RefusingAllocator<Global>) -> bool {
-    let mut out = Vec::new(alloc);
-    let mut err = Vec::new(alloc);
+    let mut writers = Writers {
+        out: Vec::new(alloc),
+        err: Vec::new(alloc),
+    };
     let job = Job::Demo { piece: 4096 };
     let (mut tables, mut file) = (io::empty(), io::empty());
-    let status = act(
-        memory,
-        alloc,
-        &job,
-        &mut tables,
-        &mut file,
-        &mut out,
-        &mut err,
-    );
-    status == 4 && out.is_empty() && err.as_slice() == b"waywire: out of memory\n".as_slice()
+    let status = act(memory, alloc, &job, &mut tables, &mut file, &mut writers);
+    status == 4
+        && writers.out.is_empty()
+        && writers.err.as_slice() == b"waywire: out of memory\n".as_slice()
 }
 
 /// Refuses each allocation in turn. Whether each is met so, and at last none is refused.

@@ -1,5 +1,5 @@
-//! Reading from a stream into an inbox that is almost full, and into a new server where a read fails
-//! in the middle of a message.
+//! Reading from a stream into an inbox that is almost full, and into a new server where a read
+//! fails in the middle of a message.
 use std::io::ErrorKind;
 use std::test::Fail;
 use wl_connection::End;

@@ -1,7 +1,7 @@
 //! The session over a socket in memory, whose path can or cannot be removed.
 use crate::demo::LINES;
 use crate::words::command_line;
-use program_jobs::{BoundSocket, run};
+use program_jobs::{BoundSocket, Writers, run};
 use std::alloc::{AllocError, Global};
 use std::cell::{Cell, RefCell};
 use std::io::{self, Error, ErrorKind, Read, Write};
@@ -100,8 +100,10 @@ fn writes(alloc: Global, is_stuck: bool, written: (&[u8], &[u8])) -> Result<bool
         to_server: RefCell::new(Vec::new(alloc)),
         to_client: RefCell::new(Vec::new(alloc)),
     };
-    let mut out = Vec::new(alloc);
-    let mut err = Vec::new(alloc);
+    let mut writers = Writers {
+        out: Vec::new(alloc),
+        err: Vec::new(alloc),
+    };
     let _ending = run(
         alloc,
         Ok(words),
@@ -113,10 +115,9 @@ fn writes(alloc: Global, is_stuck: bool, written: (&[u8], &[u8])) -> Result<bool
                 is_stuck,
             })
         },
-        &mut out,
-        &mut err,
+        &mut writers,
     );
-    Ok(out.as_slice() == written.0 && err.as_slice() == written.1)
+    Ok(writers.out.as_slice() == written.0 && writers.err.as_slice() == written.1)
 }
 
 #[test]

@@ -1,6 +1,6 @@
 //! Traces and checks by the tables of a text.
 use program_arguments::Job;
-use program_jobs::act;
+use program_jobs::{Writers, act};
 use std::alloc::{AllocError, Global};
 use std::io::{self, ErrorKind, Read};
 use std::test::Fail;
@@ -124,18 +124,12 @@ fn answers(
     written: (&[u8], &[u8]),
 ) -> bool {
     let (mut tables, mut file) = texts;
-    let mut out = Vec::new(alloc);
-    let mut err = Vec::new(alloc);
-    let answer = act(
-        alloc,
-        alloc,
-        job,
-        &mut tables,
-        &mut file,
-        &mut out,
-        &mut err,
-    );
-    answer == status && out.as_slice() == written.0 && err.as_slice() == written.1
+    let mut writers = Writers {
+        out: Vec::new(alloc),
+        err: Vec::new(alloc),
+    };
+    let answer = act(alloc, alloc, job, &mut tables, &mut file, &mut writers);
+    answer == status && writers.out.as_slice() == written.0 && writers.err.as_slice() == written.1
 }
 
 #[test]
@@ -172,10 +166,12 @@ fn says<T: Read, R: Read>(
     file: &mut R,
     said: &[u8],
 ) -> bool {
-    let mut out = Vec::new(alloc);
-    let mut err = Vec::new(alloc);
-    let status = act(alloc, alloc, job, tables, file, &mut out, &mut err);
-    status == 3 && out.is_empty() && err.as_slice() == said
+    let mut writers = Writers {
+        out: Vec::new(alloc),
+        err: Vec::new(alloc),
+    };
+    let status = act(alloc, alloc, job, tables, file, &mut writers);
+    status == 3 && writers.out.is_empty() && writers.err.as_slice() == said
 }
 
 /// A reader that fails at its first call.

@@ -1,6 +1,6 @@
 //! Output that is interrupted, and output that is flushed.
 use program_arguments::Job;
-use program_jobs::act;
+use program_jobs::{Writers, act};
 use std::alloc::{AllocError, Global};
 use std::io::{self, Error, ErrorKind, Write};
 use std::test::Fail;
@@ -59,30 +59,31 @@ fn check(alloc: Global) -> Result<Job, AllocError> {
     })
 }
 
-/// Does the job over a recording of this text and these two writers, and returns the status.
+/// Does the job over a recording of this text and these writers, and returns the status.
 fn status_over<O: Write, E: Write>(
     alloc: Global,
     text: &[u8],
-    out: &mut O,
-    err: &mut E,
+    writers: &mut Writers<O, E>,
 ) -> Result<u8, AllocError> {
     let mut file = text;
     let job = check(alloc)?;
-    Ok(act(alloc, alloc, &job, &mut io::empty(), &mut file, out, err))
+    Ok(act(alloc, alloc, &job, &mut io::empty(), &mut file, writers))
 }
 
 /// An interrupted write is made again, of the output as of what is said of a failure.
 #[test]
 fn writes_on_after_an_interruption(rt: HostRuntime) -> Result<(), Fail> {
     let alloc = rt.alloc();
-    let mut out = ScriptWriter::new(alloc, INTERRUPTED);
-    let mut err = ScriptWriter::new(alloc, INTERRUPTED);
-    assert!(rt; status_over(alloc, b"", &mut out, &mut err)? == 0);
-    assert!(rt; out.written() == LAWFUL && err.written().is_empty());
-    let mut out = ScriptWriter::new(alloc, INTERRUPTED);
-    assert!(rt; status_over(alloc, b"> 0", &mut out, &mut err)? == 3);
-    assert!(rt; out.written().is_empty());
-    assert!(rt; err.written() == b"waywire: line 1: bad line\n".as_slice());
+    let mut writers = Writers {
+        out: ScriptWriter::new(alloc, INTERRUPTED),
+        err: ScriptWriter::new(alloc, INTERRUPTED),
+    };
+    assert!(rt; status_over(alloc, b"", &mut writers)? == 0);
+    assert!(rt; writers.out.written() == LAWFUL && writers.err.written().is_empty());
+    writers.out = ScriptWriter::new(alloc, INTERRUPTED);
+    assert!(rt; status_over(alloc, b"> 0", &mut writers)? == 3);
+    assert!(rt; writers.out.written().is_empty());
+    assert!(rt; writers.err.written() == b"waywire: line 1: bad line\n".as_slice());
     Ok(())
 }
 
@@ -90,20 +91,24 @@ fn writes_on_after_an_interruption(rt: HostRuntime) -> Result<(), Fail> {
 #[test]
 fn flushes_the_output(rt: HostRuntime) -> Result<(), Fail> {
     let alloc = rt.alloc();
-    let mut out = Buffered::new(alloc, false);
-    let mut err = Vec::new(alloc);
-    assert!(rt; status_over(alloc, b"", &mut out, &mut err)? == 0);
-    assert!(rt; out.passed.as_slice() == LAWFUL && err.is_empty());
+    let mut writers = Writers {
+        out: Buffered::new(alloc, false),
+        err: Vec::new(alloc),
+    };
+    assert!(rt; status_over(alloc, b"", &mut writers)? == 0);
+    assert!(rt; writers.out.passed.as_slice() == LAWFUL && writers.err.is_empty());
     Ok(())
 }
 
 #[test]
 fn says_that_flushing_failed(rt: HostRuntime) -> Result<(), Fail> {
     let alloc = rt.alloc();
-    let mut out = Buffered::new(alloc, true);
-    let mut err = Vec::new(alloc);
-    assert!(rt; status_over(alloc, b"", &mut out, &mut err)? == 3);
-    assert!(rt; out.passed.is_empty());
-    assert!(rt; err.as_slice() == b"waywire: cannot write\n".as_slice());
+    let mut writers = Writers {
+        out: Buffered::new(alloc, true),
+        err: Vec::new(alloc),
+    };
+    assert!(rt; status_over(alloc, b"", &mut writers)? == 3);
+    assert!(rt; writers.out.passed.is_empty());
+    assert!(rt; writers.err.as_slice() == b"waywire: cannot write\n".as_slice());
     Ok(())
 }

@@ -1,7 +1,7 @@
 //! The command `waywire`: prints and checks recorded sessions of Wayland clients.
 #![tactic(auto)]
 
-use program_jobs::{BoundSocket, ExitStatus, run};
+use program_jobs::{BoundSocket, ExitStatus, Writers, run};
 use std::fs::{self, File};
 use std::os::unix::net::{SocketAddr, UnixListener, UnixStream};
 use std::{env, io};
@@ -55,12 +55,15 @@ fn words(rt: &HostRuntime) -> io::Result<Vec<String>> {
 }
 
 fn main(rt: HostRuntime) -> ExitStatus {
+    let mut writers = Writers {
+        out: io::writer(&rt),
+        err: rt.stderr(),
+    };
     run(
         rt.alloc(),
         words(&rt),
         |name: &str| File::open(&rt, name),
         |path: &str| bind(&rt, path),
-        &mut io::writer(&rt),
-        &mut rt.stderr(),
+        &mut writers,
     )
 }

@@ -7,7 +7,7 @@ use Rattle.program_jobs.proofs.acting.finish.Goals as goal
 -- all was written
 pub returns-in-Ok-write_through-clause-acted : goal.returns-in-Ok-write_through-clause-acted
 returns-in-Ok-write_through-clause-acted g c = λ job known_tables known done refuses.
-    let written = subst (λ (bytes : List ℕ). Appends (g.O.Write.contents c.args.out.now)
+    let written = subst (λ (bytes : List ℕ). Appends (g.O.Write.contents c.args.writers.now.out)
     (g.O.Write.contents c.write_through.new.out) bytes) c.deref.ensures.value
     c.in-Ok-write_through.ensures.whole in
     printed c.in-Ok.output.text.items (rw c.in-Ok.is at done) written refl
@@ -15,7 +15,7 @@ returns-in-Ok-write_through-clause-acted g c = λ job known_tables known done re
 -- it was made, and not taken
 pub returns-in-Ok-clause-acted : goal.returns-in-Ok-clause-acted
 returns-in-Ok-clause-acted g c = λ job known_tables known done refuses.
-    let front = subst (λ (bytes : List ℕ). AppendsFront (g.O.Write.contents c.args.out.now)
+    let front = subst (λ (bytes : List ℕ). AppendsFront (g.O.Write.contents c.args.writers.now.out)
     (g.O.Write.contents c.write_through.new.out) bytes) c.deref.ensures.value c.write_through.ensures.front in
     not_taken c.in-Ok.output.text.items c.in-Ok.output.status (search rules)
     (rw c.in-Ok.is at done) front c.report.ensures.said

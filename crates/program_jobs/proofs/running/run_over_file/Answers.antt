@@ -7,14 +7,14 @@ pub returns-in-Ok : goal.returns-in-Ok
 returns-in-Ok g c =
     subst (λ (name : List ℕ). OpensFile g.R.Read.remaining g.O.Write.contents g.E.Write.contents
     (FnReturnsAt g.F.Fn c.args.opener.now) c.args.job.now
-    (g.T.Read.remaining c.args.tables.now) name c.args.out.now c.act.new.out c.args.err.now c.act.new.err c.act.result)
+    (g.T.Read.remaining c.args.tables.now) name c.args.writers.now.out c.act.new.writers.out c.args.writers.now.err c.act.new.writers.err c.act.result)
     c.as_str.ensures.value (opens_it c.in-Ok.file (search rules) c.act.ensures.acted)
 
 pub returns-in-Err : goal.returns-in-Err
 returns-in-Err g c =
     subst (λ (name : List ℕ). OpensFile g.R.Read.remaining g.O.Write.contents g.E.Write.contents
     (FnReturnsAt g.F.Fn c.args.opener.now) c.args.job.now
-    (g.T.Read.remaining c.args.tables.now) name c.args.out.now c.args.out.now c.args.err.now c.report.new.err
+    (g.T.Read.remaining c.args.tables.now) name c.args.writers.now.out c.args.writers.now.out c.args.writers.now.err c.report.new.err
     c.report.result)
     c.as_str.ensures.value (fails c.in-Err.error c.open_failure.result (search rules)
     (search rules) c.report.ensures.status refl c.report.ensures.said)
