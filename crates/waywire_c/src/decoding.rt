@@ -188,20 +188,24 @@ fn put_body(
     spelled_outcome(fault)
 }
 
-/// The message of an interface with this opcode, where this version has it.
-fn message_since(
-    tables: &Tables,
+/// The messages that a side sends to, or of, an interface of this version.
+#[derive(Clone, Copy)]
+struct MessageSet<'t> {
+    tables: &'t Tables,
     interface: Iface,
     version: u32,
     side: Side,
-    opcode: u16,
-) -> Option<&Signature>
+}
+
+/// The message with this opcode, where this version has it.
+fn message_since<'t>(set: &MessageSet<'t>, opcode: u16) -> Option<&'t Signature>
     ensures found { option_copied result
-        ≡ message_since tables.now interface.0 version side opcode }
+        ≡ message_since set.now.tables.now set.now.interface.0 set.now.version set.now.side
+        opcode }
     ensures few { IfSome result (λ message. length message.now.kinds ≤ max_args) }
 {
-    let message = tables.message(interface, side, opcode)?;
-    if message.since() <= version {
+    let message = set.tables.message(set.interface, set.side, opcode)?;
+    if message.since() <= set.version {
         Some(message)
     } else {
         None
@@ -210,20 +214,19 @@ fn message_since(
 
 /// Writes the message of this header, where the version of its interface has it.
 fn put_message(
-    tables: &Tables,
-    interface: Iface,
-    version: u32,
-    side: Side,
+    set: &MessageSet<'_>,
     header: Header,
     body: &[u8],
     decoded: &mut Decoded,
     args: &mut [ReportArg],
 ) -> u32
     requires room { max_args ≤ length args.old }
-    ensures { TellsKnown header (message_since tables.now interface.0 version side header.opcode)
+    ensures { TellsKnown header
+        (message_since set.now.tables.now set.now.interface.0 set.now.version set.now.side
+        header.opcode)
         body.now result (decoded_by decoded.new) args.old args.new }
 {
-    match message_since(tables, interface, version, side, header.opcode) {
+    match message_since(set, header.opcode) {
         Some(message) => put_body(header, message, body, decoded, args),
         None => {
             *decoded = of_header(header);
@@ -241,17 +244,14 @@ fn stands_whole(size: usize, bytes: &[u8]) -> bool
 
 /// Writes the message at the front of bytes.
 fn put_front(
-    tables: &Tables,
-    interface: Iface,
-    version: u32,
-    side: Side,
+    set: &MessageSet<'_>,
     bytes: &[u8],
     decoded: &mut Decoded,
     args: &mut [ReportArg],
 ) -> u32
     requires room { max_args ≤ length args.old }
-    ensures { TellsAtFront (nat_lt (length bytes.now) 8) tables.now interface.0 version side bytes.now
-        result (decoded_by decoded.new) args.old args.new }
+    ensures { TellsAtFront (nat_lt (length bytes.now) 8) set.now.tables.now set.now.interface.0
+        set.now.version set.now.side bytes.now result (decoded_by decoded.new) args.old args.new }
 {
     if bytes.len() < HEADER_LEN {
         *decoded = no_message();
@@ -264,9 +264,7 @@ fn put_front(
         return fault_status(Fault::BadSize);
     }
     let body = &bytes[HEADER_LEN..size];
-    put_message(
-        tables, interface, version, side, header, body, decoded, args,
-    )
+    put_message(set, header, body, decoded, args)
 }
 
 /// Takes apart the message that stands at the front of bytes, one of those that a sender writes to,
@@ -292,15 +290,13 @@ pub extern "C" fn waywire_c_tables_decode(
     if tables.version(Iface(interface)).is_none() {
         return NOT_FOUND;
     }
-    put_front(
+    let set = MessageSet {
         tables,
-        Iface(interface),
+        interface: Iface(interface),
         version,
         side,
-        bytes,
-        decoded,
-        args,
-    )
+    };
+    put_front(&set, bytes, decoded, args)
 }
 
 /// Whose messages a number means, where there is room for every argument.

@@ -20,9 +20,9 @@ returns-then-not-stands_whole c =
     sym (ap (λ (n : ℕ). is_size (length bytes) n) size) ∙ (sym c.stands_whole.ensures ∙ c.if-not-stands_whole.true) in
     rw (le-ltb (length bytes) 8 c.if-bytes-lt-HEADER_LEN.false)
     (subst
-    (λ (b : Bool). TellsWhole b c.args.tables.now c.args.interface.0 c.args.version c.args.side (header_at bytes)
-    bytes c.fault_status-then-not-stands_whole.result (decoded_by c.of_header.result) c.args.args.now
-    c.args.args.now)
+    (λ (b : Bool). TellsWhole b c.args.set.now.tables.now c.args.set.now.interface.0 c.args.set.now.version
+    c.args.set.now.side (header_at bytes) bytes c.fault_status-then-not-stands_whole.result
+    (decoded_by c.of_header.result) c.args.args.now c.args.args.now)
     (sym not-whole)
     (record {
       status_is = c.fault_status-then-not-stands_whole.ensures;
