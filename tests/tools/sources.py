@@ -84,65 +84,62 @@ class Made(unittest.TestCase):
 class Contracts(unittest.TestCase):
     """docs/CONTRACTS.md, the list of clauses."""
 
+    # Each sort of line, of a crate that has them all.
+    SOURCE = """
+    pub trait Box {
+        /// Its size. Never 0.
+        fn size(&self) -> u32
+            requires { IsOpen self }
+            ensures some { (a : Row)
+                → Fits a };
+
+        /// Whether it has none.
+        final fn is_empty(&self) -> bool {
+            false
+        }
+    }
+
+    impl<'a, T: Drop> Box for Tin<'a, T> {
+        fn size(&self) -> u32 {
+            4
+        }
+    }
+
+    impl fmt::Display for Tin<'_> {
+        ghost output = { Some tin_text };
+
+        fn fmt(&self) {}
+    }
+
+    impl Error for Tin<'_> {}
+
+    /// Opens it
+    /// by hand.
+    ///
+    /// Slowly.
+    #[inline]
+    pub fn open()
+        ensures* state { let {x = tin_row} Closed }
+        ensures { true }
+    {}
+
+    pub fn hidden() {}
+
+    fn private() {}
+    """
+    LISTED = [
+        "- `Box::size`: Its size. Requires *unnamed* (IsOpen); ensures `some` (Fits)",
+        "- `Box::is_empty`: Whether it has none.",
+        "- `Tin: Display`: Ensures `output` (tin_text)",
+        "- **law** `open`: Opens it by hand. Ensures `state` (HasLid), *unnamed*",
+    ]
+
     def test_page(self):
         written = "\n".join(module_of("tools/dev/contracts").page()) + "\n"
         self.assertEqual(read("docs/CONTRACTS.md"), written, "run tools/dev/contracts >docs/CONTRACTS.md")
 
     def test_functions(self):
-        """Each sort of line, of a crate that has them all."""
-        found = self.lines(
-            """
-            pub trait Box {
-                /// Its size. Never 0.
-                fn size(&self) -> u32
-                    requires { IsOpen self }
-                    ensures some { (a : Row)
-                        → Fits a };
-
-                /// Whether it has none.
-                final fn is_empty(&self) -> bool {
-                    false
-                }
-            }
-
-            impl<'a, T: Drop> Box for Tin<'a, T> {
-                fn size(&self) -> u32 {
-                    4
-                }
-            }
-
-            impl fmt::Display for Tin<'_> {
-                ghost output = { Some tin_text };
-
-                fn fmt(&self) {}
-            }
-
-            impl Error for Tin<'_> {}
-
-            /// Opens it
-            /// by hand.
-            ///
-            /// Slowly.
-            #[inline]
-            pub fn open()
-                ensures* state { let {x = tin_row} Closed }
-                ensures { true }
-            {}
-
-            pub fn hidden() {}
-
-            fn private() {}
-            """
-        )
-        self.assertEqual(
-            found,
-            [
-                "- `Box::size`: Its size. Requires *unnamed* (IsOpen); ensures `some` (Fits)",
-                "- `Box::is_empty`: Whether it has none.",
-                "- `Tin: Display`: Ensures `output` (tin_text)",
-                "- **law** `open`: Opens it by hand. Ensures `state` (HasLid), *unnamed*",
-            ],
-        )
+        self.assertEqual(self.lines(self.SOURCE), self.LISTED)
 
     def lines(self, source):
         """Returns the lines of a crate whose laws.rt has this source."""
@@ -182,3 +179,65 @@ class Definitions(unittest.TestCase):
             if len(files) > 1 and [file.split("/")[0] for file in files] != self.ends
         }
         self.assertEqual(twice, {})
+
+
+class Functions(unittest.TestCase):
+    """The functions in src/ of the crates."""
+
+    begins = re.compile(r"(?m)^ *(?:[\w()]+ |\"C\" )*fn (\w+)")
+    # Beside `self`, which is no parameter here.
+    most = 6
+    # Exports that c/ calls, each from the function of that name in include/waywire.h, whose
+    # parameters it passes on one by one: for a record it would have to write them to memory first.
+    of_c = {"waywire_c_tables_decode", "waywire_c_tables_message"}
+
+    def parameters(self, text):
+        """The parameters of each function of a source, without `self`."""
+        text = re.sub(r"//.*", "", text).replace("->", "")
+        return [(it[1], [*self.listed(text[it.end() :])]) for it in self.begins.finditer(text)]
+
+    @staticmethod
+    def listed(text):
+        """The parameters in the first parentheses that stand in no other brackets."""
+        depth, starts, found = 0, False, [""]
+        for letter in text:
+            depth -= letter in ")]}>"
+            if starts and not depth:
+                break
+            if starts and letter == "," and depth == 1:
+                found.append("")
+            elif starts:
+                found[-1] += letter
+            starts = starts or (letter == "(" and not depth)
+            depth += letter in "([{<"
+        return [it.strip() for it in found if not re.fullmatch(r"\s*|(.*\W)?self(: .*)?", it)]
+
+    def test_parameters(self):
+        """None has more than six: what belongs together is a record."""
+        found = {
+            name: given
+            for path in glob.glob("crates/*/src/*.rt", root_dir=TOP)
+            for name, given in self.parameters(read(path))
+            if len(given) > self.most
+        }
+        others = {name: given for name, given in found.items() if name not in self.of_c}
+        self.assertEqual(others, {})
+        self.assertEqual({*found}, self.of_c, "an exception that is none any more")
+        for name in self.of_c:
+            self.assertIn(f" = {name}(", read("c/tables.c"))
+            self.assertIn(f" {name.replace('_c_', '_')}(", read("include/waywire.h"))
+
+    def test_listed(self):
+        source = """
+            fn none(&self) -> (u8, u8) {}
+            pub(crate) const fn one<'a, F: Fn(&str, u8) -> Result<u8, ()>>(&'a mut self, call: &F) {
+                fn two(
+                    // Not, this.
+                    pair: (u8, Vec<u8, A>),
+                    mut rows: [u8; 2],
+                ) {}
+            }
+            pub extern "C" fn three(a: u8, b: fn(u8, u8) -> u8, itself: &mut u8) -> u32 {}
+        """
+        found = {name: len(given) for name, given in self.parameters(source)}
+        self.assertEqual(found, {"none": 0, "one": 1, "two": 2, "three": 3})
