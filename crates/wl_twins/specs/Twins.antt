@@ -7,12 +7,12 @@ use Rattle.wl_object_map.specs.declared.object.Object.{Object}
 use Rattle.wl_twins.specs.declared.twins.Twins.{Twins}
 
 -- the order of objects, as pairs of an id and a birth
-abbrev pub pair_cmp : ℕ × ℕ → ℕ × ℕ → Ordering
-pair_cmp a b = ordering_then (nat_cmp a.0 b.0) (nat_cmp a.1 b.1)
+abbrev pub key_cmp : ℕ × ℕ → ℕ × ℕ → Ordering
+key_cmp a b = ordering_then (nat_cmp a.0 b.0) (nat_cmp a.1 b.1)
 
 -- what a map has at an object
 abbrev pub twin_of : BTreeMap (ℕ × ℕ) Object → Object → Option Object
-twin_of twins object = get pair_cmp twins (object.id, object.birth)
+twin_of twins object = get key_cmp twins (object.id, object.birth)
 
 -- the client's twin of an object of the server's
 abbrev pub client_twin : {A : Type 0} → Twins A → Object → Option Object
