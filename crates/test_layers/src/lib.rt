@@ -5,6 +5,8 @@
 #[cfg(test)]
 mod message;
 #[cfg(test)]
+mod objects;
+#[cfg(test)]
 mod rings;
 #[cfg(test)]
 mod sigs;

@@ -47,6 +47,25 @@ fn ends<T: Table>(table: &mut T, id: u32) -> bool {
     }
 }
 
+/// Opens an object in place of an entry, if the id has one, is not the first, and has room.
+fn reopened<T: Table>(table: &mut T, id: u32) -> Option<Object> {
+    if id == 1 || table.look(id).is_none() || !table.has_room(id) {
+        return None;
+    }
+    Some(table.reopen(id, CALLBACK, 5))
+}
+
+/// Whether an opening in place of an entry returns an object of this birth, which then lives.
+fn reopens<T: Table>(table: &mut T, id: u32, birth: u64) -> bool {
+    let entry = Entry {
+        birth,
+        iface: CALLBACK,
+        version: 5,
+        state: State::Live,
+    };
+    reopened(table, id) == Some(Object { id, birth }) && table.look(id) == Some(entry)
+}
+
 /// Whether the table has used this number of ids, has `len` entries and has counted `births`.
 fn counts<T: Table>(table: &T, used: u32, len: u32, births: u64) -> bool {
     table.used() == used && table.len() == len && table.births() == births
@@ -116,6 +135,25 @@ fn keeps_zombies<T: Table>(table: &mut T) -> bool {
         && opens(table, 1, 2, 3)
 }
 
+/// Whether objects take the place of a zombie and of a live one, each with the next birth: the
+/// freed ids stay, and so does the number of ids used.
+fn replaces<T: Table>(table: &mut T) -> bool {
+    opens_three(table)
+        && ends(table, 2)
+        && closes(table, 4)
+        && reopens(table, 2, 4)
+        && reopens(table, 3, 5)
+        && reopens(table, 2, 6)
+        && reopened(table, 1).is_none()
+        && reopened(table, 4).is_none()
+        && counts(table, 4, 3, 7)
+        && opens(table, 1, 4, 7)
+        && opens(table, 1, 5, 8)
+        && ends(table, 2)
+        && closes(table, 2)
+        && opens(table, 1, 2, 9)
+}
+
 /// Opens the objects from id 2 on, below this id. Whether each was given its id and birth.
 fn opens_below<T: Table>(table: &mut T, limit: u32) -> bool {
     for id in 2..limit {
@@ -160,7 +198,8 @@ fn opens_downwards<T: Table>(table: &mut T, limit: u32, in_use: u32) -> bool {
 }
 
 /// Whether all ids come to be used, and one that is freed is the next; and where many are freed,
-/// an object is opened in their middle, and the others come in their order.
+/// an object is opened in their middle, and the others come in their order. A full table still
+/// opens one in place of another.
 fn fills_up<T: Table>(table: &mut T) -> bool {
     opens_below(table, 1_048_577)
         && is_full(table)
@@ -171,7 +210,8 @@ fn fills_up<T: Table>(table: &mut T) -> bool {
         && opens_at(table, 5_001, 1_048_577)
         && opens_downwards(table, 10_002, 5_001)
         && !table.can_open()
-        && counts(table, 1_048_576, 1_048_576, 1_058_577)
+        && reopens(table, 1_048_576, 1_058_577)
+        && counts(table, 1_048_576, 1_048_576, 1_058_578)
 }
 
 /// Whether two tables have the same entries under the same ids, and the same counts.
@@ -347,6 +387,21 @@ fn is_refused_in_turn<T: Table<Alloc = RefusingAllocator> + Drop>(
     Ok(is_made_in_the_end::<T>(memory)? && openings_are_refused::<T>(memory))
 }
 
+/// Whether an opening in place of an entry asks for no memory.
+fn replaces_in_place<T: Table<Alloc = RefusingAllocator> + Drop>(
+    memory: &RefusingAllocator,
+) -> bool {
+    memory.refuse_none();
+    let Some(mut table) = filled::<T>(memory, 5) else {
+        return false;
+    };
+    memory.refuse_nth(0);
+    ends(&mut table, 2)
+        && reopens(&mut table, 2, 6)
+        && reopens(&mut table, 3, 7)
+        && memory.asked() == 0
+}
+
 /// Whether this holds of a new table.
 fn holds<T: Table<Alloc = Global> + Drop, F: FnOnce(&mut T) -> bool>(
     alloc: Global,
@@ -379,6 +434,32 @@ fn map_table_keeps_zombies(rt: HostRuntime) -> Result<(), Fail> {
 #[test]
 fn slot_table_keeps_zombies(rt: HostRuntime) -> Result<(), Fail> {
     assert!(rt; holds(rt.alloc(), keeps_zombies::<SlotTable<Global>>)?);
+    Ok(())
+}
+
+#[test]
+fn map_table_replaces(rt: HostRuntime) -> Result<(), Fail> {
+    assert!(rt; holds(rt.alloc(), replaces::<MapTable<Global>>)?);
+    Ok(())
+}
+
+#[test]
+fn slot_table_replaces(rt: HostRuntime) -> Result<(), Fail> {
+    assert!(rt; holds(rt.alloc(), replaces::<SlotTable<Global>>)?);
+    Ok(())
+}
+
+#[test]
+fn map_table_replaces_in_place(rt: HostRuntime) -> Result<(), Fail> {
+    let memory = RefusingAllocator::new(rt.alloc())?;
+    assert!(rt; replaces_in_place::<MapTable<RefusingAllocator>>(&memory));
+    Ok(())
+}
+
+#[test]
+fn slot_table_replaces_in_place(rt: HostRuntime) -> Result<(), Fail> {
+    let memory = RefusingAllocator::new(rt.alloc())?;
+    assert!(rt; replaces_in_place::<SlotTable<RefusingAllocator>>(&memory));
     Ok(())
 }
 
@@ -417,23 +498,26 @@ enum Move {
     OpenAt(u32),
     End(u32),
     Close(u32),
+    Reopen(u32),
 }
 
-/// What a call returned. An end and a closing are made only where they are allowed, and say
-/// whether they were.
+/// What a call returned. An end, a closing and a reopening are made only where they are allowed,
+/// and say whether they were.
 #[derive(Clone, Copy, PartialEq)]
 enum Reply {
     Opened(Result<Object, TableError>),
     Made(bool),
+    Reopened(Option<Object>),
 }
 
 /// The move that a number stands for.
 fn move_of(drawn: u32) -> Move {
-    let id = drawn / 8 % 100;
-    match drawn % 8 {
+    let id = drawn / 9 % 100;
+    match drawn % 9 {
         0 | 1 => Move::OpenNext,
         2 | 3 => Move::OpenAt(id),
         4 => Move::End(id),
+        5 => Move::Reopen(id),
         _ => Move::Close(id),
     }
 }
@@ -444,6 +528,7 @@ fn reply_of<T: Table>(table: &mut T, next: Move) -> Reply {
         Move::OpenAt(id) => Reply::Opened(table.open_at(id, CALLBACK, 1)),
         Move::End(id) => Reply::Made(ends(table, id)),
         Move::Close(id) => Reply::Made(closes(table, id)),
+        Move::Reopen(id) => Reply::Reopened(reopened(table, id)),
     }
 }
 
@@ -454,6 +539,7 @@ struct Replies {
     not_next: u32,
     in_use: u32,
     made: u32,
+    reopened: u32,
 }
 
 impl Replies {
@@ -463,6 +549,7 @@ impl Replies {
             Reply::Opened(Err(TableError::NotNext)) => &mut self.not_next,
             Reply::Opened(Err(TableError::InUse)) => &mut self.in_use,
             Reply::Made(true) => &mut self.made,
+            Reply::Reopened(Some(_)) => &mut self.reopened,
             _ => return,
         };
         *counter = counter.saturating_add(1);
@@ -470,7 +557,7 @@ impl Replies {
 }
 
 /// Whether two tables reply alike to 2,000 moves, never with lack of memory, and are the same in
-/// the end. The moves are drawn from a fixed sequence of numbers; 19 of them open an object in the
+/// the end. The moves are drawn from a fixed sequence of numbers; 17 of them open an object in the
 /// midst of the freed ids.
 fn reply_alike<T: Table, U: Table>(one: &mut T, other: &mut U) -> bool {
     let mut replies = Replies {
@@ -478,6 +565,7 @@ fn reply_alike<T: Table, U: Table>(one: &mut T, other: &mut U) -> bool {
         not_next: 0,
         in_use: 0,
         made: 0,
+        reopened: 0,
     };
     let mut state = 1u32;
     for _ in 0u32..2000 {
@@ -490,12 +578,13 @@ fn reply_alike<T: Table, U: Table>(one: &mut T, other: &mut U) -> bool {
         replies.count(reply);
     }
     let wanted = Replies {
-        opened: 568,
-        not_next: 119,
-        in_use: 367,
-        made: 640,
+        opened: 475,
+        not_next: 136,
+        in_use: 280,
+        made: 512,
+        reopened: 123,
     };
-    are_same(one, other) && replies == wanted && counts(one, 99, 84, 569)
+    are_same(one, other) && replies == wanted && counts(one, 78, 69, 599)
 }
 
 #[test]

@@ -15,7 +15,7 @@ use Rattle.wl_object_map.specs.declared.slot_table.Slot.{Slot}
 use Rattle.wl_object_map.specs.declared.slot_table.Slot.TheVariants.{Free}
 use Rattle.wl_object_map.specs.View.{View, Sound, is_held, times, without, free_or_next, opening}
 use Rattle.wl_object_map.specs.View.{opened_at, closed, zombie, with_zombie, zombied}
-use Rattle.wl_object_map.specs.Views.{in_row, in_list, at_null, unused, place_of_id, times-without}
+use Rattle.wl_object_map.specs.Views.{times-without}
 use Rattle.wl_object_map.specs.Views.{length-without, without-absent, free_or_next-rows, unheld_is_free}
 use Rattle.wl_object_map.specs.Sounds.{used_of_freed, held_place, freed-reopened, used-reopened}
 use Rattle.wl_object_map.specs.Slots.{slot_at, slot_of_entry, row_in, rows_from, followed, view_of, new_row}

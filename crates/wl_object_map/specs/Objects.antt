@@ -1,7 +1,7 @@
 -- What one end's objects are, in both ranges of ids, and what opening, closing and zombie-making
 -- make of them. Each definition has the name of that of `View` for one table, and goes by the id on
 -- the wire.
-use Rattle.std.specs.Prelude.{◌≡◌, ℕ, ◌-◌, Bool, cond, refl, Option, Some, None, is_some}
+use Rattle.std.specs.Prelude.{ℕ, ◌-◌, Bool, cond, refl, Option, Some, None, is_some}
 use Rattle.std.specs.Coded.{Coded, code_by, coded×}
 use Rattle.wl_wire.specs.declared.kind.Iface.{Iface}
 use Rattle.wl_object_map.specs.declared.object.Entry.{Entry}

@@ -2,7 +2,6 @@ use Rattle.std.proofs.Common.{◌≡◌, true, sym, ap, subst, arith}
 use Rattle.std.proofs.lemmas.Grind.{common_steps}
 use Rattle.std.proofs.lemmas.Bool.Decides.{nat_tests}
 use Rattle.wl_object_map.specs.View as table
-use Rattle.wl_object_map.specs.View.{View}
 use Rattle.wl_object_map.specs.Objects.{Objects, AreSound, server_view, is_held}
 use Rattle.wl_object_map.specs.ObjectsLaws.{AreSound-closed}
 use Rattle.wl_object_map.proofs.ObjectsCalls.{client_changed, server_changed}
