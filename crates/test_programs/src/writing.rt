@@ -80,7 +80,10 @@ fn writes_on_after_an_interruption(rt: HostRuntime) -> Result<(), Fail> {
     };
     assert!(rt; status_over(alloc, b"", &mut writers)? == 0);
     assert!(rt; writers.out.written() == LAWFUL && writers.err.written().is_empty());
-    writers.out = ScriptWriter::new(alloc, INTERRUPTED);
+    let mut writers = Writers {
+        out: ScriptWriter::new(alloc, INTERRUPTED),
+        err: ScriptWriter::new(alloc, INTERRUPTED),
+    };
     assert!(rt; status_over(alloc, b"> 0", &mut writers)? == 3);
     assert!(rt; writers.out.written().is_empty());
     assert!(rt; writers.err.written() == b"waywire: line 1: bad line\n".as_slice());
