@@ -85,7 +85,7 @@ class Inspected(unittest.TestCase):
     def start(self, *words, **kept):
         """Starts the tool, and notes the path of its socket where there is no command."""
         self.tool = subprocess.Popen([*INSPECT, *words], **self.how(kept))
-        self.addCleanup(self.end)
+        self.addCleanup(self.end, self.tool)
         if not kept and sys.executable not in words:
             its = self.tool.stderr if "--json" in words else self.tool.stdout
             name = its.readline().rstrip("\n").removeprefix("WAYLAND_DISPLAY=")
@@ -96,10 +96,10 @@ class Inspected(unittest.TestCase):
         piped = {"stdout": subprocess.PIPE, "stderr": subprocess.PIPE}
         return {**piped, "env": self.env, "text": True, **kept}
 
-    def end(self):
-        self.tool.kill()
-        self.tool.wait()
-        for it in (self.tool.stdout, self.tool.stderr):
+    def end(self, tool):
+        tool.kill()
+        tool.wait()
+        for it in (tool.stdout, tool.stderr):
             if it:
                 it.close()
 

@@ -1,6 +1,7 @@
 #!/usr/bin/env python3
 """Tests of waywire-inspect between the programs of a desktop and sway without a screen, with a
-keyboard and a text in the clipboard: each is judged lawful to its end, with the installed tables.
+keyboard and a text in the clipboard: each is judged lawful to its end, with the installed tables,
+and its messages are those that WAYLAND_DEBUG makes the program say, each direction in order.
 
     tests/c/inspecting_at_a_desktop.py [CLASS[.TEST]]..
 
@@ -17,12 +18,20 @@ sys.dont_write_bytecode = True
 sys.path.insert(0, os.path.dirname(os.path.realpath(__file__)))
 from inspecting import LONG, WAYWIRE, main  # noqa: E402
 import inspecting_at_sway  # noqa: E402
-from checks import has_come, need  # noqa: E402
+from checks import COMES_UP, has_come, need  # noqa: E402
 
 # How long a program that has drawn, and does not end by itself, runs on, in seconds. That it is
 # lawful holds of whatever it does in that time.
 A_WHILE = 4
 DRAWN = r"-> wl_surface@\d+\.commit\("
+# It has a window and has asked for the clipboard, and it is offered the text.
+ASKS = r"(?s)\.get_data_device\(.*\.get_toplevel\("
+OFFERS = r"\.set_(primary_)?selection\("
+OFFERED = r"<- wl_data_device@\d+\.selection\(wl_data_offer@"
+VERDICT = re.compile(r"^(?:#\d+ )?((?:lawful|broken: |not judged from request|unjudged).*)", re.M)
+# Those that have queues of their own, by which they act on events.
+HAVE_QUEUES = {"gtk4-demo", "gtk4-widget-factory", "gtk4-icon-browser", "featherpad",
+               "weston-subsurfaces"}
 # The programs, by what draws them.
 PROGRAMS = {
     "gtk3": (["zenity", "--info", "--text=grüße"], ["gtk3-demo"], ["gtk3-widget-factory"],
@@ -30,7 +39,7 @@ PROGRAMS = {
     "gtk4": (["gtk4-demo"], ["gtk4-widget-factory"], ["gtk4-icon-browser"]),
     "qt": (["featherpad", "--standalone"],),
     "foot": (["foot"],),
-    "swaybg": (["swaybg", "--color", "336699"],),
+    "swaybg": (["swaybg", "--color", "#336699"],),
     "wlr-randr": (["wlr-randr"],),
     "waybar": (["waybar"],),
     "mpv": (["mpv", "--vo=wlshm", "--no-config", "--idle", "--force-window=yes"],),
@@ -40,6 +49,11 @@ PROGRAMS = {
                ["weston-editor"], ["weston-terminal"], ["weston-presentation-shm"], ["weston-scaler"],
                ["weston-fullscreen"], ["weston-info"]),
 }
+
+
+def has_settled(said):
+    """Whether a program has drawn, and one that gets the keyboard has got the clipboard, too."""
+    return re.search(DRAWN, said) and (not re.search(ASKS, said) or re.search(OFFERED, said))
 
 
 class Desktop(inspecting_at_sway.Sway):
@@ -57,8 +71,9 @@ class Desktop(inspecting_at_sway.Sway):
         # A keyboard, for as long as the test runs.
         other = subprocess.Popen(["wtype", "-s", str(1000 * LONG), "x"], env=self.quiet())
         self.addCleanup(self.end_all, [other])
-        self.env.update(GDK_BACKEND="wayland", QT_QPA_PLATFORM="wayland", NO_AT_BRIDGE="1", HOME=self.folder,
-                        GSK_RENDERER="cairo", XDG_CACHE_HOME=self.folder, XDG_CONFIG_HOME=self.folder)
+        self.env.update(GDK_BACKEND="wayland", QT_QPA_PLATFORM="wayland", NO_AT_BRIDGE="1",
+                        GSK_RENDERER="cairo", WAYLAND_DEBUG="1", HOME=self.folder,
+                        XDG_CACHE_HOME=self.folder, XDG_CONFIG_HOME=self.folder)
 
     def pasted(self):
         """The text in the clipboard."""
@@ -66,31 +81,44 @@ class Desktop(inspecting_at_sway.Sway):
         how = {"env": self.quiet(), "capture_output": True, "timeout": LONG, "check": False}
         return subprocess.run(words, **how).stdout
 
-    def verdicts_of(self, *command, until=DRAWN):
-        """The verdict of each client that a program starts, and the last lines before it. It runs
-        until the tool has said this of it, and then for a while. The program `waywire` gives the
-        same verdicts of what was recorded."""
-        said, error = f"{self.folder}/said", f"{self.folder}/error"
-        for path in (said, error):
+    def played(self, *command, until):
+        """Runs a program until this is so of what the tool has said of it, and then for a while.
+        Returns that, and what the program has said."""
+        paths = said, error = f"{self.folder}/said", f"{self.folder}/error"
+        for path in paths:
             open(path, "wb").close()
         options = ["--output", said, "--record", self.recorded]
         with open(error, "wb") as file:
-            self.start(*options, *command, stdout=file, stderr=file, stdin=subprocess.DEVNULL)
-        self.comes_up((said, error), " ".join(command))
+            kept = {"stdin": subprocess.DEVNULL, "stdout": subprocess.DEVNULL, "stderr": file}
+            self.start(*options, *command, **kept)
+        self.comes_up(paths, " ".join(command))
+        has_come(lambda: until(self.read(said)) or self.tool.poll() is not None)
         # Not all that is lawful draws: what has not after so long is judged as it is.
-        has_come(lambda: re.search(until, self.read(said)) or self.tool.poll() is not None)
+        has_drawn = self.tool.poll() is None and re.search(DRAWN, self.read(said))
+        if has_drawn and not until(self.read(said)):
+            self.end(self.tool)
+            self.skipTest(f"{command[0]} has not been offered the text within {COMES_UP} s")
         try:
             self.tool.wait(A_WHILE)
         except subprocess.TimeoutExpired:
             self.tool.send_signal(signal.SIGINT)
             self.tool.wait(LONG)
-        lines = self.read(said).splitlines()
-        words = ("lawful", "broken: ", "not judged from request", "unjudged")
-        verdicts = [it.split(" ", 1)[1] if it.startswith("#") else it for it in lines
-                    if it.split(" ", 1)[-1 if it.startswith("#") else 0].startswith(words)
-                    or it.startswith(words)]
+        return [self.read(it) for it in paths]
+
+    def verdicts_of(self, *command, until=has_settled):
+        """The verdict of each client that a program starts, and the last lines before it. The
+        program `waywire` gives the same verdicts of what was recorded; and what is lawful has the
+        messages that the client tells."""
+        said, error = self.played(*command, until=until)
+        verdicts = VERDICT.findall(said)
         self.check_recorded(verdicts)
-        return verdicts, "\n".join(lines[-6:]) + self.read(error)[-400:]
+        if len(verdicts) > 1:
+            # What a program tells does not say by which connection a message went.
+            print(f"\nskipped: messages of {command[0]}: it has {len(verdicts)} connections")
+        elif verdicts and verdicts[0].startswith("lawful"):
+            compared = self.same_messages(error, said, command[0] in HAVE_QUEUES)
+            self.assertGreater(compared, 0, command[0])
+        return verdicts, "\n".join(said.splitlines()[-6:]) + error[-400:]
 
     def check_recorded(self, verdicts):
         checked = []
@@ -151,8 +179,7 @@ class Desktop(inspecting_at_sway.Sway):
     def test_primary_selection(self):
         """A text is copied and pasted by the tool itself, also as primary selection."""
         for words in ([], ["--primary"]):
-            offers = r"\.set_(primary_)?selection\("
-            copying, _ = self.verdicts_of("wl-copy", *words, "one", until=offers)
+            copying, _ = self.verdicts_of("wl-copy", *words, "one", until=re.compile(OFFERS).search)
             pasting, last = self.verdicts_of("wl-paste", *words, "--no-newline")
             self.assertEqual([it.split(":")[0] for it in (*copying, *pasting)], ["lawful"] * 2, last)
 
@@ -160,7 +187,7 @@ class Desktop(inspecting_at_sway.Sway):
         """sway sends wl_output.done to an output of version 1, which has no such event."""
         need("wf-recorder")
         command = ["wf-recorder", "-f", f"{self.folder}/film.mkv"]
-        verdicts, last = self.verdicts_of(*command, until=r"(?m)^(#\d+ )?broken: ")
+        verdicts, last = self.verdicts_of(*command, until=re.compile("^broken: ", re.M).search)
         self.assertTrue(verdicts and verdicts[0].startswith("broken: < message "), last)
         self.assertTrue(verdicts[0].endswith("F3 unknown message"), last)
         self.assertIn("<- wl_output@", last)

@@ -15,8 +15,10 @@ import table_text
 
 # The status of the tool whose command has made no connection.
 NO_CONNECTION = 125
-# How a client names an object that it has destroyed.
-ZOMBIE = "[zombie]"
+# The interface of an object that a client has destroyed: libwayland does not know it any more.
+ZOMBIE = None
+# A message as both tell it; the number is that of its first argument, where that is one.
+Told = collections.namedtuple("Told", "interface id name number")
 # The opcodes of events, by the names of their interfaces and their own.
 OPCODES = {(interface.name, it.name): opcode
            for interface in table_text.read_more(table_text.core_tables(), joined_tables())
@@ -31,9 +33,9 @@ class RealClients(Inspected):
     STATUS = {"weston-simple-shm": 0, "weston-flower": 128 + signal.SIGINT}
     # A line of WAYLAND_DEBUG: a time, an arrow where it is a request, and the message. Of an event for an
     # object that the client has destroyed libwayland knows no names.
-    DEBUG = re.compile(r"\[ *[\d.]+\] (?:\{[^}]*\} )?(?:discarded )?( -> )?"
-                       r"(\w+|\[zombie\])[@#](\d+)\.(\w+|\[event \d+\])\(")
-    LINE = re.compile(r"(->|<-) (\w+)@(\d+)\.(\w+)\(")
+    DEBUG = re.compile(r"\[ *[\d.]+\] (?:\{[^}]*\} )?(?:discarded )?( -> )?(?:(\w+)|\[\w+\])[@#](\d+)"
+                       r"\.(\w+|\[event \d+\])\((?:(-?\d+)[.,)])?")
+    LINE = re.compile(r"(->|<-) (\w+)@(\d+)\.(\w+)\((?:(-?\d+)[.,)])?")
 
     def start_compositor(self, words, path, env, **kept):
         """Starts a compositor, which is ended with the test, and waits until a client can connect
@@ -63,23 +65,24 @@ class RealClients(Inspected):
                 it.wait()
 
     def parted(self, lines, form):
-        """The requests, and the events of wl_display and others, each an interface, an id and a name."""
+        """The requests, and the events of wl_display and others."""
         requests, own, others = [], [], []
         for line in lines:
             found = form.match(line)
             if found and found[1] and "->" in found[1]:
-                requests.append(found.groups()[1:])
+                requests.append(Told(*found.groups()[1:]))
             elif found:
-                (own if found[2] == "wl_display" else others).append(found.groups()[1:])
+                (own if found[2] == "wl_display" else others).append(Told(*found.groups()[1:]))
         return requests, own, others
 
     def as_they_came(self, told, printed):
         """What the client has told of events, in the order in which they came. Of an event for an
         object that it has destroyed it tells as it reads that, and of the others as it acts on
         them, some time later."""
-        zombies = collections.Counter(it for it in told if it[0] == ZOMBIE)
-        others, came = collections.deque(it for it in told if it[0] != ZOMBIE), []
-        zombie_of = {it: (ZOMBIE, it[1], f"[event {OPCODES.get(it[::2])}]") for it in printed}
+        zombies = collections.Counter(it for it in told if it.interface is ZOMBIE)
+        others, came = collections.deque(it for it in told if it.interface is not ZOMBIE), []
+        opcodes = {it: OPCODES.get((it.interface, it.name)) for it in printed}
+        zombie_of = {it: Told(ZOMBIE, it.id, f"[event {opcodes[it]}]", None) for it in printed}
         for it in printed:
             if others and others[0] == it:
                 others.popleft()
@@ -92,12 +95,12 @@ class RealClients(Inspected):
         unread = zombies - collections.Counter(zombie_of[it] for it in printed[len(came):])
         return [*came, *others, *unread.elements()]
 
-    def same(self, told, printed, which):
-        """One list begins with the other. The client's own word ends with what it wrote and did not
-        send, or lacks what came and it did not read any more: much, where it had to wait."""
-        length = min(len(told), len(printed))
-        self.assertEqual(told[:length], printed[:length], which)
-        self.assertLess(max(len(told), len(printed)) - length, 1000, which)
+    def begins(self, whole, front, which):
+        """A list begins with another, and has not too much behind it: much, where a client waited."""
+        for at, one in enumerate(front):
+            if whole[at : at + 1] != [one]:
+                self.fail(f"{which}, number {at} on: {front[at:at + 5]}, not {whole[at:at + 5]}")
+        self.assertLess(len(whole) - len(front), 1000, which)
 
     def start_at_files(self, *words, until=lambda said: len(said.splitlines()) > 40):
         """Starts the tool with files for what it says, and waits until a client has said so much. A
@@ -127,6 +130,23 @@ class RealClients(Inspected):
         with open(path, encoding="utf-8", errors="replace") as file:
             return file.read()
 
+    def same_messages(self, error, said, has_queues=False):
+        """The messages that a client tells are those that the tool prints, each direction in order,
+        but for the last: requests that it wrote and did not send, events that it did not act on.
+        A client that has queues of its own acts on the events of one queue before those of another
+        that came earlier: of it, those for each object are in order. Returns how many are compared."""
+        told = self.parted(error.splitlines(), self.DEBUG)
+        printed = self.parted(said.splitlines(), self.LINE)
+        # libwayland says nothing of an event for an object that nobody listens to.
+        heard = {it[:2] for it in told[2]}
+        others = [it for it in printed[2] if it[:2] in heard or (ZOMBIE, it.id) in heard]
+        self.begins(told[0], printed[0], "requests")
+        self.begins(printed[1], told[1], "events of wl_display")
+        for one in {it.id for it in (*told[2], *others)} if has_queues else {None}:
+            its = [[it for it in events if one in (None, it.id)] for events in (told[2], others)]
+            self.begins(its[1], self.as_they_came(*its), f"events for {one or 'objects'}")
+        return sum(map(len, (printed[0], told[1], told[2])))
+
     def inspected(self, *command, meanwhile=lambda path: None, least=20, **kept):
         """Runs a client for a while: it says each message, and so does the tool; and what was recorded has
         the same verdict. `meanwhile` is given the path of what the tool says. Returns that."""
@@ -140,14 +160,8 @@ class RealClients(Inspected):
         late = (128 + signal.SIGTERM, 128 + signal.SIGKILL)
         self.assertTrue(usual is None or status in (usual, *late), status)
         said, error = (self.read(it) for it in paths)
-        told, printed = self.parted(error.splitlines(), self.DEBUG), self.parted(said.splitlines(), self.LINE)
-        # libwayland says nothing of an event for an object that nobody listens to.
-        heard = {it[:2] for it in told[2]}
-        others = [it for it in printed[2] if it[:2] in heard or (ZOMBIE, it[1]) in heard]
-        self.assertGreater(len(told[0]), least)
-        self.same(told[0], printed[0], "requests")
-        self.same(told[1], printed[1], "events of wl_display")
-        self.same(self.as_they_came(told[2], others), others, "events")
+        self.assertGreater(error.count(" -> "), least)
+        self.same_messages(error, said)
         verdict = said.splitlines()[-1]
         self.assertTrue(verdict.startswith("lawful: "), verdict)
         self.checked(self.recorded, said.splitlines(), "--tables", self.all_tables())
