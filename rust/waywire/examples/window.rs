@@ -7,7 +7,7 @@ use common::{compositor_path, socket, Failure, Link};
 use std::{collections::HashMap, io::Write, os::unix::net::UnixStream};
 use waywire::wayland::wl_shm::{Format, WlShm};
 use waywire::wayland::{wl_compositor::WlCompositor, wl_display::WlDisplay, wl_registry};
-use waywire::{Client, Handle, Incoming, Sizes, Tables};
+use waywire::{Client, Handle, Sizes, Tables};
 
 const SIDE: i32 = 64;
 /// The bytes of a pixel: blue, green, red.
@@ -29,30 +29,18 @@ impl xdg_surface::Events for Told {
     }
 }
 
-/// Goes round until the compositor has read all that was written.
 fn round_trip(link: &mut Link<Client>, tables: &Tables, told: &mut Told) -> Result<(), Failure> {
-    let callback = WlDisplay(link.display()).sync(link)?;
-    while link.wait()? {
-        while let Some(incoming) = link.next()? {
-            match incoming {
-                Incoming::Event(event) => {
-                    let _is_known = wl_registry::dispatch_event(told, tables, &event)
-                        || xdg_surface::dispatch_event(told, tables, &event);
-                }
-                Incoming::Deleted(object) if object == callback.0 => return Ok(()),
-                Incoming::Error(error) => return Err(error.to_string().into()),
-                _ => {}
-            }
-        }
-    }
-    Err("the compositor has gone".into())
+    link.round_trip(|event| {
+        let _is_known = wl_registry::dispatch_event(told, tables, event)
+            || xdg_surface::dispatch_event(told, tables, event);
+    })
 }
 
 fn main() -> Result<(), Failure> {
     let tables = Tables::core()?.read(xdg_shell::TABLES)?;
     let client = Client::new(&tables, &Sizes::default())?;
-    let (mut told, mut link) =
-        (Told::default(), Link::new(client, UnixStream::connect(compositor_path())?));
+    let mut link = Link::new(client, UnixStream::connect(compositor_path())?);
+    let mut told = Told::default();
     let registry = WlDisplay(link.display()).get_registry(&mut link)?;
     round_trip(&mut link, &tables, &mut told)?;
     let name =

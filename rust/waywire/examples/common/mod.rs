@@ -13,7 +13,8 @@ use std::os::fd::{AsRawFd, OwnedFd, RawFd};
 use std::os::unix::net::UnixStream;
 use std::path::PathBuf;
 use std::time::Duration;
-use waywire::{Amounts, Client, Failed, Server};
+use waywire::wayland::wl_display::WlDisplay;
+use waywire::{Amounts, Client, Event, Failed, Incoming, Server};
 
 pub type Failure = Box<dyn std::error::Error>;
 
@@ -141,6 +142,25 @@ impl<E: End> Link<E> {
         let tokens: Vec<u32> = came.into_iter().map(|it| self.token(it)).collect();
         self.end.feed(&bytes[..count], &tokens).map_err(Error::other)?;
         Ok(count > 0)
+    }
+}
+
+impl Link<Client> {
+    /// Goes round until the compositor has read all that was written. What comes meanwhile is given
+    /// to a dispatch.
+    pub fn round_trip(&mut self, mut dispatch: impl FnMut(&Event)) -> Result<(), Failure> {
+        let callback = WlDisplay(self.display()).sync(self)?;
+        while self.wait()? {
+            while let Some(incoming) = self.next()? {
+                match incoming {
+                    Incoming::Event(event) => dispatch(&event),
+                    Incoming::Deleted(object) if object == callback.0 => return Ok(()),
+                    Incoming::Error(error) => return Err(error.to_string().into()),
+                    _ => {}
+                }
+            }
+        }
+        Err("the compositor has gone".into())
     }
 }
 
