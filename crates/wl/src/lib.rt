@@ -332,8 +332,8 @@
 //! - `new` of a client, a server and a pair for sizes that [`Sizes::is_allowed`] allows, and that
 //!   of a pair for one limit in both;
 //! - [`Recording::add`] for at most 65,536 tokens;
-//! - `make_zombie` of a table for a live object, `close` for an id that has one, and neither for id
-//!   1.
+//! - `make_zombie` of a table for a live object, `close` and `reopen` for an id that has one,
+//!   `reopen` where [`Table::has_room`] says so too, and none of them for id 1.
 //!
 //! What the library's own crates call of these types is left out: `core` of an end, `prepare` and
 //! `fill_last` of a recording, `append_to` of a piece that passed.
@@ -459,6 +459,7 @@
 //!     fn len(&self) -> u32
 //!     fn open_next(&mut self, iface: Iface, version: u32) -> Result<Object, TableError>
 //!     fn open_at(&mut self, id: u32, iface: Iface, version: u32) -> Result<Object, TableError>
+//!     fn reopen(&mut self, id: u32, iface: Iface, version: u32) -> Object
 //!     fn make_zombie(&mut self, id: u32)
 //!     fn close(&mut self, id: u32)
 //! Pair<'t, T: Table>
