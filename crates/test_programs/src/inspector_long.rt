@@ -56,11 +56,12 @@ const GLOBAL: [u8; 32] = [
 
 const GLOBALS: u64 = 2_000;
 
-/// How much memory an inspector takes behind a small piece, before a huge one and after it.
+/// How much memory an inspector takes behind small pieces, before a huge one and after it.
 fn taken(heap: &LocalHeap, tables: &Tables, huge: &[u8]) -> Result<(usize, usize), AllocError> {
     let mut inspector = Inspector::new(heap, tables, Limit::USUAL)?;
     inspector.pass(Direction::ToServer, &GET_REGISTRY, 0)?;
-    inspector.pass(Direction::ToClient, &GLOBAL, 0)?;
+    inspector.pass(Direction::ToClient, &GLOBAL[..7], 0)?;
+    inspector.pass(Direction::ToClient, &GLOBAL[7..], 0)?;
     let before = heap.used();
     inspector.pass(Direction::ToClient, &GLOBAL[..7], 0)?;
     inspector.pass(Direction::ToClient, huge, 0)?;
