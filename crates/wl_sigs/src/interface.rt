@@ -308,6 +308,7 @@ fn grown_signatures<'n, A: Allocator + Clone + Drop>(
     Ok(all)
 }
 
+#[inline(always)]
 fn placed_signatures<'n, A: Allocator + Clone + Drop>(
     alloc: &A,
     places: &Places<'n, A>,
