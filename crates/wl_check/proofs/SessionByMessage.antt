@@ -1,6 +1,6 @@
 -- A session judged message by message.
 use Rattle.std.proofs.Common.{◌≡◌, ℕ, zero, suc, ◌+◌, ◌*◌, ◌^◌, ◌-◌, ◌<◌, ◌≤◌, true, false, Some}
-use Rattle.std.proofs.Common.{None, List, [], ◌∷◌, ◌++◌, slice_get, length, take, drop, map, refl}
+use Rattle.std.proofs.Common.{None, List, [], ◌∷◌, slice_get, length, take, drop, map, refl}
 use Rattle.std.proofs.Common.{sym, ap, ◌∙◌, arith, subst}
 use Rattle.std.specs.declared.result.Result.TheVariants.{Ok, Err}
 use Rattle.std.proofs.lemmas.List.{length-drop, length-take, drop-drop, take_all}

@@ -5,7 +5,7 @@ use Rattle.std.specs.Map.{lookup}
 use Rattle.std.specs.Option.{unwrap_or}
 use Rattle.wl_check.specs.Held.{pair_cmp}
 use Rattle.wl_check.proofs.Undone.{put_back_global, put_back_none}
-use Rattle.wl_check.proofs.Versions.{version_more, version_same}
+use Rattle.wl_check.proofs.Versions.{version_more}
 use Rattle.wl_check.proofs.holdings.Holdings.remember_global.Goals as goal
 
 pub returns-in_err-insert-clause-undone : goal.returns-in_err-insert-clause-undone
