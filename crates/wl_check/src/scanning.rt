@@ -34,6 +34,7 @@ pub(crate) struct Scanner<A: Allocator = Global> {
 
 /// Judges the messages that the bytes of a piece complete, behind those that wait for more, and
 /// leaves what waits now. Where memory runs out, what waited before stands in front.
+#[inline(always)]
 fn judge_bytes<A: Allocator + Clone>(
     state: &mut SessionState<A>,
     waiting: &mut WaitingBytes<A>,
@@ -63,7 +64,9 @@ fn judge_bytes<A: Allocator + Clone>(
 {
     if waiting.len() == 0 {
         let place = state.judge_all(piece.bytes, piece.direction, tokens, rules, journal)?;
-        waiting.append(&piece.bytes[place..])?;
+        if place < piece.bytes.len() {
+            waiting.append(&piece.bytes[place..])?;
+        }
         return Ok(());
     }
     waiting.append(piece.bytes)?;
@@ -72,7 +75,7 @@ fn judge_bytes<A: Allocator + Clone>(
     Ok(())
 }
 
-/// The same, but where memory runs out, all is as it was, if it was written down.
+/// The same, but where memory runs out, all is as it was, if what was overwritten was written down.
 fn judge_or_go_back<A: Allocator + Clone>(
     state: &mut SessionState<A>,
     waiting: &mut WaitingBytes<A>,
@@ -100,14 +103,12 @@ fn judge_or_go_back<A: Allocator + Clone>(
         ≡ Some state.old.progress.known.held → state.new ≡ state.old) }
     ensures waiting { OnErr result (waiting.new ≡ waiting.old) }
 {
-    let numbers = state.numbers(&journal.undo);
+    let numbers = state.numbers();
     let len = waiting.len();
     match judge_bytes(state, waiting, piece, tokens, rules, journal) {
         Ok(()) => Ok(()),
         Err(error) => {
-            if let Some(numbers) = numbers {
-                state.go_back(numbers, &mut journal.undo);
-            }
+            state.go_back(numbers, &mut journal.undo);
             waiting.go_back(len);
             Err(error)
         }
@@ -144,7 +145,8 @@ fn judge_piece<A: Allocator + Clone>(
     ensures output { journal.new.sink.output ≡ journal.old.sink.output }
     ensures state { OnErr result (undone_by journal.old.undo state.old.progress.known.held
         ≡ Some state.old.progress.known.held → state.new ≡ state.old) }
-    ensures stream { OnErr result (stream.new ≡ stream.old) }
+    ensures stream { OnErr result (undone_by journal.old.undo state.old.progress.known.held
+        ≡ Some state.old.progress.known.held → stream.new ≡ stream.old) }
 {
     // More than these numbers count does not fit into any memory.
     let Some(len) = stream.len.checked_add(piece.bytes.len()) else {
@@ -158,7 +160,12 @@ fn judge_piece<A: Allocator + Clone>(
         stream.tokens = tokens;
         return Ok(());
     }
-    judge_or_go_back(state, &mut stream.bytes, piece, tokens, rules, journal)?;
+    let waiting = &mut stream.bytes;
+    match journal.undo {
+        // Nothing is put back, so nothing is kept for that.
+        UndoList::Off => judge_bytes(state, waiting, piece, tokens, rules, journal)?,
+        UndoList::On(_) => judge_or_go_back(state, waiting, piece, tokens, rules, journal)?,
+    }
     stream.len = len;
     stream.tokens = tokens;
     Ok(())

@@ -203,19 +203,8 @@ impl<A: Allocator> SessionState<A> {
         }
     }
 
-    /// All but what is held, where what is overwritten is written down: nothing else is gone back to.
-    pub(crate) fn numbers(&self, undo: &UndoList<A>) -> Option<Numbers>
-        ensures { (held : Held) → undone_by undo.now self.now.progress.known.held ≡ Some held
-            → result ≡ Some (numbers_in self.now) }
-    {
-        match undo {
-            UndoList::Off => None,
-            UndoList::On(_) => Some(self.all_numbers()),
-        }
-    }
-
     /// All but what is held.
-    fn all_numbers(&self) -> Numbers
+    pub(crate) fn numbers(&self) -> Numbers
         ensures { result ≡ numbers_in self.now }
     {
         let Progress {

@@ -1,6 +1,6 @@
 use Rattle.std.proofs.Common.{◌≡◌, ◌-◌, ◌≤◌, ◌++◌, [], List, ℕ, length, drop, take, sym, ap, ◌∙◌, subst, arith}
 use Rattle.std.proofs.Math.Logic.{∥∥₁_map}
-use Rattle.std.proofs.lemmas.List.{nil_from_length}
+use Rattle.std.proofs.lemmas.List.{drop_all, nil_from_length}
 use Rattle.wl_check.specs.SessionState.{AllJudged, CutFollows}
 use Rattle.wl_check.proofs.SessionByMessage.{rest_is}
 use Rattle.wl_check.proofs.scanning.judge_bytes.Goals as goal
@@ -23,8 +23,8 @@ judge_all-requires-clause-follows g c =
           (ap (λ (l : List ℕ). l ++ c.args.piece.now.bytes.now) none) x.1,
     ))
 
-pub returns-then-len-eq0-clause-judged : goal.returns-then-len-eq0-clause-judged
-returns-then-len-eq0-clause-judged g c s h =
+pub returns-in_ok-append-clause-judged : goal.returns-in_ok-append-clause-judged
+returns-in_ok-append-clause-judged g c s h =
     let len = c.len.ensures in
     let zero = c.if-len-eq0.true in
     let none = nil_from_length c.args.waiting.now (omega (arith, len, zero)) in
@@ -37,8 +37,30 @@ returns-then-len-eq0-clause-judged g c s h =
     c.args.state.now
     c.args.piece.now.direction c.args.tokens) (ap (λ (l : List ℕ). l ++ c.args.piece.now.bytes.now) none) h))
 
-pub returns-then-len-eq0-clause-lines : goal.returns-then-len-eq0-clause-lines
-returns-then-len-eq0-clause-lines g c s h =
+pub returns-in_ok-append-clause-lines : goal.returns-in_ok-append-clause-lines
+returns-in_ok-append-clause-lines g c s h =
+    let len = c.len.ensures in
+    let zero = c.if-len-eq0.true in
+    let none = nil_from_length c.args.waiting.now (omega (arith, len, zero)) in
+    c.in_ok-place.ensures.lines s (subst (CutFollows c.args.rules.now.limit.bytes c.args.rules.now.tables.now s
+    c.args.state.now
+    c.args.piece.now.direction c.args.tokens) (ap (λ (l : List ℕ). l ++ c.args.piece.now.bytes.now) none) h)
+
+pub returns-else-place-piece-clause-judged : goal.returns-else-place-piece-clause-judged
+returns-else-place-piece-clause-judged g c s h =
+    let len = c.len.ensures in
+    let zero = c.if-len-eq0.true in
+    let past = c.if-place-piece.false in
+    let none = nil_from_length c.args.waiting.now (omega (arith, len, zero)) in
+    let left = none ∙ sym (drop_all c.in_ok-place.place c.args.piece.now.bytes.now (omega (arith, past))) in
+    subst (AllJudged c.args.rules.now.limit.bytes c.args.rules.now.tables.now s c.judge_all.new.self
+    c.args.piece.now.direction) (sym left)
+    (c.in_ok-place.ensures.judged s (subst (CutFollows c.args.rules.now.limit.bytes c.args.rules.now.tables.now s
+    c.args.state.now
+    c.args.piece.now.direction c.args.tokens) (ap (λ (l : List ℕ). l ++ c.args.piece.now.bytes.now) none) h))
+
+pub returns-else-place-piece-clause-lines : goal.returns-else-place-piece-clause-lines
+returns-else-place-piece-clause-lines g c s h =
     let len = c.len.ensures in
     let zero = c.if-len-eq0.true in
     let none = nil_from_length c.args.waiting.now (omega (arith, len, zero)) in
