@@ -172,6 +172,7 @@ fn read_bytes<A: Allocator>(alloc: A, digits: &[u8]) -> Result<Option<Bytes<A>>,
 
 // Appends the bytes that these digits stand for, if they stand for any, and returns how many these
 // are; else it appends nothing, as where memory runs out.
+#[inline(always)]
 fn append_digits<A: Allocator>(
     digits: &[u8],
     bytes: &mut Vec<u8, A>,
