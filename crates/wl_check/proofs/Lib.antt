@@ -22,4 +22,4 @@ pub mod PrintedSoFar
 pub mod Undone
 pub mod EventMakes
 pub mod Versions
-pub mod ReadPiece
+pub mod ReadyPiece

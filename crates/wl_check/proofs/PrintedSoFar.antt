@@ -77,7 +77,7 @@ lines_reach : {A : Type 0} (limit : ℕ) (tables : List Interface) (ps : List Pi
 lines_reach limit tables ps s h = lines_reach_as limit tables ps s s.state.status refl h
 
 -- what was written of a piece, where messages were judged up to the ends
-prints_piece : {A : Type 0} (limit : ℕ) (tables : List Interface) (o : Output) (ps : List Piece) (p : Piece)
+pub prints_piece : {A : Type 0} (limit : ℕ) (tables : List Interface) (o : Output) (ps : List Piece) (p : Piece)
     (s t : Scanner A) (old new : List ℕ) → IsAfter limit tables ps s → IsAfter limit tables (ps ++ p ∷ []) t
     → PrintsOn tables (session_of limit (ps ++ p ∷ [])) o s.state.count t.state.count old new
     → PrintsPiece limit tables o ps p old new

@@ -1,13 +1,14 @@
 -- How far a session was judged, message by message and piece by piece.
 use Rattle.std.specs.Prelude.{◌≡◌, ℕ, ◌+◌, ◌*◌, ◌^◌, ◌<◌, ◌≤◌, Bool, true, false, suc, List}
-use Rattle.std.specs.Prelude.{map, length, drop, take, slice_get, Some}
+use Rattle.std.specs.Prelude.{◌++◌, map, length, drop, take, slice_get, Some}
 use Rattle.std.specs.declared.result.Result.TheVariants.{Ok, Err}
 use Rattle.wl_sigs.specs.Tables.{Interface}
 use Rattle.wl_message.specs.Cut.{is_size}
 use Rattle.wl_objects.specs.declared.error.Fault.{Fault}
 use Rattle.wl_recording.specs.declared.piece.Direction.{Direction}
 use Rattle.wl_recording.specs.declared.piece.Direction.TheVariants.{ToServer, ToClient}
-use Rattle.wl_recording.specs.Piece.{Piece}
+use Rattle.wl_recording.specs.declared.piece.Appended.{Appended}
+use Rattle.wl_recording.specs.Piece.{IsAppended, Piece}
 use Rattle.wl_check.specs.declared.session_state.Numbers.{Numbers}
 use Rattle.wl_check.specs.declared.session_state.SessionState.{SessionState}
 use Rattle.wl_check.specs.declared.session_state.SessionStatus.{SessionStatus}
@@ -175,6 +176,33 @@ pub record IsAfter {A : Type 0} (limit : ℕ) (tables : List Interface) (ps : Li
   pub all : is_going s.state.status ≡ true → length (merged limit ps) ≡ s.state.count
   pub to_server : IsStream limit ToServer ps s.state s.to_server
   pub to_client : IsStream limit ToClient ps s.state s.to_client
+
+-- These pieces were judged, and one more has come: its bytes stand behind those that were left in
+-- its direction, but it is not counted yet.
+pub record HasCome {A : Type 0} (limit : ℕ) (tables : List Interface) (ps : List Piece) (p : Piece)
+    (appended : Appended) (c : SessionState A) (stream : Stream A)
+    : Type 0 where
+  pub before : Stream A
+  pub along : Along limit tables p.direction ps c before
+  pub bytes : stream.bytes ≡ before.bytes ++ p.bytes
+  pub len : stream.len ≡ before.len
+  pub tokens : stream.tokens ≡ before.tokens
+  pub direction_is : appended.direction ≡ p.direction
+  pub len_is : appended.len ≡ length p.bytes
+  pub tokens_are : appended.tokens ≡ p.tokens
+
+-- the same, in both directions
+pub record IsReady {A : Type 0} (limit : ℕ) (tables : List Interface) (ps : List Piece) (p : Piece)
+    (appended : Appended) (s : Scanner A) : Type 0 where
+  pub before : Scanner A
+  pub after : IsAfter limit tables ps before
+  pub state : s.state ≡ before.state
+  pub len_to_server : s.to_server.len ≡ before.to_server.len
+  pub len_to_client : s.to_client.len ≡ before.to_client.len
+  pub tokens_to_server : s.to_server.tokens ≡ before.to_server.tokens
+  pub tokens_to_client : s.to_client.tokens ≡ before.to_client.tokens
+  pub appended_is : IsAppended p appended before.to_server.bytes s.to_server.bytes
+      before.to_client.bytes s.to_client.bytes
 
 -- ---- a state that memory running out goes back to
 

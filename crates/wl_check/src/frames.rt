@@ -1,12 +1,17 @@
 //! A recording's messages, cut off the bytes of their directions.
-ghost use Rattle.std.specs.Prelude.{◌≡◌, ◌≤◌, ◌++◌, [], drop, length, take, OnOk, OnErr};
+ghost use Rattle.std.specs.Prelude.{◌≡◌, ◌≤◌, ◌<◌, ◌+◌, ◌^◌, ◌++◌, ◌∷◌, ◌⊎◌, ℕ, List, [], drop};
+ghost use Rattle.std.specs.Prelude.{length, take, IfErr, IfNone, IfOk, IfSome, MatchOption, OnErr};
+ghost use Rattle.std.specs.Prelude.{OnOk};
 ghost use Rattle.wl_message.specs.Cut.{front};
+ghost use Rattle.wl_recording.specs.declared.recording.RecordingError.TheVariants.{BadLine, Memory};
+ghost use Rattle.wl_recording.specs.Piece.{IsAppended, Piece};
+ghost use Rattle.wl_recording.specs.Text.{IsFirstBad, IsReadUpTo, TextRecords};
 ghost use Rattle.wl_check.specs.Seen.{size_of};
 
 use std::alloc::{AllocError, Allocator, Global};
 use std::marker::Model;
 use wl_message::Limit;
-use wl_recording::Direction;
+use wl_recording::{Appended, Direction, PieceReader, RecordingError};
 use wl_wire::Header;
 
 /// How much room is kept at most for bytes that wait, beside what they take: most messages have
@@ -89,6 +94,30 @@ pub(crate) fn empty_stream<A: Allocator>(alloc: A) -> Stream<A>
     }
 }
 
+/// Reads on to the next piece of a text, and appends its bytes to those that wait in its direction.
+pub(crate) fn append_next<A: Allocator>(
+    reader: &mut PieceReader<'_>,
+    to_server: &mut WaitingBytes<A>,
+    to_client: &mut WaitingBytes<A>,
+) -> Result<Option<Appended>, RecordingError>
+    requires { reader.old.number + length reader.old.rest.now < 2 ^ 64 }
+    ensures read { IfOk result (λ found. (text : List ℕ) (pieces : List Piece)
+        → IsReadUpTo text reader.old.rest.now reader.old.number pieces
+        → MatchOption found (TextRecords text pieces)
+        (λ appended. (piece : Piece)
+        × IsReadUpTo text reader.new.rest.now reader.new.number (pieces ++ piece ∷ [])
+        × IsAppended piece appended to_server.old to_server.new to_client.old to_client.new)) }
+    ensures none { IfOk result (λ found. IfNone found
+        ((to_server.new ≡ to_server.old) × (to_client.new ≡ to_client.old))) }
+    ensures bad { IfErr result (λ e. (text : List ℕ) (pieces : List Piece)
+        → IsReadUpTo text reader.old.rest.now reader.old.number pieces
+        → (e ≡ Memory) ⊎ ((n : ℕ) × (e ≡ BadLine n) × IsFirstBad text n)) }
+    ensures shorter { IfOk result (λ found. IfSome found
+        (λ appended. length reader.new.rest.now < length reader.old.rest.now)) }
+{
+    reader.append_next(&mut to_server.items, &mut to_client.items)
+}
+
 impl<A: Allocator> WaitingBytes<A> {
     /// None.
     fn new(alloc: A) -> Self
@@ -128,6 +157,18 @@ impl<A: Allocator> WaitingBytes<A> {
         self.items.shrink_to_fit();
     }
 
+    /// Leaves those from a place on, and the room of those before it.
+    pub(crate) fn remove_front(&mut self, place: usize)
+        requires { place ≤ length self.old }
+        ensures { self.new ≡ drop place self.old }
+    {
+        if place == self.items.len() {
+            self.items.clear();
+        } else if place > 0 {
+            drop(self.items.drain(..place));
+        }
+    }
+
     /// Leaves those from a place on. Those before it leave little room behind.
     pub(crate) fn keep_from(&mut self, place: usize)
         requires { place ≤ length self.old }
@@ -136,7 +177,7 @@ impl<A: Allocator> WaitingBytes<A> {
         if place == 0 {
             return;
         }
-        drop(self.items.drain(..place));
+        self.remove_front(place);
         if self.items.capacity() > ROOM_KEPT {
             self.items.shrink_to_fit();
         }

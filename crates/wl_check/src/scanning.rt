@@ -8,20 +8,20 @@ ghost use Rattle.wl_sigs.specs.Tables.{Interface};
 ghost use Rattle.wl_sigs.specs.Valid.{Valid};
 ghost use Rattle.wl_check.specs.Held.{undone_by};
 ghost use Rattle.wl_check.specs.SessionState.{is_going, AllJudged, Along, CutFollows, IsAfter};
-ghost use Rattle.wl_check.specs.SessionState.{IsUnread, OthersStay};
-ghost use Rattle.wl_check.specs.Passing.{bytes_of, piece_in};
+ghost use Rattle.wl_check.specs.SessionState.{HasCome, IsReady, IsUnread, OthersStay};
+ghost use Rattle.wl_check.specs.Passing.{piece_in};
 ghost use Rattle.wl_check.specs.Printed.{PrintsOn, PrintsPiece};
 ghost use Rattle.wl_check.specs.Session.{session_of, IsVerdictOf, Session};
 ghost use Rattle.wl_check.specs.Trace.{trace_of, wanted};
 
-use crate::frames::{LentPiece, Stream, WaitingBytes, empty_stream};
+use crate::frames::{LentPiece, Stream, WaitingBytes, append_next, empty_stream};
 use crate::overwritten::UndoList;
 use crate::session_state::{Journal, Output, Rules, SessionState, SessionStatus, Sink};
 use crate::verdict::Verdict;
 use std::alloc::{AllocError, Allocator, Global};
 use wl_message::Limit;
 use wl_objects::ParsedArgs;
-use wl_recording::{Direction, Passed, PieceReader, RecordingError};
+use wl_recording::{Appended, Direction, Passed, PieceReader, RecordingError};
 use wl_sigs::Tables;
 
 /// A session that is judged as its pieces pass. Of its bytes it keeps those of started messages.
@@ -171,6 +171,51 @@ fn judge_piece<A: Allocator + Clone>(
     Ok(())
 }
 
+/// The same, where the bytes of the piece were appended to those that wait. Nothing is gone back to,
+/// and the room of what was judged is kept for the next piece.
+fn judge_waiting<A: Allocator + Clone>(
+    state: &mut SessionState<A>,
+    stream: &mut Stream<A>,
+    piece: &Appended,
+    rules: &Rules<'_>,
+    journal: &mut Journal<A>,
+) -> Result<(), AllocError>
+    requires valid { Valid rules.now.tables.now }
+    requires come { ∥ ((ps : List Piece) × (p : Piece)
+        × HasCome rules.now.limit.bytes rules.now.tables.now ps p piece.now state.old stream.old) ∥₁ }
+    ensures along { OnOk result ((ps : List Piece) (p : Piece)
+        → HasCome rules.now.limit.bytes rules.now.tables.now ps p piece.now state.old stream.old
+        → Along rules.now.limit.bytes rules.now.tables.now p.direction (ps ++ p ∷ []) state.new
+        stream.new) }
+    ensures lines { OnOk result ((ps : List Piece) (p : Piece)
+        → HasCome rules.now.limit.bytes rules.now.tables.now ps p piece.now state.old stream.old
+        → PrintsOn rules.now.tables.now (session_of rules.now.limit.bytes (ps ++ p ∷ []))
+        journal.old.sink.output state.old.count state.new.count journal.old.sink.text.items
+        journal.new.sink.text.items) }
+    ensures going { OnOk result (is_going state.new.status ≡ true
+        → is_going state.old.status ≡ true) }
+    ensures other { OnOk result (OthersStay piece.now.direction state.old state.new) }
+    ensures output { journal.new.sink.output ≡ journal.old.sink.output }
+{
+    // More than these numbers count does not fit into any memory.
+    let Some(len) = stream.len.checked_add(piece.len) else {
+        return Err(AllocError);
+    };
+    let Some(tokens) = stream.tokens.checked_add(u128::from(piece.tokens)) else {
+        return Err(AllocError);
+    };
+    stream.len = len;
+    stream.tokens = tokens;
+    if !state.is_open() {
+        stream.bytes.remove_front(stream.bytes.len());
+        return Ok(());
+    }
+    let waiting = stream.bytes.as_slice();
+    let place = state.judge_all(waiting, piece.direction, tokens, rules, journal)?;
+    stream.bytes.remove_front(place);
+    Ok(())
+}
+
 impl<A: Allocator + Clone> Scanner<A> {
     /// Before the first piece.
     pub(crate) fn new(alloc: &A, tables: &Tables) -> Result<Self, AllocError>
@@ -213,6 +258,36 @@ impl<A: Allocator + Clone> Scanner<A> {
             }
             Direction::ToClient => {
                 judge_piece(&mut self.state, &mut self.to_client, piece, rules, journal)
+            }
+        }
+    }
+
+    /// Judges the messages that a piece completes, whose bytes were appended to the stream of its
+    /// direction, and writes what is wanted of them.
+    fn judge_appended(
+        &mut self,
+        piece: &Appended,
+        rules: &Rules<'_>,
+        journal: &mut Journal<A>,
+    ) -> Result<(), AllocError>
+        requires valid { Valid rules.now.tables.now }
+        requires ready { ∥ ((ps : List Piece) × (p : Piece)
+            × IsReady rules.now.limit.bytes rules.now.tables.now ps p piece.now self.old) ∥₁ }
+        ensures after { OnOk result ((ps : List Piece) (p : Piece)
+            → IsReady rules.now.limit.bytes rules.now.tables.now ps p piece.now self.old
+            → IsAfter rules.now.limit.bytes rules.now.tables.now (ps ++ p ∷ []) self.new) }
+        ensures lines { OnOk result ((ps : List Piece) (p : Piece)
+            → IsReady rules.now.limit.bytes rules.now.tables.now ps p piece.now self.old
+            → PrintsPiece rules.now.limit.bytes rules.now.tables.now journal.old.sink.output ps p
+            journal.old.sink.text.items journal.new.sink.text.items) }
+        ensures output { journal.new.sink.output ≡ journal.old.sink.output }
+    {
+        match piece.direction {
+            Direction::ToServer => {
+                judge_waiting(&mut self.state, &mut self.to_server, piece, rules, journal)
+            }
+            Direction::ToClient => {
+                judge_waiting(&mut self.state, &mut self.to_client, piece, rules, journal)
             }
         }
     }
@@ -274,16 +349,6 @@ pub(crate) fn scan<A: Allocator + Clone>(
     Ok((journal.sink.text, verdict))
 }
 
-/// The bytes of a direction.
-fn bytes_of<'a>(direction: Direction, to_server: &'a [u8], to_client: &'a [u8]) -> &'a [u8]
-    ensures { result.now ≡ bytes_of direction to_server.now to_client.now }
-{
-    match direction {
-        Direction::ToServer => to_server,
-        Direction::ToClient => to_client,
-    }
-}
-
 /// Goes through the text of a recording, of which it keeps one piece at a time.
 pub(crate) fn scan_text<A: Allocator + Clone>(
     alloc: &A,
@@ -309,18 +374,13 @@ pub(crate) fn scan_text<A: Allocator + Clone>(
         },
         undo: UndoList::Off,
     };
-    let mut to_server = Vec::new(alloc.clone()?);
-    let mut to_client = Vec::new(alloc.clone()?);
     let mut reader = PieceReader::new(text);
-    'pieces: while let Some(piece) = reader.append_next(&mut to_server, &mut to_client)? {
-        let lent = LentPiece {
-            direction: piece.direction,
-            bytes: bytes_of(piece.direction, to_server.as_slice(), to_client.as_slice()),
-            tokens: piece.tokens as usize,
-        };
-        scanner.judge(&lent, &rules, &mut journal)?;
-        to_server.clear();
-        to_client.clear();
+    'pieces: while let Some(piece) = append_next(
+        &mut reader,
+        &mut scanner.to_server.bytes,
+        &mut scanner.to_client.bytes,
+    )? {
+        scanner.judge_appended(&piece, &rules, &mut journal)?;
     }
     let verdict = scanner.verdict();
     Ok((journal.sink.text, verdict))

@@ -1,11 +1,7 @@
-use Rattle.std.proofs.Common.{◌≡◌, List, [], ◌∷◌, ◌++◌, refl, ap, subst, ◌∙◌}
-use Rattle.wl_recording.specs.Piece.{Piece}
+use Rattle.std.proofs.Common.{[], ◌∷◌, ◌++◌, refl, ◌∙◌}
 use Rattle.wl_recording.proofs.TextLemmas.{IsRefused, refused_on}
-use Rattle.wl_check.specs.Passing.{bytes_of}
-use Rattle.wl_check.specs.Printed.{piece_of}
-use Rattle.wl_check.specs.SessionState.{IsAfter}
 use Rattle.wl_check.proofs.PrintedSoFar.{written_more, written_none}
-use Rattle.wl_check.proofs.ReadPiece.{match_none, piece_read}
+use Rattle.wl_check.proofs.ReadyPiece.{match_none, still_after, when_none}
 use Rattle.wl_check.proofs.scanning.scan_text.Goals as goal
 
 pub pieces-init : goal.pieces-init
@@ -15,8 +11,6 @@ pieces-init g c = (
   c.in_ok-scanner.ensures.none c.args.limit.bytes,
   written_none c.args.limit.bytes c.args.tables.now c.args.output c.new-lines.result.items c.new-lines.ensures.items,
   refl,
-  c.new-to_server.ensures.items,
-  c.new-to_client.ensures.items,
 )
 
 pub returns-in_err-piece-clause-bad : goal.returns-in_err-piece-clause-bad
@@ -25,38 +19,75 @@ returns-in_err-piece-clause-bad g c =
     refused_on c.from_residual-in_err-piece.result c.in_err-piece.field-0.0 _
     (IsRefused c.args.text.now) c.from_residual-in_err-piece.ensures.1 (λ e h. cc h) bad
 
-pub judge-requires-clause-after : goal.judge-requires-clause-after
-judge-requires-clause-after g c = ∣ (c.pieces.invariant.0, c.pieces.invariant.2) ∣₁
+pub judge_appended-requires-clause-ready : goal.judge_appended-requires-clause-ready
+judge_appended-requires-clause-ready g c =
+    let more = rw c.in-Some.is at (c.in_ok-piece.ensures.read c.args.text.now c.pieces.invariant.0 c.pieces.invariant.1)
+    in ∣ (
+      c.pieces.invariant.0,
+      more.0,
+      record {
+        before = c.pieces.scanner;
+        after = c.pieces.invariant.2;
+        state = refl;
+        len_to_server = refl;
+        len_to_client = refl;
+        tokens_to_server = refl;
+        tokens_to_client = refl;
+        appended_is = more.2;
+      },
+    ) ∣₁
 
 pub pieces-preserved : goal.pieces-preserved
 pieces-preserved g c =
     let more = rw c.in-Some.is at (c.in_ok-piece.ensures.read c.args.text.now c.pieces.invariant.0 c.pieces.invariant.1)
     in
     let pieces = c.pieces.invariant.0 in
-    let lent : Piece = piece_of c.in-Some.piece.direction c.bytes_of.result.now c.in-Some.piece.tokens in
-    let same : lent ≡ more.0 = piece_read more.0 c.in-Some.piece _ _ _ _ c.bytes_of.result.now
-    c.pieces.invariant.5 c.pieces.invariant.6 (c.bytes_of.ensures
-    ∙ (λ i. bytes_of c.in-Some.piece.direction (c.as_slice.ensures.value i) (c.as_slice-in-Some.ensures.value i)))
-    more.2 in
-    let all : pieces ++ lent ∷ [] ≡ pieces ++ more.0 ∷ [] = ap (λ (x : Piece). pieces ++ x ∷ []) same in (
+    let after = c.in_ok-judge_appended.ensures.after pieces more.0 (record {
+      before = c.pieces.scanner;
+      after = c.pieces.invariant.2;
+      state = refl;
+      len_to_server = refl;
+      len_to_client = refl;
+      tokens_to_server = refl;
+      tokens_to_client = refl;
+      appended_is = more.2;
+    }) in
+    let lines = c.in_ok-judge_appended.ensures.lines pieces more.0 (record {
+      before = c.pieces.scanner;
+      after = c.pieces.invariant.2;
+      state = refl;
+      len_to_server = refl;
+      len_to_client = refl;
+      tokens_to_server = refl;
+      tokens_to_client = refl;
+      appended_is = more.2;
+    }) in (
       pieces ++ more.0 ∷ [],
       more.1,
-      subst (λ (qs : List Piece). IsAfter c.args.limit.bytes c.args.tables.now qs c.judge.new.self) all
-          (c.in_ok-judge.ensures.after pieces c.pieces.invariant.2),
+      after,
       written_more c.args.limit.bytes c.args.tables.now c.args.output c.pieces.journal.sink.output pieces
-          (pieces ++ more.0 ∷ []) lent c.pieces.journal.sink.text.items c.judge.new.journal.sink.text.items
-          c.pieces.invariant.4 all (c.in_ok-judge.ensures.lines pieces c.pieces.invariant.2) c.pieces.invariant.3,
-      c.judge.ensures.output ∙ c.pieces.invariant.4,
-      c.clear.ensures.items,
-      c.clear-in-Some.ensures.items,
+          (pieces ++ more.0 ∷ []) more.0 c.pieces.journal.sink.text.items c.judge_appended.new.journal.sink.text.items
+          c.pieces.invariant.4 refl lines c.pieces.invariant.3,
+      c.judge_appended.ensures.output ∙ c.pieces.invariant.4,
     )
 
 pub verdict-verdict-requires : goal.verdict-verdict-requires
 verdict-verdict-requires g c =
-    ∣ (c.args.limit.bytes, c.args.tables.now, c.pieces.invariant.0, c.pieces.invariant.2) ∣₁
+    let none = when_none c.in_ok-piece.field-0 c.in_default.not-Some c.in_ok-piece.ensures.none in
+    let s = c.pieces.scanner in
+    ∣ (
+      c.args.limit.bytes,
+      c.args.tables.now,
+      c.pieces.invariant.0,
+      still_after c.args.limit.bytes c.args.tables.now c.pieces.invariant.0 s.state s.to_server _ s.to_client _
+          (record { bytes = none.0; len = refl; tokens = refl })
+          (record { bytes = none.1; len = refl; tokens = refl }) c.pieces.invariant.2,
+    ) ∣₁
 
 pub returns-clause-told : goal.returns-clause-told
 returns-clause-told g c =
+    let none = when_none c.in_ok-piece.field-0 c.in_default.not-Some c.in_ok-piece.ensures.none in
+    let s = c.pieces.scanner in
     let pieces = c.pieces.invariant.0 in
     let told = match_none _ c.in_ok-piece.field-0 c.in_default.not-Some
     (c.in_ok-piece.ensures.read c.args.text.now pieces c.pieces.invariant.1) in (
@@ -64,6 +95,9 @@ returns-clause-told g c =
       told,
       (
         c.pieces.invariant.3,
-        c.verdict-verdict.ensures c.args.limit.bytes c.args.tables.now pieces c.pieces.invariant.2,
+        c.verdict-verdict.ensures c.args.limit.bytes c.args.tables.now pieces
+            (still_after c.args.limit.bytes c.args.tables.now pieces s.state s.to_server _ s.to_client _
+            (record { bytes = none.0; len = refl; tokens = refl })
+            (record { bytes = none.1; len = refl; tokens = refl }) c.pieces.invariant.2),
       ),
     )

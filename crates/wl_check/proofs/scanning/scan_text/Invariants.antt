@@ -1,4 +1,4 @@
-use Rattle.std.proofs.Common.{◌≡◌, [], List, length}
+use Rattle.std.proofs.Common.{◌≡◌, List, length}
 use Rattle.wl_recording.specs.Piece.{Piece}
 use Rattle.wl_recording.specs.Text.{IsReadUpTo}
 use Rattle.wl_check.specs.Session.{session_of}
@@ -11,7 +11,7 @@ abbrev pub invariant-pieces : goal.invariant-pieces
 invariant-pieces g l = (pieces : List Piece) × IsReadUpTo l.text l.reader.rest.now l.reader.number pieces
     × IsAfter l.fn.limit.bytes l.tables pieces l.scanner
     × (l.journal.sink.text.items ≡ wanted l.fn.output (trace_of l.tables (session_of l.fn.limit.bytes pieces)))
-    × (l.journal.sink.output ≡ l.fn.output) × (l.to_server.items ≡ []) × (l.to_client.items ≡ [])
+    × (l.journal.sink.output ≡ l.fn.output)
 
 abbrev pub decreases-pieces : goal.decreases-pieces
 decreases-pieces g l = length l.reader.rest.now
