@@ -1,7 +1,6 @@
-"""Programs compiled unproved and built: reports that are lent, `waywire` and `make`; and the
-installation and the waits of tests."""
+"""Programs compiled unproved: reports that are lent, and `waywire`; and the installation and the
+waits of tests."""
 
-import contextlib
 import os
 import shutil
 import socket
@@ -11,14 +10,13 @@ import unittest
 import unittest.mock
 
 import checks
-from checks import LONG, TOP, need
-import crates
+from checks import LONG, TOP
 
 
 def copy_sources(room):
     """Copies into a folder what the programs are made of, and nothing that was built."""
     os.mkdir(f"{room}/tools")
-    tools = (f"tools/{it}" for it in ("crates.py", "programs.sh", "proving.sh"))
+    tools = (f"tools/{it}" for it in ("crates.py", "libraries.sh", "programs.sh", "proving.sh"))
     for name in ("crates", "crates.txt", "HANDLES", "waywire", *tools):
         whole = shutil.copytree if os.path.isdir(f"{TOP}/{name}") else shutil.copy
         hide = {"ignore": shutil.ignore_patterns("out")} if name == "crates" else {}
@@ -97,128 +95,6 @@ class Script(unittest.TestCase):
                 source.write("\n")
             ran = self.ran(room, file, env={"PATH": "/usr/bin:/bin"})
             self.assertEqual((ran.stdout, ran.returncode), ("", 70))
-
-
-class Build(unittest.TestCase):
-    """`waywire --build` and `make`, with a stand-in for the toolchain that notes each crate it proves, and keeps
-    what it proved as `rt ci` does."""
-
-    RT = """#!/usr/bin/env bash
-case $* in
-doc) echo "$ROOM/kit/START-HERE.md" ;;
-ci)
-    while [ "$CI" = true ] && read -r name _; do "$0" of "${name%:}"; done <crates.txt
-    [ -d crates/waywire ] || exit 0
-    mkdir -p crates/waywire/out
-    printf '#!/bin/sh\\necho built\\n' >crates/waywire/out/waywire
-    chmod +x crates/waywire/out/waywire
-    ;;
-ci\ *)
-    [ "$CI" != true ] || { echo "rt: rt ci with names is not the gate" && exit 2; }
-    "$0" of "$2"
-    ;;
-*)
-    [ "$2" != "$FAILS" ] || exit
-    [ ! -e "$ROOM/kept/$2" ] || { echo "rt: $2 is kept: as it was" && exit; }
-    echo "$2" >>"$ROOM/notes"
-    : >"$ROOM/kept/$2"
-    ;;
-esac
-"""
-    RATTLE = """#!/usr/bin/env bash
-echo "$3" >>"$ROOM/notes"
-[ "$3" != "$FAILS" ] && : >"${!#}"
-"""
-    ARCHIVE = "crates/waywire_c/out/libwaywire_c.a"
-
-    def setUp(self):
-        need("make")
-
-    @contextlib.contextmanager
-    def room(self):
-        with tempfile.TemporaryDirectory() as room:
-            copy_sources(room)
-            for name in ("Makefile", "tools/library-of-c"):
-                shutil.copy(f"{TOP}/{name}", f"{room}/{name}")
-            for name, text in (("bin/rt", self.RT), ("kit/bin/rattle", self.RATTLE)):
-                os.makedirs(os.path.dirname(f"{room}/{name}"))
-                with open(f"{room}/{name}", "w", encoding="utf-8") as file:
-                    file.write(text)
-                os.chmod(f"{room}/{name}", 0o755)
-            os.mkdir(f"{room}/kept")
-            yield room
-
-    def built(self, room, *words, **more):
-        """What a build says, and the crates that were proved, in order."""
-        open(f"{room}/notes", "w", encoding="utf-8").close()
-        env = {"PATH": f"{room}/bin:/usr/bin:/bin", "ROOM": room, "FAILS": "", "CI": "", **more}
-        how = {"capture_output": True, "text": True, "cwd": room, "timeout": LONG, "check": False}
-        ran = subprocess.run(words, env=env, **how)
-        with open(f"{room}/notes", encoding="utf-8") as file:
-            return ran, file.read().split()
-
-    def is_lowest_first(self, proved, last):
-        """Each crate that the last one needs was proved once, after those that it stands on."""
-        there = crates.read()
-        for place, crate in enumerate(proved):
-            below = [it for it in there[crate].uses if it in there]
-            self.assertLessEqual(set(below), set(proved[:place]), crate)
-        self.assertEqual(sorted(proved), sorted({last, *crates.below(there)[last]}))
-        self.assertEqual(proved[-1], last)
-
-    def test_program(self):
-        with self.room() as room:
-            ran, proved = self.built(room, "./waywire", "--build")
-            self.assertEqual(ran.returncode, 0, ran.stderr)
-            self.is_lowest_first(proved, "waywire")
-            for crate in proved:
-                self.assertIn(f"waywire: {crate} is proved (", ran.stderr)
-            ran = subprocess.run([f"{room}/waywire"], capture_output=True, text=True, check=False)
-            self.assertEqual(ran.stdout, "built\n")
-            # A second build says how long the first one took.
-            ran, proved = self.built(room, "./waywire", "--build")
-            self.assertIn("from nothing it took", ran.stderr)
-            self.assertEqual(proved, [])
-            # The library stands on what was proved for the program.
-            ran, proved = self.built(room, "make", "-s", self.ARCHIVE)
-            self.assertEqual((ran.returncode, proved), (0, ["waywire_c"]), ran.stderr)
-
-    def test_library(self):
-        with self.room() as room:
-            ran, library = self.built(room, "make", "-s", self.ARCHIVE)
-            self.assertEqual(ran.returncode, 0, ran.stderr)
-            self.is_lowest_first(library, "waywire_c")
-            for crate in library:
-                self.assertIn(f"make: {crate} is proved (", ran.stderr)
-            ran, proved = self.built(room, "make", "-s", self.ARCHIVE)
-            self.assertEqual((ran.stderr, proved), ("", []))
-            # The program stands on what was proved for the library.
-            ran, proved = self.built(room, "./waywire", "--build")
-            self.assertEqual(ran.returncode, 0, ran.stderr)
-            self.is_lowest_first([*library[:-1], *proved], "waywire")
-
-    def test_in_ci(self):
-        """There the gate's command takes no names."""
-        with self.room() as room:
-            ran, library = self.built(room, "make", "-s", self.ARCHIVE, CI="true")
-            self.assertEqual(ran.returncode, 0, ran.stderr)
-            self.is_lowest_first(library, "waywire_c")
-            ran, program = self.built(room, "./waywire", "--build", CI="true")
-            self.assertEqual(ran.returncode, 0, ran.stderr)
-            self.is_lowest_first([*library[:-1], *program], "waywire")
-
-    def test_a_proof_that_fails(self):
-        """What stands above is not tried, and nothing is built."""
-        for words, status, made in (
-            (["./waywire", "--build"], 70, "crates/waywire/out/waywire"),
-            (["make", "-s", self.ARCHIVE], 2, self.ARCHIVE),
-        ):
-            with self.room() as room:
-                ran, proved = self.built(room, *words, FAILS="wl_objects")
-                self.assertEqual(ran.returncode, status)
-                self.assertIn("not built", ran.stderr)
-                self.assertNotIn("wl_connection", proved)
-                self.assertFalse(os.path.exists(f"{room}/{made}"))
 
 
 class Sockets(unittest.TestCase):

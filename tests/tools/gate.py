@@ -59,6 +59,37 @@ class TimedGate(unittest.TestCase):
         command[-1] = "kill -9 $$"
         self.assertEqual(subprocess.run(command, stdout=subprocess.DEVNULL).returncode, 128 + 9)
 
+    def commands(self, rt, *words):
+        """The commands that are run with these words, where `rt` is this script."""
+        found = []
+
+        def measured(command):
+            found.append(" ".join(command))
+            return 1, {}, (0, 0)
+
+        with tempfile.TemporaryDirectory() as room:
+            with open(f"{room}/rt", "w", encoding="utf-8") as file:
+                file.write(f"#!/bin/sh\n{rt}\n")
+            os.chmod(f"{room}/rt", 0o755)
+            path = {"PATH": f"{room}:{os.environ['PATH']}"}
+            with (
+                contextlib.redirect_stdout(io.StringIO()),
+                unittest.mock.patch.dict(os.environ, path),
+                unittest.mock.patch.object(sys, "argv", ["timed-gate", *words]),
+                unittest.mock.patch.object(self.tool, "measured", measured),
+                unittest.mock.patch.object(self.tool, "clear", lambda: found.append("clear")),
+            ):
+                self.tool.main()
+        return found
+
+    def test_the_command(self):
+        """What is measured and written takes nothing from earlier runs, with each kind of rt."""
+        knows, does_not = "echo 0 passed, 1 failed; exit 2", "echo usage: rt >&2; exit 2"
+        for rt, written in ((knows, "rt ci --anew"), (does_not, "rt ci")):
+            self.assertEqual(self.commands(rt), ["clear", "rt ci"])
+            self.assertEqual(self.commands(rt, "--write"), ["clear", written])
+            self.assertEqual(self.commands(rt, "--write", "make"), ["make"])
+
     def test_other_processes_are_not_counted(self):
         self.assertIsNone(self.tool.part_of(f"/proc/{os.getpid()}"))
 

@@ -1,0 +1,296 @@
+"""`waywire --build`, `make` and the gate before it, with stand-ins for toolchains of both kinds."""
+
+import contextlib
+import os
+import shutil
+import subprocess
+import tempfile
+import unittest
+
+from checks import LONG, TOP, need
+import crates
+from tools.building import copy_sources
+
+ARCHIVE = "crates/waywire_c/out/libwaywire_c.a"
+PROGRAM = "crates/waywire/out/waywire"
+RATTLE = """#!/usr/bin/env bash
+echo "$3" >>"$ROOM/notes"
+[ "$3" != "$FAILS" ] && : >"${!#}"
+"""
+
+
+class Rooms(unittest.TestCase):
+    """What the tests of a stand-in for `rt` share. That notes each crate that it proves."""
+
+    RT = ""
+
+    def setUp(self):
+        need("make")
+
+    @contextlib.contextmanager
+    def room(self):
+        with tempfile.TemporaryDirectory() as room:
+            copy_sources(room)
+            os.makedirs(f"{room}/tools/dev")
+            for name in ("Makefile", "tools/library-of-c", "tools/dev/timed-gate"):
+                shutil.copy(f"{TOP}/{name}", f"{room}/{name}")
+            for name, text in (("bin/rt", self.RT), ("kit/bin/rattle", RATTLE)):
+                os.makedirs(os.path.dirname(f"{room}/{name}"))
+                with open(f"{room}/{name}", "w", encoding="utf-8") as file:
+                    file.write(text)
+                os.chmod(f"{room}/{name}", 0o755)
+            for name in ("kept", ".git"):
+                os.mkdir(f"{room}/{name}")
+            yield room
+
+    def built(self, room, *words, **more):
+        """What a build says, and the crates that were proved, in order."""
+        open(f"{room}/notes", "w", encoding="utf-8").close()
+        env = {"PATH": f"{room}/bin:/usr/bin:/bin", "ROOM": room, "FAILS": "", "CI": "", **more}
+        how = {"capture_output": True, "text": True, "cwd": room, "timeout": LONG, "check": False}
+        ran = subprocess.run(words, env=env, **how)
+        with open(f"{room}/notes", encoding="utf-8") as file:
+            return ran, file.read().split()
+
+    def proves(self, room, *words, **more):
+        """The crates that were proved by a build that ends well, and what it says."""
+        ran, proved = self.built(room, *words, **more)
+        self.assertEqual(ran.returncode, 0, ran.stderr)
+        return proved, ran.stderr
+
+    def made(self, room, **more):
+        return self.proves(room, "make", "-s", ARCHIVE, **more)
+
+    def is_lowest_first(self, proved, last):
+        """Each crate that the last one needs was proved once, after those that it stands on."""
+        there = crates.read()
+        for place, crate in enumerate(proved):
+            below = [it for it in there[crate].uses if it in there]
+            self.assertLessEqual(set(below), set(proved[:place]), crate)
+        self.assertEqual(sorted(proved), sorted({last, *crates.below(there)[last]}))
+        self.assertEqual(proved[-1], last)
+
+    def builds_a_program(self, room):
+        """A build proves each crate, tells of it, and leaves the program."""
+        proved, said = self.proves(room, "./waywire", "--build")
+        self.is_lowest_first(proved, "waywire")
+        for crate in proved:
+            self.assertIn(f"waywire: {crate} is proved (", said)
+        ran = subprocess.run([f"{room}/waywire"], capture_output=True, text=True, check=False)
+        self.assertEqual(ran.stdout, "built\n")
+
+    def builds_a_library(self, room):
+        """So does `make`, which has nothing to do afterwards."""
+        proved, said = self.made(room)
+        self.is_lowest_first(proved, "waywire_c")
+        for crate in proved:
+            self.assertIn(f"make: {crate} is proved (", said)
+        self.assertEqual(self.made(room), ([], ""))
+        return proved
+
+    def stops_where_a_proof_fails(self):
+        """What stands above is not tried, and nothing is built."""
+        for words, status, made in (
+            (["./waywire", "--build"], 70, PROGRAM),
+            (["make", "-s", ARCHIVE], 2, ARCHIVE),
+        ):
+            with self.room() as room:
+                ran, proved = self.built(room, *words, FAILS="wl_objects")
+                self.assertEqual(ran.returncode, status)
+                self.assertIn("not built", ran.stderr)
+                self.assertNotIn("wl_connection", proved)
+                self.assertFalse(os.path.exists(f"{room}/{made}"))
+
+
+class BuildByNames(Rooms):
+    """With a toolchain whose `rt ci` takes the names of crates, and keeps what it proved; in CI the
+    latter alone."""
+
+    RT = """#!/usr/bin/env bash
+case $* in
+doc) echo "$ROOM/kit/START-HERE.md" ;;
+ci)
+    while [ "$CI" = true ] && read -r name _; do "$0" of "${name%:}"; done <crates.txt
+    [ -d crates/waywire ] || exit 0
+    mkdir -p crates/waywire/out
+    printf '#!/bin/sh\\necho built\\n' >crates/waywire/out/waywire
+    chmod +x crates/waywire/out/waywire
+    ;;
+ci\\ *)
+    [ "$CI" != true ] || { echo "rt: rt ci with names is not the gate" && exit 2; }
+    "$0" of "$2"
+    ;;
+*)
+    [ "$2" != "$FAILS" ] || exit
+    [ ! -e "$ROOM/kept/$2" ] || { echo "rt: $2 is kept: as it was" && exit; }
+    echo "$2" >>"$ROOM/notes"
+    : >"$ROOM/kept/$2"
+    echo "rt: $2 proved"
+    ;;
+esac
+"""
+
+    def test_program(self):
+        with self.room() as room:
+            self.builds_a_program(room)
+            # A second build says how long the first one took.
+            proved, said = self.proves(room, "./waywire", "--build")
+            self.assertIn("from nothing it took", said)
+            self.assertEqual(proved, [])
+            # The library stands on what was proved for the program.
+            self.assertEqual(self.made(room)[0], ["waywire_c"])
+
+    def test_library(self):
+        with self.room() as room:
+            library = self.builds_a_library(room)
+            # The program stands on what was proved for the library.
+            program = self.proves(room, "./waywire", "--build")[0]
+            self.is_lowest_first([*library[:-1], *program], "waywire")
+
+    def test_names_are_not_taken(self):
+        with self.room() as room:
+            library = self.made(room, CI="true")[0]
+            self.is_lowest_first(library, "waywire_c")
+            program = self.proves(room, "./waywire", "--build", CI="true")[0]
+            self.is_lowest_first([*library[:-1], *program], "waywire")
+
+    def test_a_proof_that_fails(self):
+        self.stops_where_a_proof_fails()
+
+
+class BuildAtOnce(Rooms):
+    """With a toolchain whose `rt ci` takes no names, and keeps nothing but what it leaves in out/.
+    It puts back what stood in out/rlib before it."""
+
+    RT = """#!/usr/bin/env python3
+import glob, hashlib, os, shutil, sys, time
+
+words, room = sys.argv[1:], os.environ["ROOM"]
+if words == ["doc"]:
+    print(f"{room}/kit/START-HERE.md")
+    sys.exit()
+if words != ["ci"]:
+    print("usage: rt", file=sys.stderr)
+    sys.exit(2)
+aside, sums, status = f"{room}/kept/{os.getpid()}", {}, 0
+for out in glob.glob("crates/*/out"):
+    shutil.move(out, f"{aside}/{out}")
+with open("crates.txt") as file:
+    lines = [it.partition("#")[0].partition(":") for it in file]
+for name, uses in ((it[0].split()[0], it[2].split()) for it in lines if it[1]):
+    if name == os.environ["FAILS"]:
+        print(f"rt: {name} NOT PROVED")
+        status = 1
+        break
+    with open(f"{room}/notes", "a") as file:
+        file.write(f"{name}\\n")
+    if name != "waywire_c":
+        os.makedirs(f"crates/{name}/out/rlib/{name}.rlib")
+        over = "".join(f"over {it} {sums[it]}\\n" for it in uses if it in sums)
+        text = f"rattle-build a\\ncrate {name}\\n{over}sum {time.time_ns()}\\n"
+        with open(f"crates/{name}/out/rlib/{name}.rlib/format", "w") as file:
+            file.write(text)
+        sums[name] = hashlib.sha256(text.encode()).hexdigest()
+    print(f"rt: {name} proved", flush=True)
+if name == "waywire":
+    with open("crates/waywire/out/waywire", "w", opener=lambda *it: os.open(*it, 0o755)) as file:
+        file.write("#!/bin/sh\\necho built\\n")
+for rlib in glob.glob(f"{aside}/crates/*/out/rlib"):
+    to = os.path.relpath(rlib, aside)
+    shutil.rmtree(to, ignore_errors=True)
+    shutil.move(rlib, to)
+print(f"{len(sums)} passed, {status} failed")
+sys.exit(status)
+"""
+    GATE = ("python3", "tools/dev/timed-gate")
+
+    def changes(self, room, crate):
+        """A source of a crate changes."""
+        with open(f"{room}/crates/{crate}/src/lib.rt", "a", encoding="utf-8") as file:
+            file.write("\n")
+
+    def formats(self, room):
+        """What the libraries of the gate are, by their crates."""
+        found = {}
+        for name in crates.lowest_first(crates.read(), "waywire_c")[:-1]:
+            with open(f"{room}/crates/{name}/out/rlib/{name}.rlib/format", "rb") as file:
+                found[name] = file.read()
+        return found
+
+    def test_program_and_library(self):
+        """Each crate is proved once for both. After a change to one below, all are proved, but by
+        the library alone; after a change to waywire_c, that alone."""
+        with self.room() as room:
+            self.builds_a_program(room)
+            self.assertIn("from nothing it took", self.proves(room, "./waywire", "--build")[1])
+            proved, said = self.made(room)
+            self.assertEqual(proved, ["waywire_c"])
+            self.assertIn("(out/libraries.tar)\n", said)
+            self.changes(room, "wl_objects")
+            self.builds_a_library(room)
+            self.changes(room, "waywire_c")
+            self.assertEqual(self.made(room)[0], ["waywire_c"])
+
+    def test_gate(self):
+        """What the gate left is taken, each time that it runs, and stays as it is."""
+        with self.room() as room:
+            self.proves(room, *self.GATE)
+            before = self.formats(room)
+            proved, said = self.made(room)
+            self.assertEqual(proved, ["waywire_c"])
+            self.assertIn("(crates/NAME/out/rlib)\n", said)
+            self.assertEqual(self.formats(room), before)
+            self.changes(room, "wl_objects")
+            self.proves(room, *self.GATE)
+            self.assertEqual(self.made(room)[0], ["waywire_c"])
+            self.assertFalse({*before.values()} & {*self.formats(room).values()})
+
+    def test_a_gate_that_failed(self):
+        """It leaves no library of what stands above. The next one leaves all."""
+        with self.room() as room:
+            self.built(room, *self.GATE, FAILS="wl_objects")
+            self.proves(room, *self.GATE)
+            self.assertEqual(self.made(room)[0], ["waywire_c"])
+
+    def test_libraries_that_are_not_taken(self):
+        """Those of another command, and those of two runs."""
+        def stamp(room):
+            os.rename(f"{room}/stamp", f"{room}/crates/wl_wire/out/rlib/stamp")
+
+        def swap(room):
+            shutil.move(f"{room}/stamp", f"{room}/crates/wl_wire/out/rlib/wl_wire.rlib/format")
+
+        def change_of_a_proof(room):
+            os.utime(f"{room}/crates/wl_wire/proofs")
+
+        for change in (stamp, swap, change_of_a_proof):
+            with self.room() as room, self.subTest(change.__name__):
+                self.proves(room, *self.GATE)
+                with open(f"{room}/stamp", "w", encoding="utf-8") as file:
+                    file.write("rattle-build a\ncrate wl_wire\nsum another\n")
+                change(room)
+                before = self.formats(room)
+                self.builds_a_library(room)
+                self.assertEqual(self.formats(room), before)
+
+    def test_another_compiler(self):
+        with self.room() as room:
+            self.proves(room, *self.GATE)
+            os.makedirs(f"{room}/kit/rlibs/std.rlib")
+            for compiler, proved in (("b", True), ("a", False)):
+                with open(f"{room}/kit/rlibs/std.rlib/format", "w", encoding="utf-8") as file:
+                    file.write(f"rattle-build {compiler}\ncrate std\n")
+                self.changes(room, "waywire_c")
+                self.assertEqual("wl_wire" in self.made(room)[0], proved, compiler)
+
+    def test_a_gate_that_runs_now(self):
+        """Its libraries are left alone by another one."""
+        with self.room() as room:
+            self.proves(room, *self.GATE)
+            before = self.formats(room)
+            words = ["flock", f"{room}/.git/rt-ci.lock", *self.GATE]
+            self.proves(room, *words)
+            self.assertEqual(self.formats(room), before)
+
+    def test_a_proof_that_fails(self):
+        self.stops_where_a_proof_fails()
