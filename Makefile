@@ -1,6 +1,7 @@
-# The library for C, and the tool `waywire-inspect` over it. `make` proves and builds the library where it is
-# not built yet; `make install` installs both, and the program `waywire` with its manual page where that is
-# built (./waywire --build); `make dist` packs all of that for machines that have no toolchain.
+# The library for C, and the tool `waywire-inspect` over it. `make` proves and builds the library where
+# it is not built yet, over what a run has proved in this clone (tools/library-of-c). `make install`
+# installs both, and the program `waywire` with its manual page where that is built (./waywire --build).
+# `make dist` packs all of that for machines that have no toolchain.
 #
 #     make install PREFIX=/usr/local LIBDIR=/usr/local/lib DESTDIR=
 PREFIX ?= /usr/local
