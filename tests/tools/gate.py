@@ -325,6 +325,7 @@ exit 1""")
 
         tried = "rt: must-fail a/b.edit: NOT TRIED: its check ended with status 3"
         self.assertNotIn("for lack of memory", gate(tried))
+        gate("rt: a: the program had not ended after 120 seconds", "rt: FAILED: a (run)")
         killed = "rt: the check was killed, most likely for memory: once more"
         self.assertIn("for lack of memory", gate(killed, "rt: c NOT PROVED"))
 
