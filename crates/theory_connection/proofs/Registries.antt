@@ -53,18 +53,18 @@ marks_with c rs (Some x) h =
     ∷ []) (sym h))
 
 pub marks_without : (b : Bool) (birth : ℕ) (rs : List server.Registry)
-    → map marks_of (without_registry registry_birth b birth rs) ≡ without_registry marks_birth b birth (map marks_of rs)
+    → map marks_of (without_registry nat_eq registry_birth b birth rs) ≡ without_registry nat_eq marks_birth b birth (map marks_of rs)
 marks_without false birth rs = refl
 marks_without true birth [] = refl
 marks_without true birth (r ∷ rs) =
-    marks_cond (nat_eq r.object.birth birth) (without_registry registry_birth true birth rs)
-    (r ∷ without_registry registry_birth true birth rs)
+    marks_cond (nat_eq r.object.birth birth) (without_registry nat_eq registry_birth true birth rs)
+    (r ∷ without_registry nat_eq registry_birth true birth rs)
     ∙ ap (λ (l : List Marks). cond (nat_eq r.object.birth birth) l (marks_of r ∷ l)) (marks_without true birth rs)
 
 -- the open registries after a message that destroys this
 abbrev pub registries_left : Option Known → List server.Registry → List server.Registry
 registries_left None rs = rs
-registries_left (Some x) rs = without_registry registry_birth true x.born.birth rs
+registries_left (Some x) rs = without_registry nat_eq registry_birth true x.born.birth rs
 
 -- the marks without those of a registry that is closed
 pub marks_left : (o : Option Known) (rs : List server.Registry)
@@ -74,9 +74,9 @@ marks_left (Some x) rs = marks_without true x.born.birth rs
 
 -- the registries without what ends
 pub left_are : (b : Bool) (birth : ℕ) (o : Option Known) (rs : List server.Registry) → b ≡ is_some o
-    → IfThere (λ x. x.born.birth ≡ birth) o → without_registry registry_birth b birth rs ≡ registries_left o rs
-left_are b birth None rs f h = ap (λ (c : Bool). without_registry registry_birth c birth rs) f
-left_are b birth (Some x) rs f h = λ i. without_registry registry_birth (f i) (sym h i) rs
+    → IfThere (λ x. x.born.birth ≡ birth) o → without_registry nat_eq registry_birth b birth rs ≡ registries_left o rs
+left_are b birth None rs f h = ap (λ (c : Bool). without_registry nat_eq registry_birth c birth rs) f
+left_are b birth (Some x) rs f h = λ i. without_registry nat_eq registry_birth (f i) (sym h i) rs
 
 -- ---- an object with a destroying event is no registry
 

@@ -2,7 +2,7 @@
 use Rattle.std.proofs.Common.{◌≡◌, ℕ, ◌+◌, ◌<◌, ◌≤◌, Bool, true, false, List, [], ◌∷◌, ◌++◌, map}
 use Rattle.std.proofs.Common.{length, refl, sym, ap, subst, ◌∙◌, arith, min}
 use Rattle.std.proofs.lemmas.Bool.{ne_eqb}
-use Rattle.std.specs.Prelude.{option_map, not, ◌&&◌, is_some, slice_get}
+use Rattle.std.specs.Prelude.{option_map, nat_eq, not, ◌&&◌, is_some, slice_get}
 use Rattle.std.specs.declared.option.Option.{Option}
 use Rattle.std.specs.declared.option.Option.TheVariants.{None, Some}
 use Rattle.std.specs.declared.result.Result.TheVariants.{Ok}
@@ -219,7 +219,7 @@ left_is st m n entry f v s h hs =
     (λ i. record st {
       core = with_following (destroys_one what) object.id
           (with_view (past st.core n (count i)) (after event_side st.core.view (made i) what object.id));
-      registries = without_registry registry_birth (destroys_one what) object.birth
+      registries = without_registry nat_eq registry_birth (destroys_one what) object.birth
           (registries_after st.core st.registries (made i));
     })
     ∙ ((λ i. record st {

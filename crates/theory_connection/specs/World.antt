@@ -119,7 +119,7 @@ marks_after (Some x) registries = with_registry x.iface (nothing_told x) registr
 -- a registry that is closed is owed nothing
 abbrev pub without_marks : Option Born → List Marks → List Marks
 without_marks None registries = registries
-without_marks (Some x) registries = without_registry marks_birth true x.birth registries
+without_marks (Some x) registries = without_registry nat_eq marks_birth true x.birth registries
 
 -- ---- what the client learns of globals
 

@@ -1,7 +1,7 @@
 -- An object that is no registry leaves the registries as they are.
 use Rattle.std.proofs.Common.{◌≡◌, ◌≢◌, ℕ, Bool, true, false, cond, List, [], ◌∷◌, Some, refl}
 use Rattle.std.proofs.Common.{sym, ap, subst, ◌∙◌, inl, inr}
-use Rattle.std.specs.Prelude.{Option}
+use Rattle.std.specs.Prelude.{Option, nat_eq}
 use Rattle.std.specs.Option.{option_map_or}
 use Rattle.std.proofs.lemmas.Bool.{ne_eqb}
 use Rattle.wl_wire.specs.declared.kind.Iface.{Iface}
@@ -19,16 +19,16 @@ use Rattle.wl_server.proofs.Registries.{births_opened, has_opened, row_kept}
 
 -- no registry has this birth
 without-none : (birth : ℕ) (rs : List Registry) → ((o : Object) → IsAmong o rs → o.birth ≢ birth)
-    → without_registry registry_birth true birth rs ≡ rs
+    → without_registry nat_eq registry_birth true birth rs ≡ rs
 without-none birth [] f = refl
 without-none birth (r ∷ rs) f =
-    ap (λ b. cond b (without_registry registry_birth true birth rs) (r ∷ without_registry registry_birth true birth rs))
+    ap (λ b. cond b (without_registry nat_eq registry_birth true birth rs) (r ∷ without_registry nat_eq registry_birth true birth rs))
     (ne_eqb r.object.birth birth (f r.object (inl refl)))
     ∙ ap (λ (l : List Registry). r ∷ l) (without-none birth rs (λ o a. f o (inr a)))
 
 pub no_registry : (v : View) (rs : List Registry) (object : Object) (d : Entry) → look v object.id ≡ Some d
     → d.birth ≡ object.birth → d.iface ≢ registry → IsSound v rs
-    → without_registry registry_birth true object.birth rs ≡ rs
+    → without_registry nat_eq registry_birth true object.birth rs ≡ rs
 no_registry v rs object d row birth ne s =
     without-none object.birth rs (λ o a same.
     let r = s.has.only o a in

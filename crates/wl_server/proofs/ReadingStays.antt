@@ -1,5 +1,6 @@
 -- What a server reads of what waits stays the same when more comes behind it.
 use Rattle.std.proofs.Common.{◌≡◌, ◌≢◌, ℕ, Bool, true, false, cond, List, refl, sym, ap, ◌∙◌}
+use Rattle.std.specs.Prelude.{nat_eq}
 use Rattle.std.specs.declared.option.Option.{Option}
 use Rattle.std.specs.declared.option.Option.TheVariants.{None, Some}
 use Rattle.std.specs.declared.result.Result.{Result}
@@ -57,7 +58,7 @@ past_arrived : (state : State) (f : Found) (bytes tokens : List ℕ) → IsFound
     ≡ with_arrivals server_reading (state_past state f) bytes tokens
 past_arrived state f bytes tokens h = λ i. record (state_past state f) {
   core = core_arrived state.core f bytes tokens h i;
-  registries = without_registry registry_birth (destroys_it f.message) (ended_stays state.core f bytes tokens h i).birth
+  registries = without_registry nat_eq registry_birth (destroys_it f.message) (ended_stays state.core f bytes tokens h i).birth
       (registries_after state.core state.registries (made_by_request state.core f.message));
 }
 

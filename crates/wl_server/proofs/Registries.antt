@@ -65,10 +65,10 @@ among_if o birth r rs false e ne h = h
 
 -- taking one of another birth out
 among_other : (o : Object) (birth : ℕ) (rs : List Registry) → o.birth ≢ birth → IsAmong o rs
-    → IsAmong o (without_registry registry_birth true birth rs)
+    → IsAmong o (without_registry nat_eq registry_birth true birth rs)
 among_other o birth [] ne h = absurd h
 among_other o birth (r ∷ rs) ne h =
-    among_if o birth r (without_registry registry_birth true birth rs) (nat_eq r.object.birth birth) refl ne
+    among_if o birth r (without_registry nat_eq registry_birth true birth rs) (nat_eq r.object.birth birth) refl ne
     (elim h [ inl p ↦ inl p | inr p ↦ inr (among_other o birth rs ne p) ])
 
 among_marked : (o : Object) (d : Due) (rs : List Registry) → IsAmong o rs → IsAmong o (marked_in d rs)
@@ -103,10 +103,10 @@ left_if o birth r rs ls false e f h = elim h as (λ _. (o.birth ≢ birth) × ((
 ]
 
 -- what is left is of another birth
-among_left : (o : Object) (birth : ℕ) (rs : List Registry) → IsAmong o (without_registry registry_birth true birth rs)
+among_left : (o : Object) (birth : ℕ) (rs : List Registry) → IsAmong o (without_registry nat_eq registry_birth true birth rs)
     → (o.birth ≢ birth) × IsAmong o rs
 among_left o birth [] h = absurd h
-among_left o birth (r ∷ rs) h = left_if o birth r rs (without_registry registry_birth true birth rs)
+among_left o birth (r ∷ rs) h = left_if o birth r rs (without_registry nat_eq registry_birth true birth rs)
     (nat_eq r.object.birth birth) refl (among_left o birth rs) h
 
 among_unmarked : (o : Object) (d : Due) (rs : List Registry) → IsAmong o (marked_in d rs) → IsAmong o rs
@@ -225,7 +225,7 @@ registry_apart v id d o row ne r =
 -- the object of this row and birth
 pub has_closed : (v : View) (rs : List Registry) (id birth : ℕ) (d : Entry) → BirthsAreOnce v → look v id ≡ Some d
     → d.birth ≡ birth → HasRegistries v rs
-    → HasRegistries (closed v id) (without_registry registry_birth true birth rs)
+    → HasRegistries (closed v id) (without_registry nat_eq registry_birth true birth rs)
 has_closed v rs id birth d b row is h = record {
   rising = rise-without 0 v.births birth rs h.rising;
   all = λ q e there reg. (let r = row-closed v id q e there in

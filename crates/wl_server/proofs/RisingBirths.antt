@@ -24,14 +24,14 @@ rise-new low id high (x ∷ registries) r = (r.0, rise-new (suc x.object.birth) 
 
 -- without one they rise
 pub rise-without : (low high birth : ℕ) (registries : List Registry) → RiseFrom low high registries
-    → RiseFrom low high (without_registry registry_birth true birth registries)
+    → RiseFrom low high (without_registry nat_eq registry_birth true birth registries)
 rise-without low high birth [] r = r
 rise-without low high birth (x ∷ registries) r = by_test (nat_eq x.object.birth birth)
     (rise-without (suc x.object.birth) high birth registries r.1)
   where
-    by_test : (b : Bool) → RiseFrom (suc x.object.birth) high (without_registry registry_birth true birth registries)
-        → RiseFrom low high (if b then without_registry registry_birth true birth registries
-        else x ∷ without_registry registry_birth true birth registries)
-    by_test true h = rise-above (suc x.object.birth) low high (without_registry registry_birth true birth registries)
+    by_test : (b : Bool) → RiseFrom (suc x.object.birth) high (without_registry nat_eq registry_birth true birth registries)
+        → RiseFrom low high (if b then without_registry nat_eq registry_birth true birth registries
+        else x ∷ without_registry nat_eq registry_birth true birth registries)
+    by_test true h = rise-above (suc x.object.birth) low high (without_registry nat_eq registry_birth true birth registries)
         (omega (arith, r.0)) h
     by_test false h = (r.0, h)

@@ -88,12 +88,12 @@ past-set (x ∷ xs) (suc i) s t e b = ap (max (suc (birth_in x))) (past-set xs i
 -- ---- a registry is closed
 
 not-below : (birth low : ℕ) (xs : List Slot) → SlotsRise low xs → birth < low
-    → without_registry registry_birth true birth (open_in xs) ≡ open_in xs
+    → without_registry nat_eq registry_birth true birth (open_in xs) ≡ open_in xs
 not-below birth low [] r l = refl
 not-below birth low (x ∷ xs) r l =
     let more = not-below birth (suc (birth_in x)) xs r.1 (omega (arith, l, r.0)) in
     let other : nat_eq (birth_in x) birth ≡ false = ne_eqb (birth_in x) birth (λ f. omega (arith, f, l, r.0)) in
-    either-way (without_registry registry_birth true birth (open_in (x ∷ xs)) ≡ open_in (x ∷ xs)) x
+    either-way (without_registry nat_eq registry_birth true birth (open_in (x ∷ xs)) ≡ open_in (x ∷ xs)) x
     (λ o. rw (o, other) (ap (λ (l : List Registry). x.registry ∷ l) more))
     (λ o. rw o more)
 
@@ -107,13 +107,13 @@ at-least low (x ∷ xs) (suc i) s r l e =
 -- the slot in place i, open or closed, has this birth, and no other has
 pub without-closed : (birth low : ℕ) (xs : List Slot) (i : ℕ) (s t : Slot) → SlotsRise low xs → i < length xs
     → s ≡ get_or xs i s → birth_in s ≡ birth → t.is_open ≡ false
-    → open_in (set xs i t) ≡ without_registry registry_birth true birth (open_in xs)
+    → open_in (set xs i t) ≡ without_registry nat_eq registry_birth true birth (open_in xs)
 without-closed birth low [] i s t r l e b c = absurd (omega (arith, l))
 without-closed birth low (x ∷ xs) zero s t r l e b c =
     let same : birth_in x ≡ birth = ap birth_in (sym e) ∙ b in
-    let rest : open_in xs ≡ without_registry registry_birth true birth (open_in xs) =
+    let rest : open_in xs ≡ without_registry nat_eq registry_birth true birth (open_in xs) =
     sym (not-below birth (suc (birth_in x)) xs r.1 (omega (arith, same))) in
-    either-way (open_in (t ∷ xs) ≡ without_registry registry_birth true birth (open_in (x ∷ xs))) x
+    either-way (open_in (t ∷ xs) ≡ without_registry nat_eq registry_birth true birth (open_in (x ∷ xs))) x
     (λ o. rw (c, o, eq-eqb (birth_in x) birth same) rest)
     (λ o. rw (c, o) rest)
 without-closed birth low (x ∷ xs) (suc i) s t r l e b c =
@@ -121,19 +121,19 @@ without-closed birth low (x ∷ xs) (suc i) s t r l e b c =
     let behind : birth_in x < birth =
     omega (arith, at-least (suc (birth_in x)) xs i s r.1 (omega (arith, l)) e, b) in
     let other : nat_eq (birth_in x) birth ≡ false = ne_eqb (birth_in x) birth (λ f. omega (arith, f, behind)) in
-    either-way (open_in (x ∷ set xs i t) ≡ without_registry registry_birth true birth (open_in (x ∷ xs))) x
+    either-way (open_in (x ∷ set xs i t) ≡ without_registry nat_eq registry_birth true birth (open_in (x ∷ xs))) x
     (λ o. rw (o, other) (ap (λ (l : List Registry). x.registry ∷ l) more))
     (λ o. rw o more)
 
 -- where no slot has this birth, nothing is taken out
 pub without-other : (birth : ℕ) (xs : List Slot)
     → ((k : ℕ) (x : Slot) → k < length xs → x ≡ get_or xs k x → birth_in x ≢ birth)
-    → open_in xs ≡ without_registry registry_birth true birth (open_in xs)
+    → open_in xs ≡ without_registry nat_eq registry_birth true birth (open_in xs)
 without-other birth [] f = refl
 without-other birth (x ∷ xs) f =
     let more = without-other birth xs (λ k y l e. f (suc k) y (omega (arith, l)) e) in
     let other : nat_eq (birth_in x) birth ≡ false = ne_eqb (birth_in x) birth (f 0 x (omega arith) refl) in
-    either-way (open_in (x ∷ xs) ≡ without_registry registry_birth true birth (open_in (x ∷ xs))) x
+    either-way (open_in (x ∷ xs) ≡ without_registry nat_eq registry_birth true birth (open_in (x ∷ xs))) x
     (λ o. rw (o, other) (ap (λ (l : List Registry). x.registry ∷ l) more))
     (λ o. rw o more)
 
@@ -281,7 +281,7 @@ found birth xs i s h e =
     (h s) (ranks (birth_in (get_or xs i s)) birth)
 
 pub not-found : (birth low : ℕ) (xs : List Slot) (i : ℕ) → SlotsRise low xs → IsAnswer birth xs (Err i)
-    → open_in xs ≡ without_registry registry_birth true birth (open_in xs)
+    → open_in xs ≡ without_registry nat_eq registry_birth true birth (open_in xs)
 not-found birth low xs i r h =
     let parted = h (λ a b d l m. higher birth (birth_in (get_or xs a d)) (birth_in (get_or xs b d))
     (rising low xs a b d r l m)) in

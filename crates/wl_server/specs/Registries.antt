@@ -1,5 +1,5 @@
 -- The open registries, in the order of their births, whatever is kept of each.
-use Rattle.std.specs.Prelude.{◌≡◌, ◌⊎◌, ℕ, ◌<◌, Bool, true, false, nat_eq, if◌then◌else◌, List, []}
+use Rattle.std.specs.Prelude.{◌≡◌, ◌⊎◌, ℕ, ◌<◌, Bool, true, false, if◌then◌else◌, List, []}
 use Rattle.std.specs.Prelude.{◌∷◌, ◌++◌, Option, Some, None}
 use Rattle.wl_wire.specs.declared.kind.Iface.{Iface}
 use Rattle.wl_sigs.specs.Fixed.{registry}
@@ -15,13 +15,13 @@ with_registry iface new registries =
     if same_iface iface registry then registries ++ new ∷ [] else registries
 
 -- The registries after the object of this birth ended, where it did: one that ends is owed nothing
--- any more.
-abbrev pub without_registry : {R : Type 0} → (R → ℕ) → Bool → ℕ → List R → List R
-without_registry birth_in false birth registries = registries
-without_registry birth_in true birth [] = []
-without_registry birth_in true birth (r ∷ registries) =
-    if nat_eq (birth_in r) birth then without_registry birth_in true birth registries
-    else r ∷ without_registry birth_in true birth registries
+-- any more. The test says which births are the same.
+abbrev pub without_registry : {R K : Type 0} → (K → K → Bool) → (R → K) → Bool → K → List R → List R
+without_registry same birth_in false birth registries = registries
+without_registry same birth_in true birth [] = []
+without_registry same birth_in true birth (r ∷ registries) =
+    if same (birth_in r) birth then without_registry same birth_in true birth registries
+    else r ∷ without_registry same birth_in true birth registries
 
 abbrev pub registry_birth : Registry → ℕ
 registry_birth r = r.object.birth

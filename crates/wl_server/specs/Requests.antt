@@ -1,6 +1,7 @@
 -- What a server reads, and what it makes of it.
-use Rattle.std.specs.Prelude.{ℕ, slice_get, Bool, false, ◌&&◌, not, nat_lt, nat_le, bytes_eq}
-use Rattle.std.specs.Prelude.{if◌then◌else◌, List, [], ◌∷◌, codes, is_some, Option, Some, None}
+use Rattle.std.specs.Prelude.{ℕ, slice_get, Bool, false, ◌&&◌, not, nat_eq, nat_lt, nat_le}
+use Rattle.std.specs.Prelude.{bytes_eq, if◌then◌else◌, List, [], ◌∷◌, codes, is_some, Option}
+use Rattle.std.specs.Prelude.{Some, None}
 use Rattle.std.specs.declared.result.Result.{Result}
 use Rattle.std.specs.declared.result.Result.TheVariants.{Ok, Err}
 use Rattle.wl_wire.specs.Argument.{Argument, Uint, Obj, NewNamed}
@@ -140,7 +141,8 @@ registries_after core registries (Some m) =
 abbrev pub state_past : State → Found → State
 state_past state f = record state {
   core = core_after state.core f;
-  registries = without_registry registry_birth (destroys_it f.message) (ended state.core f).birth
+  registries = without_registry nat_eq registry_birth (destroys_it f.message)
+      (ended state.core f).birth
       (registries_after state.core state.registries (made_by_request state.core f.message));
 }
 

@@ -1,7 +1,7 @@
 -- How a server reads a request: what it makes of the message in front, and then what the reading
 -- leaves.
 use Rattle.std.specs.Prelude.{◌≡◌, ◌≢◌, ◌⊎◌, ◌&&◌, not, ℕ, ◌≤◌, Bool, true, false, List, []}
-use Rattle.std.specs.Prelude.{if◌then◌else◌, length, take, drop, Option, Some, None, IsTrue}
+use Rattle.std.specs.Prelude.{nat_eq, if◌then◌else◌, length, take, drop, Option, Some, None, IsTrue}
 use Rattle.std.specs.declared.result.Result.{Result}
 use Rattle.std.specs.declared.result.Result.TheVariants.{Ok, Err}
 use Rattle.wl_sigs.specs.declared.signature.Destroys.{Destroys}
@@ -205,7 +205,7 @@ core_without (Some object) core =
 abbrev pub registries_without : Option Object → List Registry → List Registry
 registries_without None registries = registries
 registries_without (Some object) registries =
-    without_registry registry_birth true object.birth registries
+    without_registry nat_eq registry_birth true object.birth registries
 
 -- the end after a request: its object is opened, the message taken, and what it destroys closed
 abbrev pub core_by : Core → Step → Core

@@ -1,6 +1,6 @@
 //! The open registries of a server's client, by rising births.
 ghost use Rattle.std.specs.Prelude.{◌≡◌, ◌≤◌, ◌<◌, ◌+◌, ◌∷◌, ◌++◌, [], true, OnOk, OnErr, length};
-ghost use Rattle.std.specs.Prelude.{take};
+ghost use Rattle.std.specs.Prelude.{take, nat_eq};
 ghost use Rattle.std.specs.List.{count_by};
 ghost use Rattle.wl_connection.specs.Core.{IsOrdinary, max_globals};
 ghost use Rattle.wl_server.specs.State.{untold};
@@ -155,7 +155,8 @@ impl<A: Allocator + Drop> OpenRegistries<A> {
 
     /// Takes out the registry of this birth. Allocates nothing.
     pub(crate) fn remove(&mut self, birth: u64)
-        ensures list { self.new.list ≡ without_registry registry_birth true birth self.old.list }
+        ensures list { self.new.list
+            ≡ without_registry nat_eq registry_birth true birth self.old.list }
         ensures settled { KeepsSettled self.old self.new }
         ensures past { self.new.past ≤ self.old.past }
     {

@@ -1,6 +1,6 @@
 use Rattle.std.proofs.Common.{◌≡◌, ◌+◌, ◌<◌, ◌≤◌, ℕ, true, false, List, length, take, set, get_or, refl, sym, ap}
 use Rattle.std.proofs.Common.{subst, ◌∙◌, arith, rules, length-set}
-use Rattle.std.specs.Prelude.{Result}
+use Rattle.std.specs.Prelude.{Result, nat_eq}
 use Rattle.std.specs.declared.result.Result.TheVariants.{Ok, Err}
 use Rattle.std.proofs.lemmas.List.{set-get_or}
 use Rattle.std.proofs.lemmas.Fn.{always_returns_same}
@@ -46,7 +46,7 @@ returns-in_default-clause-list g c =
     subst (λ (r : Result ℕ ℕ). IsAnswer birth slots r) c.in_default.is
     (subst (λ (l : List Slot). IsAnswer birth l c.binary_search_by_key-found.result) c.deref.ensures.value
     (c.binary_search_by_key-found.ensures.position birth_in (always_returns_same _ _ _ (λ a r f' k. search rules)))) in
-    subst (λ (rs : List Registry). rs ≡ without_registry registry_birth true birth rs)
+    subst (λ (rs : List Registry). rs ≡ without_registry nat_eq registry_birth true birth rs)
     (ap (λ (k : KeptRegistries). k.list) c.self.view_is)
     (not-found birth 0 slots c.in_default.field-0 c.self.invariant.rising answer)
 
@@ -62,7 +62,7 @@ returns-then-not-index-clause-list g c =
     (c.binary_search_by_key-found.ensures.position birth_in (always_returns_same _ _ _ (λ a r f' k. search rules)))) in
     let within : place < length slots = omega (arith, c.in-Ok.ensures.bound, ap length c.deref.ensures.value) in
     let same : set slots place slot ≡ slots = ap (set slots place) c.index.ensures ∙ set-get_or slots place slot in
-    subst (λ (rs : List Registry). rs ≡ without_registry registry_birth true birth rs)
+    subst (λ (rs : List Registry). rs ≡ without_registry nat_eq registry_birth true birth rs)
     (ap (λ (k : KeptRegistries). k.list) c.self.view_is)
     (ap open_in (sym same) ∙ without-closed birth 0 slots place slot slot c.self.invariant.rising within
     c.index.ensures (found birth slots place slot answer c.index.ensures) c.if-not-index.true)
@@ -100,7 +100,7 @@ returns-then-self-len-clause-list g c =
     ∙ without-closed birth 0 slots place slot (record { registry = slot.registry; is_open = false })
     c.self.invariant.rising within c.index_mut.ensures.value
     (found birth slots place slot answer c.index_mut.ensures.value) refl
-    ∙ ap (λ (k : KeptRegistries). without_registry registry_birth true birth k.list) c.self.view_is
+    ∙ ap (λ (k : KeptRegistries). without_registry nat_eq registry_birth true birth k.list) c.self.view_is
 
 pub returns-then-self-len-clause-settled : goal.returns-then-self-len-clause-settled
 returns-then-self-len-clause-settled g c globals none =
@@ -135,7 +135,7 @@ returns-else-self-len-clause-list g c =
     without-closed birth 0 slots place slot (record { registry = slot.registry; is_open = false })
     c.self.invariant.rising within c.index_mut.ensures.value
     (found birth slots place slot answer c.index_mut.ensures.value) refl
-    ∙ ap (λ (k : KeptRegistries). without_registry registry_birth true birth k.list) c.self.view_is
+    ∙ ap (λ (k : KeptRegistries). without_registry nat_eq registry_birth true birth k.list) c.self.view_is
 
 pub returns-else-self-len-clause-settled : goal.returns-else-self-len-clause-settled
 returns-else-self-len-clause-settled g c globals none =
