@@ -32,12 +32,12 @@ use Rattle.wl_server.specs.Announcing.{name_at, owed_opcode, values_of, with_due
 use Rattle.wl_server.specs.Announcing.{all_marked}
 use Rattle.wl_server.specs.Registries.{IsAmong, IsRegistry}
 use Rattle.wl_server.proofs.Registries.{has_marked}
-use Rattle.theory_connection.specs.Meant.{Born, Known, Message, Coming, Event, Arg, renamed, rearg}
-use Rattle.theory_connection.specs.Meant.{born_of, number_of_birth, wire, tokens, made_in, objects, born_of_entry}
+use Rattle.theory_connection.specs.Meant.{client_birth, Born, Known, Message, Coming, Event, Arg, renamed, rearg}
+use Rattle.theory_connection.specs.Meant.{born_of, birth_of, wire, tokens, made_in, objects, born_of_entry}
 use Rattle.theory_connection.specs.World.{World, Each, event_written}
 use Rattle.theory_connection.specs.Pair.{PairState, Announce, with_server, with_server_core}
 use Rattle.theory_connection.specs.Pair.{Announces, announced, refused}
-use Rattle.theory_connection.specs.Answers.{NotEnded, Owed, owed_by, mark_in, marks_of, registry_of}
+use Rattle.theory_connection.specs.Answers.{birth_at, mark_one, NotEnded, Owed, owed_by, mark_in, marks_of}
 use Rattle.theory_connection.specs.Answers.{told_args, WritesThat, AnnouncesThose, none, more}
 use Rattle.theory_connection.specs.Answers.{before}
 use Rattle.theory_connection.specs.Flight.{IsBelow, Rows, server_rows, tells, all_tells}
@@ -94,7 +94,7 @@ owing_all tables given r l g =
 pub record IsDue (tables : List Interface) (given : List Global) (s : Rows Born) (d : Due) : Type 0 where
   pub version : ℕ
   pub some : 1 ≤ version
-  pub there : s.rows d.object.id ≡ Some (record { birth = d.object.birth; iface = registry; version = version })
+  pub there : s.rows d.object.id ≡ Some (record { birth = birth_at d.object; iface = registry; version = version })
   pub owing : IsOwing tables given d.owing
 
 dues_of : (tables : List Interface) (given : List Global) (v : View) (o : Object) (os : List Owing) → Aged v
@@ -106,7 +106,7 @@ dues_of tables given v o (x ∷ os) a i h = (
     version = i.entry.version;
     some = a o.id i.entry i.row;
     there = ap (option_map born_of_entry) i.row ∙ (λ j. Some
-        (record { birth = i.birth j; iface = i.iface j; version = i.entry.version }));
+        (record { birth = client_birth (i.birth j); iface = i.iface j; version = i.entry.version }));
     owing = h.0;
   },
   dues_of tables given v o os a i h.1,
@@ -129,16 +129,16 @@ each_take P (suc n) (x ∷ xs) h = (h.0, each_take P n xs h.1)
 -- ---- by births
 
 abbrev pub owed_of : Due → Owed
-owed_of d = record { birth = d.object.birth; owing = d.owing }
+owed_of d = record { birth = birth_at d.object; owing = d.owing }
 
 map_join : {X Y : Type 0} (f : X → Y) (xs ys : List X) → map f (xs ++ ys) ≡ map f xs ++ map f ys
 map_join f [] ys = refl
 map_join f (x ∷ xs) ys = ap (λ (l : List _). f x ∷ l) (map_join f xs ys)
 
 map_map : (r : Registry) (os : List Owing) → map owed_of (map (λ o. record { object = r.object; owing = o }) os)
-    ≡ map (λ o. record { birth = r.object.birth; owing = o }) os
+    ≡ map (λ o. record { birth = birth_at r.object; owing = o }) os
 map_map r [] = refl
-map_map r (o ∷ os) = ap (λ (l : List Owed). record { birth = r.object.birth; owing = o } ∷ l) (map_map r os)
+map_map r (o ∷ os) = ap (λ (l : List Owed). record { birth = birth_at r.object; owing = o } ∷ l) (map_map r os)
 
 pub owed_same : (given : List Global) (rs : List Registry)
     → owed_by given (map marks_of rs) ≡ map owed_of (owed_in given rs)
@@ -153,8 +153,8 @@ take_map f (suc n) [] = refl
 take_map f (suc n) (x ∷ xs) = ap (λ (l : List _). f x ∷ l) (take_map f n xs)
 
 -- a registry is marked alike under any id
-pick : (b : Bool) (o : Owing) (r : Registry) → let s = registry_of (marks_of r)
-    in marks_of (cond b (marked o r) r) ≡ marks_of (cond b (marked o s) s)
+pick : (b : Bool) (o : Owing) (r : Registry)
+    → marks_of (cond b (marked o r) r) ≡ cond b (mark_one o (marks_of r)) (marks_of r)
 pick true (Removal name) r = refl
 pick true (Telling name g) r = refl
 pick false o r = refl
@@ -172,7 +172,10 @@ due_args tables (Telling name g) = Uint name ∷ Str (Some (name_at tables g.ifa
 
 abbrev pub due_message : List Interface → Due → ℕ → Message Known
 due_message tables d version = record {
-  target = record { id = d.object.id; born = record { birth = d.object.birth; iface = registry; version = version } };
+  target = record {
+    id = d.object.id;
+    born = record { birth = birth_at d.object; iface = registry; version = version };
+  };
   opcode = owed_opcode d.owing;
   args = due_args tables d.owing;
   ends = None;
@@ -187,7 +190,7 @@ due_tokens tables (Removal name) = refl
 due_tokens tables (Telling name g) = refl
 
 due_births : (tables : List Interface) (o : Owing)
-    → map (rearg number_of_birth) (map (rearg born_of) (due_args tables o)) ≡ told_args tables o
+    → map (rearg birth_of) (map (rearg born_of) (due_args tables o)) ≡ told_args tables o
 due_births tables (Removal name) = refl
 due_births tables (Telling name g) = refl
 
@@ -239,7 +242,7 @@ pub due_fits : (tables : List Interface) → Valid tables → (given : List Glob
       target = record {
         id = d.object.id;
         born = record {
-          birth = d.object.birth;
+          birth = birth_at d.object;
           iface = registry;
           version = version;
         };
@@ -309,7 +312,7 @@ due_can p w asked told s d i =
     let x : Known = record {
       id = d.object.id;
       born =
-          record { birth = d.object.birth; iface = registry; version = i.version };
+          record { birth = birth_at d.object; iface = registry; version = i.version };
     } in
     let r = there_row p.server.core.view x i.there in
     let low = (row_low p.server.core.view d.object.id r.entry s.server.sound r.there).1 in
@@ -397,7 +400,7 @@ one_stands p w asked told s d i =
 writes_due : (p : PairState) (w : World) (asked : List (Message Known)) (told : List (Coming Known))
     (s : StandsBy p w asked told) (d : Due) (i : IsDue p.server.core.tables p.server.globals
     (server_rows p.server.core.view) d)
-    → WritesThat p.server.core.tables event_side w d.object.birth (owed_opcode d.owing)
+    → WritesThat p.server.core.tables event_side w (birth_at d.object) (owed_opcode d.owing)
     (told_args p.server.core.tables d.owing) None
     (event_written w (renamed born_of (due_message p.server.core.tables d i.version)))
 writes_due p w asked told s d i =
@@ -413,7 +416,7 @@ writes_due p w asked told s d i =
       target_is = refl;
       opcode_is = refl;
       args_are = due_births p.server.core.tables d.owing;
-      new_is = ap (option_map number_of_birth) (made_map born_of m.args
+      new_is = ap (option_map birth_of) (made_map born_of m.args
           ∙ ap (option_map born_of) (due_none p.server.core.tables d.owing));
       steps = tells_world p w asked told s m can;
     }

@@ -10,14 +10,15 @@ use Rattle.wl_object_map.specs.View.{View, Sound, look, opened_at, closed, zombi
 use Rattle.wl_object_map.specs.View.{can_open, has_room, free_or_next, max_ids}
 use Rattle.wl_object_map.specs.Views.{look-opened_at, look-closed, look-zombied, free_is, unheld_is_free}
 use Rattle.wl_object_map.specs.Views.{free_or_next-next_id}
-use Rattle.theory_connection.specs.Meant.{Known, born_of_entry}
-use Rattle.theory_connection.specs.World.{Open, Ending, put}
-use Rattle.theory_connection.specs.Flight.{Rows, at, most, with_made, row_of_entry, client_rows, server_rows, Fresh}
+use Rattle.theory_connection.specs.Meant.{Birth, client_birth, Known, born_of_entry}
+use Rattle.theory_connection.specs.World.{Open, Ending}
+use Rattle.theory_connection.specs.Flight.{Rows, put_row, at, most, with_made, row_of_entry, client_rows}
+use Rattle.theory_connection.specs.Flight.{server_rows, Fresh}
 
 module _ {X Y : Type 0} (f : X → Y) where
   pub map_put : (g h : ℕ → Option X) (k : ℕ) (o : Option X) → ((q : ℕ) → g q ≡ cond (eqb q k) o (h q)) → (q : ℕ)
-      → option_map f (g q) ≡ put (λ i. option_map f (h i)) k (option_map f o) q
-  unfolding put
+      → option_map f (g q) ≡ put_row (λ i. option_map f (h i)) k (option_map f o) q
+  unfolding put_row
   map_put g h k o e q = ap (option_map f) (e q) ∙ map_cond (eqb q k) o (h q)
     where
       map_cond : (b : Bool) (o p : Option X) → option_map f (cond b o p) ≡ cond b (option_map f o) (option_map f p)
@@ -32,24 +33,24 @@ most_max : (a b : ℕ) → max a b ≡ most a b
 most_max a b = grind (arith, nat_tests)
 
 -- the client's rows with one more open
-pub client_opened : (v : View) (x : Known) → x.born.birth ≡ v.births
+pub client_opened : (v : View) (x : Known) → x.born.birth ≡ client_birth v.births
     → client_rows (opened_at v x.id x.born.iface x.born.version) ≡ with_made (client_rows v) x.id (Open x.born)
 client_opened v x e =
     same_rows_at (v.births + 1)
     (λ q. map_put row_of_entry (look (opened_at v x.id x.born.iface x.born.version)) (look v) x.id _
     (look-opened_at v x.id x.born.iface x.born.version) q
-    ∙ ap (λ (n : ℕ). put (λ i. option_map row_of_entry (look v i)) x.id
+    ∙ ap (λ (n : Birth). put_row (λ i. option_map row_of_entry (look v i)) x.id
     (Some (Open (record { birth = n; iface = x.born.iface; version = x.born.version }))) q) (sym e))
     (most_max v.used x.id)
 
 -- the server's rows with one more open
-pub server_opened : (v : View) (x : Known) → x.born.birth ≡ v.births
+pub server_opened : (v : View) (x : Known) → x.born.birth ≡ client_birth v.births
     → server_rows (opened_at v x.id x.born.iface x.born.version) ≡ with_made (server_rows v) x.id x.born
 server_opened v x e =
     same_rows_at (v.births + 1)
     (λ q. map_put born_of_entry (look (opened_at v x.id x.born.iface x.born.version)) (look v) x.id _
     (look-opened_at v x.id x.born.iface x.born.version) q
-    ∙ ap (λ (n : ℕ). put (λ i. option_map born_of_entry (look v i)) x.id
+    ∙ ap (λ (n : Birth). put_row (λ i. option_map born_of_entry (look v i)) x.id
     (Some (record { birth = n; iface = x.born.iface; version = x.born.version })) q) (sym e))
     (most_max v.used x.id)
 
@@ -83,7 +84,8 @@ map_none f None h = refl
 map_none f (Some x) h = absurd (cc h)
 
 -- the next id fits
-pub next_fresh : (v : View) (x : Known) → Sound v → can_open v ≡ true → x.id ≡ next_id v → x.born.birth ≡ v.births
+pub next_fresh : (v : View) (x : Known) → Sound v → can_open v ≡ true → x.id ≡ next_id v
+    → x.born.birth ≡ client_birth v.births
     → Fresh (client_rows v) x
 next_fresh v x s o e b =
     let f = free_is v (next_id v) s (free_or_next-next_id v) in

@@ -30,8 +30,8 @@ use Rattle.wl_objects.specs.Writing.{Given, suits, has_no_nul, wrong_place, lost
 use Rattle.wl_objects.specs.Writing.{is_live_as, row_is_of, can_name, wired, tokens_of, message_len}
 use Rattle.wl_objects.specs.Messages.{NewObject, made, live_row, checked, checked_by, checked_as}
 use Rattle.wl_objects.specs.Messages.{unless_hidden, unless_wrong, is_hidden}
-use Rattle.theory_connection.specs.Meant.{Born, Known, Arg, rearg, born_of, number_of_birth, wire, tokens}
-use Rattle.theory_connection.specs.Meant.{new_object_in, made_in, objects, born_of_entry, live_entry}
+use Rattle.theory_connection.specs.Meant.{Birth, client_birth, Born, Known, Arg, rearg, born_of, birth_of, wire}
+use Rattle.theory_connection.specs.Meant.{tokens, new_object_in, made_in, objects, born_of_entry, live_entry}
 use Rattle.theory_connection.specs.World.{Each, IfThere}
 use Rattle.theory_connection.specs.Answers.{handed}
 use Rattle.theory_connection.specs.Stands.{SuitKinds, NamesRightly}
@@ -156,7 +156,7 @@ is_checked limit tables side view target opcode given s h =
 
 -- what an object was born as, by its entry
 abbrev pub born_at : Option Entry → Born
-born_at None = record { birth = 0; iface = record { 0 = 0 }; version = 0 }
+born_at None = record { birth = client_birth 0; iface = record { 0 = 0 }; version = 0 }
 born_at (Some e) = born_of_entry e
 
 abbrev pub resolve : View → Option Object → Option Known
@@ -171,11 +171,11 @@ meant view new a = reshaped (resolve view) (λ _. new) (λ t. t) a
 abbrev pub new_known : View → Option NewObject → Known
 new_known view None = record {
   id = next_id view;
-  born = record { birth = view.births; iface = record { 0 = 0 }; version = 0 };
+  born = record { birth = client_birth view.births; iface = record { 0 = 0 }; version = 0 };
 }
 new_known view (Some m) = record {
   id = next_id view;
-  born = record { birth = view.births; iface = m.iface; version = m.version };
+  born = record { birth = client_birth view.births; iface = m.iface; version = m.version };
 }
 
 wire_one : (view : View) (new : Known) (a : Given) → wire (meant view new a) ≡ wired new.id a
@@ -224,20 +224,21 @@ all_right view place (k ∷ ks) (a ∷ given) w l =
 
 -- ---- it names what was handed
 
-handed_one : (view : View) (new : Known) (births : ℕ) (k : Kind) (a : Given) → new.born.birth ≡ births → Right view k a
-    → rearg number_of_birth (rearg born_of (meant view new a)) ≡ handed births a
+handed_one : (view : View) (new : Known) (births : ℕ) (k : Kind) (a : Given)
+    → new.born.birth ≡ client_birth births → Right view k a
+    → rearg birth_of (rearg born_of (meant view new a)) ≡ handed births a
 handed_one view new births k (Obj None) e r = refl
 handed_one view new births k (Obj (Some x)) e r =
     let l = live_as x.birth (look view x.id) (and_parts _ _ r.named).0 in
-    ap (λ (b : ℕ). Obj (Some b)) (ap (λ o. (born_at o).birth) l.there ∙ l.birth_is)
-handed_one view new births k (New x) e r = ap (λ (b : ℕ). New b) e
-handed_one view new births k (NewNamed name own x) e r = ap (λ (b : ℕ). NewNamed name own b) e
+    ap (λ (b : Birth). Obj (Some b)) (ap (λ o. (born_at o).birth) l.there ∙ ap client_birth l.birth_is)
+handed_one view new births k (New x) e r = ap (λ (b : Birth). New b) e
+handed_one view new births k (NewNamed name own x) e r = ap (λ (b : Birth). NewNamed name own b) e
 handed_one view new births k a e r = refl
 
 -- what is meant, by births, is what was handed
 pub handed_all : (view : View) (new : Known) (births : ℕ) (ks : List Kind) (given : List Given)
-    → new.born.birth ≡ births → AllRight view ks given
-    → map (rearg number_of_birth) (map (rearg born_of) (map (meant view new) given)) ≡ map (handed births) given
+    → new.born.birth ≡ client_birth births → AllRight view ks given
+    → map (rearg birth_of) (map (rearg born_of) (map (meant view new) given)) ≡ map (handed births) given
 handed_all view new births [] [] e r = refl
 handed_all view new births [] (a ∷ given) e r = absurd r
 handed_all view new births (k ∷ ks) [] e r = absurd r
@@ -463,11 +464,11 @@ none_rest : (a : Arg Known) (args : List (Arg Known)) → made_in (a ∷ args) �
 none_rest a args h = (or_none (new_object_in a) (made_in args) h).1
 
 handed_if : (view : View) (new : Known) (births : ℕ) (k : Kind) (a : Given) → new_object_in (meant view new a) ≡ None
-    → Right view k a → rearg number_of_birth (rearg born_of (meant view new a)) ≡ handed births a
+    → Right view k a → rearg birth_of (rearg born_of (meant view new a)) ≡ handed births a
 handed_if view new births k (Obj None) e r = refl
 handed_if view new births k (Obj (Some x)) e r =
     let l = live_as x.birth (look view x.id) (and_parts _ _ r.named).0 in
-    ap (λ (b : ℕ). Obj (Some b)) (ap (λ o. (born_at o).birth) l.there ∙ l.birth_is)
+    ap (λ (b : Birth). Obj (Some b)) (ap (λ o. (born_at o).birth) l.there ∙ ap client_birth l.birth_is)
 handed_if view new births k (New x) e r = absurd (cc e)
 handed_if view new births k (NewNamed name own x) e r = absurd (cc e)
 handed_if view new births k a e r = refl
@@ -475,7 +476,7 @@ handed_if view new births k a e r = refl
 -- where nothing is made, no argument hands a new object
 pub handed_none : (view : View) (new : Known) (births : ℕ) (ks : List Kind) (given : List Given)
     → made_in (map (meant view new) given) ≡ None → AllRight view ks given
-    → map (rearg number_of_birth) (map (rearg born_of) (map (meant view new) given)) ≡ map (handed births) given
+    → map (rearg birth_of) (map (rearg born_of) (map (meant view new) given)) ≡ map (handed births) given
 handed_none view new births [] [] e r = refl
 handed_none view new births [] (a ∷ given) e r = absurd r
 handed_none view new births (k ∷ ks) [] e r = absurd r

@@ -35,7 +35,7 @@ use Rattle.wl_client.specs.State.{is_named}
 use Rattle.wl_client.specs.Calls.{version_fits, can_bind, iface_or, bound_object, bind_at, bind_answer, after_bind}
 use Rattle.wl_server.specs.State as server
 use Rattle.wl_server.specs.Requests.{was_advertised as bind_fits, name_fits}
-use Rattle.theory_connection.specs.Meant.{Known, Message, Coming, renamed, born_of, born_of_entry}
+use Rattle.theory_connection.specs.Meant.{client_birth, Known, Message, Coming, renamed, born_of, born_of_entry}
 use Rattle.theory_connection.specs.World.{World, Open, Each, request_written}
 use Rattle.theory_connection.specs.Pair.{PairState, ClientBind, with_client, Writes, accepted, refused, no_memory}
 use Rattle.theory_connection.specs.Answers.{NotEnded, birth_at, before}
@@ -165,7 +165,7 @@ given_at P given (suc k) g e h = each_get P given k g e h
 abbrev pub the_bound : View → ℕ → Iface → Known
 the_bound v version place = record {
   id = next_id v;
-  born = record { birth = v.births; iface = place; version = version };
+  born = record { birth = client_birth v.births; iface = place; version = version };
 }
 
 abbrev pub bind_message : View → Entry → Object → ℕ → List ℕ → ℕ → Iface → Message Known
@@ -207,7 +207,7 @@ bind_can p w asked told s target name iface version new b n can =
     let x : Known = record {
       id = next_id v;
       born =
-          record { birth = v.births; iface = n.global.iface; version = version };
+          record { birth = client_birth v.births; iface = n.global.iface; version = version };
     } in
     let fresh = next_fresh v x s.client.sound can refl refl in
     let fits_name : name_fits iface (interface_at tables given.global.iface.0) ≡ true =
@@ -255,7 +255,7 @@ bind_can p w asked told s target name iface version new b n can =
       };
       target = open_row v target.id b.entry b.there b.live;
       target_plain = ap (λ (i : Iface). test_of p
-          (record { birth = b.entry.birth; iface = i; version = b.entry.version })) reg
+          (record { birth = client_birth b.entry.birth; iface = i; version = b.entry.version })) reg
           ∙ registry_plain tables s.terms.valid;
       args = tt;
       args_plain = tt;
@@ -320,7 +320,7 @@ client_bind_keeps p w asked told s z target name iface version reply p' (accepte
           there = sig_there;
           ends = born_ends m can.fitly.fits.signature.destroys can.fitly.fits.ends;
         };
-        target_is = b.birth;
+        target_is = ap client_birth b.birth;
         opcode_is = refl;
         args_are = ap (λ (k : ℕ). answers.bind_args name iface version k) (sym s.client.births);
         new_is = ap (option_map birth_at) (sym o.is);

@@ -17,8 +17,8 @@ use Rattle.wl_objects.specs.Reading.{descriptors}
 use Rattle.wl_connection.specs.Receiving.{Found, found, found_at, reported}
 use Rattle.wl_client.specs.Reports.{Report, report, needs_memory, plain_report, next_answer, after_next, state_past}
 use Rattle.wl_client.specs.Reports as reports
-use Rattle.theory_connection.specs.Meant.{Known, Born, Message, Coming, Event, Delete, renamed}
-use Rattle.theory_connection.specs.Meant.{recoming, rearg, born_of, number_of_birth, tokens, live_entry}
+use Rattle.theory_connection.specs.Meant.{client_birth, Known, Born, Message, Coming, Event, Delete, renamed}
+use Rattle.theory_connection.specs.Meant.{recoming, rearg, born_of, birth_of, tokens, live_entry}
 use Rattle.theory_connection.specs.World.{World, event_read, delete_read, reads_event, reads_delete}
 use Rattle.theory_connection.specs.World as world
 use Rattle.theory_connection.specs.Pair.{PairState, ClientNext, with_client, Nexts, answered, no_memory}
@@ -66,7 +66,8 @@ is_some_event w m (reports.Error id named code text) t h = absurd t
 
 reports_as : (p : PairState) (w : World) (m : Message Known) (more : List ℕ) (entry : Entry)
     (signature : sigs.MessageSignature)
-    (s : State) → w.client m.target.born.birth ≡ Some (as_row s m.target.born) → entry.birth ≡ m.target.born.birth
+    (s : State) → w.client m.target.born.birth ≡ Some (as_row s m.target.born)
+    → client_birth entry.birth ≡ m.target.born.birth
     → p.client.core.inbox.tokens ≡ tokens m.args ++ more → descriptors signature.kinds ≡ length (tokens m.args)
     → ReportsArgs w.client (map (rearg born_of) m.args) (reported p.client.core (the_message m entry signature))
     → ReportsComing w (Event (renamed born_of m))
@@ -93,7 +94,7 @@ reports_it p w m cs asked s n i =
     let shown = i.target.shown ∙ ap (λ (b : Born). Some (as_row i.target.entry.state b)) i.target.same in
     subst (ReportsComing w (Event (renamed born_of m))) (sym a.tells_it)
     (reports_as p w m i.more i.target.entry f.signature i.target.entry.state shown
-    (ap number_of_birth i.target.same) i.tokens_are count
+    (ap birth_of i.target.same) i.tokens_are count
     (rw i.tokens_are (reports_right p.client.core.view w.client m.args i.more i.met)))
 
 keeps_event : (p : PairState) (w : World) (m : Message Known) (cs : List (Coming Known)) (asked : List (Message Known))
@@ -166,7 +167,7 @@ keeps_delete p w x cs asked s n z e i reply p' d answered = record {
     waits = subst HasMessage (sym e) tt;
     coming = Delete x.born;
     steps = reads_delete x.born (map (recoming born_of) cs) s.events.in_world;
-    reports = ap number_of_birth i.same;
+    reports = ap birth_of i.same;
   });
   outcome = goes_on asked cs z (delete_stands p w x cs asked s n i) (reading_delete x cs n refl e);
 }

@@ -23,9 +23,9 @@ use Rattle.wl_objects.specs.Writing.{Given, wired, message_bytes}
 use Rattle.wl_objects.specs.Messages.{NewObject, made, ended_id, after, checked}
 use Rattle.wl_connection.specs.Core.{Core}
 use Rattle.wl_connection.specs.Sending.{send_answer, after_send, after_checked, made_at, version_at, opens_object}
-use Rattle.theory_connection.specs.Meant.{Born, Known, Arg, object_at, ended_by, tokens, wire}
-use Rattle.theory_connection.specs.Meant.{Message, Coming, renamed, born_of, number_of_birth, made_in}
-use Rattle.theory_connection.specs.Meant.{objects, born_of_entry, live_entry}
+use Rattle.theory_connection.specs.Meant.{client_birth, Born, Known, Arg, object_at, ended_by, tokens, wire}
+use Rattle.theory_connection.specs.Meant.{Message, Coming, renamed, born_of, birth_of, made_in, objects}
+use Rattle.theory_connection.specs.Meant.{born_of_entry, live_entry}
 use Rattle.theory_connection.specs.World.{World, display_born, Open, Each, IfThere, IsOpen}
 use Rattle.theory_connection.specs.World.{request_written, Steps, writes_request, WriteRequest}
 use Rattle.theory_connection.specs.Pair.{PairState, ClientSend, with_client_core, Writes, accepted, refused, no_memory}
@@ -73,14 +73,15 @@ if_map P f None h = tt
 if_map P f (Some x) h = h
 
 -- what the new object is, where there is one
-new_fits : (v : View) (new : Known) (o : Option Known) → Sound v → new.id ≡ next_id v → new.born.birth ≡ v.births
+new_fits : (v : View) (new : Known) (o : Option Known) → Sound v → new.id ≡ next_id v
+    → new.born.birth ≡ client_birth v.births
     → (o ≡ None) ⊎ (o ≡ Some new) → IfThere (λ (x : Known). can_open v ≡ true) o
     → IfThere (Fresh (client_rows v)) o × IfThere (λ x. x.id ≡ next_id v) o
 new_fits v new None s i b h c = (tt, tt)
 new_fits v new (Some x) s i b h c =
     let e : x ≡ new = elim h [ inl p ↦ absurd (cc p) | inr p ↦ cc ] in
     let id : x.id ≡ next_id v = ap (λ (k : Known). k.id) e ∙ i in
-    let birth : x.born.birth ≡ v.births = ap (λ (k : Known). k.born.birth) e ∙ b in
+    let birth : x.born.birth ≡ client_birth v.births = ap (λ (k : Known). k.born.birth) e ∙ b in
     (next_fresh v x s c id birth, id)
 
 -- wl_display stays
@@ -219,19 +220,19 @@ left_by core target opcode given signature v e c k =
       };
     }))
 
-new_births : (o : Option Known) (births id : ℕ) → IfThere (λ x. x.born.birth ≡ births) o
-    → option_map number_of_birth (option_map born_of o) ≡ option_map birth_at
+new_births : (o : Option Known) (births id : ℕ) → IfThere (λ x. x.born.birth ≡ client_birth births) o
+    → option_map birth_of (option_map born_of o) ≡ option_map birth_at
     (option_map (λ (m : NewObject). record { id = id; birth = births }) (option_map made_of o))
 new_births None births id h = refl
 new_births (Some x) births id h = ap Some h
 
 fresh_births : (v : View) (o : Option Known) → IfThere (Fresh (client_rows v)) o
-    → IfThere (λ x. x.born.birth ≡ v.births) o
+    → IfThere (λ x. x.born.birth ≡ client_birth v.births) o
 fresh_births v None h = tt
 fresh_births v (Some x) h = h.birth
 
-if_born : (births : ℕ) (o : Option Known) → IfThere (λ x. x.born.birth ≡ births) o
-    → IfThere (λ (x : Born). x.birth ≡ births) (option_map born_of o)
+if_born : (births : ℕ) (o : Option Known) → IfThere (λ x. x.born.birth ≡ client_birth births) o
+    → IfThere (λ (x : Born). x.birth ≡ client_birth births) (option_map born_of o)
 if_born births None h = tt
 if_born births (Some x) h = h
 
@@ -256,7 +257,7 @@ pub sends_that : (p : PairState) (w : World) (asked : List (Message Known)) (tol
     signature) (k : CallIs p.client.core Request target opcode given signature c.entry)
     → (o : Opens p.client.core (made_at p.client.core target signature given) new)
     → CanAsk p (the_call p.client.core c.entry target opcode given signature)
-    → WritesThat p.client.core.tables Request w target.birth opcode (map (handed w.births) given) new
+    → WritesThat p.client.core.tables Request w (birth_at target) opcode (map (handed w.births) given) new
     (request_written w (renamed born_of (the_call p.client.core c.entry target opcode given signature)))
 sends_that p w asked told s target opcode given signature new c k o can =
     let core = p.client.core in
@@ -266,11 +267,11 @@ sends_that p w asked told s target opcode given signature new c k o can =
     record {
       message = renamed born_of m;
       is = record { signature = signature; there = c.signed; ends = born_ends m signature.destroys refl };
-      target_is = c.birth;
+      target_is = ap client_birth c.birth;
       opcode_is = refl;
       args_are = handed_all v (the_new core c.entry given signature) w.births signature.kinds given
-          (new_birth v (the_made core c.entry given signature) ∙ sym s.client.births) k.right;
-      new_is = ap (option_map number_of_birth) (made_map born_of m.args)
+          (new_birth v (the_made core c.entry given signature) ∙ ap client_birth (sym s.client.births)) k.right;
+      new_is = ap (option_map birth_of) (made_map born_of m.args)
           ∙ new_births (made_in m.args) v.births (next_id v) births
           ∙ ap (option_map birth_at) (ap (option_map (λ (y : NewObject). record { id = next_id v; birth = v.births }))
           (sym (made_same core target given signature c.entry c.there ∙ k.made_is)) ∙ sym o.is);

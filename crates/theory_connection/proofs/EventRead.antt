@@ -29,9 +29,9 @@ use Rattle.wl_client.specs.declared.globals.Global.{Global as Remembered}
 use Rattle.wl_client.specs.State as client
 use Rattle.wl_client.specs.Reports.{state_past, globals_told, report}
 use Rattle.wl_client.specs.Reports as reports
-use Rattle.theory_connection.specs.Meant.{Born, Known, Message, Coming, Event, Delete, renamed}
-use Rattle.theory_connection.specs.Meant.{recoming, rearg, born_of, number_of_birth, wire, tokens, spelled_meant}
-use Rattle.theory_connection.specs.Meant.{spelled_coming, objects, born_of_entry, live_entry}
+use Rattle.theory_connection.specs.Meant.{Birth, Born, Known, Message, Coming, Event, Delete, renamed, recoming}
+use Rattle.theory_connection.specs.Meant.{rearg, born_of, birth_of, wire, tokens, spelled_meant, spelled_coming}
+use Rattle.theory_connection.specs.Meant.{objects, born_of_entry, live_entry}
 use Rattle.theory_connection.specs.World.{World, display_born, Row, event_read, delete_read}
 use Rattle.theory_connection.specs.World.{is_open_row, is_registry, learned, nameless, IfThere}
 use Rattle.theory_connection.specs.Pair.{PairState, with_client}
@@ -55,22 +55,23 @@ birth_bare : (s : State) (b : Born) → birth_in (as_row s b) ≡ b.birth
 birth_bare states.Live b = refl
 birth_bare states.Zombie b = refl
 
-pub record SeenAt (v : View) (sets : ℕ → Option Row) (x : Known) : Type 0 where
+pub record SeenAt (v : View) (sets : Birth → Option Row) (x : Known) : Type 0 where
   pub entry : Entry
   pub there : look v x.id ≡ Some entry
   pub same : born_of_entry entry ≡ x.born
   pub shown : sets x.born.birth ≡ Some (row_of_entry entry)
 
-pub seen_at : (v : View) (sets : ℕ → Option Row) → ShowsBirths birth_in (client_rows v).rows v.births sets → (x : Known)
+pub seen_at : (v : View) (sets : Birth → Option Row)
+    → ShowsBirths birth_in (client_rows v).rows v.births sets → (x : Known)
     → IsHeldInRows (client_rows v) x → SeenAt v sets x
 seen_at v sets s x h =
     let r = held_row v x h in
     let shown = s.shown x.id (row_of_entry r.entry) (ap (option_map row_of_entry) r.there) in
     let b : birth_in (row_of_entry r.entry) ≡ x.born.birth = birth_bare r.entry.state (born_of_entry r.entry)
-    ∙ ap number_of_birth r.same in
+    ∙ ap birth_of r.same in
     record { entry = r.entry; there = r.there; same = r.same; shown = ap sets (sym b) ∙ shown }
 
-pub held_at_client : (v : View) (sets : ℕ → Option Row) → ShowsBirths birth_in (client_rows v).rows v.births sets
+pub held_at_client : (v : View) (sets : Birth → Option Row) → ShowsBirths birth_in (client_rows v).rows v.births sets
     → (x : Known) → 0 < x.id → IsHeldInRows (client_rows v) x → HeldAt v sets x
 held_at_client v sets s x some h = let r = seen_at v sets s x h
     in record { some = some; entry = r.entry; there = r.there; same = r.same; shown = r.shown }

@@ -4,39 +4,41 @@ use Rattle.std.proofs.Common.{refl, sym, ◌∙◌, ap, subst, arith, ◌≢◌}
 use Rattle.std.proofs.lemmas.Bool.Decides.{nat_tests}
 use Rattle.std.specs.declared.option.Option.{Option}
 use Rattle.std.specs.declared.option.Option.TheVariants.{None, Some}
-use Rattle.theory_connection.specs.Meant.{Born, Known}
-use Rattle.theory_connection.specs.World.{Row, Open, Ending, put}
-use Rattle.theory_connection.specs.Flight.{Rows, at, most, with_made, Ask, Use, Make, Destroy, Tell}
-use Rattle.theory_connection.specs.Flight.{at_client, IsHeldInRows, Fresh, ReadsInFlight, done, name, end, delete}
-use Rattle.theory_connection.specs.Flight.{Tied, drained, use_, make, destroy}
+use Rattle.theory_connection.specs.Meant.{client_birth, Born, Known}
+use Rattle.theory_connection.specs.World.{Row, Open, Ending}
+use Rattle.theory_connection.specs.Flight.{Rows, put_row, at, most, with_made, Ask, Use, Make, Destroy, Tell}
+use Rattle.theory_connection.specs.Flight.{at_client, IsHeldInRows, Fresh, ReadsInFlight, done, name, end}
+use Rattle.theory_connection.specs.Flight.{delete, Tied, drained, use_, make, destroy}
 
 module _ {X : Type 0} where
-  -- what stands where after a put
-  pub put_tells : (f : ℕ → Option X) (i : ℕ) (o : Option X) (j : ℕ)
-      → ((j ≡ i) × (put f i o j ≡ o)) ⊎ ((j ≢ i) × (put f i o j ≡ f j))
-  unfolding put
-  put_tells f i o j = grind (arith, nat_tests)
+  -- what stands where after a row was put
+  pub put_row_tells : (f : ℕ → Option X) (i : ℕ) (o : Option X) (j : ℕ)
+      → ((j ≡ i) × (put_row f i o j ≡ o)) ⊎ ((j ≢ i) × (put_row f i o j ≡ f j))
+  unfolding put_row
+  put_row_tells f i o j = grind (arith, nat_tests)
 
-  -- what was put stands there
-  pub put_same : (f : ℕ → Option X) (i : ℕ) (o : Option X) → put f i o i ≡ o
-  put_same f i o = grind (arith, put_tells)
+  -- the row that was put stands there
+  pub put_row_same : (f : ℕ → Option X) (i : ℕ) (o : Option X) → put_row f i o i ≡ o
+  put_row_same f i o = grind (arith, put_row_tells)
 
   -- two puts at different places change places
-  pub put_swap : (f : ℕ → Option X) (i j : ℕ) (a b : Option X) → i ≢ j → put (put f i a) j b ≡ put (put f j b) i a
-  put_swap f i j a b ne =
-      let each : (q : ℕ) → put (put f i a) j b q ≡ put (put f j b) i a q = λ q. grind (arith, put_tells) in
+  pub put_row_swap : (f : ℕ → Option X) (i j : ℕ) (a b : Option X) → i ≢ j
+      → put_row (put_row f i a) j b ≡ put_row (put_row f j b) i a
+  put_row_swap f i j a b ne =
+      let each : (q : ℕ) → put_row (put_row f i a) j b q ≡ put_row (put_row f j b) i a q =
+      λ q. grind (arith, put_row_tells) in
       λ k q. each q k
 
   -- of two puts at a place the last stands
-  pub put_over : (f : ℕ → Option X) (i : ℕ) (a b : Option X) → put (put f i a) i b ≡ put f i b
-  put_over f i a b =
-      let each : (q : ℕ) → put (put f i a) i b q ≡ put f i b q = λ q. grind (arith, put_tells) in
+  pub put_row_over : (f : ℕ → Option X) (i : ℕ) (a b : Option X) → put_row (put_row f i a) i b ≡ put_row f i b
+  put_row_over f i a b =
+      let each : (q : ℕ) → put_row (put_row f i a) i b q ≡ put_row f i b q = λ q. grind (arith, put_row_tells) in
       λ k q. each q k
 
 -- what is held stays held when another id changes
 pub held_other : (v : Rows Row) (n : Known) (i : ℕ) (o : Option Row) → IsHeldInRows v n → n.id ≢ i
     → IsHeldInRows (at v i o) n
-held_other v n i o h ne = grind (arith, put_tells)
+held_other v n i o h ne = grind (arith, put_row_tells)
 
 -- what is held has a row
 pub held_some : (v : Rows Row) (n : Known) (i : ℕ) → IsHeldInRows v n → v.rows i ≡ None → n.id ≢ i
@@ -57,16 +59,16 @@ module _ {test : Born → Bool} where
       → test e ≡ false → w.rows i ≡ Some (Open e)
   live_after i e done h f = h
   live_after i e (name a r) h f = live_after i e r h f
-  live_after i e (end {x = n} b a r) h f = live_after i e r (grind (arith, put_tells)) f
-  live_after i e (delete {x = n} z a b r) h f = live_after i e r (grind (arith, put_tells)) f
+  live_after i e (end {x = n} b a r) h f = live_after i e r (grind (arith, put_row_tells)) f
+  live_after i e (delete {x = n} z a b r) h f = live_after i e r (grind (arith, put_row_tells)) f
 
   -- a free id is free after the events
   pub free_after : {es : List Tell} {v w : Rows Row} (i : ℕ) → ReadsInFlight test es v w → v.rows i ≡ None
       → w.rows i ≡ None
   free_after i done h = h
   free_after i (name a r) h = free_after i r h
-  free_after i (end b a r) h = free_after i r (grind (arith, put_tells))
-  free_after i (delete z a b r) h = free_after i r (grind (arith, put_tells))
+  free_after i (end b a r) h = free_after i r (grind (arith, put_row_tells))
+  free_after i (delete z a b r) h = free_after i r (grind (arith, put_row_tells))
 
   -- no event changes the counts
   pub counts_after : {es : List Tell} {v w : Rows Row} → ReadsInFlight test es v w
@@ -82,7 +84,7 @@ module _ {test : Born → Bool} where
   reads_rows {es} {w} {f} {g} {u} {b} e r = subst
       (λ (h : ℕ → Option Row). ReadsInFlight test es (record { rows = h; used = u; births = b }) w) e r
 
-  -- what is held at an id is held after a put at another id
+  -- what is held at an id is held after a row was put at another id
 
   -- the client makes an object while events are in flight
   pub make_before : {es : List Tell} {v w : Rows Row} (i : ℕ) (x : Row) → ReadsInFlight test es v w → v.rows i ≡ None
@@ -92,27 +94,27 @@ module _ {test : Born → Bool} where
       (make_before i x r h)
   make_before i x (end {v = v} {x = n} b a r) h =
       let ne = held_some v n i a h in
-      end b (held_other v n i (Some x) a ne) (reads_rows (put_swap _ _ _ _ _ ne)
-      (make_before i x r (grind (arith, put_tells))))
+      end b (held_other v n i (Some x) a ne) (reads_rows (put_row_swap _ _ _ _ _ ne)
+      (make_before i x r (grind (arith, put_row_tells))))
   make_before i x (delete {v = v} {x = n} z a b r) h =
       let ne = held_some v n i a h in
-      delete z (held_other v n i (Some x) a ne) (grind (arith, put_tells))
-      (reads_rows (put_swap _ _ _ _ _ ne) (make_before i x r (grind (arith, put_tells))))
+      delete z (held_other v n i (Some x) a ne) (grind (arith, put_row_tells))
+      (reads_rows (put_row_swap _ _ _ _ _ ne) (make_before i x r (grind (arith, put_row_tells))))
 
   -- the client destroys an object while events are in flight
   pub destroy_before : {es : List Tell} {v w : Rows Row} (i : ℕ) (e : Born) → ReadsInFlight test es v w
       → v.rows i ≡ Some (Open e) → test e ≡ false
       → ReadsInFlight test es (at v i (Some (Ending e))) (at w i (Some (Ending e)))
   destroy_before i e done h f = done
-  destroy_before i e (name {v = v} {x = n} a r) h f = name (grind (arith, put_tells)) (destroy_before i e r h f)
+  destroy_before i e (name {v = v} {x = n} a r) h f = name (grind (arith, put_row_tells)) (destroy_before i e r h f)
   destroy_before i e (end {v = v} {x = n} b a r) h f =
       let ne : n.id ≢ i = grind arith in
-      end b (held_other v n i _ a ne) (reads_rows (put_swap _ _ _ _ _ ne)
-      (destroy_before i e r (grind (arith, put_tells)) f))
+      end b (held_other v n i _ a ne) (reads_rows (put_row_swap _ _ _ _ _ ne)
+      (destroy_before i e r (grind (arith, put_row_tells)) f))
   destroy_before i e (delete {v = v} {x = n} z a b r) h f =
       let ne : n.id ≢ i = grind arith in
-      delete z (held_other v n i _ a ne) (grind (arith, put_tells))
-      (reads_rows (put_swap _ _ _ _ _ ne) (destroy_before i e r (grind (arith, put_tells)) f))
+      delete z (held_other v n i _ a ne) (grind (arith, put_row_tells))
+      (reads_rows (put_row_swap _ _ _ _ _ ne) (destroy_before i e r (grind (arith, put_row_tells)) f))
 
   -- events follow events
   pub reads_more : {es fs : List Tell} {u v w : Rows Row} → ReadsInFlight test es u v → ReadsInFlight test fs v w
@@ -139,35 +141,36 @@ module _ {test : Born → Bool} where
       → s.rows n.id ≡ Some n.born → IsHeldInRows m n
   held_at_client n (drained rows u b) h = grind (arith, rows n.id)
   held_at_client n (use_ a b t) h = held_at_client n t h
-  held_at_client n (make {x = n'} a t) h = held_at_client n t (grind (arith, put_tells, a.free))
+  held_at_client n (make {x = n'} a t) h = held_at_client n t (grind (arith, put_row_tells, a.free))
   held_at_client n (destroy {s = s} {m = m} {x = n'} z a b c t) h =
-      elim (put_tells s.rows n'.id None n.id) [
+      elim (put_row_tells s.rows n'.id None n.id) [
         | inl p ↦ grind arith
-        | inr p ↦ let g : IsHeldInRows (at m n'.id None) n = held_at_client n t (p.1 ∙ h) in grind (arith, put_tells)
+        | inr p ↦ let g : IsHeldInRows (at m n'.id None) n = held_at_client n t (p.1 ∙ h)
+            in grind (arith, put_row_tells)
       ]
 
   -- the server ends an object by an event, or drops it
   pub end_before : {qs : List Ask} {s : Rows Born} {m : Rows Row} (i : ℕ) (e : Born) → Tied test qs s m
       → s.rows i ≡ Some e → test e ≡ true
       → Tied test qs (at s i None) (at m i None)
-  end_before i e (drained rows u b) h f = drained (λ q. grind (arith, put_tells, rows q)) u b
-  end_before i e (use_ {x = n} a b t) h f = use_ (grind (arith, put_tells)) b (end_before i e t h f)
+  end_before i e (drained rows u b) h f = drained (λ q. grind (arith, put_row_tells, rows q)) u b
+  end_before i e (use_ {x = n} a b t) h f = use_ (grind (arith, put_row_tells)) b (end_before i e t h f)
   end_before i e (make {s = s} {x = n} a t) h f =
       let ne : n.id ≢ i = grind (arith, a.free) in
       make (record {
-        free = grind (arith, put_tells, a.free);
+        free = grind (arith, put_row_tells, a.free);
         some = a.some;
         next = a.next;
         birth = a.birth;
         low = a.low;
         left = a.left;
       })
-      (tied_server (put_swap _ _ _ _ _ ne) (end_before i e t (grind (arith, put_tells)) f))
+      (tied_server (put_row_swap _ _ _ _ _ ne) (end_before i e t (grind (arith, put_row_tells)) f))
   end_before i e (destroy {x = n} z a b c t) h f =
       let ne : n.id ≢ i = grind arith in
-      destroy z (grind (arith, put_tells)) b (grind (arith, put_tells))
-      (tied_client (put_swap _ _ _ _ _ ne) (tied_server (put_swap _ _ _ _ _ ne)
-      (end_before i e t (grind (arith, put_tells)) f)))
+      destroy z (grind (arith, put_row_tells)) b (grind (arith, put_row_tells))
+      (tied_client (put_row_swap _ _ _ _ _ ne) (tied_server (put_row_swap _ _ _ _ _ ne)
+      (end_before i e t (grind (arith, put_row_tells)) f)))
 
   -- the client writes one more action
   pub use_more : {qs : List Ask} {s : Rows Born} {m : Rows Row} (n : Known) → Tied test qs s m
@@ -176,7 +179,7 @@ module _ {test : Born → Bool} where
   use_more n (drained rows u b) h f = use_ (open_at_server _ _ (sym (rows n.id) ∙ h)) f (drained rows u b)
   use_more n (use_ a b t) h f = use_ a b (use_more n t h f)
   use_more n (make a t) h f = make a (use_more n t h f)
-  use_more n (destroy z a b c t) h f = destroy z a b c (use_more n t (grind (arith, put_tells)) f)
+  use_more n (destroy z a b c t) h f = destroy z a b c (use_more n t (grind (arith, put_row_tells)) f)
 
   -- requests still tie where one more makes an object
   pub make_more : {qs : List Ask} {s : Rows Born} {m : Rows Row} (n : Known) → Tied test qs s m → Fresh m n
@@ -186,18 +189,18 @@ module _ {test : Born → Bool} where
         free = none_at_server _ (sym (rows n.id) ∙ g.free);
         some = g.some;
         next = grind (arith, g.next);
-        birth = g.birth ∙ b;
+        birth = g.birth ∙ ap client_birth b;
         low = g.low;
         left = grind (arith, g.left);
       })
-      (drained (λ q. grind (arith, put_tells, rows q)) (ap (λ k. most k n.id) u) (ap (λ k. k + 1) b))
+      (drained (λ q. grind (arith, put_row_tells, rows q)) (ap (λ k. most k n.id) u) (ap (λ k. k + 1) b))
   make_more n (use_ a b t) g = use_ a b (make_more n t g)
   make_more n (make a t) g = make a (make_more n t g)
   make_more n (destroy {m = m} {x = n'} z a b c t) g =
       let ne : n'.id ≢ n.id = grind (arith, g.free) in
-      destroy z a b (grind (arith, put_tells)) (tied_client (put_swap _ _ _ _ _ ne)
+      destroy z a b (grind (arith, put_row_tells)) (tied_client (put_row_swap _ _ _ _ _ ne)
       (make_more n t (record {
-        free = grind (arith, put_tells, g.free);
+        free = grind (arith, put_row_tells, g.free);
         some = g.some;
         next = g.next;
         birth = g.birth;
@@ -210,11 +213,11 @@ module _ {test : Born → Bool} where
       → m.rows n.id ≡ Some (Open n.born) → test n.born ≡ false → n.id ≢ 1
       → Tied test (qs ++ Destroy n ∷ []) s (at m n.id (Some (Ending n.born)))
   destroy_more n (drained {s = s} {m = m} rows u b) h f y =
-      destroy y (open_at_server _ _ (sym (rows n.id) ∙ h)) f (put_same _ _ _)
-      (drained (λ q. grind (arith, put_tells, rows q)) u b)
+      destroy y (open_at_server _ _ (sym (rows n.id) ∙ h)) f (put_row_same _ _ _)
+      (drained (λ q. grind (arith, put_row_tells, rows q)) u b)
   destroy_more n (use_ a b t) h f y = use_ a b (destroy_more n t h f y)
   destroy_more n (make a t) h f y = make a (destroy_more n t h f y)
   destroy_more n (destroy {x = n'} z a b c t) h f y =
       let ne : n'.id ≢ n.id = grind arith in
-      destroy z a b (grind (arith, put_tells)) (tied_client (put_swap _ _ _ _ _ ne)
-      (destroy_more n t (grind (arith, put_tells)) f y))
+      destroy z a b (grind (arith, put_row_tells)) (tied_client (put_row_swap _ _ _ _ _ ne)
+      (destroy_more n t (grind (arith, put_row_tells)) f y))

@@ -18,8 +18,8 @@ use Rattle.wl_objects.specs.Writing.{spelled as spelled_values, message_bytes}
 use Rattle.wl_objects.specs.Messages.{reader_of, Received, received}
 use Rattle.wl_connection.specs.Core.{Core}
 use Rattle.wl_connection.specs.Receiving.{Found, found, found_at, found_in, header_of}
-use Rattle.theory_connection.specs.Meant.{Known, Message, Arg, wire, tokens, spelled_meant, new_object_in, made_in}
-use Rattle.theory_connection.specs.Meant.{objects, born_of_entry}
+use Rattle.theory_connection.specs.Meant.{Birth, Known, Message, Arg, wire, tokens, spelled_meant, new_object_in}
+use Rattle.theory_connection.specs.Meant.{made_in, objects, born_of_entry}
 use Rattle.theory_connection.specs.World.{Row, Each, IfThere}
 use Rattle.theory_connection.specs.Flight.{Fresh, server_rows}
 use Rattle.theory_connection.specs.Stands.{FitsSignature, SuitKinds}
@@ -42,7 +42,7 @@ abbrev pub the_found : ℕ → Message Known → Entry → sigs.MessageSignature
 the_found n m entry signature = record { size = n; opcode = m.opcode; message = the_message m entry signature }
 
 -- a message in front that fits, whose objects are held, is found
-pub finds : (core : Core) (side : Side) (m : Message Known) (n : ℕ) (rows : ℕ → Option Row) (entry : Entry)
+pub finds : (core : Core) (side : Side) (m : Message Known) (n : ℕ) (rows : Birth → Option Row) (entry : Entry)
     (f : FitsSignature core.tables side m)
     → in_front core.inbox ≡ Whole n → take n core.inbox.bytes ≡ (spelled_meant m).bytes
     → look core.view m.target.id ≡ Some entry → born_of_entry entry ≡ m.target.born
@@ -66,7 +66,7 @@ finds core side m n rows entry f e b l s k t =
 -- ---- all is there
 
 -- each argument meets its object or a free id
-pub all_met : (tables : List Interface) (version : ℕ) (view : View) (rows : ℕ → Option Row) (There : Known → Type 0)
+pub all_met : (tables : List Interface) (version : ℕ) (view : View) (rows : Birth → Option Row) (There : Known → Type 0)
     → ((x : Known) → 0 < x.id → There x → HeldAt view rows x)
     → (ks : List Kind) (args : List (Arg Known)) → SuitKinds tables version ks args → Each There (objects args)
     → Each (λ a. IfThere (FreeAt view) (new_object_in a)) args → AllMet view rows args

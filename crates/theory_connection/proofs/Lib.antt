@@ -1,3 +1,4 @@
+pub mod Births
 pub mod Flight
 pub mod WholeInFlight
 pub mod Sets

@@ -1,5 +1,5 @@
 -- What one move does with a pair and with what is in flight, told in full.
-use Rattle.std.proofs.Common.{◌≡◌, ℕ, ◌<◌, ◌≤◌, true, List, [], ◌∷◌, ◌++◌, map, length}
+use Rattle.std.proofs.Common.{◌≡◌, ℕ, ◌≤◌, true, List, [], ◌∷◌, ◌++◌, map, length}
 use Rattle.std.specs.declared.option.Option.{Option}
 use Rattle.std.specs.declared.option.Option.TheVariants.{None, Some}
 use Rattle.wl_wire.specs.Argument.{Uint, NewNamed}
@@ -13,7 +13,7 @@ use Rattle.wl_objects.specs.Messages.{is_bind}
 use Rattle.wl_client.specs.declared.globals.Global.{Global as Remembered}
 use Rattle.wl_client.specs.State as client
 use Rattle.wl_server.specs.State.{Global, Registry}
-use Rattle.theory_connection.specs.Meant.{Known, Message, Coming, Event, Delete, Arg, objects}
+use Rattle.theory_connection.specs.Meant.{IsAmongFirst, Known, Message, Coming, Event, Delete, Arg, objects, Born}
 use Rattle.theory_connection.specs.World.{World, Each, IfThere, delete}
 use Rattle.theory_connection.specs.Pair.{PairState, Move, Reply, with_client, with_server, carries}
 use Rattle.theory_connection.specs.Pair.{after_carry_to_server, after_carry_to_client}
@@ -21,7 +21,6 @@ use Rattle.theory_connection.specs.Flight.{Rows, Name, ends, tells, all_tells, I
 use Rattle.theory_connection.specs.Answers.{NotEnded, Answers}
 use Rattle.theory_connection.specs.Stands.{Stands, stands, ended, StandsBy}
 use Rattle.theory_connection.specs.Runs.{Keeps}
-use Rattle.theory_connection.specs.Meant.{Born}
 use Rattle.theory_connection.proofs.WholeInFlight.{ThereRow, each_more}
 use Rattle.theory_connection.proofs.RequestRead.{left_state}
 use Rattle.theory_connection.proofs.EventRead.{after_event, after_delete, teaches}
@@ -43,26 +42,27 @@ pub record BindsRemembered (globals : List Remembered) (args : List (Arg Known))
   pub most : new.born.version ≤ global.version
 
 abbrev Below : Rows Born → ℕ → Type 0
-Below s births = (id : ℕ) (x : Born) → s.rows id ≡ Some x → x.birth < births
+Below s births = (id : ℕ) (x : Born) → s.rows id ≡ Some x → IsAmongFirst births x.birth
 
 names_below : (s : Rows Born) (births : ℕ) → Below s births → (xs : List Known) → Each (ThereRow s) xs
     → Each (IsBelow births) (map Name xs)
 names_below s births b [] h = tt
 names_below s births b (x ∷ xs) h = (b x.id x.born h.0, names_below s births b xs h.1)
 
-ends_below : (births : ℕ) (o : Option Known) → IfThere (λ x. x.born.birth < births) o → Each (IsBelow births) (ends o)
+ends_below : (births : ℕ) (o : Option Known) → IfThere (λ x. IsAmongFirst births x.born.birth) o
+    → Each (IsBelow births) (ends o)
 ends_below births None h = tt
 ends_below births (Some x) h = (h, tt)
 
 -- a delete is of a birth that was counted
-pub delete_below : (births : ℕ) (o : Option Known) → IfThere (λ x. x.born.birth < births) o
+pub delete_below : (births : ℕ) (o : Option Known) → IfThere (λ x. IsAmongFirst births x.born.birth) o
     → Each (IsBelow births) (all_tells (delete o))
 delete_below births None h = tt
 delete_below births (Some x) h = (h, tt)
 
 -- an event that names what is there
 pub event_below : (s : Rows Born) (births : ℕ) → Below s births → (m : Message Known) → ThereRow s m.target
-    → Each (ThereRow s) (objects m.args) → IfThere (λ x. x.born.birth < births) m.ends
+    → Each (ThereRow s) (objects m.args) → IfThere (λ x. IsAmongFirst births x.born.birth) m.ends
     → Each (IsBelow births) (tells (Event m))
 event_below s births b m h hs e =
     let t = b m.target.id m.target.born h in (
@@ -96,7 +96,7 @@ pub data LeadsTo (p : PairState) (asked : List (Message Known)) (told : List (Co
   -- the server read the first request, and wrote the delete of what it destroys
   reading_request : (m : Message Known) (ms : List (Message Known)) (n : ℕ) → asked ≡ m ∷ ms
       → in_front p.server.core.inbox ≡ Whole n
-      → IfThere (λ x. x.born.birth < p.server.core.view.births) m.ends
+      → IfThere (λ x. IsAmongFirst p.server.core.view.births x.born.birth) m.ends
       → LeadsTo p asked told (with_server p (left_state p.server m n)) ms (told ++ delete m.ends)
   -- the client read the first of what comes
   reading_event : (m : Message Known) (cs : List (Coming Known)) (n : ℕ) (entry : Entry) → told ≡ Event m ∷ cs

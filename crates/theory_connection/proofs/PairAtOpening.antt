@@ -19,13 +19,14 @@ use Rattle.wl_object_map.specs.Views.{look-opening}
 use Rattle.wl_object_map.specs.Sounds.{Sound-opening}
 use Rattle.wl_connection.specs.Core.{Core, is_drained}
 use Rattle.wl_server.proofs.Registries.{has_none}
-use Rattle.theory_connection.specs.Meant.{Known, Message, Coming, number_of_birth, spelled_meant, spelled_coming}
+use Rattle.theory_connection.specs.Meant.{Birth, Known, Message, Coming, birth_of, spelled_meant, spelled_coming}
 use Rattle.theory_connection.specs.Meant.{born_of_entry, live_entry}
 use Rattle.theory_connection.specs.World.{World, Open, put, nothing, display_born, opening_world}
 use Rattle.theory_connection.specs.Pair.{PairState, Move, Reply, new_pair, drained}
 use Rattle.theory_connection.specs.Answers.{Answers}
-use Rattle.theory_connection.specs.Flight.{client_rows, server_rows, row_of_entry, as_row, at_client, ReadsInFlight}
-use Rattle.theory_connection.specs.Flight.{done, Tied, drained as nothing_left, all_asks, all_tells}
+use Rattle.theory_connection.specs.Flight.{put_row, client_rows, server_rows, row_of_entry, as_row, at_client}
+use Rattle.theory_connection.specs.Flight.{ReadsInFlight, done, Tied, drained as nothing_left, all_asks}
+use Rattle.theory_connection.specs.Flight.{all_tells}
 use Rattle.theory_connection.specs.Stands.{Stands, stands, ended, StandsBy, InFlight, ShowsBirths, birth_in, by_event}
 use Rattle.theory_connection.specs.Runs.{Runs, Agree, Keeps}
 use Rattle.wl_sigs.specs.Rules.{is_empty}
@@ -33,13 +34,13 @@ use Rattle.theory_connection.proofs.WholeInFlight.{same_rows}
 use Rattle.theory_connection.proofs.Sets.{shows_make, no_object}
 use Rattle.theory_connection.proofs.Channels.{none_in_flight}
 
-is_nothing : {X : Type 0} (i : ℕ) → nothing {X = X} i ≡ None
+is_nothing : {X : Type 0} (i : ℕ) → nothing {K = ℕ} {X = X} i ≡ None
 unfolding nothing
 is_nothing i = refl
 
 opening_rows : {X : Type 0} (f : Entry → X) (q : ℕ)
-    → option_map f (look (opening_view display) q) ≡ put nothing 1 (Some (f (live_entry display_born))) q
-unfolding put nothing
+    → option_map f (look (opening_view display) q) ≡ put_row nothing 1 (Some (f (live_entry display_born))) q
+unfolding put_row nothing
 opening_rows f q = ap (option_map f) (look-opening display q) ∙ pushed (nat_eq q 1)
   where
     pushed : (b : Bool) → option_map f (cond b (Some (live_entry display_born)) None)
@@ -47,15 +48,17 @@ opening_rows f q = ap (option_map f) (look-opening display q) ∙ pushed (nat_eq
     pushed true = refl
     pushed false = refl
 
-shows_opening : {X : Type 0} (birth : X → ℕ) (f : Entry → X) → birth (f (live_entry display_born)) ≡ 0
+shows_opening : {X : Type 0} (birth : X → Birth) (f : Entry → X)
+    → birth (f (live_entry display_born)) ≡ display_born.birth
     → ShowsBirths birth (λ q. option_map f (look (opening_view display) q)) 1
-    (put nothing 0 (Some (f (live_entry display_born))))
+    (put nothing display_born.birth (Some (f (live_entry display_born))))
 shows_opening birth f e =
     let k = shows_make birth nothing 0 nothing 1 (f (live_entry display_born)) (no_object birth) (is_nothing 1) e in
     let rows : (λ (q : ℕ). option_map f (look (opening_view display) q))
-    ≡ put nothing 1 (Some (f (live_entry display_born))) = λ i q. opening_rows f q i in
-    subst (λ (g : ℕ → Option _). ShowsBirths birth g 1 (put nothing 0 (Some (f (live_entry display_born))))) (sym rows)
-    (subst (λ (b : ℕ). ShowsBirths birth (put nothing 1 (Some (f (live_entry display_born)))) 1
+    ≡ put_row nothing 1 (Some (f (live_entry display_born))) = λ i q. opening_rows f q i in
+    subst (λ (g : ℕ → Option _). ShowsBirths birth g 1
+    (put nothing display_born.birth (Some (f (live_entry display_born))))) (sym rows)
+    (subst (λ (b : Birth). ShowsBirths birth (put_row nothing 1 (Some (f (live_entry display_born)))) 1
     (put nothing b (Some (f (live_entry display_born))))) e k)
 
 opening_live : (b : Bool) (e : Entry) → cond b (Some (live_entry display_born)) None ≡ Some e → e.state ≡ states.Live
@@ -86,7 +89,7 @@ new_stands_by tables client_sizes server_sizes one v = record {
     lives = refl;
   };
   server = record {
-    sets = shows_opening number_of_birth born_of_entry refl;
+    sets = shows_opening birth_of born_of_entry refl;
     sound = Sound-opening display;
     display = look-opening display 1;
     versions = λ id e h. opening_aged (nat_eq id 1) e (sym (look-opening display id) ∙ h);
@@ -150,7 +153,7 @@ entry_of d e l h = same d.state h
     same : (s : State) → as_row s (born_of_entry d) ≡ Open (born_of_entry e)
         → record { birth = d.birth; iface = d.iface; version = d.version; state = s } ≡ e
     same states.Live k = let q : born_of_entry d ≡ born_of_entry e = cc k
-        in λ i. record { birth = (q i).birth; iface = (q i).iface; version = (q i).version; state = sym l i }
+        in λ i. record { birth = (q i).birth.number; iface = (q i).iface; version = (q i).version; state = sym l i }
     same states.Zombie k = absurd (cc k)
 
 rows_same : (c o : Option Entry) → ((e : Entry) → o ≡ Some e → e.state ≡ states.Live)

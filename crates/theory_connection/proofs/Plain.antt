@@ -3,18 +3,19 @@ use Rattle.std.proofs.Common.{true, false, ◌++◌, ◌∷◌, [], ◌≡◌, �
 use Rattle.std.proofs.Common.{inr, sym, ◌∙◌, ap, subst, arith, ◌≢◌}
 use Rattle.std.specs.declared.option.Option.{Option}
 use Rattle.std.specs.declared.option.Option.TheVariants.{None, Some}
-use Rattle.theory_connection.specs.Meant.{Born, Known}
+use Rattle.theory_connection.specs.Meant.{Birth, Born, Known}
 use Rattle.theory_connection.specs.World.{Row, Open, Ending, Each}
 use Rattle.theory_connection.specs.Flight.{Rows, at, Ask, Make, Destroy, Tell, Delete, at_client}
 use Rattle.theory_connection.specs.Flight.{IsHeldInRows, ReadsInFlight, done, name, end, delete, Tied, drained}
 use Rattle.theory_connection.specs.Flight.{use_, make, destroy, MeetInMiddle}
 use Rattle.theory_connection.specs.Plain.{tell_id, ask_id, In}
-use Rattle.theory_connection.proofs.Flight.{put_tells, put_same, held_at_client, held_other, held_some, free_after}
+use Rattle.theory_connection.proofs.Flight.{put_row_tells, put_row_same, held_at_client, held_other, held_some}
+use Rattle.theory_connection.proofs.Flight.{free_after}
 
 -- what is held when another ends was held before
 pub kept_end : (v : Rows Row) (x y : Known) → IsHeldInRows v y → IsHeldInRows (at v y.id (Some (Ending y.born))) x
     → IsHeldInRows v x
-kept_end v x y a h = elim (put_tells v.rows y.id (Some (Ending y.born)) x.id) [
+kept_end v x y a h = elim (put_row_tells v.rows y.id (Some (Ending y.born)) x.id) [
   | inl p ↦ (let e : x.born ≡ y.born = grind arith
       in let k : ◌≡◌ {A = Known} y x = λ i. record { id = sym p.0 i; born = sym e i } in subst (IsHeldInRows v) k a)
   | inr p ↦ elim h [ inl q ↦ inl (sym p.1 ∙ q) | inr q ↦ inr (sym p.1 ∙ q) ]
@@ -22,7 +23,7 @@ kept_end v x y a h = elim (put_tells v.rows y.id (Some (Ending y.born)) x.id) [
 
 -- what is held when an id is closed was held before
 pub kept_delete : (v : Rows Row) (x : Known) (i : ℕ) → IsHeldInRows (at v i None) x → IsHeldInRows v x
-kept_delete v x i h = elim (put_tells v.rows i None x.id) [
+kept_delete v x i h = elim (put_row_tells v.rows i None x.id) [
   | inl p ↦ elim h [ inl q ↦ absurd (cc (p.1, q)) | inr q ↦ absurd (cc (p.1, q)) ]
   | inr p ↦ elim h [ inl q ↦ inl (sym p.1 ∙ q) | inr q ↦ inr (sym p.1 ∙ q) ]
 ]
@@ -45,8 +46,8 @@ module _ {test : Born → Bool} where
       → Each (λ t. tell_id t ≢ i) es
   free_tells i done h = tt
   free_tells i (name {v = v} {x = n} a r) h = (held_some v n i a h, free_tells i r h)
-  free_tells i (end {v = v} {x = n} b a r) h = (held_some v n i a h, free_tells i r (grind (arith, put_tells)))
-  free_tells i (delete {v = v} {x = n} z a b r) h = (held_some v n i a h, free_tells i r (grind (arith, put_tells)))
+  free_tells i (end {v = v} {x = n} b a r) h = (held_some v n i a h, free_tells i r (grind (arith, put_row_tells)))
+  free_tells i (delete {v = v} {x = n} z a b r) h = (held_some v n i a h, free_tells i r (grind (arith, put_row_tells)))
 
   -- nor in a request
   pub free_asks : {qs : List Ask} {s : Rows Born} {m : Rows Row} (i : ℕ) → Tied test qs s m → m.rows i ≡ None
@@ -54,9 +55,9 @@ module _ {test : Born → Bool} where
   free_asks i (drained r u b) h = tt
   free_asks i (use_ {m = m} {x = n} a b t) h = (held_some m n i (held_at_client n t a) h, free_asks i t h)
   free_asks i (make {s = s} {m = m} {x = n} a t) h =
-      (held_some m n i (held_at_client n t (put_same s.rows n.id (Some n.born))) h, free_asks i t h)
+      (held_some m n i (held_at_client n t (put_row_same s.rows n.id (Some n.born))) h, free_asks i t h)
   free_asks i (destroy {m = m} {x = n} z a b c t) h =
-      (held_some m n i (inr c) h, free_asks i t (grind (arith, put_tells)))
+      (held_some m n i (inr c) h, free_asks i t (grind (arith, put_row_tells)))
 
   -- an id with no row at the client is named nowhere in flight
   pub free_nowhere : {es : List Tell} {qs : List Ask} {v : Rows Row} {s : Rows Born} (i : ℕ)
@@ -70,10 +71,10 @@ module _ {test : Born → Bool} where
   deleted_or n done h = inr h
   deleted_or n (name a r) h = elim (deleted_or n r h) [ inl p ↦ inl (inr p) | inr p ↦ inr p ]
   deleted_or n (end {v = v} {x = x} b a r) h =
-      elim (deleted_or n r (elim (put_tells v.rows x.id (Some (Ending x.born)) n.id)
+      elim (deleted_or n r (elim (put_row_tells v.rows x.id (Some (Ending x.born)) n.id)
       [ inl p ↦ grind arith | inr p ↦ held_other v n x.id _ h p.0 ]))
       [ inl p ↦ inl (inr p) | inr p ↦ inr p ]
-  deleted_or n (delete {v = v} {x = x} z a b r) h = elim (put_tells v.rows x.id None n.id) [
+  deleted_or n (delete {v = v} {x = x} z a b r) h = elim (put_row_tells v.rows x.id None n.id) [
     | inl p ↦ let e : n.born ≡ x.born = grind arith in
         let q : ◌≡◌ {A = Known} n x = λ i. record { id = p.0 i; born = e i } in
         inl (inl (ap Delete q))
@@ -98,7 +99,7 @@ module _ {test : Born → Bool} where
           [ inl p ↦ inl (sym (rows n.id) ∙ p) | inr p ↦ inr (sym (rows n.id) ∙ p) ]))
       open_or_made n (use_ a b t) h = elim (open_or_made n t h) [ inl p ↦ inl p | inr p ↦ inr (inr p) ]
       open_or_made n (make {s = s} {x = x} a t) h = elim (open_or_made n t h) [
-        | inl p ↦ elim (put_tells s.rows x.id (Some x.born) n.id) [
+        | inl p ↦ elim (put_row_tells s.rows x.id (Some x.born) n.id) [
           | inl q ↦ let e : n.born ≡ x.born = cc in
               let k : ◌≡◌ {A = Known} n x = λ i. record { id = q.0 i; born = e i } in
               inr (inl (ap Make k))
@@ -106,10 +107,10 @@ module _ {test : Born → Bool} where
         ]
         | inr p ↦ inr (inr p)
       ]
-      open_or_made n (destroy {s = s} {m = m} {x = x} z a b c t) h = elim (put_tells m.rows x.id None n.id) [
+      open_or_made n (destroy {s = s} {m = m} {x = x} z a b c t) h = elim (put_row_tells m.rows x.id None n.id) [
         | inl q ↦ let e : n.born ≡ x.born = grind arith in inl (ap s.rows q.0 ∙ a ∙ ap Some (sym e))
         | inr q ↦ elim (open_or_made n t (held_other m n x.id _ h q.0)) [
-          | inl p ↦ inl (grind (arith, put_tells))
+          | inl p ↦ inl (grind (arith, put_row_tells))
           | inr p ↦ inr (inr p)
         ]
       ]
@@ -117,7 +118,7 @@ module _ {test : Born → Bool} where
   -- nothing after a delete in flight names its object's id
   pub deleted_last : (before after : List Tell) (x : Known) {v w : Rows Row}
       → ReadsInFlight test (before ++ (Delete x ∷ after)) v w → Each (λ t. tell_id t ≢ x.id) after
-  deleted_last [] after x (delete {v = v} z a b r) = free_tells x.id r (grind (arith, put_tells))
+  deleted_last [] after x (delete {v = v} z a b r) = free_tells x.id r (grind (arith, put_row_tells))
   deleted_last (b ∷ bs) after x (name h r) = deleted_last bs after x r
   deleted_last (b ∷ bs) after x (end t h r) = deleted_last bs after x r
   deleted_last (b ∷ bs) after x (delete z h c r) = deleted_last bs after x r
@@ -141,7 +142,7 @@ module _ {test : Born → Bool} where
     | inl p ↦ (let e : y ≡ x = cc p in (
       subst (IsHeldInRows v) e a,
       subst (λ (k : Known). w.rows k.id ≡ None) e
-          (free_after y.id r (put_same v.rows y.id None)),
+          (free_after y.id r (put_row_same v.rows y.id None)),
     ))
     | inr p ↦ (let k = deleted_held x r p in (kept_delete v x y.id k.0, k.1))
   ]
@@ -152,19 +153,19 @@ module _ {test : Born → Bool} where
   make_held x (use_ a b t) i = elim i [ inl p ↦ absurd (cc p) | inr p ↦ make_held x t p ]
   make_held x (make {s = s} {m = m} {x = y} a t) i = elim i [
     | inl p ↦ (let e : y ≡ x = cc p in subst (IsHeldInRows m) e
-        (held_at_client y t (put_same s.rows y.id (Some y.born))))
+        (held_at_client y t (put_row_same s.rows y.id (Some y.born))))
     | inr p ↦ make_held x t p
   ]
   make_held x (destroy {m = m} {x = y} z a b c t) i =
       elim i [ inl p ↦ absurd (cc p) | inr p ↦ kept_delete m x y.id (make_held x t p) ]
 
   make_new : {qs : List Ask} (x : Known) {s : Rows Born} {m : Rows Row} → Tied test qs s m → In (Make x) qs
-      → s.births ≤ x.born.birth
+      → s.births ≤ x.born.birth.number
   make_new x (drained r u b) i = absurd i
   make_new x (use_ a b t) i = elim i [ inl p ↦ absurd (cc p) | inr p ↦ make_new x t p ]
   make_new x (make {s = s} {x = y} a t) i = elim i [
-    | inl p ↦ (let e : x ≡ y = cc p in let k = ap (λ (n : Known). n.born.birth) e in let f = a.birth
-        in omega (arith, k, f))
+    | inl p ↦ (let e : x ≡ y = cc p in let k = ap (λ (n : Known). n.born.birth.number) e in
+        let f = ap (λ (b : Birth). b.number) a.birth in omega (arith, k, f))
     | inr p ↦ (let k = make_new x t p in omega (arith, k))
   ]
   make_new x (destroy z a b c t) i = elim i [ inl p ↦ absurd (cc p) | inr p ↦ make_new x t p ]
@@ -194,7 +195,7 @@ module _ {test : Born → Bool} where
 
   -- what is made on the way was not counted by the server
   pub not_made_counted : {es : List Tell} {qs : List Ask} {v : Rows Row} {s : Rows Born} (x : Known)
-      → MeetInMiddle test es qs v s → In (Make x) qs → x.born.birth < s.births → ⊥
+      → MeetInMiddle test es qs v s → In (Make x) qs → x.born.birth.number < s.births → ⊥
   not_made_counted x m h l = let k = make_new x m.tied h in absurd (omega (arith, k, l))
 
   -- ---- what is ending
@@ -205,12 +206,12 @@ module _ {test : Born → Bool} where
   ending_read n done h = inr h
   ending_read n (name a r) h = elim (ending_read n r h) [ inl p ↦ inl (inr p) | inr p ↦ inr p ]
   ending_read n (end {v = v} {x = x} b a r) h =
-      elim (ending_read n r (elim (put_tells v.rows x.id (Some (Ending x.born)) n.id) [
+      elim (ending_read n r (elim (put_row_tells v.rows x.id (Some (Ending x.born)) n.id) [
         | inl p ↦ (let e : n.born ≡ x.born = grind arith in p.1 ∙ ap (λ (k : Born). Some (Ending k)) (sym e))
         | inr p ↦ p.1 ∙ h
       ]))
       [ inl p ↦ inl (inr p) | inr p ↦ inr p ]
-  ending_read n (delete {v = v} {x = x} z a b r) h = elim (put_tells v.rows x.id None n.id) [
+  ending_read n (delete {v = v} {x = x} z a b r) h = elim (put_row_tells v.rows x.id None n.id) [
     | inl p ↦ let e : n.born ≡ x.born = grind arith in
         let q : ◌≡◌ {A = Known} n x = λ i. record { id = p.0 i; born = e i } in
         inl (inl (ap Delete q))
@@ -222,7 +223,7 @@ module _ {test : Born → Bool} where
   ending_asked n (drained {s = s} rows u b) h = absurd (no_ending (s.rows n.id) n.born (sym (rows n.id) ∙ h))
   ending_asked n (use_ a b t) h = inr (ending_asked n t h)
   ending_asked n (make a t) h = inr (ending_asked n t h)
-  ending_asked n (destroy {m = m} {x = x} z a b c t) h = elim (put_tells m.rows x.id None n.id) [
+  ending_asked n (destroy {m = m} {x = x} z a b c t) h = elim (put_row_tells m.rows x.id None n.id) [
     | inl p ↦ let e : n.born ≡ x.born = grind arith in
         let q : ◌≡◌ {A = Known} n x = λ i. record { id = p.0 i; born = e i } in
         inl (ap Destroy q)
@@ -243,7 +244,7 @@ module _ {test : Born → Bool} where
   asked_ending n (destroy {m = m} {x = x} z a b c t) i = elim i [
     | inl p ↦ (let e : x ≡ n = cc p in subst (Asked test m) e (record { ending = c; test_is = b }))
     | inr p ↦ (let k = asked_ending n t p in record {
-      ending = elim (put_tells m.rows x.id None n.id)
+      ending = elim (put_row_tells m.rows x.id None n.id)
           [ inl q ↦ absurd (cc (q.1, k.ending)) | inr q ↦ sym q.1 ∙ k.ending ];
       test_is = k.test_is;
     })
@@ -254,12 +255,12 @@ module _ {test : Born → Bool} where
       → w.rows n.id ≡ Some (Ending n.born) → test n.born ≡ true
   open_read n done h k = absurd (cc (h, k))
   open_read n (name a r) h k = open_read n r h k
-  open_read n (end {v = v} {x = x} b a r) h k = elim (put_tells v.rows x.id (Some (Ending x.born)) n.id) [
+  open_read n (end {v = v} {x = x} b a r) h k = elim (put_row_tells v.rows x.id (Some (Ending x.born)) n.id) [
     | inl p ↦ let e : n.born ≡ x.born = elim a [ inl q ↦ cc (h, q, p.0) | inr q ↦ absurd (cc (h, q, p.0)) ]
         in ap test e ∙ b
     | inr p ↦ open_read n r (p.1 ∙ h) k
   ]
-  open_read n (delete {v = v} {x = x} z a b r) h k = elim (put_tells v.rows x.id None n.id) [
+  open_read n (delete {v = v} {x = x} z a b r) h k = elim (put_row_tells v.rows x.id None n.id) [
     | inl p ↦ absurd (cc (free_after n.id r p.1, k))
     | inr p ↦ open_read n r (p.1 ∙ h) k
   ]
@@ -277,7 +278,7 @@ module _ {test : Born → Bool} where
   open_deleted n (name a r) h i = elim i [ inl p ↦ absurd (cc p) | inr p ↦ open_deleted n r h p ]
   open_deleted n (end {v = v} {x = x} b a r) h i = elim i [
     | inl p ↦ absurd (cc p)
-    | inr p ↦ elim (put_tells v.rows x.id (Some (Ending x.born)) n.id) [
+    | inr p ↦ elim (put_row_tells v.rows x.id (Some (Ending x.born)) n.id) [
       | inl q ↦ let e : n.born ≡ x.born = elim a [ inl k ↦ cc (h, k, q.0) | inr k ↦ absurd (cc (h, k, q.0)) ]
           in ap test e ∙ b
       | inr q ↦ open_deleted n r (q.1 ∙ h) p
@@ -288,7 +289,7 @@ module _ {test : Born → Bool} where
       | inl q ↦ ap (λ (k : Known). test k.born) e ∙ q
       | inr q ↦ absurd (let k : v.rows n.id ≡ v.rows x.id = ap (λ (m : Known). v.rows m.id) e in cc (h, q, k))
     ])
-    | inr p ↦ elim (put_tells v.rows x.id None n.id) [
+    | inr p ↦ elim (put_row_tells v.rows x.id None n.id) [
       | inl q ↦ absurd (held_some_row (at v x.id None) n (deleted_held n r p).0 q.1)
       | inr q ↦ open_deleted n r (q.1 ∙ h) p
     ]

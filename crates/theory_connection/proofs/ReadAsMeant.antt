@@ -32,9 +32,9 @@ use Rattle.wl_objects.specs.Reading.{descriptors, is_descriptor_kind, in_state, 
 use Rattle.wl_objects.specs.Reading.{reports_of, head_or, tokens_after, by_maker}
 use Rattle.wl_objects.specs.Writing.{spelled as spelled_values, message_len, message_bytes}
 use Rattle.wl_objects.specs.Messages.{reader_of, received, is_error, NewObject, made_by, made, or_else as made_or_else}
-use Rattle.theory_connection.specs.Meant.{Born, Known, Message, Arg, rearg, born_of, number_of_birth, wire}
-use Rattle.theory_connection.specs.Meant.{tokens, token_in, new_object_in, made_in, born_of_entry}
-use Rattle.theory_connection.specs.Meant.{live_entry}
+use Rattle.theory_connection.specs.Meant.{Birth, client_birth, Born, Known, Message, Arg, rearg, born_of}
+use Rattle.theory_connection.specs.Meant.{birth_of, wire, tokens, token_in, new_object_in, made_in}
+use Rattle.theory_connection.specs.Meant.{born_of_entry, live_entry}
 use Rattle.theory_connection.specs.World.{Row, Each}
 use Rattle.theory_connection.specs.Flight.{row_of_entry, as_row}
 use Rattle.theory_connection.specs.Answers.{Seen, Live, Dead, seen_named, seen_by, by_row, birth_at}
@@ -42,7 +42,7 @@ use Rattle.theory_connection.specs.Stands.{FitsSignature, SuitKinds, NamesRightl
 use Rattle.wl_objects.specs.Messages.{or_else}
 
 -- the object of an argument is held where its reader stands, and the rows of the world show it
-pub record HeldAt (view : View) (rows : ℕ → Option Row) (x : Known) : Type 0 where
+pub record HeldAt (view : View) (rows : Birth → Option Row) (x : Known) : Type 0 where
   pub some : 0 < x.id
   pub entry : Entry
   pub there : look view x.id ≡ Some entry
@@ -53,16 +53,16 @@ pub record HeldAt (view : View) (rows : ℕ → Option Row) (x : Known) : Type 0
 pub record FreeAt (view : View) (x : Known) : Type 0 where
   pub free : free_or_next view x.id ≡ true
   pub room : has_room view x.id ≡ true
-  pub birth : x.born.birth ≡ view.births
+  pub birth : x.born.birth ≡ client_birth view.births
 
-abbrev pub Met : View → (ℕ → Option Row) → Arg Known → Type 0
+abbrev pub Met : View → (Birth → Option Row) → Arg Known → Type 0
 Met view rows (Obj (Some x)) = HeldAt view rows x
 Met view rows (New x) = FreeAt view x
 Met view rows (NewNamed name own x) = FreeAt view x
 Met view rows _ = Unit {0}
 
 -- each argument meets its object or a free id
-abbrev pub AllMet : View → (ℕ → Option Row) → List (Arg Known) → Type 0
+abbrev pub AllMet : View → (Birth → Option Row) → List (Arg Known) → Type 0
 AllMet view rows [] = Unit {0}
 AllMet view rows (a ∷ args) = Met view rows a × AllMet view rows args
 
@@ -205,7 +205,7 @@ received_by_any tables side r m header waiting o f ho hp k w =
       ho,
     ) refl
 
-object_held : (view : View) (rows : ℕ → Option Row) (x : Known) → HeldAt view rows x → HasObject (reader_of view) x
+object_held : (view : View) (rows : Birth → Option Row) (x : Known) → HeldAt view rows x → HasObject (reader_of view) x
 object_held view rows x h = record {
   entry = h.entry;
   there = h.there;
@@ -213,21 +213,21 @@ object_held view rows x h = record {
   version = ap (λ (b : Born). b.version) h.same;
 }
 
-one_found : (view : View) (rows : ℕ → Option Row) (a : Arg Known) → Met view rows a → Finds (reader_of view) a
+one_found : (view : View) (rows : Birth → Option Row) (a : Arg Known) → Met view rows a → Finds (reader_of view) a
 one_found view rows (Obj None) m = tt
 one_found view rows (Obj (Some x)) m = object_held view rows x m
 one_found view rows (New x) m = rw (m.free, m.room) refl
 one_found view rows (NewNamed name own x) m = rw (m.free, m.room) refl
 one_found view rows a m = tt
 
-all_found : (view : View) (rows : ℕ → Option Row) (args : List (Arg Known)) → AllMet view rows args
+all_found : (view : View) (rows : Birth → Option Row) (args : List (Arg Known)) → AllMet view rows args
     → Each (Finds (reader_of view)) args
 all_found view rows [] m = tt
 all_found view rows (a ∷ args) m = (one_found view rows a m.0, all_found view rows args m.1)
 
 -- by an end
-pub received_right : (tables : List Interface) (side : Side) (view : View) (rows : ℕ → Option Row) (m : Message Known)
-    (header : Header) (waiting : ℕ) (entry : Entry) (f : FitsSignature tables side m)
+pub received_right : (tables : List Interface) (side : Side) (view : View) (rows : Birth → Option Row)
+    (m : Message Known) (header : Header) (waiting : ℕ) (entry : Entry) (f : FitsSignature tables side m)
     → header.object ≡ m.target.id → header.opcode ≡ m.opcode → look view m.target.id ≡ Some entry
     → born_of_entry entry ≡ m.target.born → AllMet view rows m.args → length (tokens m.args) ≤ waiting
     → received tables side (reader_of view) header (spelled_values (map wire m.args)) waiting
@@ -249,11 +249,11 @@ received_right tables side view rows m header waiting entry f ho hp l s k w =
 
 -- ---- the report
 
-pub report_one : (view : View) (rows : ℕ → Option Row) (a : Arg Known) (args : List (Arg Known)) (more : List ℕ)
+pub report_one : (view : View) (rows : Birth → Option Row) (a : Arg Known) (args : List (Arg Known)) (more : List ℕ)
     → Met view rows a
     → reshaped seen_named birth_at (λ t. t) (reported_argument (reader_of view) (head_or (tokens (a ∷ args) ++ more) 0)
     (wire a))
-    ≡ reshaped (seen_by rows) number_of_birth (λ t. t) (rearg born_of a)
+    ≡ reshaped (seen_by rows) birth_of (λ t. t) (rearg born_of a)
 report_one view rows (Obj None) args more m = refl
 report_one view rows (Obj (Some x)) args more m =
     let some : nat_eq x.id 0 ≡ false = ne_eqb x.id 0 (λ h. omega (arith, m.some)) in
@@ -261,12 +261,12 @@ report_one view rows (Obj (Some x)) args more m =
     (by_state m.entry.state (record { id = x.id; birth = m.entry.birth }) (born_of_entry m.entry) x.born.birth
     (ap (λ (b : Born). b.birth) m.same)))
   where
-    by_state : (s : State) (object : Object) (b : Born) (birth : ℕ) → object.birth ≡ birth
+    by_state : (s : State) (object : Object) (b : Born) (birth : Birth) → birth_at object ≡ birth
         → seen_named (in_state s object) ≡ by_row birth (Some (as_row s b))
     by_state states.Live object b birth e = ap Live e
     by_state states.Zombie object b birth e = ap Dead e
-report_one view rows (New x) args more m = ap (λ (b : ℕ). New b) (sym m.birth)
-report_one view rows (NewNamed name own x) args more m = ap (λ (b : ℕ). NewNamed name own b) (sym m.birth)
+report_one view rows (New x) args more m = ap (λ (b : Birth). New b) (sym m.birth)
+report_one view rows (NewNamed name own x) args more m = ap (λ (b : Birth). NewNamed name own b) (sym m.birth)
 report_one view rows a args more m = refl
 
 tokens_left : (a : Arg Known) (args : List (Arg Known)) (more : List ℕ)
@@ -275,10 +275,10 @@ tokens_left (Obj None) args more = refl
 tokens_left a args more = refl
 
 -- the reports of arguments, by births
-pub reports_right : (view : View) (rows : ℕ → Option Row) (args : List (Arg Known)) (more : List ℕ)
+pub reports_right : (view : View) (rows : Birth → Option Row) (args : List (Arg Known)) (more : List ℕ)
     → AllMet view rows args
     → map (reshaped seen_named birth_at (λ t. t)) (reports_of (reader_of view) (tokens args ++ more) (map wire args))
-    ≡ map (reshaped (seen_by rows) number_of_birth (λ t. t)) (map (rearg born_of) args)
+    ≡ map (reshaped (seen_by rows) birth_of (λ t. t)) (map (rearg born_of) args)
 reports_right view rows [] more m = refl
 reports_right view rows (a ∷ args) more m =
     rw (tokens_left a args more, report_one view rows a args more m.0, reports_right view rows args more m.1) refl

@@ -18,7 +18,8 @@ use Rattle.wl_server.specs.Registries.{without_registry, registry_birth, IsFresh
 use Rattle.wl_server.specs.Requests.{registries_after}
 use Rattle.wl_server.proofs.Registries.{has_opened, has_closed, has_fewer, row_kept, births_opened, births_of_sound}
 use Rattle.wl_sigs.specs.Rules.{is_ended_by_event}
-use Rattle.theory_connection.specs.Meant.{Born, Known, born_of, born_of_entry}
+use Rattle.theory_connection.specs.Meant.{Birth, client_birth, same_birth, Born, Known, born_of, born_of_entry}
+use Rattle.wl_object_map.specs.declared.object.Maker.TheVariants.{Client}
 use Rattle.theory_connection.specs.World.{Marks, IfThere, marks_birth, without_marks}
 use Rattle.theory_connection.specs.World.{marks_after}
 use Rattle.theory_connection.specs.Flight.{server_rows, Fresh}
@@ -28,6 +29,7 @@ use Rattle.theory_connection.proofs.WholeInFlight.{ThereRow}
 use Rattle.theory_connection.proofs.ReadAsMeant.{made_of}
 use Rattle.theory_connection.proofs.RowsAfterMessage.{HeldRow, there_row}
 use Rattle.theory_connection.proofs.EndedObject.{ended_view}
+use Rattle.theory_connection.proofs.Births.{client_birth_is}
 
 -- ---- the marks
 
@@ -42,18 +44,19 @@ marks_cond false xs ys = refl
 
 -- the marks of the registries, with one that is made
 pub marks_with : (c : Core) (rs : List server.Registry) (n : Option Known)
-    → IfThere (λ x. x.born.birth ≡ c.view.births) n
+    → IfThere (λ x. x.born.birth ≡ client_birth c.view.births) n
     → map marks_of (registries_after c rs (option_map made_of n)) ≡ marks_after (option_map born_of n) (map marks_of rs)
 marks_with c rs None h = refl
 marks_with c rs (Some x) h =
     let r : server.Registry = untold (record { id = x.id; birth = c.view.births }) in
     marks_cond (same_iface x.born.iface registry) (rs ++ r ∷ []) rs
     ∙ ap (λ (l : List Marks). cond (same_iface x.born.iface registry) l (map marks_of rs))
-    (map_more marks_of rs r ∙ ap (λ (b : ℕ). map marks_of rs ++ record { birth = b; told = r.told; removed = r.removed }
-    ∷ []) (sym h))
+    (map_more marks_of rs r ∙ ap (λ (b : Birth). map marks_of rs
+    ++ record { birth = b; told = r.told; removed = r.removed } ∷ []) (sym h))
 
 pub marks_without : (b : Bool) (birth : ℕ) (rs : List server.Registry)
-    → map marks_of (without_registry nat_eq registry_birth b birth rs) ≡ without_registry nat_eq marks_birth b birth (map marks_of rs)
+    → map marks_of (without_registry nat_eq registry_birth b birth rs)
+    ≡ without_registry same_birth marks_birth b (client_birth birth) (map marks_of rs)
 marks_without false birth rs = refl
 marks_without true birth [] = refl
 marks_without true birth (r ∷ rs) =
@@ -64,19 +67,24 @@ marks_without true birth (r ∷ rs) =
 -- the open registries after a message that destroys this
 abbrev pub registries_left : Option Known → List server.Registry → List server.Registry
 registries_left None rs = rs
-registries_left (Some x) rs = without_registry nat_eq registry_birth true x.born.birth rs
+registries_left (Some x) rs = without_registry nat_eq registry_birth true x.born.birth.number rs
 
 -- the marks without those of a registry that is closed
-pub marks_left : (o : Option Known) (rs : List server.Registry)
+pub marks_left : (o : Option Known) (rs : List server.Registry) → IfThere (λ x. x.born.birth.maker ≡ Client) o
     → map marks_of (registries_left o rs) ≡ without_marks (option_map born_of o) (map marks_of rs)
-marks_left None rs = refl
-marks_left (Some x) rs = marks_without true x.born.birth rs
+marks_left None rs m = refl
+marks_left (Some x) rs m = marks_without true x.born.birth.number rs
+    ∙ ap (λ (b : Birth). without_registry same_birth marks_birth true b (map marks_of rs))
+    (client_birth_is x.born.birth m)
 
 -- the registries without what ends
 pub left_are : (b : Bool) (birth : ℕ) (o : Option Known) (rs : List server.Registry) → b ≡ is_some o
-    → IfThere (λ x. x.born.birth ≡ birth) o → without_registry nat_eq registry_birth b birth rs ≡ registries_left o rs
+    → IfThere (λ x. x.born.birth ≡ client_birth birth) o
+    → without_registry nat_eq registry_birth b birth rs ≡ registries_left o rs
 left_are b birth None rs f h = ap (λ (c : Bool). without_registry nat_eq registry_birth c birth rs) f
-left_are b birth (Some x) rs f h = λ i. without_registry nat_eq registry_birth (f i) (sym h i) rs
+left_are b birth (Some x) rs f h =
+    let same = sym (ap (λ (b : Birth). b.number) h) in
+    λ i. without_registry nat_eq registry_birth (f i) (same i) rs
 
 -- ---- an object with a destroying event is no registry
 
@@ -116,9 +124,9 @@ pub has_read : (c : Core) (rs : List server.Registry) (n o : Option Known) → S
 has_read c rs n None s f r h = has_opened c rs (option_map made_of n) f h
 has_read c rs n (Some x) s f r h =
     let made = option_map made_of n in
-    has_closed (opens c.view made) (registries_after c rs made) x.id x.born.birth r.entry
+    has_closed (opens c.view made) (registries_after c rs made) x.id x.born.birth.number r.entry
     (births_opened c.view made (births_of_sound c.view s)) (row_kept c.view made x.id r.entry f r.there)
-    (ap (λ (b : Born). b.birth) r.same) (has_opened c rs made f h)
+    (ap (λ (b : Born). b.birth.number) r.same) (has_opened c rs made f h)
 
 -- the registries stand after an event that ends no registry
 pub has_told_one : (v : View) (rs : List server.Registry) (o : Option Known)

@@ -30,13 +30,14 @@ use Rattle.wl_server.specs.Requests.{unless_bad_bind, request, is_good_bind, mad
 use Rattle.wl_server.specs.Requests.{state_past, registries_after, reported_object, ended_object, ended}
 use Rattle.wl_server.specs.Requests.{report}
 use Rattle.wl_server.specs.Registries.{without_registry, registry_birth}
-use Rattle.theory_connection.specs.Meant.{Event, Delete, Born, Known, Message, Coming, Arg, renamed}
-use Rattle.theory_connection.specs.Meant.{recoming, rearg, born_of, number_of_birth, wire, tokens, spelled_meant}
-use Rattle.theory_connection.specs.Meant.{spelled_coming, made_in, objects, born_of_entry, ended_by}
-use Rattle.theory_connection.specs.World.{World, Open, Each, IfThere, delete, request_read, same}
+use Rattle.theory_connection.specs.Meant.{client_birth, Event, Delete, Born, Known, Message, Coming, Arg}
+use Rattle.theory_connection.specs.Meant.{renamed, recoming, rearg, born_of, birth_of, wire, tokens}
+use Rattle.theory_connection.specs.Meant.{spelled_meant, spelled_coming, made_in, objects, born_of_entry}
+use Rattle.theory_connection.specs.Meant.{ended_by}
+use Rattle.theory_connection.specs.World.{World, Open, Each, IfThere, delete, request_read}
 use Rattle.theory_connection.specs.World.{without_marks, marks_after}
 use Rattle.theory_connection.specs.Pair.{PairState, with_server}
-use Rattle.theory_connection.specs.Answers.{rows_of_server}
+use Rattle.theory_connection.specs.Answers.{birth_at, rows_of_server}
 use Rattle.theory_connection.specs.Flight.{Rows, Fresh, Tied, all_asks, server_rows, as_row}
 use Rattle.theory_connection.specs.Stands.{DeletesFollow, BeginsWithDelete, StandsBy, FitsSignature}
 use Rattle.theory_connection.specs.Stands.{ComesFitly, InFlight, by_event}
@@ -130,7 +131,8 @@ pub map_delete : (o : Option Known) → map (recoming born_of) (delete o) ≡ de
 map_delete None = refl
 map_delete (Some x) = refl
 
-births_of : (v : View) (n : Option Known) → IfThere (Fresh (server_rows v)) n → IfThere (λ x. x.born.birth ≡ v.births) n
+births_of : (v : View) (n : Option Known) → IfThere (Fresh (server_rows v)) n
+    → IfThere (λ x. x.born.birth ≡ client_birth v.births) n
 births_of v None g = tt
 births_of v (Some x) g = g.birth
 
@@ -159,7 +161,7 @@ left_state st m n = record st {
 -- What the server ends is what the message means: by its id and by its birth.
 record EndsRightly (what : Destroys) (object : Object) (o : Option Known) : Type 0 where
   ends : EndsAs what object.id o
-  birth : IfThere (λ x. x.born.birth ≡ object.birth) o
+  birth : IfThere (λ x. x.born.birth ≡ birth_at object) o
 
 ends_named : (c : Core) (target : Known) (args : List (Arg Known)) (k : ℕ) (x : Known) (waiting : List ℕ) → k ≡ 0
     → args ≡ Obj (Some x) ∷ [] → 0 < x.id → ThereRow (server_rows c.view) x
@@ -177,7 +179,7 @@ ends_named c target args k x waiting z e some h =
     (slice_get (reports_of (reader_of c.view) waiting (map wire (Obj (Some x) ∷ []))) n))
     (ended_by (ends_arg n) target (Obj (Some x) ∷ []))) (sym z)
     (subst (λ (object : Object). EndsRightly (ends_arg 0) object (Some x)) (sym named)
-    (record { ends = record { flag = refl; same = refl }; birth = sym (ap number_of_birth r.same) })))
+    (record { ends = record { flag = refl; same = refl }; birth = sym (ap birth_of r.same) })))
 
 ends_rightly : (st : server.State) (m : Message Known) (n : ℕ) (entry : Entry)
     (f : FitsSignature st.core.tables request_side m)
@@ -191,7 +193,7 @@ ends_rightly st m n entry f v s h hs = subst (EndsRightly f.signature.destroys
         → EndsRightly what (ended_object what (report st.core (the_found n m entry f.signature)))
         (ended_by what m.target m.args)
     by_what Nothing d = record { ends = record { flag = refl; same = tt }; birth = tt }
-    by_what Target d = record { ends = record { flag = refl; same = refl }; birth = sym (ap number_of_birth s) }
+    by_what Target d = record { ends = record { flag = refl; same = refl }; birth = sym (ap birth_of s) }
     by_what (ends_arg k) d =
         let a = argument_is st.core.tables request_side m f k v d in
         let there : ThereRow (server_rows st.core.view) a.1.object =
@@ -304,7 +306,8 @@ server_read_stands p w m ms told s n a up =
             (marks_after (option_map born_of new) l)) s.registries.told
             ∙ ap (without_marks (option_map born_of m.ends))
             (sym (marks_with p.server.core p.server.registries new (births_of v new a.new)))
-            ∙ sym (marks_left m.ends (registries_after p.server.core p.server.registries (option_map made_of new))));
+            ∙ sym (marks_left m.ends (registries_after p.server.core p.server.registries (option_map made_of new))
+            (if_by (λ x h. (let r = there_row v x h in ap (λ (b : Born). b.birth.maker) (sym r.same))) m.ends there)));
         open_registries = has_read p.server.core p.server.registries new m.ends s.server.sound (fresh_row v new a.new)
             (if_by (there_row v) m.ends there) s.registries.open_registries;
       };

@@ -16,7 +16,7 @@ use Rattle.wl_objects.specs.Reading.{Reported}
 use Rattle.wl_connection.specs.Receiving.{Found, found_at, is_none}
 use Rattle.wl_server.specs.Requests.{Report, unless_bad_bind, request, report, needs_memory, is_out_full}
 use Rattle.wl_server.specs.Requests.{next_answer, after_next, state_past}
-use Rattle.theory_connection.specs.Meant.{Known, Born, Message, Coming, renamed, born_of, number_of_birth}
+use Rattle.theory_connection.specs.Meant.{Known, Born, Message, Coming, renamed, born_of, birth_of}
 use Rattle.theory_connection.specs.World.{World, IfThere, request_read, reads_request, delete}
 use Rattle.theory_connection.specs.Pair.{PairState, ServerNext, with_server, Nexts, answered, no_memory}
 use Rattle.theory_connection.specs.Answers.{NotEnded, before, ReportsRequest, rows_of_server, IsOutFull}
@@ -66,7 +66,7 @@ reports : (p : PairState) (w : World) (m : Message Known) (ms : List (Message Kn
     (the_found n m i.entry s.requests.fit.0.fits.signature))
 reports p w m ms told s n i = record {
   is_open = s.server.sets.shown m.target.id m.target.born i.asks_it.target;
-  target = ap number_of_birth i.same_target;
+  target = ap birth_of i.same_target;
   opcode = refl;
   args = rw i.tokens_are (reports_right p.server.core.view (rows_of_server w) m.args i.more i.met);
 }

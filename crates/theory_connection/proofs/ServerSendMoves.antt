@@ -1,6 +1,6 @@
 -- Moves of the server's writing.
 use Rattle.std.proofs.Common.{◌≡◌, ℕ, Bool, true, false, cond, List, [], ◌∷◌, ◌++◌, map, length}
-use Rattle.std.proofs.Common.{◌<◌, refl, sym, ap, subst, ◌∙◌}
+use Rattle.std.proofs.Common.{refl, sym, ap, subst, ◌∙◌}
 use Rattle.std.proofs.lemmas.Bool.{not-false}
 use Rattle.std.specs.Prelude.{option_map, not, ◌||◌}
 use Rattle.std.specs.declared.option.Option.{Option}
@@ -27,9 +27,9 @@ use Rattle.wl_connection.specs.Sending.{send_answer, after_send, after_checked, 
 use Rattle.wl_connection.proofs.Ends.{no_event}
 use Rattle.wl_sigs.specs.Rules.{is_ended_by_event}
 use Rattle.wl_server.specs.Calls.{drop_refusal, drop_at, after_drop, error_refusal}
-use Rattle.theory_connection.specs.Meant.{Known, Arg, ended_by, Message, Coming, Event as event_of}
-use Rattle.theory_connection.specs.Meant.{Delete, renamed, born_of, number_of_birth, spelled_meant, made_in}
-use Rattle.theory_connection.specs.Meant.{objects, born_of_entry}
+use Rattle.theory_connection.specs.Meant.{client_birth, IsAmongFirst, Known, Arg, ended_by, Message, Coming}
+use Rattle.theory_connection.specs.Meant.{Event as event_of, Delete, renamed, born_of, birth_of, spelled_meant}
+use Rattle.theory_connection.specs.Meant.{made_in, objects, born_of_entry}
 use Rattle.theory_connection.specs.World.{World, Each, IfThere, IsThere, delete, event_written}
 use Rattle.theory_connection.specs.World.{dropped, Steps, writes_event, drops, WriteEvent}
 use Rattle.theory_connection.specs.Pair.{ended_mark, after_post, PairState, ServerSend, ServerDrop}
@@ -153,7 +153,8 @@ tells_one p w asked told s m c =
     ends_have (ThereRow (server_rows v)) p.server.core.tables Event m f c.target c.args in
     let news = event_of m ∷ delete m.ends in
     let below = s.server.sets.below in
-    let ended : IfThere (λ x. x.born.birth < v.births) m.ends = if_by (λ x h. below x.id x.born h) m.ends there in
+    let ended : IfThere (λ x. IsAmongFirst v.births x.born.birth) m.ends =
+    if_by (λ x h. below x.id x.born h) m.ends there in
     telling (ended_view Event v m.ends) (told_core p.server.core m).outbox p.server.registries news
     (same_births v m.ends)
     (each_more (IsBelow v.births) (tells (event_of m)) (all_tells (delete m.ends))
@@ -190,11 +191,11 @@ server_send_keeps p w asked told s z target opcode given g reply p' (accepted {n
       answers = before z (accepted h) (record {
         message = renamed born_of m;
         is = record { signature = a.signature; there = c.signed; ends = born_ends m a.signature.destroys refl };
-        target_is = c.birth;
+        target_is = ap client_birth c.birth;
         opcode_is = refl;
         args_are = handed_none core.view (the_new core c.entry given a.signature) w.births a.signature.kinds given n
             k.right;
-        new_is = ap (option_map number_of_birth) (made_map born_of args ∙ ap (option_map born_of) n)
+        new_is = ap (option_map birth_of) (made_map born_of args ∙ ap (option_map born_of) n)
             ∙ ap (option_map birth_at) (sym none);
         steps = tells_world p w asked told s m can;
       });
@@ -257,7 +258,7 @@ server_drop_keeps p w asked told s z object reply p' (done h) =
       world = dropped w x.born;
       answers = before z (done h) (record {
         object = x.born;
-        is = d.birth;
+        is = ap client_birth d.birth;
         steps = drops x.born (s.server.sets.shown x.id x.born there) d.by;
       });
       outcome = goes_on asked (told ++ Delete x ∷ []) z (drop_stands p w asked told s x there d.by low)

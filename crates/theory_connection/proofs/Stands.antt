@@ -17,7 +17,7 @@ use Rattle.wl_object_map.specs.View.{View, Sound, look, closed}
 use Rattle.wl_object_map.specs.Views.{look-opened_at, look-closed, look-zombied}
 use Rattle.wl_object_map.specs.Sounds.{Sound-closed}
 use Rattle.wl_objects.specs.Messages.{opens}
-use Rattle.theory_connection.specs.Meant.{Born, Known, born_of, number_of_birth, born_of_entry}
+use Rattle.theory_connection.specs.Meant.{Birth, Born, Known, born_of, birth_of, born_of_entry}
 use Rattle.theory_connection.specs.World.{Row, Open, Each, IfThere, born_into, same, ending, gone, put, births_counted}
 use Rattle.theory_connection.specs.Flight.{Rows, Fresh, IsHeldInRows, client_rows, server_rows, row_of_entry}
 use Rattle.theory_connection.specs.Stands.{ClientStands, ServerStands, Travel, InFlight, ShowsBirths, birth_in}
@@ -59,7 +59,7 @@ counted_map : (f : Known → Born) (n : Option Known) (b : ℕ) → births_count
 counted_map f None b = refl
 counted_map f (Some x) b = refl
 
-module _ {view : View} {failed : Bool} {births : ℕ} {held : ℕ → Option Row}
+module _ {view : View} {failed : Bool} {births : ℕ} {held : Birth → Option Row}
     (s : ClientStands view failed births held) where
   -- A message makes this at the client, and ends that: the client's objects stand again.
   pub client_message : (new ends : Option Known) → Sound (opens view (option_map made_of new))
@@ -101,14 +101,14 @@ module _ {view : View} {failed : Bool} {births : ℕ} {held : ℕ → Option Row
 
 -- ---- the server's objects
 
-module _ {view : View} {failed : Bool} {there : ℕ → Option Born} (s : ServerStands view failed there) where
+module _ {view : View} {failed : Bool} {there : Birth → Option Born} (s : ServerStands view failed there) where
   -- A message makes this at the server, and ends that: the server's objects stand again.
   pub server_message : (new ends : Option Known) → IfThere (Fresh (server_rows view)) new
       → IfThere (λ x. 1 ≤ x.born.version) new → IfThere (ThereRow (server_rows view)) ends → IfThere Mortal ends
       → ServerStands (ended_view Event (opens view (option_map made_of new)) ends) failed
       (gone (option_map born_of ends) (born_into same (option_map born_of new) there))
   server_message new ends fresh version has mortal = record {
-    sets = subst (λ (r : Rows Born). ShowsBirths number_of_birth r.rows r.births
+    sets = subst (λ (r : Rows Born). ShowsBirths birth_of r.rows r.births
         (gone (option_map born_of ends) (born_into same (option_map born_of new) there)))
         (sym (server_after view new ends fresh))
         (server_ended (server_makes (server_rows view) new) _ ends

@@ -1,20 +1,19 @@
 -- What a whole message at an end's edge does to what is in flight.
 use Rattle.std.proofs.Common.{◌≡◌, ℕ, Bool, true, false, List, [], ◌∷◌, ◌++◌, map, inl, inr, refl}
-use Rattle.std.proofs.Common.{sym, ◌∙◌, subst, arith, ◌≢◌}
+use Rattle.std.proofs.Common.{sym, ◌∙◌, ap, subst, arith, ◌≢◌}
 use Rattle.std.proofs.lemmas.List.{append_assoc, append-nil}
 use Rattle.std.specs.declared.option.Option.{Option}
 use Rattle.std.specs.declared.option.Option.TheVariants.{None, Some}
-use Rattle.theory_connection.specs.Meant.{Born, Known, Message, Coming}
-use Rattle.theory_connection.specs.World.{Row, Open, Ending, put, Each, IfThere, delete as following}
-use Rattle.theory_connection.specs.Flight.{Rows, at, with_made, Ask, Use, Tell, Name, Delete, make_ask}
-use Rattle.theory_connection.specs.Flight.{destroy_ask, ends, asks, tells, all_asks, all_tells}
-use Rattle.theory_connection.specs.Flight.{at_client, IsHeldInRows, Fresh, ReadsInFlight, done, name, end, delete}
-use Rattle.theory_connection.specs.Flight.{Tied, drained, use_, make, destroy, MeetInMiddle}
+use Rattle.theory_connection.specs.Meant.{client_birth, Born, Known, Message, Coming}
+use Rattle.theory_connection.specs.World.{Row, Open, Ending, Each, IfThere, delete as following}
+use Rattle.theory_connection.specs.Flight.{put_row, Rows, at, with_made, Ask, Use, Tell, Name, Delete, make_ask}
+use Rattle.theory_connection.specs.Flight.{destroy_ask, ends, asks, tells, all_asks, all_tells, at_client}
+use Rattle.theory_connection.specs.Flight.{IsHeldInRows, Fresh, ReadsInFlight, done, name, end, delete, Tied}
+use Rattle.theory_connection.specs.Flight.{drained, use_, make, destroy, MeetInMiddle}
 use Rattle.theory_connection.proofs.EndedObject.{Mortal}
-use Rattle.theory_connection.proofs.Flight.{put_tells, put_over, live_after, free_after}
-use Rattle.theory_connection.proofs.Flight.{counts_after, make_before, destroy_before, reads_more}
-use Rattle.theory_connection.proofs.Flight.{held_at_client, end_before, use_more, make_more}
-use Rattle.theory_connection.proofs.Flight.{destroy_more}
+use Rattle.theory_connection.proofs.Flight.{put_row_tells, put_row_over, live_after, free_after, counts_after}
+use Rattle.theory_connection.proofs.Flight.{make_before, destroy_before, reads_more, held_at_client, end_before}
+use Rattle.theory_connection.proofs.Flight.{use_more, make_more, destroy_more}
 
 -- it is open at the client
 abbrev pub OpenRow : Rows Row → Known → Type 0
@@ -47,7 +46,7 @@ server_ends (Some x) s = at s x.id None
 pub live_made : (v : Rows Row) (n : Option Known) (x : Known) → IfThere (Fresh v) n → OpenRow v x
     → OpenRow (client_makes v n) x
 live_made v None x c h = h
-live_made v (Some n) x c h = grind (arith, put_tells, c.free)
+live_made v (Some n) x c h = grind (arith, put_row_tells, c.free)
 
 -- what is open stays open when another is made
 pub live_made_if : (v : Rows Row) (n o : Option Known) → IfThere (Fresh v) n → IfThere (OpenRow v) o
@@ -55,8 +54,8 @@ pub live_made_if : (v : Rows Row) (n o : Option Known) → IfThere (Fresh v) n �
 live_made_if v n None c h = tt
 live_made_if v n (Some x) c h = live_made v n x c h
 
-put_tells_same : (m : Rows Row) (x : Known) → put m.rows x.id (Some (Ending x.born)) x.id ≡ Some (Ending x.born)
-put_tells_same m x = grind (arith, put_tells)
+put_tells_same : (m : Rows Row) (x : Known) → put_row m.rows x.id (Some (Ending x.born)) x.id ≡ Some (Ending x.born)
+put_tells_same m x = grind (arith, put_row_tells)
 
 -- what the client reads next, and what is in flight after it
 pub record Past (test : Born → Bool) (qs : List Ask) (s : Rows Born) (m : Rows Row) (es : List Tell) : Type 0 where
@@ -117,7 +116,7 @@ module _ {test : Born → Bool} where
           free = free_after n.id g.reads c.free;
           some = c.some;
           next = grind (arith, c.next);
-          birth = c.birth ∙ sym k.1;
+          birth = c.birth ∙ ap client_birth (sym k.1);
           low = c.low;
           left = grind (arith, c.left);
         });
@@ -211,7 +210,7 @@ module _ {test : Born → Bool} where
       record {
         middle = at g.middle x.id None;
         reads = reads_more g.reads (end f k (delete y (inr (put_tells_same g.middle x)) (inl f)
-            (reads_last (put_over g.middle.rows x.id _ None))));
+            (reads_last (put_row_over g.middle.rows x.id _ None))));
         tied = end_before x.id x.born g.tied h f;
       }
 

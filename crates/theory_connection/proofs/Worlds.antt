@@ -9,16 +9,16 @@ use Rattle.wl_sigs.specs.Fixed.{registry}
 use Rattle.wl_object_map.specs.declared.object.Object.{Object}
 use Rattle.wl_server.specs.State as server
 use Rattle.wl_server.specs.Registries.{IsAmong}
-use Rattle.theory_connection.specs.Meant.{Born, Known, Message, Coming, Event, Delete as delete_of}
-use Rattle.theory_connection.specs.Meant.{renamed, recoming, born_of, number_of_birth, known_id, objects}
-use Rattle.theory_connection.specs.Meant.{made_in, born_of_entry as plain_of}
+use Rattle.theory_connection.specs.Meant.{Birth, IsAmongFirst, Born, Known, Message, Coming, Event}
+use Rattle.theory_connection.specs.Meant.{Delete as delete_of, renamed, recoming, born_of, birth_of, known_id}
+use Rattle.theory_connection.specs.Meant.{objects, made_in, born_of_entry as plain_of}
 use Rattle.theory_connection.specs.World.{World, Row, Open, Ending, IsThere, Each, marks_birth}
 use Rattle.theory_connection.specs.Flight.{Rows, most, Ask, Use, Make, Destroy, Tell, Name, Delete}
 use Rattle.theory_connection.specs.Flight.{IsHeldInRows, ReadsInFlight, done, name, end, delete, Tied, drained}
 use Rattle.theory_connection.specs.Flight.{use_, make, destroy, client_rows, server_rows, asks}
 use Rattle.theory_connection.specs.Flight.{tells, all_asks, all_tells, make_ask, destroy_ask, ends}
 use Rattle.theory_connection.specs.Pair.{PairState}
-use Rattle.theory_connection.specs.Answers.{marks_of}
+use Rattle.theory_connection.specs.Answers.{birth_at, marks_of}
 use Rattle.theory_connection.specs.Stands.{Stands, stands, ended, StandsBy, by_event}
 use Rattle.theory_connection.specs.Plain.{In, IsHeldAtClient, DeleteComes, MakeComes, DestroyComes}
 use Rattle.theory_connection.specs.Plain.{IsSomewhere, NamesBirth, StandsIn, IsUnnamed, option_list, news}
@@ -27,6 +27,7 @@ use Rattle.theory_connection.proofs.Flight.{counts_after}
 use Rattle.theory_connection.proofs.WholeInFlight.{all_tells_more}
 use Rattle.theory_connection.proofs.RowsAfterMessage.{map_some, made_map, objects_map, there_row}
 use Rattle.theory_connection.proofs.Plain as plain
+use Rattle.theory_connection.proofs.Births.{counted_more, next_counted, next_or_counted}
 
 -- ---- lists
 
@@ -220,17 +221,14 @@ module _ {test : Born → Bool} where
       elim i [ inl p ↦ absurd (cc p) | inr p ↦ plain.kept_delete v x y.id (named_held x r p) ]
 
   -- the births and the ids of the client are those of the server and of what is made on the way
-  births_tied : {qs : List Ask} {s : Rows Born} {m : Rows Row} (b : ℕ) → Tied test qs s m → b < m.births
-      → (b < s.births) ⊎ ((x : Known) × (In (Make x) qs × (x.born.birth ≡ b)))
-  births_tied b (drained r u n) h = inl (omega (arith, h, n))
+  births_tied : {qs : List Ask} {s : Rows Born} {m : Rows Row} (b : Birth) → Tied test qs s m → IsAmongFirst m.births b
+      → IsAmongFirst s.births b ⊎ ((x : Known) × (In (Make x) qs × (x.born.birth ≡ b)))
+  births_tied b (drained r u n) h = inl (subst (λ (k : ℕ). IsAmongFirst k b) n h)
   births_tied b (use_ o f t) h = elim (births_tied b t h) [ inl p ↦ inl p | inr p ↦ inr (p.0, (inr p.1.0, p.1.1)) ]
   births_tied b (make {s = s} {x = x} f t) h = elim (births_tied b t h) [
-    | inl p ↦ elim (less_or b s.births p) [ inl q ↦ inl q | inr q ↦ inr (x, (inl refl, f.birth ∙ sym q)) ]
+    | inl p ↦ elim (next_or_counted b s.births p) [ inl q ↦ inl q | inr q ↦ inr (x, (inl refl, f.birth ∙ sym q)) ]
     | inr p ↦ inr (p.0, (inr p.1.0, p.1.1))
   ]
-    where
-      less_or : (a n : ℕ) → a < n + 1 → (a < n) ⊎ (a ≡ n)
-      less_or a n l = grind (arith, l)
   births_tied b (destroy z o f e t) h = elim (births_tied b t h)
       [ inl p ↦ inl p | inr p ↦ inr (p.0, (inr p.1.0, p.1.1)) ]
 
@@ -241,12 +239,12 @@ module _ {test : Born → Bool} where
   tied_births (destroy z o f e t) = tied_births t
 
   made_births : {qs : List Ask} {s : Rows Born} {m : Rows Row} (x : Known) → Tied test qs s m → In (Make x) qs
-      → x.born.birth < m.births
+      → IsAmongFirst m.births x.born.birth
   made_births x (drained r u n) i = absurd i
   made_births x (use_ o f t) i = elim i [ inl p ↦ absurd (cc p) | inr p ↦ made_births x t p ]
   made_births x (make {s = s} {x = y} f t) i = elim i [
-    | inl p ↦ (let e : x ≡ y = cc p in let b = ap (λ (k : Known). k.born.birth) e in let n = f.birth
-        in let k = tied_births t in omega (arith, b, n, k))
+    | inl p ↦ (let e : x ≡ y = cc p in counted_more x.born.birth (s.births + 1) _
+        (next_counted x.born.birth s.births (ap (λ (k : Known). k.born.birth) e ∙ f.birth)) (tied_births t))
     | inr p ↦ made_births x t p
   ]
   made_births x (destroy z o f e t) i = elim i [ inl p ↦ absurd (cc p) | inr p ↦ made_births x t p ]
@@ -409,7 +407,7 @@ module _ (p : PairState) (w : World) (asked : List (Message Known)) (told : List
   -- an object that the client holds has one id
   one_id : (j k : Known) → IsHeldInRows v j → IsHeldInRows v k → j.born ≡ k.born → j ≡ k
   one_id j k h i e =
-      let b : j.born.birth ≡ k.born.birth = ap number_of_birth e in
+      let b : j.born.birth ≡ k.born.birth = ap birth_of e in
       let q : j.id ≡ k.id = elim h [
         | inl a ↦ elim i [
           | inl c ↦ s.client.sets.one j.id k.id (Open j.born)
@@ -477,13 +475,14 @@ module _ (p : PairState) (w : World) (asked : List (Message Known)) (told : List
       let j = make_known x h in
       let k = there_known x i in
       plain.not_made_counted j.0 s.meet j.1.0 (let l = s.server.sets.below k.0.id k.0.born k.1.0
-      in let b = ap number_of_birth (j.1.1 ∙ sym k.1.1) in omega (arith, l, b))
+      in let b = ap (λ (x : Born). x.birth.number) (j.1.1 ∙ sym k.1.1) in omega (arith, l.number, b))
 
   -- what is made on the way was not counted by the server
-  pub made_not_counted : (x : Born) → MakeComes w x → x.birth < p.server.core.view.births → ⊥
+  pub made_not_counted : (x : Born) → MakeComes w x → x.birth.number < p.server.core.view.births → ⊥
   made_not_counted x h l =
       let k = make_known x h in
-      plain.not_made_counted k.0 s.meet k.1.0 (subst (λ (b : Born). b.birth < p.server.core.view.births) (sym k.1.1) l)
+      plain.not_made_counted k.0 s.meet k.1.0
+      (subst (λ (b : Born). b.birth.number < p.server.core.view.births) (sym k.1.1) l)
 
   -- what is ending at the client is deleted or destroyed on the way
   pub where_ending : (x : Born) → w.client x.birth ≡ Some (Ending x) → DeleteComes w x ⊎ DestroyComes w x
@@ -602,30 +601,32 @@ module _ (p : PairState) (w : World) (asked : List (Message Known)) (told : List
       )
 
   -- the births counted at the client are those counted at the server and those made on the way
-  pub births_counted : (birth : ℕ) → (birth < p.client.core.view.births) ↔
-      ((birth < p.server.core.view.births) ⊎ In birth (map number_of_birth (news w.requests)))
+  pub births_counted : (birth : Birth) → IsAmongFirst p.client.core.view.births birth ↔
+      (IsAmongFirst p.server.core.view.births birth ⊎ In birth (map birth_of (news w.requests)))
   births_counted birth =
       let c = (counts_after s.meet.reads).1 in (
-        λ h. elim (births_tied birth s.meet.tied (omega (arith, h, c))) [
+        λ h. elim (births_tied birth s.meet.tied (subst (λ (n : ℕ). IsAmongFirst n birth) (sym c) h)) [
           | inl a ↦ inl a
-          | inr a ↦ inr (subst (λ (n : ℕ). In n (map number_of_birth (news w.requests))) a.1.1
-              (in_map number_of_birth a.0.born (news w.requests) (comes_news a.0.born (make_comes a.0 a.1.0))))
+          | inr a ↦ inr (subst (λ (b : Birth). In b (map birth_of (news w.requests))) a.1.1
+              (in_map birth_of a.0.born (news w.requests) (comes_news a.0.born (make_comes a.0 a.1.0))))
         ],
         λ h. elim h [
-          | inl a ↦ (let k = tied_births s.meet.tied in omega (arith, a, k, c))
-          | inr a ↦ (let f = from_map number_of_birth birth (news w.requests) a
+          | inl a ↦ (let k = tied_births s.meet.tied in counted_more birth _ _ a (omega (arith, k, c)))
+          | inr a ↦ (let f = from_map birth_of birth (news w.requests) a
               in let k = make_known f.item (news_comes f.item f.there) in
-              let less = made_births k.0 s.meet.tied k.1.0 in let e = f.is in let b = ap number_of_birth k.1.1
-              in omega (arith, e, less, b, c))
+              let made = made_births k.0 s.meet.tied k.1.0 in
+              subst (λ (n : ℕ). IsAmongFirst n birth) c (subst (IsAmongFirst s.meet.middle.births)
+              (ap birth_of k.1.1 ∙ f.is) made))
         ],
       )
 
   -- ---- registries
 
-  among_marks : (x : Object) (rs : List server.Registry) → IsAmong x rs → In x.birth (map marks_birth (map marks_of rs))
+  among_marks : (x : Object) (rs : List server.Registry) → IsAmong x rs
+      → In (birth_at x) (map marks_birth (map marks_of rs))
   among_marks x [] h = absurd h
   among_marks x (r ∷ rs) h = elim h [
-    | inl a ↦ inl (ap (λ (k : Object). k.birth) (sym a))
+    | inl a ↦ inl (ap birth_at (sym a))
     | inr a ↦ inr
         (among_marks x rs a)
   ]
@@ -638,7 +639,7 @@ module _ (p : PairState) (w : World) (asked : List (Message Known)) (told : List
       let same : plain_of r.entry ≡ x = r.same ∙ k.1.1 in
       let at = s.registries.open_registries.all k.0.id r.entry r.there (ap (λ (b : Born). b.iface) same ∙ i) in
       subst (λ (l : List _). In x.birth (map marks_birth l)) (sym s.registries.told)
-      (subst (λ (n : ℕ). In n (map marks_birth (map marks_of p.server.registries))) (ap number_of_birth same)
+      (subst (λ (b : Birth). In b (map marks_birth (map marks_of p.server.registries))) (ap birth_of same)
       (among_marks (record { id = k.0.id; birth = r.entry.birth }) p.server.registries at))
 
 -- ---- a pair that stands in a world

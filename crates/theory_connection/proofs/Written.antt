@@ -30,7 +30,8 @@ use Rattle.wl_objects.specs.Messages.{is_hidden, is_error, is_delete_id, same_if
 use Rattle.wl_objects.proofs.Calls.{len-any}
 use Rattle.wl_connection.specs.Core.{Core}
 use Rattle.wl_connection.specs.Sending.{opening_answer, answer_of, send_answer, made_at}
-use Rattle.theory_connection.specs.Meant.{Known, Message, Arg, wire, made_in, objects, born_of_entry, ended_by}
+use Rattle.theory_connection.specs.Meant.{client_birth, Known, Message, Arg, wire, made_in, objects}
+use Rattle.theory_connection.specs.Meant.{born_of_entry, ended_by}
 use Rattle.theory_connection.specs.World.{Each, IfThere}
 use Rattle.theory_connection.specs.Stands.{FitsSignature}
 use Rattle.theory_connection.specs.Runs.{FitsWords}
@@ -69,7 +70,7 @@ new_id view None = refl
 new_id view (Some m) = refl
 
 -- a new object gets the next birth
-pub new_birth : (view : View) (o : Option NewObject) → (new_known view o).born.birth ≡ view.births
+pub new_birth : (view : View) (o : Option NewObject) → (new_known view o).born.birth ≡ client_birth view.births
 new_birth view None = refl
 new_birth view (Some m) = refl
 

@@ -1,6 +1,6 @@
 -- The reply that each move gets in the world, and what it does there.
 use Rattle.std.specs.Prelude.{◌≡◌, ◌≢◌, ℕ, ◌+◌, ◌<◌, true, false, List, [], ◌∷◌, ◌++◌, length, map}
-use Rattle.std.specs.Prelude.{take, Option, Some, None, is_some, option_map}
+use Rattle.std.specs.Prelude.{take, if◌then◌else◌, Option, Some, None, is_some, option_map}
 use Rattle.std.specs.declared.result.Result.{Result}
 use Rattle.std.specs.declared.result.Result.TheVariants.{Ok, Err}
 use Rattle.wl_wire.specs.Argument.{reshaped, Uint, NewNamed}
@@ -24,10 +24,11 @@ use Rattle.wl_client.specs.Reports as events
 use Rattle.wl_server.specs.State as server
 use Rattle.wl_server.specs.Requests as requests
 use Rattle.wl_server.specs.Calls.{without_at}
-use Rattle.wl_server.specs.Announcing.{Owing, Due, owed_to, marked_in, owed_opcode, values_of}
+use Rattle.wl_server.specs.Announcing.{Owing, owed_to, marked, owed_opcode, values_of}
 use Rattle.wl_recording.specs.Piece.{Piece}
-use Rattle.theory_connection.specs.Meant.{Born, Message, Coming, Event, Delete, Arg, rearg}
-use Rattle.theory_connection.specs.Meant.{number_of_birth, made_in, ended_by, tokens}
+use Rattle.theory_connection.specs.Meant.{Birth, client_birth, same_birth, Born, Message, Coming}
+use Rattle.theory_connection.specs.Meant.{Event, Delete, Arg, rearg, birth_of, made_in}
+use Rattle.theory_connection.specs.Meant.{ended_by, tokens}
 use Rattle.theory_connection.specs.World.{World, Row, Open, Ending, Marks, Action, WriteRequest}
 use Rattle.theory_connection.specs.World.{ReadRequest, WriteEvent, Drop, ReadEvent, Steps, IsOpen}
 use Rattle.theory_connection.specs.World.{IsEnding, IsThere}
@@ -43,12 +44,13 @@ pub record IsMessageOf (tables : List Interface) (side : Side) (m : Message Born
   pub there : signature_at tables m.target.iface.0 side m.opcode ≡ Some signature
   pub ends : m.ends ≡ ended_by signature.destroys m.target m.args
 
-abbrev pub birth_at : Object → ℕ
-birth_at object = object.birth
+-- the birth of an end's object, which the client made
+abbrev pub birth_at : Object → Birth
+birth_at object = client_birth object.birth
 
--- an argument handed to a call: its objects by their births, its new object as the next birth
-abbrev pub handed : ℕ → Given → Arg ℕ
-handed births given = reshaped (option_map birth_at) (λ _. births) (λ t. t) given
+-- an argument handed to a call: its objects by their births, its new object as the client's next
+abbrev pub handed : ℕ → Given → Arg Birth
+handed births given = reshaped (option_map birth_at) (λ _. client_birth births) (λ t. t) given
 
 abbrev pub writing : Side → Message Born → Action
 writing request_side m = WriteRequest m
@@ -56,19 +58,19 @@ writing event_side m = WriteEvent m
 
 -- The message is written whose objects have the births of those handed to the call; where it makes
 -- an object, that is the one that the call returned.
-pub record WritesThat (tables : List Interface) (side : Side) (w : World) (target opcode : ℕ)
-    (args : List (Arg ℕ)) (new : Option Object) (w' : World) : Type 0 where
+pub record WritesThat (tables : List Interface) (side : Side) (w : World) (target : Birth)
+    (opcode : ℕ) (args : List (Arg Birth)) (new : Option Object) (w' : World) : Type 0 where
   pub message : Message Born
   pub is : IsMessageOf tables side message
   pub target_is : message.target.birth ≡ target
   pub opcode_is : message.opcode ≡ opcode
-  pub args_are : map (rearg number_of_birth) message.args ≡ args
-  pub new_is : option_map number_of_birth (made_in message.args) ≡ option_map birth_at new
+  pub args_are : map (rearg birth_of) message.args ≡ args
+  pub new_is : option_map birth_of (made_in message.args) ≡ option_map birth_at new
   pub steps : Steps tables w (writing side message) w'
 
 -- the arguments of a bind
-abbrev pub bind_args : ℕ → List ℕ → ℕ → ℕ → List (Arg ℕ)
-bind_args name iface version births = Uint name ∷ NewNamed iface version births ∷ []
+abbrev pub bind_args : ℕ → List ℕ → ℕ → ℕ → List (Arg Birth)
+bind_args name iface version births = Uint name ∷ NewNamed iface version (client_birth births) ∷ []
 
 -- only an acceptance does anything
 abbrev pub IfAccepted : {X E : Type 0} → Result X E → World → World → (X → Type 0) → Type 0
@@ -79,17 +81,17 @@ IfAccepted (Err why) w w' P = w' ≡ w
 
 abbrev pub registry_of : Marks → server.Registry
 registry_of r = record {
-  object = record { id = 0; birth = r.birth };
+  object = record { id = 0; birth = r.birth.number };
   told = r.told;
   removed = r.removed;
 }
 
 abbrev pub marks_of : server.Registry → Marks
-marks_of r = record { birth = r.object.birth; told = r.told; removed = r.removed }
+marks_of r = record { birth = birth_at r.object; told = r.told; removed = r.removed }
 
 -- an event that is owed, and the birth of the registry that it is for
 pub record Owed : Type 0 where
-  pub birth : ℕ
+  pub birth : Birth
   pub owing : Owing
 
 abbrev pub owed_by : List server.Global → List Marks → List Owed
@@ -98,17 +100,20 @@ owed_by given (r ∷ registries) =
     map (λ owing. record { birth = r.birth; owing = owing }) (owed_to given (registry_of r))
     ++ owed_by given registries
 
-abbrev pub due_of : Owed → Due
-due_of o = record { object = record { id = 0; birth = o.birth }; owing = o.owing }
+-- A registry after an owed event was written to it: marked as the server marks its own.
+abbrev pub mark_one : Owing → Marks → Marks
+mark_one owing r = record (marks_of (marked owing (registry_of r))) { birth = r.birth }
 
--- The open registries after an owed event was written: marked as the server marks its own.
+-- the open registries after an owed event was written to one of them
 abbrev pub mark_in : Owed → List Marks → List Marks
-mark_in o registries = map marks_of (marked_in (due_of o) (map registry_of registries))
+mark_in o [] = []
+mark_in o (r ∷ registries) =
+    (if same_birth r.birth o.birth then mark_one o.owing r else r) ∷ mark_in o registries
 
 -- the arguments of an owed event, which names no object
-abbrev pub told_args : List Interface → Owing → List (Arg ℕ)
+abbrev pub told_args : List Interface → Owing → List (Arg Birth)
 told_args tables owing =
-    map (reshaped (λ _. None) (λ birth. birth) (λ _. 0)) (values_of tables owing)
+    map (reshaped (λ _. None) client_birth (λ _. 0)) (values_of tables owing)
 
 -- The events are written in this order, each to its registry, which is marked.
 pub data AnnouncesThose (tables : List Interface) : World → List Owed → World → Type 0 where
@@ -126,39 +131,39 @@ pub data AnnouncesThose (tables : List Interface) : World → List Owed → Worl
 -- hold is in no report
 pub data Seen : Type 0 where
   Null : Seen
-  Live : ℕ → Seen
-  Dead : ℕ → Seen
+  Live : Birth → Seen
+  Dead : Birth → Seen
   Unheld : Seen
 
 abbrev pub seen_named : Named → Seen
 seen_named named_as.Null = Null
-seen_named (named_as.Live object) = Live object.birth
-seen_named (named_as.Dead object) = Dead object.birth
+seen_named (named_as.Live object) = Live (birth_at object)
+seen_named (named_as.Dead object) = Dead (birth_at object)
 
-abbrev pub by_row : ℕ → Option Row → Seen
+abbrev pub by_row : Birth → Option Row → Seen
 by_row birth None = Unheld
 by_row birth (Some (Open x)) = Live birth
 by_row birth (Some (Ending x)) = Dead birth
 
 -- how a birth is seen by an end with these objects
-abbrev pub seen_by : (ℕ → Option Row) → Option Born → Seen
+abbrev pub seen_by : (Birth → Option Row) → Option Born → Seen
 seen_by rows None = Null
 seen_by rows (Some x) = by_row x.birth (rows x.birth)
 
 -- The reported arguments are those of the message: each object as its birth, live or dead by these
 -- rows, and each token.
-abbrev pub ReportsArgs : (ℕ → Option Row) → List (Arg Born) → List Reported → Type 0
+abbrev pub ReportsArgs : (Birth → Option Row) → List (Arg Born) → List Reported → Type 0
 ReportsArgs rows args reported =
     map (reshaped seen_named birth_at (λ t. t)) reported
-    ≡ map (reshaped (seen_by rows) number_of_birth (λ t. t)) args
+    ≡ map (reshaped (seen_by rows) birth_of (λ t. t)) args
 
-abbrev pub rows_of_server : World → ℕ → Option Row
+abbrev pub rows_of_server : World → Birth → Option Row
 rows_of_server w birth = option_map Open (w.server birth)
 
 -- the report of a request, whose target is open at the server
 pub record ReportsRequest (w : World) (m : Message Born) (report : requests.Report) : Type 0 where
   pub is_open : IsThere w.server m.target
-  pub target : report.target.birth ≡ m.target.birth
+  pub target : birth_at report.target ≡ m.target.birth
   pub opcode : report.opcode ≡ m.opcode
   pub args : ReportsArgs (rows_of_server w) m.args report.args
 
@@ -166,12 +171,12 @@ pub record ReportsRequest (w : World) (m : Message Born) (report : requests.Repo
 -- meant; of one for an ending object, its tokens; of a delete, the object.
 abbrev pub ReportsComing : World → Coming Born → events.Report → Type 0
 ReportsComing w (Event m) (events.Event target opcode args) =
-    IsOpen w.client m.target × (target.birth ≡ m.target.birth) × (opcode ≡ m.opcode)
+    IsOpen w.client m.target × (birth_at target ≡ m.target.birth) × (opcode ≡ m.opcode)
     × ReportsArgs w.client m.args args
 ReportsComing w (Event m) (events.Discarded target opcode own) =
-    IsEnding w.client m.target × (target.birth ≡ m.target.birth) × (opcode ≡ m.opcode)
+    IsEnding w.client m.target × (birth_at target ≡ m.target.birth) × (opcode ≡ m.opcode)
     × (own ≡ tokens m.args)
-ReportsComing w (Delete x) (events.Deleted object) = object.birth ≡ x.birth
+ReportsComing w (Delete x) (events.Deleted object) = birth_at object ≡ x.birth
 ReportsComing w _ report = ⊥
 
 -- no whole message waits
@@ -253,7 +258,7 @@ abbrev pub IfOk : {E : Type 0} → Result (Unit {0}) E → World → World → T
 IfOk (Ok x) w w' P = P
 IfOk (Err why) w w' P = w' ≡ w
 
-pub record Drops (tables : List Interface) (w : World) (birth : ℕ) (w' : World) : Type 0 where
+pub record Drops (tables : List Interface) (w : World) (birth : Birth) (w' : World) : Type 0 where
   pub object : Born
   pub is : object.birth ≡ birth
   pub steps : Steps tables w (Drop object) w'
@@ -261,16 +266,16 @@ pub record Drops (tables : List Interface) (w : World) (birth : ℕ) (w' : World
 -- What a move does in the world, whose pair and reply are these.
 abbrev pub Means : PairState → World → Move → Reply → World → Type 0
 Means p w (ClientSend target opcode given) (ClientSend reply) w' =
-    IfAccepted reply w w' (λ new. WritesThat p.client.core.tables request_side w target.birth opcode
-    (map (handed w.births) given) new w')
+    IfAccepted reply w w' (λ new. WritesThat p.client.core.tables request_side w
+    (birth_at target) opcode (map (handed w.births) given) new w')
 Means p w (ClientBind target name iface version) (ClientBind reply) w' =
-    IfAccepted reply w w' (λ new. WritesThat p.client.core.tables request_side w target.birth 0
-    (bind_args name iface version w.births) new w')
+    IfAccepted reply w w' (λ new. WritesThat p.client.core.tables request_side w
+    (birth_at target) 0 (bind_args name iface version w.births) new w')
 Means p w (ServerSend target opcode given) (ServerSend reply) w' =
-    IfAccepted reply w w' (λ new. WritesThat p.server.core.tables event_side w target.birth opcode
-    (map (handed w.births) given) new w')
+    IfAccepted reply w w' (λ new. WritesThat p.server.core.tables event_side w
+    (birth_at target) opcode (map (handed w.births) given) new w')
 Means p w (ServerDrop object) (ServerDrop reply) w' =
-    IfOk reply w w' (Drops p.server.core.tables w object.birth w')
+    IfOk reply w w' (Drops p.server.core.tables w (birth_at object) w')
 Means p w (PostError object code text) (PostError reply) w' =
     IfOk reply w w' (w' ≡ record w { ended = true })
 Means p w (AddGlobal iface version) (AddGlobal reply) w' =

@@ -1,23 +1,30 @@
 -- What is in flight, taken apart to the smallest actions, and what it leads to.
-use Rattle.std.specs.Prelude.{◌≡◌, ◌≢◌, ◌⊎◌, ℕ, ◌+◌, ◌<◌, ◌≤◌, Bool, true, false, cond, ltb, List}
-use Rattle.std.specs.Prelude.{[], ◌∷◌, ◌++◌, map, Option, Some, None, option_map}
+use Rattle.std.specs.Prelude.{◌≡◌, ◌≢◌, ◌⊎◌, ℕ, ◌+◌, ◌<◌, ◌≤◌, Bool, true, false, cond, ltb, nat_eq}
+use Rattle.std.specs.Prelude.{if◌then◌else◌, List, [], ◌∷◌, ◌++◌, map, Option, Some, None}
+use Rattle.std.specs.Prelude.{option_map}
 use Rattle.wl_object_map.specs.View.{View, look, max_ids, max_births}
 use Rattle.wl_object_map.specs.declared.object.Entry.{Entry}
 use Rattle.wl_object_map.specs.declared.object.State.{State}
 use Rattle.wl_object_map.specs.declared.object.State.TheVariants as states
-use Rattle.theory_connection.specs.Meant.{Born, Known, Message, Coming, Event, Delete as delete_of}
-use Rattle.theory_connection.specs.Meant.{objects, made_in, born_of_entry}
-use Rattle.theory_connection.specs.World.{Row, Open, Ending, put}
+use Rattle.theory_connection.specs.Meant.{client_birth, IsAmongFirst, Born, Known, Message, Coming}
+use Rattle.theory_connection.specs.Meant.{Event, Delete as delete_of, objects, made_in}
+use Rattle.theory_connection.specs.Meant.{born_of_entry}
+use Rattle.theory_connection.specs.World.{Row, Open, Ending}
 
--- what an end's objects are: by id, with the number of ids used and of births counted
+-- what an end's objects are: by id, with the number of ids used and of the client's births
+-- counted
 pub record Rows (X : Type 0) : Type 0 where
   pub rows : ℕ → Option X
   pub used : ℕ
   pub births : ℕ
 
--- with this at an id
+-- the rows with this at an id
+unfoldable pub put_row : {X : Type 0} → (ℕ → Option X) → ℕ → Option X → ℕ → Option X
+put_row rows id row other = if nat_eq other id then row else rows other
+
+-- an end's objects with this at an id
 abbrev pub at : {X : Type 0} → Rows X → ℕ → Option X → Rows X
-at s id o = record { rows = put s.rows id o; used = s.used; births = s.births }
+at s id o = record { rows = put_row s.rows id o; used = s.used; births = s.births }
 
 abbrev pub most : ℕ → ℕ → ℕ
 most a b = cond (ltb a b) b a
@@ -25,7 +32,7 @@ most a b = cond (ltb a b) b a
 -- with a new object at an id
 abbrev pub with_made : {X : Type 0} → Rows X → ℕ → X → Rows X
 with_made s id x = record {
-  rows = put s.rows id (Some x);
+  rows = put_row s.rows id (Some x);
   used = most s.used id;
   births = s.births + 1;
 }
@@ -102,9 +109,9 @@ about (Name x) = x
 about (Destroyed x) = x
 about (Delete x) = x
 
--- its birth is one of the first of this number
+-- its object is one of the client's first births, so many of them
 abbrev pub IsBelow : ℕ → Tell → Type 0
-IsBelow births t = (about t).born.birth < births
+IsBelow births t = IsAmongFirst births (about t).born.birth
 
 -- ---- what they lead to
 
@@ -112,12 +119,13 @@ IsBelow births t = (about t).born.birth < births
 abbrev pub IsHeldInRows : Rows Row → Known → Type 0
 IsHeldInRows v x = (v.rows x.id ≡ Some (Open x.born)) ⊎ (v.rows x.id ≡ Some (Ending x.born))
 
--- a new object fits an end's table: its id is free or the next one, and it is the next birth
+-- a new object fits an end's table: its id is free or the next one, and it is the client's next
+-- birth
 pub record Fresh {X : Type 0} (v : Rows X) (x : Known) : Type 0 where
   pub free : v.rows x.id ≡ None
   pub some : 0 < x.id
   pub next : x.id ≤ v.used + 1
-  pub birth : x.born.birth ≡ v.births
+  pub birth : x.born.birth ≡ client_birth v.births
   pub low : x.id ≤ max_ids
   pub left : v.births < max_births
 

@@ -1,19 +1,42 @@
 -- Messages as they are meant: by the objects that they name, and not by ids alone.
-use Rattle.std.specs.Prelude.{ℕ, zero, suc, List, [], ◌∷◌, ◌++◌, map, Option, Some, None}
-use Rattle.std.specs.Prelude.{option_map}
+use Rattle.std.specs.Prelude.{◌≡◌, ℕ, zero, suc, ◌<◌, Bool, true, false, ◌&&◌, nat_eq, List, []}
+use Rattle.std.specs.Prelude.{◌∷◌, ◌++◌, map, Option, Some, None, option_map}
 use Rattle.wl_wire.specs.declared.kind.Iface.{Iface}
 use Rattle.wl_sigs.specs.declared.signature.Destroys.{Destroys}
 use Rattle.wl_sigs.specs.declared.signature.Destroys.TheVariants.{Nothing, Target, Arg as ends_arg}
 use Rattle.wl_wire.specs.Argument.{Argument, Shape, reshaped, Uint, Obj, New, NewNamed, Fd}
 use Rattle.wl_object_map.specs.declared.object.Entry.{Entry}
+use Rattle.wl_object_map.specs.declared.object.Maker.{Maker}
+use Rattle.wl_object_map.specs.declared.object.Maker.TheVariants.{Client, Server}
 use Rattle.wl_object_map.specs.declared.object.State.TheVariants as states
 use Rattle.wl_message.specs.Outgoing as boxes
 use Rattle.wl_objects.specs.Writing.{message_bytes}
 use Rattle.wl_objects.specs.Messages.{or_else}
 
+-- which object it is: the end that made it, and the object's number among all that this end made
+pub record Birth : Type 0 where
+  pub maker : Maker
+  pub number : ℕ
+
+abbrev pub client_birth : ℕ → Birth
+client_birth number = record { maker = Client; number = number }
+
+abbrev pub same_maker : Maker → Maker → Bool
+same_maker Client Client = true
+same_maker Server Server = true
+same_maker _ _ = false
+
+abbrev pub same_birth : Birth → Birth → Bool
+same_birth b c = same_maker b.maker c.maker && nat_eq b.number c.number
+
+-- It is one of the client's first births, so many of them.
+pub record IsAmongFirst (births : ℕ) (b : Birth) : Type 0 where
+  pub maker : b.maker ≡ Client
+  pub number : b.number < births
+
 -- an object as both ends mean it: its birth, its interface and its version
 pub record Born : Type 0 where
-  pub birth : ℕ
+  pub birth : Birth
   pub iface : Iface
   pub version : ℕ
 
@@ -59,8 +82,8 @@ recoming f (Delete x) = Delete (f x)
 abbrev pub born_of : Known → Born
 born_of x = x.born
 
-abbrev pub number_of_birth : Born → ℕ
-number_of_birth x = x.birth
+abbrev pub birth_of : Born → Birth
+birth_of x = x.birth
 
 -- ---- what a message names
 
@@ -131,8 +154,14 @@ spelled_coming (Delete x) = boxes.queued (message_bytes 1 1 (Uint x.id ∷ [])) 
 
 -- ---- the row of an object
 
+-- The client made all that stands in a table.
 abbrev pub live_entry : Born → Entry
-live_entry x = record { birth = x.birth; iface = x.iface; version = x.version; state = states.Live }
+live_entry x = record {
+  birth = x.birth.number;
+  iface = x.iface;
+  version = x.version;
+  state = states.Live;
+}
 
 abbrev pub born_of_entry : Entry → Born
-born_of_entry e = record { birth = e.birth; iface = e.iface; version = e.version }
+born_of_entry e = record { birth = client_birth e.birth; iface = e.iface; version = e.version }

@@ -1,8 +1,8 @@
 -- Words for what is in flight.
 use Rattle.std.specs.Prelude.{◌≡◌, ◌≢◌, ◌⊎◌, ◌↔◌, ℕ, ◌<◌, ◌≤◌, false, List, [], ◌∷◌, ◌++◌}
 use Rattle.std.specs.Prelude.{map, Option, Some, None}
-use Rattle.theory_connection.specs.Meant.{Born, Known, Message, Coming, Event, Delete as delete_of}
-use Rattle.theory_connection.specs.Meant.{known_id, number_of_birth, objects, made_in}
+use Rattle.theory_connection.specs.Meant.{Birth, IsAmongFirst, Born, Known, Message, Coming, Event}
+use Rattle.theory_connection.specs.Meant.{Delete as delete_of, known_id, birth_of, objects, made_in}
 use Rattle.theory_connection.specs.World.{World, IsOpen, IsEnding, IsThere, Each, marks_birth}
 use Rattle.theory_connection.specs.Flight.{Ask, Use, Make, Destroy, Tell, Name, Destroyed, Delete}
 use Rattle.theory_connection.specs.Flight.{all_asks, all_tells}
@@ -115,6 +115,6 @@ IdsAreOf p asked =
 -- requests on the way make.
 abbrev pub BirthsAreOf : PairState → World → Type 0
 BirthsAreOf p w =
-    (birth : ℕ)
-    → (birth < p.client.core.view.births)
-    ↔ ((birth < p.server.core.view.births) ⊎ In birth (map number_of_birth (news w.requests)))
+    (birth : Birth)
+    → IsAmongFirst p.client.core.view.births birth
+    ↔ (IsAmongFirst p.server.core.view.births birth ⊎ In birth (map birth_of (news w.requests)))

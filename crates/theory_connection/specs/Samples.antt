@@ -6,7 +6,7 @@ use Rattle.wl_sigs.specs.Tables.{Interface}
 use Rattle.wl_sigs.specs.Fixed.{callback, registry, fixes}
 use Rattle.wl_objects.specs.declared.argument.Named.TheVariants as named_as
 use Rattle.wl_client.specs.Reports as events
-use Rattle.theory_connection.specs.Meant.{Born, Message, Event, Delete}
+use Rattle.theory_connection.specs.Meant.{client_birth, Born, Message, Event, Delete}
 use Rattle.theory_connection.specs.World.{World, Open, Ending, opening_world, display_born}
 use Rattle.theory_connection.specs.World.{request_written, request_read, event_written, event_read}
 use Rattle.theory_connection.specs.World.{delete_read, Steps, WriteRequest, ReadRequest, WriteEvent}
@@ -15,7 +15,7 @@ use Rattle.theory_connection.specs.Answers.{ReportsComing}
 
 -- the client asks wl_display for a callback, birth 1, and the server is done with it
 abbrev pub sample_callback : Born
-sample_callback = record { birth = 1; iface = callback; version = 1 }
+sample_callback = record { birth = client_birth 1; iface = callback; version = 1 }
 
 abbrev pub sync : Message Born
 sync = record { target = display_born; opcode = 0; args = New sample_callback ∷ []; ends = None }
@@ -52,9 +52,9 @@ pub record CallbackLives (tables : List Interface) : Type 0 where
   pub sees : Steps tables answered (ReadEvent (Event done)) (seen_done tables)
   pub forgets : Steps tables (seen_done tables) (ReadEvent (Delete sample_callback))
       (delete_read_back tables)
-  pub ends_here : (seen_done tables).client 1 ≡ Some (Ending sample_callback)
-  pub not_at_client : (delete_read_back tables).client 1 ≡ None
-  pub not_at_server : (delete_read_back tables).server 1 ≡ None
+  pub ends_here : (seen_done tables).client sample_callback.birth ≡ Some (Ending sample_callback)
+  pub not_at_client : (delete_read_back tables).client sample_callback.birth ≡ None
+  pub not_at_server : (delete_read_back tables).server sample_callback.birth ≡ None
   pub no_requests : (delete_read_back tables).requests ≡ []
   pub no_events : (delete_read_back tables).events ≡ []
   pub next : (delete_read_back tables).births ≡ 2
@@ -62,16 +62,18 @@ pub record CallbackLives (tables : List Interface) : Type 0 where
 -- A pointer, birth 5, and a surface, birth 3, are open at both ends; the numbers of their
 -- interfaces do not matter here.
 abbrev pub sample_surface : Born
-sample_surface = record { birth = 3; iface = record { 0 = 7 }; version = 6 }
+sample_surface = record { birth = client_birth 3; iface = record { 0 = 7 }; version = 6 }
 
 abbrev pub sample_pointer : Born
-sample_pointer = record { birth = 5; iface = record { 0 = 10 }; version = 9 }
+sample_pointer = record { birth = client_birth 5; iface = record { 0 = 10 }; version = 9 }
 
 abbrev pub both_open : World
 both_open = record opening_world {
   births = 8;
-  client = put (put nothing 3 (Some (Open sample_surface))) 5 (Some (Open sample_pointer));
-  server = put (put nothing 3 (Some sample_surface)) 5 (Some sample_pointer);
+  client = put (put nothing sample_surface.birth (Some (Open sample_surface)))
+      sample_pointer.birth (Some (Open sample_pointer));
+  server = put (put nothing sample_surface.birth (Some sample_surface))
+      sample_pointer.birth (Some sample_pointer);
 }
 
 -- the server says that the pointer enters the surface
@@ -114,16 +116,17 @@ pub record DeadArgument (tables : List Interface) : Type 0 where
 
 -- A wl_fixes, birth 8, and a registry, birth 9, are open at both ends.
 abbrev pub fixer : Born
-fixer = record { birth = 8; iface = fixes; version = 1 }
+fixer = record { birth = client_birth 8; iface = fixes; version = 1 }
 
 abbrev pub registered : Born
-registered = record { birth = 9; iface = registry; version = 1 }
+registered = record { birth = client_birth 9; iface = registry; version = 1 }
 
 abbrev pub both_registered : World
 both_registered = record opening_world {
   births = 10;
-  client = put (put nothing 8 (Some (Open fixer))) 9 (Some (Open registered));
-  server = put (put nothing 8 (Some fixer)) 9 (Some registered);
+  client = put (put nothing fixer.birth (Some (Open fixer)))
+      registered.birth (Some (Open registered));
+  server = put (put nothing fixer.birth (Some fixer)) registered.birth (Some registered);
   registries = nothing_told registered ∷ [];
 }
 
@@ -175,5 +178,5 @@ pub record DeadRegistry (tables : List Interface) : Type 0 where
   pub deletes : (registry_closed tables).events ≡ Delete registered ∷ []
   pub forgets : Steps tables (registry_closed tables) (ReadEvent (Delete registered))
       (registry_gone tables)
-  pub not_at_client : (registry_gone tables).client 9 ≡ None
-  pub not_at_server : (registry_gone tables).server 9 ≡ None
+  pub not_at_client : (registry_gone tables).client registered.birth ≡ None
+  pub not_at_server : (registry_gone tables).server registered.birth ≡ None

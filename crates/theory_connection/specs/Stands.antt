@@ -31,9 +31,9 @@ use Rattle.wl_server.specs.Requests.{was_advertised}
 use Rattle.wl_sigs.specs.Rules.{is_ended_by_event}
 use Rattle.wl_server.specs.Calls.{can_be_global}
 use Rattle.wl_server.specs.Announcing.{name_at}
-use Rattle.theory_connection.specs.Meant.{Born, Known, Message, Coming, Event, Delete, Arg, renamed}
-use Rattle.theory_connection.specs.Meant.{recoming, born_of, number_of_birth, made_in}
-use Rattle.theory_connection.specs.Meant.{new_object_in, ended_by, wire, spelled_meant}
+use Rattle.theory_connection.specs.Meant.{Birth, IsAmongFirst, Born, Known, Message, Coming, Event}
+use Rattle.theory_connection.specs.Meant.{Delete, Arg, renamed, recoming, born_of, birth_of}
+use Rattle.theory_connection.specs.Meant.{made_in, new_object_in, ended_by, wire, spelled_meant}
 use Rattle.theory_connection.specs.Meant.{spelled_coming, live_entry}
 use Rattle.theory_connection.specs.World.{World, display_born, Row, Marks, Open, Ending, Each}
 use Rattle.theory_connection.specs.World.{IfThere}
@@ -45,20 +45,21 @@ use Rattle.wl_connection.specs.Core.{max_globals}
 
 -- ---- objects by id and by birth
 
--- The rows of an end are this set of births: each under one id, each below the number of births
--- counted.
-pub record ShowsBirths {X : Type 0} (birth : X → ℕ) (rows : ℕ → Option X) (births : ℕ)
-    (sets : ℕ → Option X) : Type 0 where
-  pub below : (id : ℕ) (x : X) → rows id ≡ Some x → birth x < births
+-- The rows of an end are this set of births: each under one id, each one of the client's births
+-- that were counted.
+pub record ShowsBirths {X : Type 0} (birth : X → Birth) (rows : ℕ → Option X) (births : ℕ)
+    (sets : Birth → Option X) : Type 0 where
+  pub below : (id : ℕ) (x : X) → rows id ≡ Some x → IsAmongFirst births (birth x)
   pub one : (i j : ℕ) (x y : X) → rows i ≡ Some x → rows j ≡ Some y → birth x ≡ birth y → i ≡ j
   pub shown : (id : ℕ) (x : X) → rows id ≡ Some x → sets (birth x) ≡ Some x
-  pub only : (b : ℕ) (x : X) → sets b ≡ Some x → (birth x ≡ b) × ((id : ℕ) × (rows id ≡ Some x))
+  pub only : (b : Birth) (x : X) → sets b ≡ Some x
+      → (birth x ≡ b) × ((id : ℕ) × (rows id ≡ Some x))
 
 abbrev pub bare : Row → Born
 bare (Open x) = x
 bare (Ending x) = x
 
-abbrev pub birth_in : Row → ℕ
+abbrev pub birth_in : Row → Birth
 birth_in r = (bare r).birth
 
 -- ---- messages in flight
@@ -208,7 +209,7 @@ pub record SameTerms (client server : Terms) : Type 0 where
   pub one_limit : client.in_limit ≡ server.in_limit
 
 -- The rows at the client are the births open and ending there.
-pub record ClientStands (view : View) (failed : Bool) (counted : ℕ) (held : ℕ → Option Row)
+pub record ClientStands (view : View) (failed : Bool) (counted : ℕ) (held : Birth → Option Row)
     : Type 0 where
   pub sets : ShowsBirths birth_in (client_rows view).rows view.births held
   pub births : counted ≡ view.births
@@ -219,8 +220,8 @@ pub record ClientStands (view : View) (failed : Bool) (counted : ℕ) (held : �
   pub lives : failed ≡ false
 
 -- The rows at the server are the births open there.
-pub record ServerStands (view : View) (failed : Bool) (there : ℕ → Option Born) : Type 0 where
-  pub sets : ShowsBirths number_of_birth (server_rows view).rows view.births there
+pub record ServerStands (view : View) (failed : Bool) (there : Birth → Option Born) : Type 0 where
+  pub sets : ShowsBirths birth_of (server_rows view).rows view.births there
   pub sound : Sound view
   pub display : look view 1 ≡ Some (live_entry display_born)
   pub versions : (id : ℕ) (e : Entry) → look view id ≡ Some e → 1 ≤ e.version

@@ -1,5 +1,5 @@
 -- The world of births: what both ends mean, without ids, bytes and cuts.
-use Rattle.std.specs.Prelude.{◌≡◌, ℕ, ◌+◌, Bool, true, false, ◌&&◌, nat_eq, if◌then◌else◌, List, []}
+use Rattle.std.specs.Prelude.{◌≡◌, ℕ, ◌+◌, Bool, true, false, ◌&&◌, if◌then◌else◌, List, []}
 use Rattle.std.specs.Prelude.{◌∷◌, ◌++◌, map, replicate, Option, Some, None}
 use Rattle.wl_wire.specs.Argument.{Argument, reshaped}
 use Rattle.wl_sigs.specs.Tables.{Interface, interface_at}
@@ -10,8 +10,8 @@ use Rattle.wl_client.specs.Reports.{globals_told}
 use Rattle.wl_server.specs.State.{Global}
 use Rattle.wl_server.specs.Registries.{with_registry, without_registry}
 use Rattle.wl_sigs.specs.Rules.{is_ended_by_event}
-use Rattle.theory_connection.specs.Meant.{Born, Message, Coming, Event, Delete, objects, made_in}
-use Rattle.theory_connection.specs.Meant.{Arg}
+use Rattle.theory_connection.specs.Meant.{Birth, client_birth, same_birth, Born, Message, Coming}
+use Rattle.theory_connection.specs.Meant.{Event, Delete, objects, made_in, Arg}
 use Rattle.wl_connection.specs.Core.{max_globals}
 
 -- an object at the client: open, or ending
@@ -21,19 +21,19 @@ pub data Row : Type 0 where
 
 -- an open registry: which globals it was told of, and which of them it was told are removed
 pub record Marks : Type 0 where
-  pub birth : ℕ
+  pub birth : Birth
   pub told : List Bool
   pub removed : List Bool
 
 pub record World : Type 0 where
-  -- the birth that the next object gets
+  -- how many objects the client made: the number of its next birth
   pub births : ℕ
   -- requests and events that were written and not yet read
   pub requests : List (Message Born)
   pub events : List (Coming Born)
   -- by birth: what is open or ending at the client, and what is open at the server
-  pub client : ℕ → Option Row
-  pub server : ℕ → Option Born
+  pub client : Birth → Option Row
+  pub server : Birth → Option Born
   -- globals: those that the client remembers, those that the server gave, and what each open
   -- registry was told
   pub remembered : List Remembered
@@ -44,19 +44,21 @@ pub record World : Type 0 where
 
 -- ---- sets of births
 
-unfoldable pub put : {X : Type 0} → (ℕ → Option X) → ℕ → Option X → ℕ → Option X
-put f b x c = if nat_eq c b then x else f c
+-- the set with this at a birth
+unfoldable pub put : {X : Type 0} → (Birth → Option X) → Birth → Option X → Birth → Option X
+put f b x c = if same_birth c b then x else f c
 
-unfoldable pub nothing : {X : Type 0} → ℕ → Option X
-nothing b = None
+-- the empty set
+unfoldable pub nothing : {K X : Type 0} → K → Option X
+nothing k = None
 
-abbrev pub IsOpen : (ℕ → Option Row) → Born → Type 0
+abbrev pub IsOpen : (Birth → Option Row) → Born → Type 0
 IsOpen client x = client x.birth ≡ Some (Open x)
 
-abbrev pub IsEnding : (ℕ → Option Row) → Born → Type 0
+abbrev pub IsEnding : (Birth → Option Row) → Born → Type 0
 IsEnding client x = client x.birth ≡ Some (Ending x)
 
-abbrev pub IsThere : (ℕ → Option Born) → Born → Type 0
+abbrev pub IsThere : (Birth → Option Born) → Born → Type 0
 IsThere server x = server x.birth ≡ Some x
 
 -- P of each
@@ -69,7 +71,8 @@ abbrev pub IfThere : {X : Type 0} → (X → Type 0) → Option X → Type 0
 IfThere P None = Unit {0}
 IfThere P (Some x) = P x
 
-abbrev pub born_into : {X : Type 0} → (Born → X) → Option Born → (ℕ → Option X) → ℕ → Option X
+abbrev pub born_into : {X : Type 0} → (Born → X) → Option Born → (Birth → Option X) → Birth
+    → Option X
 born_into f None sets = sets
 born_into f (Some x) sets = put sets x.birth (Some (f x))
 
@@ -77,12 +80,12 @@ abbrev pub same : Born → Born
 same x = x
 
 -- from open to ending
-abbrev pub ending : Option Born → (ℕ → Option Row) → ℕ → Option Row
+abbrev pub ending : Option Born → (Birth → Option Row) → Birth → Option Row
 ending None client = client
 ending (Some x) client = put client x.birth (Some (Ending x))
 
 -- no longer there
-abbrev pub gone : {X : Type 0} → Option Born → (ℕ → Option X) → ℕ → Option X
+abbrev pub gone : {X : Type 0} → Option Born → (Birth → Option X) → Birth → Option X
 gone None sets = sets
 gone (Some x) sets = put sets x.birth None
 
@@ -108,7 +111,7 @@ nothing_told x = record {
   removed = replicate max_globals false;
 }
 
-abbrev pub marks_birth : Marks → ℕ
+abbrev pub marks_birth : Marks → Birth
 marks_birth r = r.birth
 
 -- the open registries after a request that makes this
@@ -119,7 +122,7 @@ marks_after (Some x) registries = with_registry x.iface (nothing_told x) registr
 -- a registry that is closed is owed nothing
 abbrev pub without_marks : Option Born → List Marks → List Marks
 without_marks None registries = registries
-without_marks (Some x) registries = without_registry nat_eq marks_birth true x.birth registries
+without_marks (Some x) registries = without_registry same_birth marks_birth true x.birth registries
 
 -- ---- what the client learns of globals
 
@@ -131,7 +134,7 @@ is_open_row (Some (Open x)) = true
 is_open_row _ = false
 
 -- an event of a registry that is open teaches the client
-abbrev pub learned : List Interface → (ℕ → Option Row) → Message Born → List Remembered
+abbrev pub learned : List Interface → (Birth → Option Row) → Message Born → List Remembered
     → List Remembered
 learned tables client m remembered =
     if is_registry m.target && is_open_row (client m.target.birth)
@@ -185,10 +188,10 @@ delete_read w x rest = record w { events = rest; client = put w.client x.birth N
 -- What the world allows: by births alone.
 pub data Steps (tables : List Interface) (w : World) : Action → World → Type 0 where
   -- The target and the objects of a written request are open at the client, and a new object is the
-  -- next birth. The request goes to the end, and one that it destroys becomes ending.
+  -- client's next birth. The request goes to the end, and one that it destroys becomes ending.
   writes_request : (m : Message Born) → IsOpen w.client m.target
       → Each (IsOpen w.client) (objects m.args)
-      → IfThere (λ x. x.birth ≡ w.births) (made_in m.args)
+      → IfThere (λ x. x.birth ≡ client_birth w.births) (made_in m.args)
       → Steps tables w (WriteRequest m) (request_written w m)
   -- The first request is read: its new object becomes open at the server, and one that it destroys
   -- is closed and its delete written.
@@ -209,7 +212,7 @@ pub data Steps (tables : List Interface) (w : World) : Action → World → Type
       → Steps tables w (ReadEvent (Delete x)) (delete_read w x rest)
 
 abbrev pub display_born : Born
-display_born = record { birth = 0; iface = display; version = 1 }
+display_born = record { birth = client_birth 0; iface = display; version = 1 }
 
 -- the world as it begins: wl_display is open at both ends
 abbrev pub opening_world : World
@@ -217,8 +220,8 @@ opening_world = record {
   births = 1;
   requests = [];
   events = [];
-  client = put nothing 0 (Some (Open display_born));
-  server = put nothing 0 (Some display_born);
+  client = put nothing display_born.birth (Some (Open display_born));
+  server = put nothing display_born.birth (Some display_born);
   remembered = [];
   given = [];
   registries = [];

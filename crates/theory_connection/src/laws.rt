@@ -139,7 +139,7 @@ pub fn ids_are_deleted_last()
 /// What is made on the way has a birth that the server has not counted.
 pub fn made_is_not_counted()
     ensures { OfEach (λ pair world object. MakeComes world object
-        → object.birth < pair.server.core.view.births → ⊥) }
+        → object.birth.number < pair.server.core.view.births → ⊥) }
 {}
 
 /// The ids used at the client are those used at the server and those of the objects that are made

@@ -1,7 +1,7 @@
 -- What a checker knows behind one message, by what it knew before it.
 use Rattle.std.proofs.Common.{◌≡◌, ℕ, zero, suc, ◌<◌, Bool, true, false, cond, None, Some, List, []}
 use Rattle.std.proofs.Common.{◌∷◌, ◌++◌, ◌⊎◌, inl, inr, length, length-append, get_or, refl, sym}
-use Rattle.std.proofs.Common.{ap, ◌∙◌, arith, ◌≢◌, append-nil}
+use Rattle.std.proofs.Common.{ap, ◌∙◌, arith, ◌≢◌, append-nil, ◌+◌, subst}
 use Rattle.std.proofs.lemmas.List.{get_or_append_left}
 use Rattle.std.proofs.lemmas.Bool.{and_right, cases_lt, lt-ltb, le-ltb}
 use Rattle.std.proofs.Math.Seq.{get_or-append_seam}
@@ -19,54 +19,56 @@ use Rattle.wl_check.specs.Places.{unless_deleted}
 use Rattle.wl_check.specs.Session.{Judged, changes_at}
 use Rattle.wl_check.proofs.JudgedByPlaces.{changes_at_same}
 use Rattle.wl_check.proofs.LongerRecording.{length_last, changes_last}
-use Rattle.theory_connection.specs.Meant.{Known}
-use Rattle.theory_connection.specs.World.{Row, Open, Ending, put, IfThere}
+use Rattle.theory_connection.specs.Meant.{Birth, IsAmongFirst, Known}
+use Rattle.theory_connection.specs.World.{Row, Open, Ending, IfThere}
 use Rattle.theory_connection.specs.Stands.{birth_in}
-use Rattle.theory_connection.specs.Flight.{Rows, IsHeldInRows, Fresh, at, most}
-use Rattle.theory_connection.proofs.Flight.{put_tells, held_other, held_some}
+use Rattle.theory_connection.specs.Flight.{put_row, Rows, IsHeldInRows, Fresh, at, most}
+use Rattle.theory_connection.proofs.Flight.{put_row_tells, held_other, held_some}
 use Rattle.theory_connection.proofs.WholeInFlight.{client_makes, client_ends}
 use Rattle.theory_connection.proofs.EndedObject.{if_by}
 use Rattle.theory_connection.proofs.ReadAsMeant.{made_of}
 use Rattle.theory_recording.specs.Follows.{entry_at, maker, makers, birth_places, KnownAs}
+use Rattle.theory_connection.proofs.Births.{counted_more, next_counted}
 
 abbrev Below : List ℕ → Rows Row → Type 0
-Below birth_places here = (id : ℕ) (r : Row) → here.rows id ≡ Some r → birth_in r < length birth_places
+Below birth_places here = (id : ℕ) (r : Row) → here.rows id ≡ Some r → (birth_in r).number < length birth_places
 
 -- more places tell no known object otherwise
-entry_more : (birth_places more : List ℕ) (r : Row) → birth_in r < length birth_places
+entry_more : (birth_places more : List ℕ) (r : Row) → (birth_in r).number < length birth_places
     → entry_at (birth_places ++ more) r ≡ entry_at birth_places r
-entry_more birth_places more (Open x) h = let g = get_or_append_left birth_places more 0 x.birth h
+entry_more birth_places more (Open x) h = let g = get_or_append_left birth_places more 0 x.birth.number h
     in λ i. record (entry_at birth_places (Open x)) { birth = g i }
-entry_more birth_places more (Ending x) h = let g = get_or_append_left birth_places more 0 x.birth h
+entry_more birth_places more (Ending x) h = let g = get_or_append_left birth_places more 0 x.birth.number h
     in λ i. record (entry_at birth_places (Ending x)) { birth = g i }
 
-row_more : (birth_places more : List ℕ) (o : Option Row) → ((r : Row) → o ≡ Some r → birth_in r < length birth_places)
+row_more : (birth_places more : List ℕ) (o : Option Row)
+    → ((r : Row) → o ≡ Some r → (birth_in r).number < length birth_places)
     → option_map (entry_at (birth_places ++ more)) o ≡ option_map (entry_at birth_places) o
 row_more birth_places more None h = refl
 row_more birth_places more (Some r) h = ap (λ (e : Entry). Some e) (entry_more birth_places more r (h r refl))
 
 -- the new object is at its place
-new_entry : (birth_places : List ℕ) (p : ℕ) (x : Known) → x.born.birth ≡ length birth_places
+new_entry : (birth_places : List ℕ) (p : ℕ) (x : Known) → x.born.birth.number ≡ length birth_places
     → entry_at (birth_places ++ p ∷ []) (Open x.born) ≡ made_entry p Live (made_of x)
 new_entry birth_places p x b =
-    let g : get_or (birth_places ++ p ∷ []) x.born.birth 0 ≡ p =
+    let g : get_or (birth_places ++ p ∷ []) x.born.birth.number 0 ≡ p =
     ap (λ n. get_or (birth_places ++ p ∷ []) n 0) b ∙ get_or-append_seam birth_places p [] 0 in
     λ i. record (made_entry p Live (made_of x)) { birth = g i }
 
 -- ---- one id, behind what makes an object, destroys one or deletes one
 
-at_made : (birth_places : List ℕ) (p : ℕ) (x : Known) (here : Rows Row) → x.born.birth ≡ length birth_places
+at_made : (birth_places : List ℕ) (p : ℕ) (x : Known) (here : Rows Row) → x.born.birth.number ≡ length birth_places
     → Below birth_places here
     → (id : ℕ) (b : Bool) → is_made (Some (made_of x)) id ≡ b
     → cond b (Some (made_entry p Live (made_of x))) (option_map (entry_at birth_places) (here.rows id))
-    ≡ option_map (entry_at (birth_places ++ p ∷ [])) (put here.rows x.id (Some (Open x.born)) id)
+    ≡ option_map (entry_at (birth_places ++ p ∷ [])) (put_row here.rows x.id (Some (Open x.born)) id)
 at_made birth_places p x here e below id true t =
     let i : id ≡ x.id = grind (arith, nat_tests) in
-    let there : put here.rows x.id (Some (Open x.born)) id ≡ Some (Open x.born) = grind (arith, put_tells) in
+    let there : put_row here.rows x.id (Some (Open x.born)) id ≡ Some (Open x.born) = grind (arith, put_row_tells) in
     rw there (ap (λ (y : Entry). Some y) (sym (new_entry birth_places p x e)))
 at_made birth_places p x here e below id false t =
     let i : id ≢ x.id = grind (arith, nat_tests) in
-    let there : put here.rows x.id (Some (Open x.born)) id ≡ here.rows id = grind (arith, put_tells) in
+    let there : put_row here.rows x.id (Some (Open x.born)) id ≡ here.rows id = grind (arith, put_row_tells) in
     rw there (sym (row_more birth_places (p ∷ []) (here.rows id) (below id)))
 
 zombie_entry : (birth_places : List ℕ) (x : Known) (o : Option Row)
@@ -78,25 +80,26 @@ zombie_entry birth_places x o (inr h) = rw h refl
 at_ended : (birth_places : List ℕ) (x : Known) (here : Rows Row) → IsHeldInRows here x → (id : ℕ) (b : Bool)
     → is_id (Some x.id) id ≡ b
     → unless_deleted false b (option_map (entry_at birth_places) (here.rows id))
-    ≡ option_map (entry_at birth_places) (put here.rows x.id (Some (Ending x.born)) id)
+    ≡ option_map (entry_at birth_places) (put_row here.rows x.id (Some (Ending x.born)) id)
 at_ended birth_places x here h id true t =
     let i : id ≡ x.id = grind (arith, nat_tests) in
-    let there : put here.rows x.id (Some (Ending x.born)) id ≡ Some (Ending x.born) = grind (arith, put_tells) in
+    let there : put_row here.rows x.id (Some (Ending x.born)) id ≡ Some (Ending x.born) =
+    grind (arith, put_row_tells) in
     ap (λ n. unless_deleted false true (option_map (entry_at birth_places) (here.rows n))) i
     ∙ zombie_entry birth_places x (here.rows x.id) h ∙ ap (option_map (entry_at birth_places)) (sym there)
 at_ended birth_places x here h id false t =
     let i : id ≢ x.id = grind (arith, nat_tests) in
-    let there : put here.rows x.id (Some (Ending x.born)) id ≡ here.rows id = grind (arith, put_tells) in
+    let there : put_row here.rows x.id (Some (Ending x.born)) id ≡ here.rows id = grind (arith, put_row_tells) in
     ap (option_map (entry_at birth_places)) (sym there)
 
 at_deleted : (birth_places : List ℕ) (x : Known) (here : Rows Row) (id : ℕ) (b : Bool) → is_id (Some x.id) id ≡ b
     → unless_deleted b false (option_map (entry_at birth_places) (here.rows id))
-    ≡ option_map (entry_at birth_places) (put here.rows x.id None id)
-at_deleted birth_places x here id true t = let there : put here.rows x.id None id ≡ None =
-    (let i : id ≡ x.id = grind (arith, nat_tests) in grind (arith, put_tells))
+    ≡ option_map (entry_at birth_places) (put_row here.rows x.id None id)
+at_deleted birth_places x here id true t = let there : put_row here.rows x.id None id ≡ None =
+    (let i : id ≡ x.id = grind (arith, nat_tests) in grind (arith, put_row_tells))
     in ap (option_map (entry_at birth_places)) (sym there)
-at_deleted birth_places x here id false t = let there : put here.rows x.id None id ≡ here.rows id =
-    (let i : id ≢ x.id = grind (arith, nat_tests) in grind (arith, put_tells))
+at_deleted birth_places x here id false t = let there : put_row here.rows x.id None id ≡ here.rows id =
+    (let i : id ≢ x.id = grind (arith, nat_tests) in grind (arith, put_row_tells))
     in ap (option_map (entry_at birth_places)) (sym there)
 
 -- ---- a message that makes an object, or none, and destroys one, or none
@@ -122,7 +125,8 @@ makes_objects : (birth_places : List ℕ) (p : ℕ) (here : Rows Row) (n : Optio
 makes_objects birth_places p here None l below f id = ap (λ (ps : List ℕ). option_map (entry_at ps) (here.rows id))
     (sym (append-nil birth_places))
 makes_objects birth_places p here (Some y) l below f id =
-    at_made birth_places p y here (f.birth ∙ sym l) below id (is_made (Some (made_of y)) id) refl
+    at_made birth_places p y here (ap (λ (b : Birth). b.number) f.birth ∙ sym l) below id
+    (is_made (Some (made_of y)) id) refl
 
 -- the id of what a message destroys
 abbrev pub ended_ids : Option Known → Option ℕ
@@ -163,25 +167,26 @@ births_made birth_places p here None e = ap length (append-nil birth_places) ∙
 births_made birth_places p here (Some y) e = omega (arith, length-append birth_places (p ∷ []), e)
 
 abbrev AllBelow : Rows Row → Type 0
-AllBelow v = (id : ℕ) (r : Row) → v.rows id ≡ Some r → birth_in r < v.births
+AllBelow v = (id : ℕ) (r : Row) → v.rows id ≡ Some r → IsAmongFirst v.births (birth_in r)
 
 below_made : (here : Rows Row) (n : Option Known) → IfThere (Fresh here) n → AllBelow here
     → AllBelow (client_makes here n)
 below_made here None f below = below
-below_made here (Some y) f below = λ id r e. elim (put_tells here.rows y.id (Some (Open y.born)) id) [
-  | inl p ↦ (let q : Open y.born ≡ r = cc (p.1, e) in let l = ap birth_in q in let b = f.birth in omega (arith, l, b))
-  | inr p ↦ (let l = below id r (sym p.1 ∙ e) in omega (arith, l))
+below_made here (Some y) f below = λ id r e. elim (put_row_tells here.rows y.id (Some (Open y.born)) id) [
+  | inl p ↦ (let q : Open y.born ≡ r = cc (p.1, e) in
+      next_counted (birth_in r) here.births (sym (ap birth_in q) ∙ f.birth))
+  | inr p ↦ counted_more (birth_in r) here.births (here.births + 1) (below id r (sym p.1 ∙ e)) (omega arith)
 ]
 
-held_below : (v : Rows Row) (x : Known) → AllBelow v → IsHeldInRows v x → x.born.birth < v.births
+held_below : (v : Rows Row) (x : Known) → AllBelow v → IsHeldInRows v x → IsAmongFirst v.births x.born.birth
 held_below v x below (inl h) = below x.id (Open x.born) h
 held_below v x below (inr h) = below x.id (Ending x.born) h
 
 below_ended : (v : Rows Row) (o : Option Known) → IfThere (IsHeldInRows v) o → AllBelow v → AllBelow (client_ends o v)
 below_ended v None h below = below
-below_ended v (Some x) h below = λ id r e. elim (put_tells v.rows x.id (Some (Ending x.born)) id) [
-  | inl p ↦ (let q : Ending x.born ≡ r = cc (p.1, e) in let l = ap birth_in q in let b = held_below v x below h
-      in omega (arith, l, b))
+below_ended v (Some x) h below = λ id r e. elim (put_row_tells v.rows x.id (Some (Ending x.born)) id) [
+  | inl p ↦ (let q : Ending x.born ≡ r = cc (p.1, e)
+      in subst (IsAmongFirst v.births) (ap birth_in q) (held_below v x below h))
   | inr p ↦ below id r (sym p.1 ∙ e)
 ]
 
@@ -200,7 +205,8 @@ pub known_behind : (k k' : Knows) (birth_places : List ℕ) (p : ℕ) (here : Ro
     → KnownAs k' (birth_places ++ maker (option_map made_of n) p) (client_ends o (client_makes here n))
 known_behind k k' birth_places p here n o a f h objects used =
     let v = client_makes here n in
-    let below : Below birth_places here = λ id r e. (let l = a.below id r e in let q = a.births in omega (arith, l, q))
+    let below : Below birth_places here =
+    λ id r e. (let l = (a.below id r e).number in let q = a.births in omega (arith, l, q))
     in
     let held : IfThere (IsHeldInRows v) o = if_by (λ x k. held_made here n x f k) o h in
     let same = same_counts o v in
@@ -229,7 +235,7 @@ frees_some i id true e h low =
 frees_some i id false e h low = rw e (and_right (not (nat_eq id 1) && not (is_of_server id)) false refl)
 
 below_deleted : (v : Rows Row) (i : ℕ) → AllBelow v → AllBelow (at v i None)
-below_deleted v i below = λ id r e. elim (put_tells v.rows i None id) [
+below_deleted v i below = λ id r e. elim (put_row_tells v.rows i None id) [
   | inl p ↦ absurd (cc (p.1, e))
   | inr p ↦ below id r (sym p.1 ∙ e)
 ]

@@ -1,15 +1,16 @@
 -- What one action more does where requests are not yet recorded and events not yet read.
-use Rattle.std.proofs.Common.{◌≡◌, ℕ, ◌<◌, Bool, false, List, [], ◌∷◌, ◌++◌, ◌⊎◌, inl, inr, refl}
-use Rattle.std.proofs.Common.{sym, ◌∙◌, ap, subst, arith, ◌≢◌}
+use Rattle.std.proofs.Common.{◌≡◌, ℕ, Bool, false, List, [], ◌∷◌, ◌++◌, ◌⊎◌, inl, inr, refl}
+use Rattle.std.proofs.Common.{sym, ◌∙◌, ap, subst, arith, ◌≢◌, ◌+◌}
 use Rattle.std.specs.declared.option.Option.{Option}
 use Rattle.std.specs.declared.option.Option.TheVariants.{Some}
-use Rattle.theory_connection.specs.Meant.{Born, Known}
+use Rattle.theory_connection.specs.Meant.{IsAmongFirst, client_birth, Born, Known}
 use Rattle.theory_connection.specs.World.{Row, Open, Ending, Each}
 use Rattle.theory_connection.specs.Flight.{Rows, at, with_made, Ask, Use, Make, Destroy, Tell, IsHeldInRows}
 use Rattle.theory_connection.specs.Flight.{Fresh, ReadsInFlight, done as all_read, name, end, delete}
 use Rattle.theory_connection.specs.Plain.{ask_id}
-use Rattle.theory_connection.proofs.Flight.{put_tells, put_swap}
+use Rattle.theory_connection.proofs.Flight.{put_row_tells, put_row_swap}
 use Rattle.theory_recording.specs.Leads.{Leads, done, use_, make, destroy}
+use Rattle.theory_connection.proofs.Births.{counted_more, next_uncounted}
 
 -- events in two parts
 pub record Parted (test : Born → Bool) (es fs : List Tell) (v w : Rows Row) : Type 0 where
@@ -28,25 +29,25 @@ module _ {test : Born → Bool} where
 
   -- what the client comes to hold is held at the recording point, where its making was recorded
   pub held_here : {qs : List Ask} {v w : Rows Row} (x : Known) → Leads test qs v w → IsHeldInRows w x
-      → x.born.birth < v.births
+      → IsAmongFirst v.births x.born.birth
       → IsHeldInRows v x
   held_here x done h l = h
   held_here x (use_ a b r) h l = held_here x r h l
   held_here x (make {v = v} {x = n} a r) h l =
-      let k = held_here x r h (omega (arith, l)) in
-      elim (put_tells v.rows n.id (Some (Open n.born)) x.id) [
+      let k = held_here x r h (counted_more x.born.birth v.births (v.births + 1) l (omega arith)) in
+      elim (put_row_tells v.rows n.id (Some (Open n.born)) x.id) [
         | inl p ↦ absurd (made_later x n k p.1 a.birth l)
         | inr p ↦ grind (arith)
       ]
     where
       made_later : {o : Option Row} (x n : Known) → (o ≡ Some (Open x.born)) ⊎ (o ≡ Some (Ending x.born))
-          → o ≡ Some (Open n.born) → {c : ℕ} → n.born.birth ≡ c → x.born.birth < c → ⊥
+          → o ≡ Some (Open n.born) → {c : ℕ} → n.born.birth ≡ client_birth c → IsAmongFirst c x.born.birth → ⊥
       made_later x n (inl e) p {c} b l = let q : Some (Open x.born) ≡ Some (Open n.born) = sym e ∙ p
-          in let s : x.born ≡ n.born = cc q in omega (arith, ap (λ (y : Born). y.birth) s, b, l)
+          in let s : x.born ≡ n.born = cc q in next_uncounted x.born.birth c (ap (λ (y : Born). y.birth) s ∙ b) l
       made_later x n (inr e) p {c} b l = let q : Some (Ending x.born) ≡ Some (Open n.born) = sym e ∙ p in absurd (cc q)
   held_here x (destroy {v = v} {x = n} z a b r) h l =
       let k = held_here x r h l in
-      elim (put_tells v.rows n.id (Some (Ending n.born)) x.id) [
+      elim (put_row_tells v.rows n.id (Some (Ending n.born)) x.id) [
         | inl p ↦ grind (arith)
         | inr p ↦ grind (arith)
       ]
@@ -55,19 +56,19 @@ module _ {test : Born → Bool} where
   pub put_elsewhere : {qs : List Ask} {v w : Rows Row} (i : ℕ) (o : Option Row) → Leads test qs v w
       → Each (λ a. ask_id a ≢ i) qs → Leads test qs (at v i o) (at w i o)
   put_elsewhere i o done e = done
-  put_elsewhere i o (use_ {x = n} a b r) e = use_ (grind (arith, put_tells)) b (put_elsewhere i o r e.1)
+  put_elsewhere i o (use_ {x = n} a b r) e = use_ (grind (arith, put_row_tells)) b (put_elsewhere i o r e.1)
   put_elsewhere i o (make {v = v} {x = n} a r) e =
       make (record {
-        free = grind (arith, put_tells, a.free);
+        free = grind (arith, put_row_tells, a.free);
         some = a.some;
         next = a.next;
         birth = a.birth;
         low = a.low;
         left = a.left;
       })
-      (leads_rows (put_swap _ _ _ _ _ e.0) (put_elsewhere i o r e.1))
+      (leads_rows (put_row_swap _ _ _ _ _ e.0) (put_elsewhere i o r e.1))
   put_elsewhere i o (destroy {x = n} z a b r) e =
-      destroy z (grind (arith, put_tells)) b (leads_rows (put_swap _ _ _ _ _ e.0) (put_elsewhere i o r e.1))
+      destroy z (grind (arith, put_row_tells)) b (leads_rows (put_row_swap _ _ _ _ _ e.0) (put_elsewhere i o r e.1))
 
   -- ---- the client writes one action more
 

@@ -1,10 +1,10 @@
 -- What a whole message does where requests are not yet recorded and events not yet read.
-use Rattle.std.proofs.Common.{◌≡◌, ℕ, ◌<◌, Bool, true, false, List, [], ◌∷◌, ◌++◌, ◌⊎◌, map, ap}
+use Rattle.std.proofs.Common.{◌≡◌, ℕ, Bool, true, false, List, [], ◌∷◌, ◌++◌, ◌⊎◌, map, ap}
 use Rattle.std.proofs.Common.{inl, inr, sym, ◌∙◌, subst, arith, ◌≢◌}
 use Rattle.std.proofs.lemmas.List.{append_assoc, append-nil}
 use Rattle.std.specs.declared.option.Option.{Option}
 use Rattle.std.specs.declared.option.Option.TheVariants.{None, Some}
-use Rattle.theory_connection.specs.Meant.{Born, Known}
+use Rattle.theory_connection.specs.Meant.{client_birth, IsAmongFirst, Born, Known}
 use Rattle.theory_connection.specs.World.{Row, Open, Ending, Each, IfThere}
 use Rattle.theory_connection.specs.Flight.{Rows, at, with_made, Ask, Use, Tell, Name, Delete, make_ask}
 use Rattle.theory_connection.specs.Flight.{destroy_ask, ends, IsHeldInRows, Fresh, ReadsInFlight, done as all_read}
@@ -64,7 +64,7 @@ module _ {test : Born → Bool} where
           free = free_after n.id m.reads c.free;
           some = c.some;
           next = grind (arith, c.next);
-          birth = c.birth ∙ sym k.1;
+          birth = c.birth ∙ ap client_birth (sym k.1);
           low = c.low;
           left = grind (arith, c.left);
         });
@@ -129,7 +129,7 @@ module _ {test : Born → Bool} where
   -- ---- an event is recorded
 
   pub all_held_here : {qs : List Ask} {v w : Rows Row} (xs : List Known) → Leads test qs v w → Each (IsHeldInRows w) xs
-      → Each (λ x. x.born.birth < v.births) xs → Each (IsHeldInRows v) xs
+      → Each (λ x. IsAmongFirst v.births x.born.birth) xs → Each (IsHeldInRows v) xs
   all_held_here [] r h l = tt
   all_held_here (x ∷ xs) r h l = (held_here x r h.0 l.0, all_held_here xs r h.1 l.1)
 
@@ -151,7 +151,7 @@ module _ {test : Born → Bool} where
   names_read (x ∷ xs) h = name h.0 (names_read xs h.1)
 
   ends_recorded : {qs : List Ask} {fs : List Tell} {here common w : Rows Row} (o : Option Known)
-      → Leads test qs here common → IfThere (λ x. x.born.birth < here.births) o
+      → Leads test qs here common → IfThere (λ x. IsAmongFirst here.births x.born.birth) o
       → ReadsInFlight test (ends o ++ fs) common w
       → ReadsInFlight test (ends o) common (client_ends o common)
       × Leads test qs (client_ends o here) (client_ends o common)
@@ -167,8 +167,8 @@ module _ {test : Born → Bool} where
   -- an event is recorded: what it names is held there, and the meeting goes on behind it
   pub event_recorded : {qs : List Ask} {es fs : List Tell} {here client w : Rows Row} (x : Known) (xs : List Known)
       (o : Option Known) (m : Joins test qs es here client)
-      → ReadsInFlight test ((Name x ∷ (map Name xs ++ ends o)) ++ fs) m.common w → x.born.birth < here.births
-      → Each (λ y. y.born.birth < here.births) xs → IfThere (λ y. y.born.birth < here.births) o
+      → ReadsInFlight test ((Name x ∷ (map Name xs ++ ends o)) ++ fs) m.common w → IsAmongFirst here.births x.born.birth
+      → Each (λ y. IsAmongFirst here.births y.born.birth) xs → IfThere (λ y. IsAmongFirst here.births y.born.birth) o
       → RecordsTell test qs (es ++ (Name x ∷ (map Name xs ++ ends o))) fs here client w x xs (client_ends o here)
   event_recorded {fs = fs} {w = w} x xs o m (name a r) l ls lo =
       let n = reads_all xs (subst (λ (l : List Tell). ReadsInFlight test l m.common w) (simp append_assoc) r) in
@@ -188,7 +188,8 @@ module _ {test : Born → Bool} where
   -- a delete is recorded: nothing asked and not yet recorded is about its id
   pub delete_recorded : {qs : List Ask} {es fs : List Tell} {here client w : Rows Row} (x : Known)
       (m : Joins test qs es here client)
-      → ReadsInFlight test (Delete x ∷ fs) m.common w → x.born.birth < here.births → Each (λ a. ask_id a ≢ x.id) qs
+      → ReadsInFlight test (Delete x ∷ fs) m.common w → IsAmongFirst here.births x.born.birth
+      → Each (λ a. ask_id a ≢ x.id) qs
       → RecordsTell test qs (es ++ Delete x ∷ []) fs here client w x [] (at here x.id None)
   delete_recorded x m (delete z a b r) l e = record {
     target = held_here x m.leads a l;

@@ -1,5 +1,5 @@
 -- A new pair is linked.
-use Rattle.std.proofs.Common.{◌≡◌, ℕ, ◌<◌, Bool, true, false, cond, List, [], ◌∷◌, refl, sym, ap, subst, ◌∙◌, arith}
+use Rattle.std.proofs.Common.{◌≡◌, ℕ, Bool, true, false, cond, List, [], ◌∷◌, refl, sym, ap, subst, ◌∙◌, arith}
 use Rattle.std.specs.Prelude.{option_map, nat_eq}
 use Rattle.std.specs.declared.option.Option.{Option}
 use Rattle.std.specs.declared.option.Option.TheVariants.{None, Some}
@@ -22,13 +22,14 @@ use Rattle.theory_connection.specs.World.{Row, Open, opening_world}
 use Rattle.theory_connection.specs.Pair.{new_pair}
 use Rattle.theory_connection.specs.Flight.{client_rows, row_of_entry, done as all_read}
 use Rattle.theory_connection.specs.Stands.{birth_in}
-use Rattle.theory_connection.specs.Meant.{live_entry}
+use Rattle.theory_connection.specs.Meant.{IsAmongFirst, live_entry}
 use Rattle.theory_connection.specs.World.{display_born}
 use Rattle.theory_connection.proofs.PairAtOpening.{new_stands_by}
 use Rattle.theory_recording.specs.Leads.{done}
 use Rattle.theory_recording.specs.Recorded.{Recorded}
 use Rattle.theory_recording.specs.Follows.{AllGoOn, KnownAs, Follows, knowledge, birth_places, makers, entry_at}
 use Rattle.theory_recording.specs.Linked.{Linked, linked, judgements}
+use Rattle.theory_connection.proofs.Births.{next_counted}
 
 -- nothing was recorded
 none_judged : (limit : ℕ) (tables : List Interface) → judgements limit tables [] ≡ []
@@ -69,8 +70,8 @@ first_row true = refl
 first_row false = refl
 
 first_below : (b : Bool) (r : Row) → option_map row_of_entry (cond b (Some (live_entry display_born)) None) ≡ Some r
-    → birth_in r < 1
-first_below true r e = let same : Open display_born ≡ r = cc e in let b = ap birth_in same in omega (arith, b)
+    → IsAmongFirst 1 (birth_in r)
+first_below true r e = let same : Open display_born ≡ r = cc e in next_counted (birth_in r) 0 (sym (ap birth_in same))
 first_below false r e = absurd (cc e)
 
 known_opening : KnownAs first_known (0 ∷ []) (client_rows (opening_view display))

@@ -1,5 +1,5 @@
 -- Each move that carries nothing keeps what is linked.
-use Rattle.std.proofs.Common.{◌≡◌, ℕ, ◌<◌, ◌≤◌, Bool, true, false, List, [], ◌∷◌, ◌++◌, map, inl}
+use Rattle.std.proofs.Common.{◌≡◌, ℕ, ◌≤◌, Bool, true, false, List, [], ◌∷◌, ◌++◌, map, inl}
 use Rattle.std.proofs.Common.{refl, sym, ap, subst, ◌∙◌, arith, ◌+◌, min, length}
 use Rattle.std.specs.Prelude.{option_map}
 use Rattle.std.specs.declared.option.Option.TheVariants.{None, Some}
@@ -22,13 +22,13 @@ use Rattle.wl_server.specs.Announcing.{name_at}
 use Rattle.wl_recording.specs.declared.piece.Direction.TheVariants.{ToServer, ToClient}
 use Rattle.wl_check.specs.Changes.{first_number}
 use Rattle.wl_check.specs.Places.{KnownAtPlace as Knows}
-use Rattle.theory_connection.specs.Meant.{Born, Known, Message, Coming, Event, Delete, Arg, made_in}
+use Rattle.theory_connection.specs.Meant.{IsAmongFirst, Born, Known, Message, Coming, Event, Delete, Arg, made_in}
 use Rattle.theory_connection.specs.Meant.{objects, wire, spelled_meant, spelled_coming}
 use Rattle.theory_connection.specs.World.{World, Row, Each, IfThere, delete, is_registry}
 use Rattle.theory_connection.proofs.EndedObject.{ended_view, ends_have, if_by}
 use Rattle.theory_connection.specs.Pair.{PairState, with_client, with_server}
-use Rattle.theory_connection.specs.Flight.{IsBelow, Rows, Tell, tells, all_asks, all_tells, ReadsInFlight, IsHeldInRows}
-use Rattle.theory_connection.specs.Flight.{client_rows}
+use Rattle.theory_connection.specs.Flight.{about, IsBelow, Rows, Tell, tells, all_asks, all_tells, ReadsInFlight}
+use Rattle.theory_connection.specs.Flight.{IsHeldInRows, client_rows}
 use Rattle.theory_connection.specs.Stands.{StandsBy, FitsSignature, TellsGiven, by_event}
 use Rattle.theory_connection.proofs.WholeInFlight.{OpenRow, client_ends, tells_at, deletes_at}
 use Rattle.theory_connection.proofs.WholeInFlight.{all_asks_more, all_tells_more, each_more}
@@ -47,6 +47,7 @@ use Rattle.theory_recording.specs.Follows.{IsAdvertised, TellsAdvertised, BindsA
 use Rattle.theory_recording.specs.Linked.{LinkedBy, knows, pair_limit}
 use Rattle.theory_recording.proofs.LeadsByMessage.{asks_more}
 use Rattle.theory_recording.proofs.ReadIsRecorded.{rest_seen}
+use Rattle.theory_connection.proofs.Births.{counted_more}
 
 -- ---- nothing in flight changes
 
@@ -183,12 +184,12 @@ told_links p w w' asked told view outbox registries news births below l s = reco
 -- ---- the server reads
 
 below_more : (few many : ℕ) → few ≤ many → (t : Tell) → IsBelow few t → IsBelow many t
-below_more few many h t l = omega (arith, h, l)
+below_more few many h t l = counted_more (about t).born.birth few many l h
 
 -- a pair stays linked when the server reads the first request
 pub request_links : (p : PairState) (w w' : World) (m : Message Known) (ms : List (Message Known))
     (told : List (Coming Known)) (n : ℕ)
-    → in_front p.server.core.inbox ≡ Whole n → IfThere (λ x. x.born.birth < p.server.core.view.births) m.ends
+    → in_front p.server.core.inbox ≡ Whole n → IfThere (λ x. IsAmongFirst p.server.core.view.births x.born.birth) m.ends
     → LinkedBy p w (m ∷ ms) told
     → StandsBy (with_server p (left_state p.server m n)) w' ms (told ++ delete m.ends)
     → LinkedBy (with_server p (left_state p.server m n)) w' ms (told ++ delete m.ends)

@@ -1,5 +1,5 @@
 -- An event or a delete is recorded.
-use Rattle.std.proofs.Common.{◌≡◌, ◌≢◌, ℕ, suc, ◌+◌, ◌<◌, ◌≤◌, true, false, cond, None, Some, List, []}
+use Rattle.std.proofs.Common.{◌≡◌, ◌≢◌, ℕ, suc, ◌+◌, ◌≤◌, true, false, cond, None, Some, List, []}
 use Rattle.std.proofs.Common.{◌∷◌, ◌++◌, length, map, drop, inl, refl, sym, ap, subst, ◌∙◌, arith}
 use Rattle.std.proofs.Common.{append-nil}
 use Rattle.std.specs.Prelude.{codes, Option}
@@ -27,16 +27,15 @@ use Rattle.wl_check.specs.Places.{is_id, is_made, made_entry, new_of, used_by, u
 use Rattle.wl_check.specs.Rules.{reader_by}
 use Rattle.wl_check.specs.Session.{Judged}
 use Rattle.wl_check.proofs.LongerRecording.{behind_one, advertised_own}
-use Rattle.theory_connection.specs.Meant.{Born, Known, Arg, Message, Coming, Event, Delete, objects}
-use Rattle.theory_connection.specs.Meant.{made_in, new_object_in}
-use Rattle.theory_connection.specs.Meant.{wire, tokens, spelled_meant, spelled_coming}
+use Rattle.theory_connection.specs.Meant.{IsAmongFirst, Born, Known, Arg, Message, Coming, Event, Delete, objects}
+use Rattle.theory_connection.specs.Meant.{made_in, new_object_in, wire, tokens, spelled_meant, spelled_coming}
 use Rattle.theory_connection.specs.World.{Row, Open, Each, IfThere, display_born}
 use Rattle.theory_connection.proofs.EndedObject.{if_by}
 use Rattle.theory_connection.specs.Flight.{IsBelow, Rows, at, Tell, Name, ends, tells, all_tells}
 use Rattle.theory_connection.specs.Flight.{all_asks, IsHeldInRows, ReadsInFlight, MeetInMiddle}
 use Rattle.theory_connection.specs.Stands.{ComesFitly, TellsFitly, by_event}
 use Rattle.theory_connection.specs.Plain.{ask_id}
-use Rattle.theory_connection.proofs.Flight.{live_after, free_after, put_same}
+use Rattle.theory_connection.proofs.Flight.{live_after, free_after, put_row_same}
 use Rattle.theory_connection.proofs.WholeInFlight.{client_ends, each_by, each_more, each_front}
 use Rattle.theory_connection.proofs.WholeInFlight.{each_rest, all_tells_more, deletes_at}
 use Rattle.theory_connection.proofs.Plain.{free_asks}
@@ -52,6 +51,7 @@ use Rattle.theory_recording.proofs.KnownBehindMessage.{known_deleted, places_beh
 use Rattle.theory_recording.proofs.RequestBirths.{recorded_first}
 use Rattle.theory_recording.proofs.CalledAsMeant.{One, go_on_more, goes_on_as, own_taken}
 use Rattle.theory_recording.proofs.CalledAsMeant.{other_taken, call_grows, known_call}
+use Rattle.theory_connection.proofs.Births.{counted_more}
 
 -- ---- where the client will read it
 
@@ -63,17 +63,20 @@ pub record Whereabouts (tables : List Interface) (asked_seen asked_later : List 
   pub display : client.rows 1 ≡ Some (Open display_born)
 
 each_counted : (births : ℕ) (xs : List Known) → Each (IsBelow births) (map Name xs)
-    → Each (λ x. x.born.birth < births) xs
+    → Each (λ x. IsAmongFirst births x.born.birth) xs
 each_counted births [] h = tt
 each_counted births (x ∷ xs) h = (h.0, each_counted births xs h.1)
 
-ends_counted : (births : ℕ) (o : Option Known) → Each (IsBelow births) (ends o) → IfThere (λ x. x.born.birth < births) o
+ends_counted : (births : ℕ) (o : Option Known) → Each (IsBelow births) (ends o)
+    → IfThere (λ x. IsAmongFirst births x.born.birth) o
 ends_counted births None h = tt
 ends_counted births (Some x) h = h.0
 
-below_more : (a b : ℕ) → a ≤ b → (xs : List Known) → Each (λ x. x.born.birth < a) xs → Each (λ x. x.born.birth < b) xs
-below_more a b le xs h = each_by (λ (x : Known). x.born.birth < a) (λ (x : Known). x.born.birth < b)
-    (λ x l. omega (arith, l, le)) xs h
+below_more : (a b : ℕ) → a ≤ b → (xs : List Known) → Each (λ x. IsAmongFirst a x.born.birth) xs
+    → Each (λ x. IsAmongFirst b x.born.birth) xs
+below_more a b le xs h = each_by (λ (x : Known). IsAmongFirst a x.born.birth)
+    (λ (x : Known). IsAmongFirst b x.born.birth)
+    (λ x l. counted_more x.born.birth a b l le) xs h
 
 -- what comes next, where the checker and the client meet
 pub record NextRead (tables : List Interface) (c : Coming Known) (later : List (Coming Known))
@@ -166,8 +169,8 @@ event_one limit tables given asked_seen asked_later told client server remembere
     let below = below_more server.births f.here.births first (objects m.args)
     (each_counted server.births (objects m.args) counted) in
     let r = event_recorded m.target (objects m.args) m.ends f.joins next.reads
-    (let l = next.counted.0 in omega (arith, l, first)) below
-    (if_by (λ x l. omega (arith, l, first)) m.ends ended) in
+    (counted_more m.target.born.birth server.births f.here.births next.counted.0 first) below
+    (if_by (λ (x : Known) l. counted_more x.born.birth server.births f.here.births l first) m.ends ended) in
     let o = held_known tables k ps f.here m.target a r.target in
     let names = each_by (IsHeldInRows f.here) (HasObject (reader_by tables k ToClient)) (λ x h. held_known tables k ps f.here x a h)
     (objects m.args) r.args in
@@ -215,7 +218,10 @@ display_held tables e asked_later seen client remembered f valid there =
     let plain : by_event tables display_born ≡ false = rw valid.fixed_four.display refl in
     let there_still = live_after 1 display_born f.joins.reads there plain in
     held_here (record { id = 1; born = display_born }) f.joins.leads (inl there_still)
-    (let s = some_place tables e in let b = f.known_as.births in omega (arith, s, b))
+    (record {
+      maker = refl;
+      number = let s = some_place tables e in let b = f.known_as.births in omega (arith, s, b);
+    })
 
 -- what is known behind a delete
 known_delete : (tables : List Interface) (e : List Judged) (here : Rows Row) (x : Known) (entry : Entry)
@@ -263,10 +269,11 @@ delete_one limit tables asked_seen asked_later told client server remembered str
     let first : server.births ≤ f.here.births = recorded_first (all_asks asked_seen)
     (all_asks asked_later) f.joins.leads f.joins.reads w.meet in
     let now = deletes_at x next.reads in
-    let free : w.meet.middle.rows x.id ≡ None = free_after x.id now.rest (put_same f.joins.common.rows x.id None) in
+    let free : w.meet.middle.rows x.id ≡ None = free_after x.id now.rest (put_row_same f.joins.common.rows x.id None) in
     let unnamed = each_rest (λ q. ask_id q ≢ x.id) (all_asks asked_seen) (all_asks asked_later)
     (free_asks x.id w.meet.tied free) in
-    let r = delete_recorded x f.joins next.reads (let l = next.counted.0 in omega (arith, l, first)) unnamed in
+    let r = delete_recorded x f.joins next.reads
+    (counted_more x.born.birth server.births f.here.births next.counted.0 first) unnamed in
     let display_there : signature_at tables 0 event_side 1
     ≡ Some (fixed.message (codes "delete_id") 1 (fixed.uint ∷ []) Nothing) = rw valid.fixed_four.display refl in
     let fits = delete_signature tables display_there x low in

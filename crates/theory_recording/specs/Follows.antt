@@ -1,5 +1,5 @@
 -- What a checker knows behind the messages that it has judged, and how that fits the ends.
-use Rattle.std.specs.Prelude.{◌≡◌, ℕ, zero, suc, ◌<◌, ◌≤◌, true, false, List, [], ◌∷◌, ◌++◌, length}
+use Rattle.std.specs.Prelude.{◌≡◌, ℕ, zero, suc, ◌≤◌, true, false, List, [], ◌∷◌, ◌++◌, length}
 use Rattle.std.specs.Prelude.{map, get_or, slice_get, Option, Some, None, option_map}
 use Rattle.std.specs.declared.result.Result.TheVariants.{Ok}
 use Rattle.wl_wire.specs.declared.kind.Iface.{Iface}
@@ -13,7 +13,8 @@ use Rattle.wl_client.specs.declared.globals.Global.{Global}
 use Rattle.wl_check.specs.Changes.{Call, first_number, is_global}
 use Rattle.wl_check.specs.Places.{KnownAtPlace as Knows, known}
 use Rattle.wl_check.specs.Session.{Judged, changes_at, ends_session}
-use Rattle.theory_connection.specs.Meant.{Known, Message, Coming, Event, Delete, made_in, wire}
+use Rattle.theory_connection.specs.Meant.{IsAmongFirst, Known, Message, Coming, Event, Delete}
+use Rattle.theory_connection.specs.Meant.{made_in, wire}
 use Rattle.theory_connection.specs.World.{Row, Open, Ending, Each}
 use Rattle.theory_connection.specs.Flight.{Rows, all_asks, all_tells}
 use Rattle.theory_connection.specs.Stands.{birth_in, by_event}
@@ -32,9 +33,9 @@ AllGoOn judged = (k : ℕ) (one : Judged) → slice_get judged k ≡ Some one �
 abbrev pub knowledge : List Interface → List Judged → Knows
 knowledge tables judged = known (changes_at tables judged) (suc (length judged))
 
--- The places of what makes an object, in their order: wl_display, of birth 0, is made at place 0,
--- and the object of birth b by the b-th message that makes one. Of a pair this is a request: its
--- ends neither write nor read events that make an object.
+-- The places of what makes an object, in their order: wl_display, the client's birth 0, is made at
+-- place 0, and the client's birth b by the b-th message that makes one. Of a pair this is a
+-- request: its ends neither write nor read events that make an object.
 abbrev pub maker : Option NewObject → ℕ → List ℕ
 maker None place = []
 maker (Some new) place = place ∷ []
@@ -50,13 +51,13 @@ birth_places tables judged = makers (λ place. (changes_at tables judged place).
 -- an object as the checker has it: its birth is told by its place
 abbrev pub entry_at : List ℕ → Row → Entry
 entry_at birth_places (Open x) = record {
-  birth = get_or birth_places x.birth 0;
+  birth = get_or birth_places x.birth.number 0;
   iface = x.iface;
   version = x.version;
   state = states.Live;
 }
 entry_at birth_places (Ending x) = record {
-  birth = get_or birth_places x.birth 0;
+  birth = get_or birth_places x.birth.number 0;
   iface = x.iface;
   version = x.version;
   state = states.Zombie;
@@ -67,7 +68,7 @@ pub record KnownAs (k : Knows) (birth_places : List ℕ) (here : Rows Row) : Typ
   pub objects : (id : ℕ) → k.object id ≡ option_map (entry_at birth_places) (here.rows id)
   pub used : k.used ≡ here.used
   pub births : length birth_places ≡ here.births
-  pub below : (id : ℕ) (r : Row) → here.rows id ≡ Some r → birth_in r < here.births
+  pub below : (id : ℕ) (r : Row) → here.rows id ≡ Some r → IsAmongFirst here.births (birth_in r)
 
 -- ---- globals
 

@@ -1,0 +1,88 @@
+-- Births: when two are one, what is put at one, and which are counted.
+use Rattle.std.proofs.Common.{◌≡◌, ◌≢◌, ℕ, ◌+◌, ◌<◌, ◌≤◌, Bool, true, false, cond, ◌⊎◌, inl, inr, refl, sym, ◌∙◌}
+use Rattle.std.proofs.Common.{ap, subst, arith, eqb-true, eq-eqb}
+use Rattle.std.proofs.lemmas.Bool.{and_parts}
+use Rattle.std.specs.Prelude.{nat_eq}
+use Rattle.std.specs.declared.option.Option.{Option}
+use Rattle.wl_object_map.specs.declared.object.Maker.{Maker}
+use Rattle.wl_object_map.specs.declared.object.Maker.TheVariants.{Client, Server}
+use Rattle.theory_connection.specs.Meant.{Birth, client_birth, same_maker, same_birth, IsAmongFirst}
+use Rattle.theory_connection.specs.World.{put}
+
+-- ---- the test
+
+maker_same : (m n : Maker) → same_maker m n ≡ true → m ≡ n
+maker_same Client Client h = refl
+maker_same Server Server h = refl
+maker_same Client Server h = absurd (cc h)
+maker_same Server Client h = absurd (cc h)
+
+maker_itself : (m : Maker) → same_maker m m ≡ true
+maker_itself Client = refl
+maker_itself Server = refl
+
+-- births that the test calls the same are one
+pub birth_same : (b c : Birth) → same_birth b c ≡ true → b ≡ c
+birth_same b c h =
+    let k = and_parts (same_maker b.maker c.maker) (nat_eq b.number c.number) h in
+    let m = maker_same b.maker c.maker k.0 in
+    let n = eqb-true b.number c.number k.1 in
+    λ i. record { maker = m i; number = n i }
+
+-- and one birth is the same as itself
+pub birth_itself : (b : Birth) → same_birth b b ≡ true
+birth_itself b = rw (maker_itself b.maker) (eq-eqb b.number b.number refl)
+
+-- a birth of the client is told by its number
+pub client_birth_is : (b : Birth) → b.maker ≡ Client → client_birth b.number ≡ b
+client_birth_is b h = λ i. record { maker = sym h i; number = b.number }
+
+-- ---- what is put
+
+module _ {X : Type 0} where
+  -- what is put at a birth stands there, and at every other birth stands what stood there
+  pub put_tells : (f : Birth → Option X) (b : Birth) (o : Option X) (c : Birth)
+      → ((c ≡ b) × (put f b o c ≡ o)) ⊎ ((c ≢ b) × (put f b o c ≡ f c))
+  unfolding put
+  put_tells f b o c = by_test (same_birth c b) refl
+    where
+      by_test : (t : Bool) → same_birth c b ≡ t
+          → ((c ≡ b) × (put f b o c ≡ o)) ⊎ ((c ≢ b) × (put f b o c ≡ f c))
+      by_test true h = inl (birth_same c b h, ap (λ (t : Bool). cond t o (f c)) h)
+      by_test false h = inr (
+        λ e. (let t : same_birth c b ≡ true = subst (λ (x : Birth). same_birth c x ≡ true) e (birth_itself c)
+            in cc (t, h)),
+        ap (λ (t : Bool). cond t o (f c)) h,
+      )
+
+  pub put_same : (f : Birth → Option X) (b : Birth) (o : Option X) → put f b o b ≡ o
+  put_same f b o = elim (put_tells f b o b) [ inl p ↦ p.1 | inr p ↦ absurd (p.0 refl) ]
+
+  pub put_other : (f : Birth → Option X) (b : Birth) (o : Option X) (c : Birth) → c ≢ b → put f b o c ≡ f c
+  put_other f b o c ne = elim (put_tells f b o c) [ inl p ↦ absurd (ne p.0) | inr p ↦ p.1 ]
+
+-- ---- what is counted
+
+-- what is counted is so when more are
+pub counted_more : (b : Birth) (n m : ℕ) → IsAmongFirst n b → n ≤ m → IsAmongFirst m b
+counted_more b n m c l = record { maker = c.maker; number = omega (arith, c.number, l) }
+
+-- the next birth is counted by one more
+pub next_counted : (b : Birth) (n : ℕ) → b ≡ client_birth n → IsAmongFirst (n + 1) b
+next_counted b n e =
+    let k = ap (λ (x : Birth). x.number) e in
+    record { maker = ap (λ (x : Birth). x.maker) e; number = omega (arith, k) }
+
+-- and not before
+pub next_uncounted : (b : Birth) (n : ℕ) → b ≡ client_birth n → IsAmongFirst n b → ⊥
+next_uncounted b n e c = let k = ap (λ (x : Birth). x.number) e in absurd (omega (arith, k, c.number))
+
+-- one more counts the next birth alone
+pub next_or_counted : (b : Birth) (n : ℕ) → IsAmongFirst (n + 1) b → IsAmongFirst n b ⊎ (b ≡ client_birth n)
+next_or_counted b n c = elim (less_or b.number n c.number) [
+  | inl l ↦ inl (record { maker = c.maker; number = l })
+  | inr e ↦ inr (sym (client_birth_is b c.maker) ∙ ap client_birth e)
+]
+  where
+    less_or : (a m : ℕ) → a < m + 1 → (a < m) ⊎ (a ≡ m)
+    less_or a m l = grind (arith, l)
