@@ -1,5 +1,7 @@
 -- The open registries, by ids and by births.
-use Rattle.std.proofs.Common.{◌≡◌, ◌≢◌, ℕ, Bool, true, false, cond, List, [], ◌∷◌, ◌++◌, map, refl, sym, ap, ◌∙◌}
+use Rattle.std.proofs.Common.{◌≡◌, ◌≢◌, Bool, true, false, cond, List, [], ◌∷◌, ◌++◌, map, refl, sym, ap, ◌∙◌}
+use Rattle.std.proofs.Common.{arith, inl, inr}
+use Rattle.std.proofs.lemmas.Bool.{eqb-true, eqb-false}
 use Rattle.std.specs.Prelude.{option_map, nat_eq, is_some}
 use Rattle.std.specs.declared.option.Option.{Option}
 use Rattle.std.specs.declared.option.Option.TheVariants.{None, Some}
@@ -9,17 +11,19 @@ use Rattle.wl_sigs.specs.Tables.{Interface, interface_at}
 use Rattle.wl_sigs.specs.Fixed.{registry}
 use Rattle.wl_sigs.specs.Valid.{Valid}
 use Rattle.wl_object_map.specs.declared.object.Entry.{Entry}
+use Rattle.wl_object_map.specs.declared.object.Object.{Object}
 use Rattle.wl_object_map.specs.View.{View, Sound, look}
 use Rattle.wl_objects.specs.Messages.{same_iface, opens}
 use Rattle.wl_connection.specs.Core.{Core}
 use Rattle.wl_server.specs.State as server
 use Rattle.wl_server.specs.State.{untold}
-use Rattle.wl_server.specs.Registries.{without_registry, registry_birth, IsFreshId, HasRegistries}
+use Rattle.wl_server.specs.Registries.{without_registry, same_object, without_object, IsAmong, IsFreshId}
+use Rattle.wl_server.specs.Registries.{HasRegistries}
 use Rattle.wl_server.specs.Requests.{registries_after}
-use Rattle.wl_server.proofs.Registries.{has_opened, has_closed, has_fewer, row_kept, births_opened, births_of_sound}
+use Rattle.wl_server.proofs.OneObject.{births-differ, same-one}
+use Rattle.wl_server.proofs.Registries.{among_after, has_opened, has_closed, has_fewer, row_kept}
 use Rattle.wl_sigs.specs.Rules.{is_ended_by_event}
 use Rattle.theory_connection.specs.Meant.{Birth, client_birth, same_birth, Born, Known, born_of, born_of_entry}
-use Rattle.wl_object_map.specs.declared.object.Maker.TheVariants.{Client}
 use Rattle.theory_connection.specs.World.{Marks, IfThere, marks_birth, without_marks}
 use Rattle.theory_connection.specs.World.{marks_after}
 use Rattle.theory_connection.specs.Flight.{server_rows, Fresh}
@@ -54,37 +58,67 @@ marks_with c rs (Some x) h =
     (map_more marks_of rs r ∙ ap (λ (b : Birth). map marks_of rs
     ++ record { birth = b; told = r.told; removed = r.removed } ∷ []) (sym h))
 
-pub marks_without : (b : Bool) (birth : ℕ) (rs : List server.Registry)
-    → map marks_of (without_registry nat_eq registry_birth b birth rs)
-    ≡ without_registry same_birth marks_birth b (client_birth birth) (map marks_of rs)
-marks_without false birth rs = refl
-marks_without true birth [] = refl
-marks_without true birth (r ∷ rs) =
-    marks_cond (nat_eq r.object.birth birth) (without_registry nat_eq registry_birth true birth rs)
-    (r ∷ without_registry nat_eq registry_birth true birth rs)
-    ∙ ap (λ (l : List Marks). cond (nat_eq r.object.birth birth) l (marks_of r ∷ l)) (marks_without true birth rs)
+-- the object that is known so
+abbrev pub object_of : Known → Object
+object_of x = record { id = x.id; birth = x.born.birth.number }
+
+-- The marks go by the birth: each registry of the object's birth is the object.
+marks_without : (object : Object) (rs : List server.Registry)
+    → ((o : Object) → IsAmong o rs → o.birth ≡ object.birth → o ≡ object)
+    → map marks_of (without_object true object rs)
+    ≡ without_registry same_birth marks_birth true (client_birth object.birth) (map marks_of rs)
+marks_without object [] f = refl
+marks_without object (r ∷ rs) f =
+    let more = marks_without object rs (λ o a. f o (inr a)) in
+    let test = by_birth (nat_eq r.object.birth object.birth) refl in
+    marks_cond (same_object r.object object) (without_object true object rs) (r ∷ without_object true object rs)
+    ∙ (λ i. cond (test i) (more i) (marks_of r ∷ more i))
+  where
+    by_birth : (b : Bool) → nat_eq r.object.birth object.birth ≡ b
+        → same_object r.object object ≡ nat_eq r.object.birth object.birth
+    by_birth true e = same-one r.object object (f r.object (inl refl) (eqb-true r.object.birth object.birth e)) ∙ sym e
+    by_birth false e = births-differ r.object object (eqb-false r.object.birth object.birth e) ∙ sym e
+
+-- a registry of the birth of an object that has a row is that object
+one_of_birth : (c : Core) (rs : List server.Registry) (n : Option Known) (x : Known) → Sound c.view
+    → HeldRow c.view x → HasRegistries c.view rs
+    → (o : Object) → IsAmong o (registries_after c rs (option_map made_of n)) → o.birth ≡ x.born.birth.number
+    → o ≡ object_of x
+one_of_birth c rs n x s held h o a e =
+    let number : held.entry.birth ≡ x.born.birth.number = ap (λ (b : Born). b.birth.number) held.same in
+    elim (among_after c rs (option_map made_of n) o a) as (λ _. o ≡ object_of x) [
+      | inl there ↦ (let r = h.only o there in
+          let id : o.id ≡ x.id =
+          s.one_birth o.id x.id r.entry held.entry r.row held.there (r.birth ∙ (e ∙ sym number)) in
+          λ i. record { id = id i; birth = e i })
+      | inr next ↦ (let low = s.born x.id held.entry held.there in absurd (omega (arith, low, number, next, e)))
+    ]
 
 -- the open registries after a message that destroys this
 abbrev pub registries_left : Option Known → List server.Registry → List server.Registry
 registries_left None rs = rs
-registries_left (Some x) rs = without_registry nat_eq registry_birth true x.born.birth.number rs
+registries_left (Some x) rs = without_object true (object_of x) rs
 
 -- the marks without those of a registry that is closed
-pub marks_left : (o : Option Known) (rs : List server.Registry) → IfThere (λ x. x.born.birth.maker ≡ Client) o
-    → map marks_of (registries_left o rs) ≡ without_marks (option_map born_of o) (map marks_of rs)
-marks_left None rs m = refl
-marks_left (Some x) rs m = marks_without true x.born.birth.number rs
-    ∙ ap (λ (b : Birth). without_registry same_birth marks_birth true b (map marks_of rs))
-    (client_birth_is x.born.birth m)
+pub marks_left : (c : Core) (rs : List server.Registry) (n o : Option Known) → Sound c.view
+    → IfThere (HeldRow c.view) o → HasRegistries c.view rs
+    → map marks_of (registries_left o (registries_after c rs (option_map made_of n)))
+    ≡ without_marks (option_map born_of o) (map marks_of (registries_after c rs (option_map made_of n)))
+marks_left c rs n None s held h = refl
+marks_left c rs n (Some x) s held h =
+    let after = registries_after c rs (option_map made_of n) in
+    marks_without (object_of x) after (one_of_birth c rs n x s held h)
+    ∙ ap (λ (b : Birth). without_registry same_birth marks_birth true b (map marks_of after))
+    (client_birth_is x.born.birth (ap (λ (b : Born). b.birth.maker) (sym held.same)))
 
 -- the registries without what ends
-pub left_are : (b : Bool) (birth : ℕ) (o : Option Known) (rs : List server.Registry) → b ≡ is_some o
-    → IfThere (λ x. x.born.birth ≡ client_birth birth) o
-    → without_registry nat_eq registry_birth b birth rs ≡ registries_left o rs
-left_are b birth None rs f h = ap (λ (c : Bool). without_registry nat_eq registry_birth c birth rs) f
-left_are b birth (Some x) rs f h =
-    let same = sym (ap (λ (b : Birth). b.number) h) in
-    λ i. without_registry nat_eq registry_birth (f i) (same i) rs
+pub left_are : (b : Bool) (object : Object) (o : Option Known) (rs : List server.Registry) → b ≡ is_some o
+    → IfThere (λ x. x.id ≡ object.id) o → IfThere (λ x. x.born.birth ≡ client_birth object.birth) o
+    → without_object b object rs ≡ registries_left o rs
+left_are b object None rs f d h = ap (λ (c : Bool). without_object c object rs) f
+left_are b object (Some x) rs f d h =
+    let number = ap (λ (y : Birth). y.number) (sym h) in
+    λ i. without_object (f i) (record { id = sym d i; birth = number i }) rs
 
 -- ---- an object with a destroying event is no registry
 
@@ -117,16 +151,15 @@ fresh_row v None f = tt
 fresh_row v (Some x) f = fresh_look (look v x.id) f.free
 
 -- the registries stand after a request is read
-pub has_read : (c : Core) (rs : List server.Registry) (n o : Option Known) → Sound c.view
+pub has_read : (c : Core) (rs : List server.Registry) (n o : Option Known)
     → IsFreshId c.view (option_map made_of n) → IfThere (HeldRow c.view) o → HasRegistries c.view rs
     → HasRegistries (ended_view Event (opens c.view (option_map made_of n)) o)
     (registries_left o (registries_after c rs (option_map made_of n)))
-has_read c rs n None s f r h = has_opened c rs (option_map made_of n) f h
-has_read c rs n (Some x) s f r h =
+has_read c rs n None f r h = has_opened c rs (option_map made_of n) f h
+has_read c rs n (Some x) f r h =
     let made = option_map made_of n in
-    has_closed (opens c.view made) (registries_after c rs made) x.id x.born.birth.number r.entry
-    (births_opened c.view made (births_of_sound c.view s)) (row_kept c.view made x.id r.entry f r.there)
-    (ap (λ (b : Born). b.birth.number) r.same) (has_opened c rs made f h)
+    has_closed (opens c.view made) (registries_after c rs made) (object_of x) r.entry
+    (row_kept c.view made x.id r.entry f r.there) (ap (λ (b : Born). b.birth.number) r.same) (has_opened c rs made f h)
 
 -- the registries stand after an event that ends no registry
 pub has_told_one : (v : View) (rs : List server.Registry) (o : Option Known)

@@ -2,7 +2,7 @@
 use Rattle.std.proofs.Common.{◌≡◌, ℕ, ◌+◌, ◌<◌, ◌≤◌, Bool, true, false, List, [], ◌∷◌, ◌++◌, map}
 use Rattle.std.proofs.Common.{length, refl, sym, ap, subst, ◌∙◌, arith, min}
 use Rattle.std.proofs.lemmas.Bool.{ne_eqb}
-use Rattle.std.specs.Prelude.{option_map, nat_eq, not, ◌&&◌, is_some, slice_get}
+use Rattle.std.specs.Prelude.{option_map, not, ◌&&◌, is_some, slice_get}
 use Rattle.std.specs.declared.option.Option.{Option}
 use Rattle.std.specs.declared.option.Option.TheVariants.{None, Some}
 use Rattle.std.specs.declared.result.Result.TheVariants.{Ok}
@@ -29,7 +29,7 @@ use Rattle.wl_server.specs.State as server
 use Rattle.wl_server.specs.Requests.{unless_bad_bind, request, is_good_bind, made_by_request as made_by_message}
 use Rattle.wl_server.specs.Requests.{state_past, registries_after, reported_object, ended_object, ended}
 use Rattle.wl_server.specs.Requests.{report}
-use Rattle.wl_server.specs.Registries.{without_registry, registry_birth}
+use Rattle.wl_server.specs.Registries.{without_object}
 use Rattle.theory_connection.specs.Meant.{client_birth, Event, Delete, Born, Known, Message, Coming, Arg}
 use Rattle.theory_connection.specs.Meant.{renamed, recoming, rearg, born_of, birth_of, wire, tokens}
 use Rattle.theory_connection.specs.Meant.{spelled_meant, spelled_coming, made_in, objects, born_of_entry}
@@ -221,14 +221,14 @@ left_is st m n entry f v s h hs =
     (λ i. record st {
       core = with_following (destroys_one what) object.id
           (with_view (past st.core n (count i)) (after event_side st.core.view (made i) what object.id));
-      registries = without_registry nat_eq registry_birth (destroys_one what) object.birth
+      registries = without_object (destroys_one what) object
           (registries_after st.core st.registries (made i));
     })
     ∙ ((λ i. record st {
       core = with_following (destroys_one what) object.id
           (with_view (past st.core n (length (tokens m.args))) (view i));
-      registries = left_are (destroys_one what) object.birth m.ends
-          (registries_after st.core st.registries new) e.ends.flag e.birth i;
+      registries = left_are (destroys_one what) object m.ends (registries_after st.core st.registries new)
+          e.ends.flag e.ends.same e.birth i;
     })
     ∙ ap (λ (c : Core). record st {
       core = c;
@@ -306,9 +306,9 @@ server_read_stands p w m ms told s n a up =
             (marks_after (option_map born_of new) l)) s.registries.told
             ∙ ap (without_marks (option_map born_of m.ends))
             (sym (marks_with p.server.core p.server.registries new (births_of v new a.new)))
-            ∙ sym (marks_left m.ends (registries_after p.server.core p.server.registries (option_map made_of new))
-            (if_by (λ x h. (let r = there_row v x h in ap (λ (b : Born). b.birth.maker) (sym r.same))) m.ends there)));
-        open_registries = has_read p.server.core p.server.registries new m.ends s.server.sound (fresh_row v new a.new)
+            ∙ sym (marks_left p.server.core p.server.registries new m.ends s.server.sound
+            (if_by (there_row v) m.ends there) s.registries.open_registries));
+        open_registries = has_read p.server.core p.server.registries new m.ends (fresh_row v new a.new)
             (if_by (there_row v) m.ends there) s.registries.open_registries;
       };
     }

@@ -1,9 +1,8 @@
 -- An object that is no registry leaves the registries as they are.
 use Rattle.std.proofs.Common.{◌≡◌, ◌≢◌, ℕ, Bool, true, false, cond, List, [], ◌∷◌, Some, refl}
 use Rattle.std.proofs.Common.{sym, ap, subst, ◌∙◌, inl, inr}
-use Rattle.std.specs.Prelude.{Option, nat_eq}
+use Rattle.std.specs.Prelude.{Option}
 use Rattle.std.specs.Option.{option_map_or}
-use Rattle.std.proofs.lemmas.Bool.{ne_eqb}
 use Rattle.wl_wire.specs.declared.kind.Iface.{Iface}
 use Rattle.wl_sigs.specs.Fixed.{registry}
 use Rattle.wl_object_map.specs.declared.object.Object.{Object}
@@ -12,28 +11,27 @@ use Rattle.wl_object_map.specs.View.{View, look}
 use Rattle.wl_objects.specs.Messages.{NewObject, opens, same_iface}
 use Rattle.wl_connection.specs.Core.{Core}
 use Rattle.wl_server.specs.State.{Registry}
-use Rattle.wl_server.specs.Registries.{IsAmong, IsFreshId, IsSound, without_registry, registry_birth}
+use Rattle.wl_server.specs.Registries.{HasRegistries, IsAmong, IsFreshId, without_object}
 use Rattle.wl_server.specs.Requests.{registries_after}
 use Rattle.wl_server.specs.Steps.{HasRow}
-use Rattle.wl_server.proofs.Registries.{births_opened, has_opened, row_kept}
+use Rattle.wl_server.proofs.OneObject.{differ}
+use Rattle.wl_server.proofs.Registries.{has_opened, row_kept}
 
--- no registry has this birth
-without-none : (birth : ℕ) (rs : List Registry) → ((o : Object) → IsAmong o rs → o.birth ≢ birth)
-    → without_registry nat_eq registry_birth true birth rs ≡ rs
-without-none birth [] f = refl
-without-none birth (r ∷ rs) f =
-    ap (λ b. cond b (without_registry nat_eq registry_birth true birth rs) (r ∷ without_registry nat_eq registry_birth true birth rs))
-    (ne_eqb r.object.birth birth (f r.object (inl refl)))
-    ∙ ap (λ (l : List Registry). r ∷ l) (without-none birth rs (λ o a. f o (inr a)))
+-- no registry is this object
+without-none : (object : Object) (rs : List Registry) → ((o : Object) → IsAmong o rs → o ≢ object)
+    → without_object true object rs ≡ rs
+without-none object [] f = refl
+without-none object (r ∷ rs) f =
+    ap (λ b. cond b (without_object true object rs) (r ∷ without_object true object rs))
+    (differ r.object object (f r.object (inl refl)))
+    ∙ ap (λ (l : List Registry). r ∷ l) (without-none object rs (λ o a. f o (inr a)))
 
 pub no_registry : (v : View) (rs : List Registry) (object : Object) (d : Entry) → look v object.id ≡ Some d
-    → d.birth ≡ object.birth → d.iface ≢ registry → IsSound v rs
-    → without_registry nat_eq registry_birth true object.birth rs ≡ rs
-no_registry v rs object d row birth ne s =
-    without-none object.birth rs (λ o a same.
-    let r = s.has.only o a in
-    let id : o.id ≡ object.id = s.once.one o.id object.id r.entry d r.row row (r.birth ∙ same ∙ sym birth) in
-    let both = sym r.row ∙ (ap (look v) id ∙ row) in
+    → d.iface ≢ registry → HasRegistries v rs → without_object true object rs ≡ rs
+no_registry v rs object d row ne h =
+    without-none object rs (λ o a same.
+    let r = h.only o a in
+    let both = sym r.row ∙ (ap (λ (x : Object). look v x.id) same ∙ row) in
     let entry : r.entry ≡ d = cc both in
     ne (ap (λ (x : Entry). x.iface) (sym entry) ∙ r.iface))
 
@@ -53,10 +51,9 @@ pub row_opened : (v w : View) (m : Option NewObject) (o : Object) → w ≡ open
 row_opened v w m o e f h = subst (λ (x : View). HasRow x o) (sym e)
     (record { entry = h.entry; row = row_kept v m o.id h.entry f h.row; birth = h.birth })
 
-pub sound_opened : (core now : Core) (rs ms : List Registry) (m : Option NewObject) → now.view ≡ opens core.view m
-    → ms ≡ registries_after core rs m → IsFreshId core.view m
-    → IsSound core.view rs → IsSound now.view ms
-sound_opened core now rs ms m e r f s =
-    subst (λ (v : View). IsSound v ms) (sym e)
-    (subst (λ (l : List Registry). IsSound (opens core.view m) l) (sym r)
-    (record { has = has_opened core rs m f s.has; once = births_opened core.view m s.once }))
+pub registries_opened : (core now : Core) (rs ms : List Registry) (m : Option NewObject)
+    → now.view ≡ opens core.view m → ms ≡ registries_after core rs m → IsFreshId core.view m
+    → HasRegistries core.view rs → HasRegistries now.view ms
+registries_opened core now rs ms m e r f h =
+    subst (λ (v : View). HasRegistries v ms) (sym e)
+    (subst (HasRegistries (opens core.view m)) (sym r) (has_opened core rs m f h))

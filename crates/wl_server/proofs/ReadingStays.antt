@@ -1,6 +1,5 @@
 -- What a server reads of what waits stays the same when more comes behind it.
 use Rattle.std.proofs.Common.{◌≡◌, ◌≢◌, ℕ, Bool, true, false, cond, List, refl, sym, ap, ◌∙◌}
-use Rattle.std.specs.Prelude.{nat_eq}
 use Rattle.std.specs.declared.option.Option.{Option}
 use Rattle.std.specs.declared.option.Option.TheVariants.{None, Some}
 use Rattle.std.specs.declared.result.Result.{Result}
@@ -24,7 +23,7 @@ use Rattle.wl_server.specs.Requests.{Report, report, unless_bad_bind, request, m
 use Rattle.wl_server.specs.Requests.{destroys_it, ended, ended_object, registries_after, core_after}
 use Rattle.wl_server.specs.Requests.{state_past, server_role}
 use Rattle.wl_server.specs.Streams.{server_reading}
-use Rattle.wl_server.specs.Registries.{without_registry, registry_birth}
+use Rattle.wl_server.specs.Registries.{without_object}
 
 -- ---- one message
 
@@ -58,7 +57,7 @@ past_arrived : (state : State) (f : Found) (bytes tokens : List ℕ) → IsFound
     ≡ with_arrivals server_reading (state_past state f) bytes tokens
 past_arrived state f bytes tokens h = λ i. record (state_past state f) {
   core = core_arrived state.core f bytes tokens h i;
-  registries = without_registry nat_eq registry_birth (destroys_it f.message) (ended_stays state.core f bytes tokens h i).birth
+  registries = without_object (destroys_it f.message) (ended_stays state.core f bytes tokens h i)
       (registries_after state.core state.registries (made_by_request state.core f.message));
 }
 

@@ -30,8 +30,8 @@ use Rattle.wl_objects.proofs.Wholes.{passes}
 use Rattle.wl_connection.specs.Core.{Core, past, with_view}
 use Rattle.wl_connection.specs.Sending.{after_send, after_checked, made_at, version_at, fits, delete_id_len}
 use Rattle.wl_server.specs.State.{Registry, untold}
-use Rattle.wl_server.specs.Registries.{IsSound, without_registry, registry_birth, IsAmong}
-use Rattle.wl_server.specs.Registries.{IsRegistry, IsFreshId, HasRegistries, BirthsAreOnce}
+use Rattle.wl_server.specs.Registries.{same_object, without_object, IsAmong}
+use Rattle.wl_server.specs.Registries.{IsRegistry, IsFreshId, HasRegistries}
 use Rattle.wl_server.specs.Requests.{registries_after}
 use Rattle.wl_sigs.specs.Rules.{is_ended_by_event}
 use Rattle.wl_server.specs.Calls.{drop_at, drop_refusal, after_drop}
@@ -40,6 +40,7 @@ use Rattle.wl_connection.proofs.Ends.{no_event}
 use Rattle.wl_server.specs.Steps.{Step, CanEnd, core_without, core_by, registries_by, registries_without, CanTake}
 use Rattle.wl_server.specs.Tellings.{IsAnnounced}
 use Rattle.wl_server.specs.declared.announce.Announced.{Announced}
+use Rattle.wl_server.proofs.OneObject.{one-same, not-one}
 use Rattle.wl_server.proofs.RisingBirths.{rise-without}
 use Rattle.wl_server.proofs.AfterRequest.{rise-opened}
 use Rattle.wl_server.proofs.OwedEvents.{either-object, rising-marked, view-dues}
@@ -55,21 +56,21 @@ among_last : (rs : List Registry) (r : Registry) → IsAmong r.object (rs ++ r �
 among_last [] r = inl refl
 among_last (x ∷ rs) r = inr (among_last rs r)
 
-among_if : (o : Object) (birth : ℕ) (r : Registry) (rs : List Registry) (b : Bool) → nat_eq r.object.birth birth ≡ b
-    → o.birth ≢ birth → (r.object ≡ o) ⊎ IsAmong o rs → IsAmong o (cond b rs (r ∷ rs))
-among_if o birth r rs true e ne h = elim h [
-  | inl p ↦ absurd (ne (ap (λ (x : Object). x.birth) (sym p) ∙ eqb-true r.object.birth birth e))
+among_if : (o object : Object) (r : Registry) (rs : List Registry) (b : Bool) → same_object r.object object ≡ b
+    → o ≢ object → (r.object ≡ o) ⊎ IsAmong o rs → IsAmong o (cond b rs (r ∷ rs))
+among_if o object r rs true e ne h = elim h [
+  | inl p ↦ absurd (ne (sym p ∙ one-same r.object object e))
   | inr p ↦ p
 ]
-among_if o birth r rs false e ne h = h
+among_if o object r rs false e ne h = h
 
--- taking one of another birth out
-among_other : (o : Object) (birth : ℕ) (rs : List Registry) → o.birth ≢ birth → IsAmong o rs
-    → IsAmong o (without_registry nat_eq registry_birth true birth rs)
-among_other o birth [] ne h = absurd h
-among_other o birth (r ∷ rs) ne h =
-    among_if o birth r (without_registry nat_eq registry_birth true birth rs) (nat_eq r.object.birth birth) refl ne
-    (elim h [ inl p ↦ inl p | inr p ↦ inr (among_other o birth rs ne p) ])
+-- taking another out
+among_other : (o object : Object) (rs : List Registry) → o ≢ object → IsAmong o rs
+    → IsAmong o (without_object true object rs)
+among_other o object [] ne h = absurd h
+among_other o object (r ∷ rs) ne h =
+    among_if o object r (without_object true object rs) (same_object r.object object) refl ne
+    (elim h [ inl p ↦ inl p | inr p ↦ inr (among_other o object rs ne p) ])
 
 among_marked : (o : Object) (d : Due) (rs : List Registry) → IsAmong o rs → IsAmong o (marked_in d rs)
 among_marked o d [] h = absurd h
@@ -93,21 +94,37 @@ among_before o (x ∷ rs) r h = elim h as (λ _. (r.object ≡ o) ⊎ ((x.object
       [ inl q ↦ inl q | inr q ↦ inr (inr q) ]
 ]
 
-left_if : (o : Object) (birth : ℕ) (r : Registry) (rs ls : List Registry) (b : Bool) → nat_eq r.object.birth birth ≡ b
-    → (IsAmong o ls → (o.birth ≢ birth) × IsAmong o rs) → IsAmong o (cond b ls (r ∷ ls))
-    → (o.birth ≢ birth) × ((r.object ≡ o) ⊎ IsAmong o rs)
-left_if o birth r rs ls true e f h = let k = f h in (k.0, inr k.1)
-left_if o birth r rs ls false e f h = elim h as (λ _. (o.birth ≢ birth) × ((r.object ≡ o) ⊎ IsAmong o rs)) [
-  | inl p ↦ (λ is. eqb-false r.object.birth birth e (ap (λ (x : Object). x.birth) p ∙ is), inl p)
+-- what stands in the list after an opening stood there, or has the next birth
+pub among_after : (core : Core) (rs : List Registry) (m : Option NewObject) (o : Object)
+    → IsAmong o (registries_after core rs m) → IsAmong o rs ⊎ (o.birth ≡ core.view.births)
+among_after core rs None o h = inl h
+among_after core rs (Some m) o h = by_test (same_iface m.iface registry) h
+  where
+    new : Registry
+    new = untold (record { id = m.id; birth = core.view.births })
+
+    by_test : (b : Bool) → IsAmong o (cond b (rs ++ new ∷ []) rs) → IsAmong o rs ⊎ (o.birth ≡ core.view.births)
+    by_test true a = elim (among_before o rs new a) as (λ _. IsAmong o rs ⊎ (o.birth ≡ core.view.births)) [
+      | inl p ↦ inr (ap (λ (x : Object). x.birth) (sym p))
+      | inr p ↦ inl p
+    ]
+    by_test false a = inl a
+
+left_if : (o object : Object) (r : Registry) (rs ls : List Registry) (b : Bool) → same_object r.object object ≡ b
+    → (IsAmong o ls → (o ≢ object) × IsAmong o rs) → IsAmong o (cond b ls (r ∷ ls))
+    → (o ≢ object) × ((r.object ≡ o) ⊎ IsAmong o rs)
+left_if o object r rs ls true e f h = let k = f h in (k.0, inr k.1)
+left_if o object r rs ls false e f h = elim h as (λ _. (o ≢ object) × ((r.object ≡ o) ⊎ IsAmong o rs)) [
+  | inl p ↦ (λ is. not-one r.object object e (p ∙ is), inl p)
   | inr p ↦ (let k = f p in (k.0, inr k.1))
 ]
 
--- what is left is of another birth
-among_left : (o : Object) (birth : ℕ) (rs : List Registry) → IsAmong o (without_registry nat_eq registry_birth true birth rs)
-    → (o.birth ≢ birth) × IsAmong o rs
-among_left o birth [] h = absurd h
-among_left o birth (r ∷ rs) h = left_if o birth r rs (without_registry nat_eq registry_birth true birth rs)
-    (nat_eq r.object.birth birth) refl (among_left o birth rs) h
+-- what is left is another
+among_left : (o object : Object) (rs : List Registry) → IsAmong o (without_object true object rs)
+    → (o ≢ object) × IsAmong o rs
+among_left o object [] h = absurd h
+among_left o object (r ∷ rs) h = left_if o object r rs (without_object true object rs)
+    (same_object r.object object) refl (among_left o object rs) h
 
 among_unmarked : (o : Object) (d : Due) (rs : List Registry) → IsAmong o (marked_in d rs) → IsAmong o rs
 among_unmarked o d [] h = absurd h
@@ -191,47 +208,27 @@ has_opened core rs (Some m) f h =
       only = λ o a. each_opened v rs m r (same_iface m.iface registry) o refl refl f h.only a;
     }
 
-pub births_opened : (v : View) (m : Option NewObject) → BirthsAreOnce v → BirthsAreOnce (opens v m)
-births_opened v None h = h
-births_opened v (Some m) h = record {
-  counted = λ id e there. ⊎_elim
-      (λ p. (let birth = ap (λ (x : Entry). x.birth) p.1 in omega (arith, birth)))
-      (λ p. (let less = h.counted id e p.1 in omega (arith, less)))
-      (row-opened_at v m.id m.iface m.version id e there);
-  one = λ id other e d there also same. ⊎_elim
-      (λ p. ⊎_elim
-      (λ q. p.0 ∙ sym q.0)
-      (λ q. (let birth = ap (λ (x : Entry). x.birth) p.1 in let less = h.counted other d q.1
-      in absurd (omega (arith, birth, less, same))))
-      (row-opened_at v m.id m.iface m.version other d also))
-      (λ p. ⊎_elim
-      (λ q. (let birth = ap (λ (x : Entry). x.birth) q.1 in let less = h.counted id e p.1
-      in absurd (omega (arith, birth, less, same))))
-      (λ q. h.one id other e d p.1 q.1 same)
-      (row-opened_at v m.id m.iface m.version other d also))
-      (row-opened_at v m.id m.iface m.version id e there);
-}
-
 -- ---- an object is closed
 
-registry_apart : (v : View) (id : ℕ) (d : Entry) (o : Object) → look v id ≡ Some d → o.birth ≢ d.birth → IsRegistry v o
-    → IsRegistry (closed v id) o
-registry_apart v id d o row ne r =
-    let other : eqb o.id id ≡ false = ne_eqb o.id id
-    (λ e. (let same = sym r.row ∙ (ap (look v) e ∙ row) in let is : r.entry ≡ d = cc same
-    in ne (sym r.birth ∙ ap (λ (x : Entry). x.birth) is))) in
-    record { entry = r.entry; row = look-closed v id o.id ∙ rw other r.row; birth = r.birth; iface = r.iface }
+registry_apart : (v : View) (object : Object) (d : Entry) (o : Object) → look v object.id ≡ Some d
+    → d.birth ≡ object.birth → o ≢ object → IsRegistry v o → IsRegistry (closed v object.id) o
+registry_apart v object d o row is ne r =
+    let other : eqb o.id object.id ≡ false = ne_eqb o.id object.id
+    (λ e. (let same = sym r.row ∙ (ap (look v) e ∙ row) in let entry : r.entry ≡ d = cc same in
+    let birth : o.birth ≡ object.birth = sym r.birth ∙ (ap (λ (x : Entry). x.birth) entry ∙ is)
+    in ne (λ i. record { id = e i; birth = birth i }))) in
+    record { entry = r.entry; row = look-closed v object.id o.id ∙ rw other r.row; birth = r.birth; iface = r.iface }
 
--- the object of this row and birth
-pub has_closed : (v : View) (rs : List Registry) (id birth : ℕ) (d : Entry) → BirthsAreOnce v → look v id ≡ Some d
-    → d.birth ≡ birth → HasRegistries v rs
-    → HasRegistries (closed v id) (without_registry nat_eq registry_birth true birth rs)
-has_closed v rs id birth d b row is h = record {
-  rising = rise-without 0 v.births birth rs h.rising;
-  all = λ q e there reg. (let r = row-closed v id q e there in
-      among_other (record { id = q; birth = e.birth }) birth rs (λ k. r.0 (b.one q id e d r.1 row (k ∙ sym is)))
+-- the object of this row
+pub has_closed : (v : View) (rs : List Registry) (object : Object) (d : Entry) → look v object.id ≡ Some d
+    → d.birth ≡ object.birth → HasRegistries v rs
+    → HasRegistries (closed v object.id) (without_object true object rs)
+has_closed v rs object d row is h = record {
+  rising = rise-without 0 v.births object rs h.rising;
+  all = λ q e there reg. (let r = row-closed v object.id q e there in
+      among_other (record { id = q; birth = e.birth }) object rs (λ k. r.0 (ap (λ (o : Object). o.id) k))
       (h.all q e r.1 reg));
-  only = λ o a. (let k = among_left o birth rs a in registry_apart v id d o row (λ e. k.0 (e ∙ is)) (h.only o k.1));
+  only = λ o a. (let k = among_left o object rs a in registry_apart v object d o row is k.0 (h.only o k.1));
 }
 
 registry_other : (v : View) (id : ℕ) (o : Object) → ((d : Entry) → look v id ≡ Some d → d.iface ≢ registry)
@@ -249,19 +246,11 @@ has_fewer v rs id f h = record {
   only = λ o a. registry_other v id o f (h.only o a);
 }
 
-pub births_closed : (v : View) (id : ℕ) → BirthsAreOnce v → BirthsAreOnce (closed v id)
-births_closed v id h = record {
-  counted = λ q e there. h.counted q e (row-closed v id q e there).1;
-  one = λ q other e d there also same. h.one q other e d (row-closed v id q e there).1
-      (row-closed v id other d also).1 same;
-}
-
 -- ---- a request is read
 
 has_step : (core : Core) (rs : List Registry) (step : Step) → CanTake core step → IsFreshId core.view step.made
-    → BirthsAreOnce core.view → HasRegistries core.view rs
-    → HasRegistries (core_by core step).view (registries_by core rs step)
-has_step core rs step can f b h = by_ended step.ended can.ended
+    → HasRegistries core.view rs → HasRegistries (core_by core step).view (registries_by core rs step)
+has_step core rs step can f h = by_ended step.ended can.ended
   where
     by_ended : (ended : Option Object) → ((object : Object) → ended ≡ Some object → CanEnd core object)
         → HasRegistries (core_without ended (past
@@ -270,37 +259,16 @@ has_step core rs step can f b h = by_ended step.ended can.ended
     by_ended None r = has_opened core rs step.made f h
     by_ended (Some object) r =
         let is = (r object refl).row in
-        has_closed (opens core.view step.made) (registries_after core rs step.made) object.id object.birth is.entry
-        (births_opened core.view step.made b) (row_kept core.view step.made object.id is.entry f is.row) is.birth
-        (has_opened core rs step.made f h)
-
-births_step : (core : Core) (step : Step) → BirthsAreOnce core.view → BirthsAreOnce (core_by core step).view
-births_step core step h = by_ended step.ended
-  where
-    by_ended : (ended : Option Object) → BirthsAreOnce
-        (core_without ended (past (with_view core (opens core.view step.made)) step.size step.tokens)).view
-    by_ended None = births_opened core.view step.made h
-    by_ended (Some object) = births_closed (opens core.view step.made) object.id (births_opened core.view step.made h)
+        has_closed (opens core.view step.made) (registries_after core rs step.made) object is.entry
+        (row_kept core.view step.made object.id is.entry f is.row) is.birth (has_opened core rs step.made f h)
 
 -- the same of an end and a list that are these
 pub has_now : (core now : Core) (rs ms : List Registry) (step : Step) → CanTake core step → now ≡ core_by core step
     → ms ≡ registries_by core rs step
-    → IsFreshId core.view step.made → BirthsAreOnce core.view → HasRegistries core.view rs → HasRegistries now.view ms
-has_now core now rs ms step can c m f b h =
+    → IsFreshId core.view step.made → HasRegistries core.view rs → HasRegistries now.view ms
+has_now core now rs ms step can c m f h =
     subst (λ (k : Core). HasRegistries k.view ms) (sym c)
-    (subst (HasRegistries (core_by core step).view) (sym m) (has_step core rs step can f b h))
-
-pub births_now : (core now : Core) (step : Step) → now ≡ core_by core step → BirthsAreOnce core.view
-    → BirthsAreOnce now.view
-births_now core now step c b = subst (λ (k : Core). BirthsAreOnce k.view) (sym c) (births_step core step b)
-
-pub sound_now : (core now : Core) (rs ms : List Registry) (step : Step) → CanTake core step → now ≡ core_by core step
-    → ms ≡ registries_by core rs step
-    → IsFreshId core.view step.made → IsSound core.view rs → IsSound now.view ms
-sound_now core now rs ms step can c m f h = record {
-  has = has_now core now rs ms step can c m f h.once h.has;
-  once = births_now core now step c h.once;
-}
+    (subst (HasRegistries (core_by core step).view) (sym m) (has_step core rs step can f h))
 
 -- ---- an event is written
 
@@ -379,14 +347,6 @@ has_sent core now rs target opcode list v e h =
       | inr p ↦ subst (λ (w : View). HasRegistries w rs) (sym p.0) (has_fewer core.view rs target.id p.1 h)
     ])
 
-pub births_sent : (core now : Core) (target : Object) (opcode : ℕ) (list : List Given) → Valid core.tables
-    → now ≡ after_send core Event target opcode list → BirthsAreOnce core.view → BirthsAreOnce now.view
-births_sent core now target opcode list v e h =
-    subst (λ (k : Core). BirthsAreOnce k.view) (sym e) (elim (after_event core target opcode list v) [
-      | inl p ↦ subst BirthsAreOnce (sym p) h
-      | inr p ↦ subst BirthsAreOnce (sym p.0) (births_closed core.view target.id h)
-    ])
-
 pub past_sent : (core now : Core) (past : ℕ) (target : Object) (opcode : ℕ) (list : List Given) → Valid core.tables
     → now ≡ after_send core Event target opcode list → past ≤ core.view.births → past ≤ now.view.births
 past_sent core now past target opcode list v e h =
@@ -448,17 +408,13 @@ has_told core rs all told now ms t h = record {
       (h.only o (among_all_unmarked o t.progress.done rs (subst (IsAmong o) t.progress.marks a)));
 }
 
-pub births_told : (core : Core) (rs : List Registry) (all : List Due) (told : Announced) (now : Core)
-    (ms : List Registry) → IsAnnounced core rs all told now ms → BirthsAreOnce core.view → BirthsAreOnce now.view
-births_told core rs all told now ms t h = subst BirthsAreOnce (sym (view_told core rs all told now ms t)) h
-
 pub past_told : (core : Core) (rs : List Registry) (all : List Due) (told : Announced) (now : Core)
     (ms : List Registry) (past : ℕ) → IsAnnounced core rs all told now ms → past ≤ core.view.births
     → past ≤ now.view.births
 past_told core rs all told now ms past t h =
     subst (λ (w : View). past ≤ w.births) (sym (view_told core rs all told now ms t)) h
 
--- ---- a new server, and any sound table
+-- ---- a new server
 
 first_row : (q : ℕ) (e : Entry) → look (opening display) q ≡ Some e
     → (q ≡ 1) × (e ≡ record { birth = 0; iface = display; version = 1; state = Live })
@@ -475,6 +431,3 @@ has_none = record {
       in let k = ap (λ (x : Iface). x.0) is in absurd (omega (arith, i, k)));
   only = λ o a. absurd a;
 }
-
-pub births_of_sound : (v : View) → Sound v → BirthsAreOnce v
-births_of_sound v s = record { counted = s.born; one = s.one_birth }

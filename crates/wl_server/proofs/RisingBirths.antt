@@ -1,8 +1,9 @@
 -- The births of registries go on rising.
 use Rattle.std.proofs.Common.{ℕ, suc, ◌+◌, ◌≤◌, Bool, true, false, List, [], ◌∷◌, ◌++◌, arith}
-use Rattle.std.specs.Prelude.{nat_eq, if◌then◌else◌}
+use Rattle.std.specs.Prelude.{if◌then◌else◌}
+use Rattle.wl_object_map.specs.declared.object.Object.{Object}
 use Rattle.wl_server.specs.State.{Registry, RiseFrom, untold}
-use Rattle.wl_server.specs.Registries.{without_registry, registry_birth}
+use Rattle.wl_server.specs.Registries.{same_object, without_object}
 
 -- the number that they are below may be greater
 pub rise-below : (low high more : ℕ) (registries : List Registry) → high ≤ more → RiseFrom low high registries
@@ -23,15 +24,15 @@ rise-new low id high [] r = (r, omega arith)
 rise-new low id high (x ∷ registries) r = (r.0, rise-new (suc x.object.birth) id high registries r.1)
 
 -- without one they rise
-pub rise-without : (low high birth : ℕ) (registries : List Registry) → RiseFrom low high registries
-    → RiseFrom low high (without_registry nat_eq registry_birth true birth registries)
-rise-without low high birth [] r = r
-rise-without low high birth (x ∷ registries) r = by_test (nat_eq x.object.birth birth)
-    (rise-without (suc x.object.birth) high birth registries r.1)
+pub rise-without : (low high : ℕ) (object : Object) (registries : List Registry) → RiseFrom low high registries
+    → RiseFrom low high (without_object true object registries)
+rise-without low high object [] r = r
+rise-without low high object (x ∷ registries) r = by_test (same_object x.object object)
+    (rise-without (suc x.object.birth) high object registries r.1)
   where
-    by_test : (b : Bool) → RiseFrom (suc x.object.birth) high (without_registry nat_eq registry_birth true birth registries)
-        → RiseFrom low high (if b then without_registry nat_eq registry_birth true birth registries
-        else x ∷ without_registry nat_eq registry_birth true birth registries)
-    by_test true h = rise-above (suc x.object.birth) low high (without_registry nat_eq registry_birth true birth registries)
+    by_test : (b : Bool) → RiseFrom (suc x.object.birth) high (without_object true object registries)
+        → RiseFrom low high (if b then without_object true object registries
+        else x ∷ without_object true object registries)
+    by_test true h = rise-above (suc x.object.birth) low high (without_object true object registries)
         (omega (arith, r.0)) h
     by_test false h = (r.0, h)

@@ -15,9 +15,11 @@ use Rattle.std.proofs.lemmas.List.{take_more, take_more_set}
 use Rattle.std.proofs.Common.{append_assoc}
 use Rattle.std.proofs.lemmas.List.Elements.{filter-append}
 use Rattle.std.proofs.lemmas.List.Sums.{length-filter}
+use Rattle.wl_object_map.specs.declared.object.Object.{Object}
 use Rattle.wl_server.specs.declared.registry.Slot.{Slot}
 use Rattle.wl_server.specs.State.{Global, Registry, RiseFrom}
-use Rattle.wl_server.specs.Registries.{registry_birth, without_registry}
+use Rattle.wl_server.specs.Registries.{same_object, without_object}
+use Rattle.wl_server.proofs.OneObject.{births-differ, differ, same-one}
 use Rattle.wl_server.specs.Announcing.{Due, due_to, owed_in}
 use Rattle.wl_server.specs.Slots.{SlotsRise, open_in, past_of}
 
@@ -87,13 +89,14 @@ past-set (x ∷ xs) (suc i) s t e b = ap (max (suc (birth_in x))) (past-set xs i
 
 -- ---- a registry is closed
 
-not-below : (birth low : ℕ) (xs : List Slot) → SlotsRise low xs → birth < low
-    → without_registry nat_eq registry_birth true birth (open_in xs) ≡ open_in xs
-not-below birth low [] r l = refl
-not-below birth low (x ∷ xs) r l =
-    let more = not-below birth (suc (birth_in x)) xs r.1 (omega (arith, l, r.0)) in
-    let other : nat_eq (birth_in x) birth ≡ false = ne_eqb (birth_in x) birth (λ f. omega (arith, f, l, r.0)) in
-    either-way (without_registry nat_eq registry_birth true birth (open_in (x ∷ xs)) ≡ open_in (x ∷ xs)) x
+not-below : (object : Object) (low : ℕ) (xs : List Slot) → SlotsRise low xs → object.birth < low
+    → without_object true object (open_in xs) ≡ open_in xs
+not-below object low [] r l = refl
+not-below object low (x ∷ xs) r l =
+    let more = not-below object (suc (birth_in x)) xs r.1 (omega (arith, l, r.0)) in
+    let other : same_object x.registry.object object ≡ false =
+    births-differ x.registry.object object (λ f. omega (arith, f, l, r.0)) in
+    either-way (without_object true object (open_in (x ∷ xs)) ≡ open_in (x ∷ xs)) x
     (λ o. rw (o, other) (ap (λ (l : List Registry). x.registry ∷ l) more))
     (λ o. rw o more)
 
@@ -104,36 +107,40 @@ at-least low (x ∷ xs) zero s r l e = subst (λ (n : ℕ). low ≤ n) (ap birth
 at-least low (x ∷ xs) (suc i) s r l e =
     let more = at-least (suc (birth_in x)) xs i s r.1 (omega (arith, l)) e in omega (arith, more, r.0)
 
--- the slot in place i, open or closed, has this birth, and no other has
-pub without-closed : (birth low : ℕ) (xs : List Slot) (i : ℕ) (s t : Slot) → SlotsRise low xs → i < length xs
-    → s ≡ get_or xs i s → birth_in s ≡ birth → t.is_open ≡ false
-    → open_in (set xs i t) ≡ without_registry nat_eq registry_birth true birth (open_in xs)
-without-closed birth low [] i s t r l e b c = absurd (omega (arith, l))
-without-closed birth low (x ∷ xs) zero s t r l e b c =
-    let same : birth_in x ≡ birth = ap birth_in (sym e) ∙ b in
-    let rest : open_in xs ≡ without_registry nat_eq registry_birth true birth (open_in xs) =
-    sym (not-below birth (suc (birth_in x)) xs r.1 (omega (arith, same))) in
-    either-way (open_in (t ∷ xs) ≡ without_registry nat_eq registry_birth true birth (open_in (x ∷ xs))) x
-    (λ o. rw (c, o, eq-eqb (birth_in x) birth same) rest)
+-- the slot in place i, open or closed, is that of this object, and no other is
+pub without-closed : (object : Object) (low : ℕ) (xs : List Slot) (i : ℕ) (s t : Slot) → SlotsRise low xs
+    → i < length xs → s ≡ get_or xs i s → s.registry.object ≡ object → t.is_open ≡ false
+    → open_in (set xs i t) ≡ without_object true object (open_in xs)
+without-closed object low [] i s t r l e b c = absurd (omega (arith, l))
+without-closed object low (x ∷ xs) zero s t r l e b c =
+    let same : x.registry.object ≡ object = ap (λ (y : Slot). y.registry.object) (sym e) ∙ b in
+    let birth : birth_in x ≡ object.birth = ap (λ (o : Object). o.birth) same in
+    let rest : open_in xs ≡ without_object true object (open_in xs) =
+    sym (not-below object (suc (birth_in x)) xs r.1 (omega (arith, birth))) in
+    either-way (open_in (t ∷ xs) ≡ without_object true object (open_in (x ∷ xs))) x
+    (λ o. rw (c, o, same-one x.registry.object object same) rest)
     (λ o. rw (c, o) rest)
-without-closed birth low (x ∷ xs) (suc i) s t r l e b c =
-    let more = without-closed birth (suc (birth_in x)) xs i s t r.1 (omega (arith, l)) e b c in
-    let behind : birth_in x < birth =
-    omega (arith, at-least (suc (birth_in x)) xs i s r.1 (omega (arith, l)) e, b) in
-    let other : nat_eq (birth_in x) birth ≡ false = ne_eqb (birth_in x) birth (λ f. omega (arith, f, behind)) in
-    either-way (open_in (x ∷ set xs i t) ≡ without_registry nat_eq registry_birth true birth (open_in (x ∷ xs))) x
+without-closed object low (x ∷ xs) (suc i) s t r l e b c =
+    let more = without-closed object (suc (birth_in x)) xs i s t r.1 (omega (arith, l)) e b c in
+    let birth : birth_in s ≡ object.birth = ap (λ (o : Object). o.birth) b in
+    let behind : birth_in x < object.birth =
+    omega (arith, at-least (suc (birth_in x)) xs i s r.1 (omega (arith, l)) e, birth) in
+    let other : same_object x.registry.object object ≡ false =
+    births-differ x.registry.object object (λ f. omega (arith, f, behind)) in
+    either-way (open_in (x ∷ set xs i t) ≡ without_object true object (open_in (x ∷ xs))) x
     (λ o. rw (o, other) (ap (λ (l : List Registry). x.registry ∷ l) more))
     (λ o. rw o more)
 
--- where no slot has this birth, nothing is taken out
-pub without-other : (birth : ℕ) (xs : List Slot)
-    → ((k : ℕ) (x : Slot) → k < length xs → x ≡ get_or xs k x → birth_in x ≢ birth)
-    → open_in xs ≡ without_registry nat_eq registry_birth true birth (open_in xs)
-without-other birth [] f = refl
-without-other birth (x ∷ xs) f =
-    let more = without-other birth xs (λ k y l e. f (suc k) y (omega (arith, l)) e) in
-    let other : nat_eq (birth_in x) birth ≡ false = ne_eqb (birth_in x) birth (f 0 x (omega arith) refl) in
-    either-way (open_in (x ∷ xs) ≡ without_registry nat_eq registry_birth true birth (open_in (x ∷ xs))) x
+-- where no slot is that of this object, nothing is taken out
+pub without-other : (object : Object) (xs : List Slot)
+    → ((k : ℕ) (x : Slot) → k < length xs → x ≡ get_or xs k x → x.registry.object ≢ object)
+    → open_in xs ≡ without_object true object (open_in xs)
+without-other object [] f = refl
+without-other object (x ∷ xs) f =
+    let more = without-other object xs (λ k y l e. f (suc k) y (omega (arith, l)) e) in
+    let other : same_object x.registry.object object ≡ false =
+    differ x.registry.object object (f 0 x (omega arith) refl) in
+    either-way (open_in (x ∷ xs) ≡ without_object true object (open_in (x ∷ xs))) x
     (λ o. rw (o, other) (ap (λ (l : List Registry). x.registry ∷ l) more))
     (λ o. rw o more)
 
@@ -269,6 +276,29 @@ rising low (x ∷ xs) (suc i) (suc j) d r l m =
 pub same-slot : (xs : List Slot) (i : ℕ) (s u : Slot) → i < length xs → s ≡ get_or xs i s → u ≡ get_or xs i u → s ≡ u
 same-slot xs i s u l e d = e ∙ get_or_default xs i s u l ∙ sym d
 
+-- one birth is of one slot
+pub one-slot : (low : ℕ) (xs : List Slot) (i k : ℕ) (s x : Slot) → SlotsRise low xs → i < length xs
+    → k < length xs → s ≡ get_or xs i s → x ≡ get_or xs k x → birth_in s ≡ birth_in x → s ≡ x
+one-slot low [] i k s x r l m e d b = absurd (omega (arith, l))
+one-slot low (y ∷ xs) zero zero s x r l m e d b = e ∙ sym d
+one-slot low (y ∷ xs) zero (suc k) s x r l m e d b =
+    let behind = at-least (suc (birth_in y)) xs k x r.1 (omega (arith, m)) d in
+    absurd (omega (arith, behind, ap birth_in e, b))
+one-slot low (y ∷ xs) (suc i) zero s x r l m e d b =
+    let behind = at-least (suc (birth_in y)) xs i s r.1 (omega (arith, l)) e in
+    absurd (omega (arith, behind, ap birth_in d, b))
+one-slot low (y ∷ xs) (suc i) (suc k) s x r l m e d b =
+    one-slot (suc (birth_in y)) xs i k s x r.1 (omega (arith, l)) (omega (arith, m)) e d b
+
+-- where the slot of this birth is that of another id, nothing is taken out
+pub other-id : (object : Object) (low : ℕ) (xs : List Slot) (i : ℕ) (s : Slot) → SlotsRise low xs
+    → i < length xs → s ≡ get_or xs i s → birth_in s ≡ object.birth → s.registry.object.id ≢ object.id
+    → open_in xs ≡ without_object true object (open_in xs)
+other-id object low xs i s r l e b n =
+    without-other object xs (λ k x m d is.
+    let same : s ≡ x = one-slot low xs i k s x r l m e d (b ∙ sym (ap (λ (o : Object). o.birth) is)) in
+    n (ap (λ (y : Slot). y.registry.object.id) same ∙ ap (λ (o : Object). o.id) is))
+
 -- what the search for a birth answers
 abbrev pub IsAnswer : ℕ → List Slot → Result ℕ ℕ → Type 0
 IsAnswer birth xs r = IsBinarySearchResult (λ s. nat_cmp (birth_in s) birth) xs r
@@ -280,12 +310,14 @@ found birth xs i s h e =
     (birth_in (get_or xs i s) ≡ birth) (birth < birth_in (get_or xs i s)))
     (h s) (ranks (birth_in (get_or xs i s)) birth)
 
-pub not-found : (birth low : ℕ) (xs : List Slot) (i : ℕ) → SlotsRise low xs → IsAnswer birth xs (Err i)
-    → open_in xs ≡ without_registry nat_eq registry_birth true birth (open_in xs)
-not-found birth low xs i r h =
+pub not-found : (object : Object) (low : ℕ) (xs : List Slot) (i : ℕ) → SlotsRise low xs
+    → IsAnswer object.birth xs (Err i) → open_in xs ≡ without_object true object (open_in xs)
+not-found object low xs i r h =
+    let birth = object.birth in
     let parted = h (λ a b d l m. higher birth (birth_in (get_or xs a d)) (birth_in (get_or xs b d))
     (rising low xs a b d r l m)) in
-    without-other birth xs (λ k x l e same. elim (cases_lt k i) as (λ _. ⊥) [
+    without-other object xs (λ k x l e is. let same = ap (λ (o : Object). o.birth) is in
+    elim (cases_lt k i) as (λ _. ⊥) [
       | inl before ↦ (let less = subst (λ o. MatchOrdering o (birth_in (get_or xs k x) < birth)
           (birth_in (get_or xs k x) ≡ birth) (birth < birth_in (get_or xs k x)))
           (parted.0 k x (omega arith) before) (ranks (birth_in (get_or xs k x)) birth) in

@@ -1,5 +1,5 @@
 -- The open registries, in the order of their births, whatever is kept of each.
-use Rattle.std.specs.Prelude.{◌≡◌, ◌⊎◌, ℕ, ◌<◌, Bool, true, false, if◌then◌else◌, List, []}
+use Rattle.std.specs.Prelude.{◌≡◌, ◌⊎◌, ℕ, Bool, true, false, ◌&&◌, nat_eq, if◌then◌else◌, List, []}
 use Rattle.std.specs.Prelude.{◌∷◌, ◌++◌, Option, Some, None}
 use Rattle.wl_wire.specs.declared.kind.Iface.{Iface}
 use Rattle.wl_sigs.specs.Fixed.{registry}
@@ -14,17 +14,24 @@ abbrev pub with_registry : {R : Type 0} → Iface → R → List R → List R
 with_registry iface new registries =
     if same_iface iface registry then registries ++ new ∷ [] else registries
 
--- The registries after the object of this birth ended, where it did: one that ends is owed nothing
--- any more. The test says which births are the same.
-abbrev pub without_registry : {R K : Type 0} → (K → K → Bool) → (R → K) → Bool → K → List R → List R
-without_registry same birth_in false birth registries = registries
-without_registry same birth_in true birth [] = []
-without_registry same birth_in true birth (r ∷ registries) =
-    if same (birth_in r) birth then without_registry same birth_in true birth registries
-    else r ∷ without_registry same birth_in true birth registries
+-- The registries without the one of this key, where it ended: one that ends is owed nothing any
+-- more. The test says whether two keys are one.
+abbrev pub without_registry : {R K : Type 0} → (K → K → Bool) → (R → K) → Bool → K → List R
+    → List R
+without_registry same key false ended registries = registries
+without_registry same key true ended [] = []
+without_registry same key true ended (r ∷ registries) =
+    if same (key r) ended then without_registry same key true ended registries
+    else r ∷ without_registry same key true ended registries
 
-abbrev pub registry_birth : Registry → ℕ
-registry_birth r = r.object.birth
+-- whether two objects are one: an id is used again, and births are counted in each range of ids
+abbrev pub same_object : Object → Object → Bool
+same_object a b = nat_eq a.id b.id && nat_eq a.birth b.birth
+
+-- the registries of a server without this object, where it ended
+abbrev pub without_object : Bool → Object → List Registry → List Registry
+without_object ends object registries =
+    without_registry same_object (λ (r : Registry). r.object) ends object registries
 
 -- ---- the registries of a server
 
@@ -51,14 +58,3 @@ pub record HasRegistries (view : View) (registries : List Registry) : Type 0 whe
 abbrev pub IsFreshId : View → Option NewObject → Type 0
 IsFreshId view None = Unit {0}
 IsFreshId view (Some m) = look view m.id ≡ None
-
--- Each birth in a table was counted, and is that of one id.
-pub record BirthsAreOnce (view : View) : Type 0 where
-  pub counted : (id : ℕ) (e : Entry) → look view id ≡ Some e → e.birth < view.births
-  pub one : (id other : ℕ) (e d : Entry) → look view id ≡ Some e → look view other ≡ Some d
-      → e.birth ≡ d.birth → id ≡ other
-
--- What a server relies on between its calls: it keeps the open registries, and births are once.
-pub record IsSound (view : View) (registries : List Registry) : Type 0 where
-  pub has : HasRegistries view registries
-  pub once : BirthsAreOnce view

@@ -1,7 +1,6 @@
 -- What a server reads, and what it makes of it.
-use Rattle.std.specs.Prelude.{ℕ, slice_get, Bool, false, ◌&&◌, not, nat_eq, nat_lt, nat_le}
-use Rattle.std.specs.Prelude.{bytes_eq, if◌then◌else◌, List, [], ◌∷◌, codes, is_some, Option}
-use Rattle.std.specs.Prelude.{Some, None}
+use Rattle.std.specs.Prelude.{ℕ, slice_get, Bool, false, ◌&&◌, not, nat_lt, nat_le, bytes_eq}
+use Rattle.std.specs.Prelude.{if◌then◌else◌, List, [], ◌∷◌, codes, is_some, Option, Some, None}
 use Rattle.std.specs.declared.result.Result.{Result}
 use Rattle.std.specs.declared.result.Result.TheVariants.{Ok, Err}
 use Rattle.wl_wire.specs.Argument.{Argument, Uint, Obj, NewNamed}
@@ -24,7 +23,7 @@ use Rattle.wl_connection.specs.Receiving.{Found, found, reported, past_found, is
 use Rattle.wl_connection.specs.Roles.{Role, role_answer, role_after}
 use Rattle.wl_connection.specs.Sending.{with_following, with_error_event, delete_id_len}
 use Rattle.wl_server.specs.State.{State, Global, Registry, global_of, untold, with_core}
-use Rattle.wl_server.specs.Registries.{with_registry, without_registry, registry_birth}
+use Rattle.wl_server.specs.Registries.{with_registry, without_object}
 
 -- What a server reports.
 pub record Report : Type 0 where
@@ -141,8 +140,7 @@ registries_after core registries (Some m) =
 abbrev pub state_past : State → Found → State
 state_past state f = record state {
   core = core_after state.core f;
-  registries = without_registry nat_eq registry_birth (destroys_it f.message)
-      (ended state.core f).birth
+  registries = without_object (destroys_it f.message) (ended state.core f)
       (registries_after state.core state.registries (made_by_request state.core f.message));
 }
 

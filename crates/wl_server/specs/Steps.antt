@@ -1,7 +1,7 @@
 -- How a server reads a request: what it makes of the message in front, and then what the reading
 -- leaves.
 use Rattle.std.specs.Prelude.{◌≡◌, ◌≢◌, ◌⊎◌, ◌&&◌, not, ℕ, ◌≤◌, Bool, true, false, List, []}
-use Rattle.std.specs.Prelude.{nat_eq, if◌then◌else◌, length, take, drop, Option, Some, None, IsTrue}
+use Rattle.std.specs.Prelude.{if◌then◌else◌, length, take, drop, Option, Some, None, IsTrue}
 use Rattle.std.specs.declared.result.Result.{Result}
 use Rattle.std.specs.declared.result.Result.TheVariants.{Ok, Err}
 use Rattle.wl_sigs.specs.declared.signature.Destroys.{Destroys}
@@ -31,7 +31,7 @@ use Rattle.wl_server.specs.State.{State, Global, Registry, with_core}
 use Rattle.wl_server.specs.Requests.{Report, request, report, made_by_request, is_out_full}
 use Rattle.wl_server.specs.Requests.{registries_after, ended_object, fault_code, fault_message}
 use Rattle.wl_server.specs.Requests.{is_good_bind_of}
-use Rattle.wl_server.specs.Registries.{without_registry, registry_birth}
+use Rattle.wl_server.specs.Registries.{without_object}
 
 -- what a request is and does: its report, its numbers of bytes and tokens, the object that it
 -- makes and the birth of the next one, and the object that it destroys
@@ -204,8 +204,7 @@ core_without (Some object) core =
 -- the registries without it
 abbrev pub registries_without : Option Object → List Registry → List Registry
 registries_without None registries = registries
-registries_without (Some object) registries =
-    without_registry nat_eq registry_birth true object.birth registries
+registries_without (Some object) registries = without_object true object registries
 
 -- the end after a request: its object is opened, the message taken, and what it destroys closed
 abbrev pub core_by : Core → Step → Core

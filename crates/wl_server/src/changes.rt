@@ -8,7 +8,7 @@ ghost use Rattle.wl_connection.specs.Core.{with_view};
 ghost use Rattle.wl_connection.specs.Sending.{delete_id_len, fits};
 ghost use Rattle.wl_server.specs.Requests.{registries_after};
 ghost use Rattle.wl_server.specs.Slots.{KeepsSettled};
-ghost use Rattle.wl_server.specs.Registries.{IsFreshId, IsSound};
+ghost use Rattle.wl_server.specs.Registries.{HasRegistries, IsFreshId};
 ghost use Rattle.wl_server.specs.Steps.{HasFreeId, HasRow, core_without, registries_without};
 
 use crate::open_registries::OpenRegistries;
@@ -105,7 +105,7 @@ pub(crate) fn close_object<T: Table>(
     requires row { HasRow core.old.view object }
     requires not_display { object.id ≢ 1 }
     requires room { IsTrue (fits core.old.outbox delete_id_len 0) }
-    requires sound { IsSound core.old.view registries.old.list }
+    requires sound { HasRegistries core.old.view registries.old.list }
     ensures core { core.new ≡ core_without (Some object) core.old }
     ensures registries { registries.new.list
         ≡ registries_without (Some object) registries.old.list }
@@ -115,7 +115,7 @@ pub(crate) fn close_object<T: Table>(
     let is_registry = is_registry(core, object.id);
     core.delete_object(object.id);
     if is_registry {
-        registries.remove(object.birth);
+        registries.remove(object);
     }
 }
 

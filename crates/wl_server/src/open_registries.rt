@@ -1,11 +1,11 @@
 //! The open registries of a server's client, by rising births.
 ghost use Rattle.std.specs.Prelude.{◌≡◌, ◌≤◌, ◌<◌, ◌+◌, ◌∷◌, ◌++◌, [], true, OnOk, OnErr, length};
-ghost use Rattle.std.specs.Prelude.{take, nat_eq};
+ghost use Rattle.std.specs.Prelude.{take};
 ghost use Rattle.std.specs.List.{count_by};
 ghost use Rattle.wl_connection.specs.Core.{IsOrdinary, max_globals};
 ghost use Rattle.wl_server.specs.State.{untold};
 ghost use Rattle.wl_server.specs.Announcing.{owed_in};
-ghost use Rattle.wl_server.specs.Registries.{registry_birth, without_registry};
+ghost use Rattle.wl_server.specs.Registries.{without_object};
 ghost use Rattle.wl_server.specs.Slots.{KeepsSettled, SlotsRise, open_in, past_of, settled_in};
 ghost use Rattle.wl_server.specs.Tellings.{IsAnnounced};
 ghost use Rattle.wl_server.specs.Words.{AreWithdrawn};
@@ -153,19 +153,21 @@ impl<A: Allocator + Drop> OpenRegistries<A> {
         self.settled = 0;
     }
 
-    /// Takes out the registry of this birth. Allocates nothing.
-    pub(crate) fn remove(&mut self, birth: u64)
-        ensures list { self.new.list
-            ≡ without_registry nat_eq registry_birth true birth self.old.list }
+    /// Takes out the registry that this object is. Allocates nothing.
+    pub(crate) fn remove(&mut self, object: Object)
+        ensures list { self.new.list ≡ without_object true object self.old.list }
         ensures settled { KeepsSettled self.old self.new }
         ensures past { self.new.past ≤ self.old.past }
     {
         let found = self
             .slots
-            .binary_search_by_key(&birth, |slot| slot.registry.object.birth);
+            .binary_search_by_key(&object.birth, |slot| slot.registry.object.birth);
         let Ok(place) = found else {
             return;
         };
+        if self.slots[place].registry.object.id != object.id {
+            return;
+        }
         if !self.slots[place].is_open {
             return;
         }

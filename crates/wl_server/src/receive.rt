@@ -4,7 +4,7 @@ ghost use Rattle.std.specs.Borrow.{sem};
 ghost use Rattle.std.specs.Io.BufRead.{Rests};
 ghost use Rattle.wl_object_map.specs.View.{look};
 ghost use Rattle.wl_connection.specs.Outcomes.{unless_memory};
-ghost use Rattle.wl_server.specs.Registries.{IsSound};
+ghost use Rattle.wl_server.specs.Registries.{HasRegistries};
 ghost use Rattle.wl_server.specs.Slots.{KeepsSettled};
 ghost use Rattle.wl_server.specs.Requests.{after_next, IsLentNext, IsServerNext};
 ghost use Rattle.wl_server.specs.Seen.{lent_in, lent_report, lent_request_in, report_in};
@@ -111,7 +111,7 @@ fn read<T: Table>(
     registries: &mut OpenRegistries<T::Alloc>,
     globals: &[Advertised],
 ) -> Result<Option<PendingRequest>, NextError>
-    requires sound { IsSound end.old.core.view registries.old.list }
+    requires sound { HasRegistries end.old.core.view registries.old.list }
     requires past { registries.old.past ≤ end.old.core.view.births }
     ensures answer { IsLentNext (whole_state end.old.core globals.now registries.old.list)
         (taken_in end.new.core end.new.args result) }
@@ -119,7 +119,7 @@ fn read<T: Table>(
         ≡ unless_memory (whole_state end.old.core globals.now registries.old.list)
         (after_next (whole_state end.old.core globals.now registries.old.list))
         (taken_in end.new.core end.new.args result) }
-    ensures sound { IsSound end.new.core.view registries.new.list }
+    ensures sound { HasRegistries end.new.core.view registries.new.list }
     ensures entry { IfOk result (λ read. IfSome read (λ request.
         look end.old.core.view request.outline.target.id ≡ Some request.entry)) }
     ensures settled { KeepsSettled registries.old registries.new }
@@ -142,7 +142,7 @@ fn read_owned<T: Table>(
     globals: &[Advertised],
     alloc: &T::Alloc,
 ) -> Result<Option<OwnedRequestWithEntry<T::Alloc>>, NextError>
-    requires sound { IsSound end.old.core.view registries.old.list }
+    requires sound { HasRegistries end.old.core.view registries.old.list }
     requires past { registries.old.past ≤ end.old.core.view.births }
     ensures answer { IsServerNext (whole_state end.old.core globals.now registries.old.list)
         (request_in result) }
@@ -150,7 +150,7 @@ fn read_owned<T: Table>(
         ≡ unless_memory (whole_state end.old.core globals.now registries.old.list)
         (after_next (whole_state end.old.core globals.now registries.old.list))
         (request_in result) }
-    ensures sound { IsSound end.new.core.view registries.new.list }
+    ensures sound { HasRegistries end.new.core.view registries.new.list }
     ensures entry { IfOk result (λ read. IfSome read (λ told.
         look end.old.core.view told.request.target.id ≡ Some told.entry)) }
     ensures settled { KeepsSettled registries.old registries.new }
@@ -228,7 +228,7 @@ fn take_request<T: Table>(
     request: &PendingRequest,
 ) -> Result<(), AllocError>
     requires can { CanTake end.old.core (pending_in end.old.core end.old.args request.now) }
-    requires sound { IsSound end.old.core.view registries.old.list }
+    requires sound { HasRegistries end.old.core.view registries.old.list }
     requires past { registries.old.past ≤ end.old.core.view.births }
     ensures args { end.new.args ≡ end.old.args }
     ensures core { OnOk result (end.new.core
@@ -239,7 +239,7 @@ fn take_request<T: Table>(
     ensures err { OnErr result
         ((end.new.core ≡ end.old.core) × (registries.new.list ≡ registries.old.list)) }
     ensures wants { OnErr result (request.now.change.made ≢ None) }
-    ensures sound { OnOk result (IsSound end.new.core.view registries.new.list) }
+    ensures sound { OnOk result (HasRegistries end.new.core.view registries.new.list) }
     ensures settled { KeepsSettled registries.old registries.new }
     ensures past { registries.new.past ≤ end.new.core.view.births }
 {

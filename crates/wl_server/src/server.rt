@@ -30,7 +30,7 @@ impl<'t, T: Table> Model for Server<'t, T> {
     ghost use Rattle.wl_object_map.specs.View.{view_code};
     ghost use Rattle.wl_connection.specs.Core.{max_globals};
     ghost use Rattle.wl_server.specs.State.{State};
-    ghost use Rattle.wl_server.specs.Registries.{HasRegistries, BirthsAreOnce};
+    ghost use Rattle.wl_server.specs.Registries.{HasRegistries};
     ghost use Rattle.wl_server.specs.Announcing.{owed_in};
     ghost use Rattle.wl_server.specs.Slots.{settled_in};
 
@@ -47,7 +47,6 @@ impl<'t, T: Table> Model for Server<'t, T> {
     ghost invariant = { λ s. record {
       few : length s.globals.items ≤ max_globals;
       registries : HasRegistries s.end.core.view s.registries.list;
-      births : BirthsAreOnce s.end.core.view;
       past : s.registries.past ≤ s.end.core.view.births;
       settled : owed_in s.globals.items (settled_in s.registries) ≡ [];
     } };

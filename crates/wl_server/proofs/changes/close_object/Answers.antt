@@ -14,6 +14,6 @@ returns-else-is_registry-clause-registries g c =
     let view = c.args.core.now.view in
     let object = c.args.object in
     let row = c.requires.row in
-    sym (no_registry view c.args.registries.now.list object row.entry row.row row.birth
+    sym (no_registry view c.args.registries.now.list object row.entry row.row
     (not_same view object.id row.entry c.is_registry-is_registry.result c.is_registry-is_registry.ensures
     c.if-is_registry.false row.row) c.requires.sound)

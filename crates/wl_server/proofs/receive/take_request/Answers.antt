@@ -5,8 +5,8 @@ use Rattle.wl_message.specs.Outgoing.{Outgoing}
 use Rattle.wl_connection.specs.Core.{Core, past, with_view}
 use Rattle.wl_connection.specs.Sending.{delete_id_len, fits}
 use Rattle.wl_server.specs.Steps.{core_by, core_without, pending_in, registries_by, registries_without}
-use Rattle.wl_server.proofs.Closings.{row_opened, sound_opened}
-use Rattle.wl_server.proofs.Registries.{sound_now}
+use Rattle.wl_server.proofs.Closings.{registries_opened, row_opened}
+use Rattle.wl_server.proofs.Registries.{has_now}
 use Rattle.wl_server.proofs.receive.take_request.Goals as goal
 
 pub open_new_object-requires-clause-free : goal.open_new_object-requires-clause-free
@@ -29,7 +29,7 @@ close_object-requires-clause-sound g c =
     let opened = c.in_ok-open_new_object.ensures in
     let view : c.pass.new.self.view ≡ opens core.view made =
     ap (λ (k : Core). k.view) c.pass.ensures ∙ ap (λ (k : Core). k.view) opened.core in
-    sound_opened core c.pass.new.self c.args.registries.now.list c.open_new_object.new.registries.list made view
+    registries_opened core c.pass.new.self c.args.registries.now.list c.open_new_object.new.registries.list made view
     opened.registries opened.fresh c.requires.sound
 
 pub close_object-requires-clause-not_display : goal.close_object-requires-clause-not_display
@@ -55,7 +55,7 @@ returns-in-Some-clause-sound g c =
     c.close_object.ensures.core ∙ (λ i. core_without (sym c.in-Some.is i) (passed i)) in
     let left : c.close_object.new.registries.list ≡ registries_by core registries step =
     c.close_object.ensures.registries ∙ (λ i. registries_without (sym c.in-Some.is i) (opened.registries i)) in
-    sound_now core c.close_object.new.core registries c.close_object.new.registries.list step c.requires.can now left
+    has_now core c.close_object.new.core registries c.close_object.new.registries.list step c.requires.can now left
     opened.fresh c.requires.sound
 
 pub returns-in_default-clause-sound : goal.returns-in_default-clause-sound
@@ -70,7 +70,7 @@ returns-in_default-clause-sound g c =
     let now : c.pass.new.self ≡ core_by core step = (λ i. core_without (sym c.in_default.is i) (passed i)) in
     let left : c.open_new_object.new.registries.list ≡ registries_by core registries step =
     (λ i. registries_without (sym c.in_default.is i) (opened.registries i)) in
-    sound_now core c.pass.new.self registries c.open_new_object.new.registries.list step c.requires.can now left
+    has_now core c.pass.new.self registries c.open_new_object.new.registries.list step c.requires.can now left
     opened.fresh c.requires.sound
 
 pub returns-in-Some-clause-settled : goal.returns-in-Some-clause-settled

@@ -1,15 +1,18 @@
 use Rattle.std.proofs.Common.{◌≡◌, ◌+◌, ◌<◌, ◌≤◌, ℕ, true, false, List, length, take, set, get_or, refl, sym, ap}
 use Rattle.std.proofs.Common.{subst, ◌∙◌, arith, rules, length-set}
-use Rattle.std.specs.Prelude.{Result, nat_eq}
+use Rattle.std.specs.Prelude.{Result}
 use Rattle.std.specs.declared.result.Result.TheVariants.{Ok, Err}
+use Rattle.std.proofs.lemmas.Bool.Decides.{nat_tests}
 use Rattle.std.proofs.lemmas.List.{set-get_or}
+use Rattle.wl_object_map.specs.declared.object.Object.{Object}
 use Rattle.std.proofs.lemmas.Fn.{always_returns_same}
 use Rattle.wl_server.specs.declared.registry.Slot.{Slot}
 use Rattle.wl_server.specs.State.{Registry}
-use Rattle.wl_server.specs.Registries.{registry_birth, without_registry}
+use Rattle.wl_server.specs.Registries.{without_object}
 use Rattle.wl_server.specs.Announcing.{owed_in}
 use Rattle.wl_server.specs.Slots.{KeptRegistries, SlotsRise, open_in, settled_in}
-use Rattle.wl_server.proofs.Slots.{IsAnswer, birth_in, fewer-open, found, not-found, past-set, rise-set, same-slot}
+use Rattle.wl_server.proofs.Slots.{IsAnswer, birth_in, fewer-open, found, not-found, other-id, past-set}
+use Rattle.wl_server.proofs.Slots.{rise-set, same-slot}
 use Rattle.wl_server.proofs.Slots.{settled-shut, without-closed}
 use Rattle.wl_server.proofs.open_registries.OpenRegistries.remove.Goals as goal
 
@@ -38,22 +41,35 @@ shut-keeps slots closed settled place slot other rising count front within here 
       settled = omega (arith, front, length-set slots place shut);
     }
 
+-- the slot that was found is that of the object, where its id is the object's
+the-object : (slots : List Slot) (place : ℕ) (slot other : Slot) (object : Object) → place < length slots
+    → slot ≡ get_or slots place slot → other ≡ get_or slots place other
+    → other.registry.object.id ≡ object.id → birth_in slot ≡ object.birth → slot.registry.object ≡ object
+the-object slots place slot other object within here there id birth =
+    let same = same-slot slots place slot other within here there in
+    λ i. record {
+      id = (ap (λ (s : Slot). s.registry.object.id) same ∙ id) i;
+      birth = birth i;
+    }
+
 pub returns-in_default-clause-list : goal.returns-in_default-clause-list
 returns-in_default-clause-list g c =
     let slots = c.self.inside.slots.items in
-    let birth = c.args.birth in
+    let object = c.args.object in
+    let birth = object.birth in
     let answer : IsAnswer birth slots (Err c.in_default.field-0) =
     subst (λ (r : Result ℕ ℕ). IsAnswer birth slots r) c.in_default.is
     (subst (λ (l : List Slot). IsAnswer birth l c.binary_search_by_key-found.result) c.deref.ensures.value
     (c.binary_search_by_key-found.ensures.position birth_in (always_returns_same _ _ _ (λ a r f' k. search rules)))) in
-    subst (λ (rs : List Registry). rs ≡ without_registry nat_eq registry_birth true birth rs)
+    subst (λ (rs : List Registry). rs ≡ without_object true object rs)
     (ap (λ (k : KeptRegistries). k.list) c.self.view_is)
-    (not-found birth 0 slots c.in_default.field-0 c.self.invariant.rising answer)
+    (not-found object 0 slots c.in_default.field-0 c.self.invariant.rising answer)
 
-pub returns-then-not-index-clause-list : goal.returns-then-not-index-clause-list
-returns-then-not-index-clause-list g c =
+pub returns-then-index-object-clause-list : goal.returns-then-index-object-clause-list
+returns-then-index-object-clause-list g c =
     let slots = c.self.inside.slots.items in
-    let birth = c.args.birth in
+    let object = c.args.object in
+    let birth = object.birth in
     let place = c.in-Ok.place in
     let slot = c.index.result.now in
     let answer : IsAnswer birth slots (Ok place) =
@@ -61,11 +77,32 @@ returns-then-not-index-clause-list g c =
     (subst (λ (l : List Slot). IsAnswer birth l c.binary_search_by_key-found.result) c.deref.ensures.value
     (c.binary_search_by_key-found.ensures.position birth_in (always_returns_same _ _ _ (λ a r f' k. search rules)))) in
     let within : place < length slots = omega (arith, c.in-Ok.ensures.bound, ap length c.deref.ensures.value) in
-    let same : set slots place slot ≡ slots = ap (set slots place) c.index.ensures ∙ set-get_or slots place slot in
-    subst (λ (rs : List Registry). rs ≡ without_registry nat_eq registry_birth true birth rs)
+    subst (λ (rs : List Registry). rs ≡ without_object true object rs)
     (ap (λ (k : KeptRegistries). k.list) c.self.view_is)
-    (ap open_in (sym same) ∙ without-closed birth 0 slots place slot slot c.self.invariant.rising within
-    c.index.ensures (found birth slots place slot answer c.index.ensures) c.if-not-index.true)
+    (other-id object 0 slots place slot c.self.invariant.rising within c.index.ensures
+    (found birth slots place slot answer c.index.ensures)
+    (λ id. (let test = c.if-index-object.true in grind (arith, nat_tests, id, test))))
+
+pub returns-then-not-index-clause-list : goal.returns-then-not-index-clause-list
+returns-then-not-index-clause-list g c =
+    let slots = c.self.inside.slots.items in
+    let object = c.args.object in
+    let birth = object.birth in
+    let place = c.in-Ok.place in
+    let slot = c.index-2.result.now in
+    let answer : IsAnswer birth slots (Ok place) =
+    subst (λ (r : Result ℕ ℕ). IsAnswer birth slots r) c.in-Ok.is
+    (subst (λ (l : List Slot). IsAnswer birth l c.binary_search_by_key-found.result) c.deref.ensures.value
+    (c.binary_search_by_key-found.ensures.position birth_in (always_returns_same _ _ _ (λ a r f' k. search rules)))) in
+    let within : place < length slots = omega (arith, c.in-Ok.ensures.bound, ap length c.deref.ensures.value) in
+    let same : set slots place slot ≡ slots = ap (set slots place) c.index-2.ensures ∙ set-get_or slots place slot in
+    let test = c.if-index-object.false in
+    let id : c.index.result.now.registry.object.id ≡ object.id = grind (arith, nat_tests, test) in
+    subst (λ (rs : List Registry). rs ≡ without_object true object rs)
+    (ap (λ (k : KeptRegistries). k.list) c.self.view_is)
+    (ap open_in (sym same) ∙ without-closed object 0 slots place slot slot c.self.invariant.rising within
+    c.index-2.ensures (the-object slots place slot c.index.result.now object within c.index-2.ensures c.index.ensures id
+    (found birth slots place slot answer c.index-2.ensures)) c.if-not-index.true)
 
 pub invariant_of-self : goal.invariant_of-self
 invariant_of-self g c =
@@ -73,8 +110,8 @@ invariant_of-self g c =
     let within : c.in-Ok.place < length slots =
     omega (arith, c.in-Ok.ensures.bound, ap length c.deref.ensures.value) in
     shut-keeps slots c.self.inside.closed c.self.inside.settled c.in-Ok.place c.index_mut.result.now
-    c.index.result.now c.self.invariant.rising c.self.invariant.closed c.self.invariant.settled within
-    c.index_mut.ensures.value c.index.ensures c.if-not-index.false
+    c.index-2.result.now c.self.invariant.rising c.self.invariant.closed c.self.invariant.settled within
+    c.index_mut.ensures.value c.index-2.ensures c.if-not-index.false
 
 pub invariant_of-self-else-self-len : goal.invariant_of-self-else-self-len
 invariant_of-self-else-self-len g c =
@@ -82,13 +119,14 @@ invariant_of-self-else-self-len g c =
     let within : c.in-Ok.place < length slots =
     omega (arith, c.in-Ok.ensures.bound, ap length c.deref.ensures.value) in
     shut-keeps slots c.self.inside.closed c.self.inside.settled c.in-Ok.place c.index_mut.result.now
-    c.index.result.now c.self.invariant.rising c.self.invariant.closed c.self.invariant.settled within
-    c.index_mut.ensures.value c.index.ensures c.if-not-index.false
+    c.index-2.result.now c.self.invariant.rising c.self.invariant.closed c.self.invariant.settled within
+    c.index_mut.ensures.value c.index-2.ensures c.if-not-index.false
 
 pub returns-then-self-len-clause-list : goal.returns-then-self-len-clause-list
 returns-then-self-len-clause-list g c =
     let slots = c.self.inside.slots.items in
-    let birth = c.args.birth in
+    let object = c.args.object in
+    let birth = object.birth in
     let place = c.in-Ok.place in
     let slot = c.index_mut.result.now in
     let answer : IsAnswer birth slots (Ok place) =
@@ -96,11 +134,14 @@ returns-then-self-len-clause-list g c =
     (subst (λ (l : List Slot). IsAnswer birth l c.binary_search_by_key-found.result) c.deref.ensures.value
     (c.binary_search_by_key-found.ensures.position birth_in (always_returns_same _ _ _ (λ a r f' k. search rules)))) in
     let within : place < length slots = omega (arith, c.in-Ok.ensures.bound, ap length c.deref.ensures.value) in
+    let test = c.if-index-object.false in
+    let id : c.index.result.now.registry.object.id ≡ object.id = grind (arith, nat_tests, test) in
     c.compact.ensures.list
-    ∙ without-closed birth 0 slots place slot (record { registry = slot.registry; is_open = false })
+    ∙ without-closed object 0 slots place slot (record { registry = slot.registry; is_open = false })
     c.self.invariant.rising within c.index_mut.ensures.value
-    (found birth slots place slot answer c.index_mut.ensures.value) refl
-    ∙ ap (λ (k : KeptRegistries). without_registry nat_eq registry_birth true birth k.list) c.self.view_is
+    (the-object slots place slot c.index.result.now object within c.index_mut.ensures.value c.index.ensures id
+    (found birth slots place slot answer c.index_mut.ensures.value)) refl
+    ∙ ap (λ (k : KeptRegistries). without_object true object k.list) c.self.view_is
 
 pub returns-then-self-len-clause-settled : goal.returns-then-self-len-clause-settled
 returns-then-self-len-clause-settled g c globals none =
@@ -124,7 +165,8 @@ returns-then-self-len-clause-past g c =
 pub returns-else-self-len-clause-list : goal.returns-else-self-len-clause-list
 returns-else-self-len-clause-list g c =
     let slots = c.self.inside.slots.items in
-    let birth = c.args.birth in
+    let object = c.args.object in
+    let birth = object.birth in
     let place = c.in-Ok.place in
     let slot = c.index_mut.result.now in
     let answer : IsAnswer birth slots (Ok place) =
@@ -132,10 +174,13 @@ returns-else-self-len-clause-list g c =
     (subst (λ (l : List Slot). IsAnswer birth l c.binary_search_by_key-found.result) c.deref.ensures.value
     (c.binary_search_by_key-found.ensures.position birth_in (always_returns_same _ _ _ (λ a r f' k. search rules)))) in
     let within : place < length slots = omega (arith, c.in-Ok.ensures.bound, ap length c.deref.ensures.value) in
-    without-closed birth 0 slots place slot (record { registry = slot.registry; is_open = false })
+    let test = c.if-index-object.false in
+    let id : c.index.result.now.registry.object.id ≡ object.id = grind (arith, nat_tests, test) in
+    without-closed object 0 slots place slot (record { registry = slot.registry; is_open = false })
     c.self.invariant.rising within c.index_mut.ensures.value
-    (found birth slots place slot answer c.index_mut.ensures.value) refl
-    ∙ ap (λ (k : KeptRegistries). without_registry nat_eq registry_birth true birth k.list) c.self.view_is
+    (the-object slots place slot c.index.result.now object within c.index_mut.ensures.value c.index.ensures id
+    (found birth slots place slot answer c.index_mut.ensures.value)) refl
+    ∙ ap (λ (k : KeptRegistries). without_object true object k.list) c.self.view_is
 
 pub returns-else-self-len-clause-settled : goal.returns-else-self-len-clause-settled
 returns-else-self-len-clause-settled g c globals none =

@@ -6,7 +6,7 @@ use Rattle.wl_server.specs.Announcing.{Fitting, after_announce, owed_in}
 use Rattle.wl_server.specs.Slots.{settled_in}
 use Rattle.wl_server.specs.Tellings.{IsAnnounced}
 use Rattle.wl_server.proofs.TellingGoesOn.{finished}
-use Rattle.wl_server.proofs.Registries.{births_told, has_told, past_told}
+use Rattle.wl_server.proofs.Registries.{has_told, past_told}
 use Rattle.wl_server.proofs.server.Server.announce.Goals as goal
 
 pub announce-told-requires-clause-settled : goal.announce-told-requires-clause-settled
@@ -24,7 +24,6 @@ invariant_of-self g c =
     record {
       few = c.self.invariant.few;
       registries = has_told core registries _ _ now left.list told c.self.invariant.registries;
-      births = births_told core registries _ _ now left.list told c.self.invariant.births;
       past = past_told core registries _ _ now left.list left.past told
           (omega (arith, c.announce-told.ensures.past, c.self.invariant.past));
       settled = ap (λ (gs : List Global). owed_in gs (settled_in left)) (sym c.deref.ensures.value)

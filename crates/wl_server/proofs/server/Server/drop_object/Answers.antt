@@ -8,8 +8,8 @@ use Rattle.wl_connection.specs.Core.{Core}
 use Rattle.wl_connection.specs.Outcomes.{refusal_in}
 use Rattle.wl_server.specs.Calls.{after_drop, drop_refusal}
 use Rattle.wl_server.specs.State.{Registry}
-use Rattle.wl_server.specs.Registries.{HasRegistries, BirthsAreOnce}
-use Rattle.wl_server.proofs.Registries.{has_dropped, births_closed}
+use Rattle.wl_server.specs.Registries.{HasRegistries}
+use Rattle.wl_server.proofs.Registries.{has_dropped}
 use Rattle.wl_server.proofs.server.Server.drop_object.Goals as goal
 
 has_by : {X : Type 0} (rs : List Registry) (object : Object) (r : Result X SendError) (before now : Core)
@@ -19,13 +19,6 @@ has_by : {X : Type 0} (rs : List Registry) (object : Object) (r : Result X SendE
 has_by rs object (Ok x) before now a ok err v h =
     subst (λ (k : Core). HasRegistries k.view rs) (sym ok) (has_dropped before rs object v a h)
 has_by rs object (Err why) before now a ok err v h = subst (λ (k : Core). HasRegistries k.view rs) (sym err) h
-
-births_by : {X E : Type 0} (object : Object) (r : Result X E) (before now : Core)
-    → OnOk r (now ≡ after_drop before object) → OnErr r (now ≡ before) → BirthsAreOnce before.view
-    → BirthsAreOnce now.view
-births_by object (Ok x) before now ok err b = subst (λ (k : Core). BirthsAreOnce k.view) (sym ok)
-    (births_closed before.view object.id b)
-births_by object (Err why) before now ok err b = subst (λ (k : Core). BirthsAreOnce k.view) (sym err) b
 
 past_by : {X E : Type 0} (past : ℕ) (object : Object) (r : Result X E) (before now : Core)
     → OnOk r (now ≡ after_drop before object) → OnErr r (now ≡ before) → past ≤ before.view.births
@@ -40,8 +33,6 @@ invariant_of-self g c =
       few = c.self.invariant.few;
       registries = has_by c.self.inside.registries.list c.args.object c.close_dropped.result c.self.inside.end.core
           c.close_dropped.new.core e.answer e.ok e.err e.valid c.self.invariant.registries;
-      births = births_by c.args.object c.close_dropped.result c.self.inside.end.core c.close_dropped.new.core e.ok e.err
-          c.self.invariant.births;
       past = past_by c.self.inside.registries.past c.args.object c.close_dropped.result c.self.inside.end.core
           c.close_dropped.new.core e.ok e.err c.self.invariant.past;
       settled = c.self.invariant.settled;

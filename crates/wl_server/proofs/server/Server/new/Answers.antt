@@ -1,11 +1,9 @@
 use Rattle.std.proofs.Common.{rules, sym, ap, subst, ◌∙◌, arith, []}
-use Rattle.wl_sigs.specs.Fixed.{display}
-use Rattle.wl_object_map.specs.View.{View, opening}
-use Rattle.wl_object_map.specs.Sounds.{Sound-opening}
+use Rattle.wl_object_map.specs.View.{View}
 use Rattle.wl_connection.specs.Core.{Core}
 use Rattle.wl_server.specs.Announcing.{owed_in}
-use Rattle.wl_server.specs.Registries.{HasRegistries, BirthsAreOnce}
-use Rattle.wl_server.proofs.Registries.{has_none, births_of_sound}
+use Rattle.wl_server.specs.Registries.{HasRegistries}
+use Rattle.wl_server.proofs.Registries.{has_none}
 use Rattle.wl_server.proofs.server.Server.new.Goals as goal
 
 pub returns : goal.returns
@@ -18,7 +16,6 @@ invariant_of-result g c =
       few = grind (arith, c.new-globals.ensures.items);
       registries = subst (HasRegistries c.new-2.result.core.view) (sym c.new-registries.ensures.list)
           (subst (λ (v : View). HasRegistries v []) (sym view) has_none);
-      births = subst BirthsAreOnce (sym view) (births_of_sound (opening display) (Sound-opening display));
       past = omega (arith, c.new-registries.ensures.past);
       settled = ap (owed_in c.new-globals.result.items) c.new-registries.ensures.settled;
     }

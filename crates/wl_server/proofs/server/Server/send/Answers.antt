@@ -6,8 +6,8 @@ use Rattle.wl_sigs.specs.declared.signature.Side.TheVariants.{Event}
 use Rattle.wl_objects.specs.Writing.{given}
 use Rattle.wl_connection.specs.Core.{Core}
 use Rattle.wl_connection.specs.Sending.{after_send}
-use Rattle.wl_server.specs.Registries.{HasRegistries, BirthsAreOnce}
-use Rattle.wl_server.proofs.Registries.{births_sent, has_sent, past_sent}
+use Rattle.wl_server.specs.Registries.{HasRegistries}
+use Rattle.wl_server.proofs.Registries.{has_sent, past_sent}
 use Rattle.wl_server.proofs.server.Server.send.Goals as goal
 
 -- what held of the end before holds of it after, where it does after an accepted call
@@ -30,9 +30,6 @@ invariant_of-self g c =
           sent e.ok e.err e.valid
           (λ v is. has_sent core now c.self.inside.registries.list c.args.target c.args.opcode list v is
           c.self.invariant.registries) c.self.invariant.registries;
-      births = by_result (λ (k : Core). BirthsAreOnce k.view) c.send.result core now sent e.ok e.err e.valid
-          (λ v is. births_sent core now c.args.target c.args.opcode list v is c.self.invariant.births)
-          c.self.invariant.births;
       past = by_result (λ (k : Core). c.self.inside.registries.past ≤ k.view.births) c.send.result core now sent e.ok
           e.err e.valid
           (λ v is. past_sent core now c.self.inside.registries.past c.args.target c.args.opcode list v is
