@@ -109,7 +109,7 @@ about (Name x) = x
 about (Destroyed x) = x
 about (Delete x) = x
 
--- its object is one of the client's first births, so many of them
+-- its object's birth is one of the client's, below this count
 abbrev pub IsBelow : ℕ → Tell → Type 0
 IsBelow births t = IsAmongFirst births (about t).born.birth
 

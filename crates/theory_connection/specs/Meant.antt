@@ -29,7 +29,7 @@ same_maker _ _ = false
 abbrev pub same_birth : Birth → Birth → Bool
 same_birth b c = same_maker b.maker c.maker && nat_eq b.number c.number
 
--- It is one of the client's first births, so many of them.
+-- The birth is one of the client's, below this count.
 pub record IsAmongFirst (births : ℕ) (b : Birth) : Type 0 where
   pub maker : b.maker ≡ Client
   pub number : b.number < births
