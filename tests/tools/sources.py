@@ -166,12 +166,10 @@ class Definitions(unittest.TestCase):
     ends = ["wl_client", "wl_server"]
     # What the objects of both ranges of ids have of one table's.
     of_both_ranges = {f"wl_object_map/specs/{it}.antt" for it in ("Objects", "ObjectsLaws")}
-    # These stand for other things in crates further up.
-    told_by_their_crates = {"AreSound", "at", "at_client", "id_at", "place_of", "used"}
 
     def test_one_name_for_one_thing(self):
         """What both ends have of a kind has one name in both, and what one table has in the objects of both
-        ranges. No other name stands twice, but for a few."""
+        ranges. No other name stands twice."""
         places = {}
         for path in sorted(glob.glob(f"{TOP}/crates/*/specs/*.antt")):
             with open(path, encoding="utf-8") as file:
@@ -184,7 +182,7 @@ class Definitions(unittest.TestCase):
             of_a_table = set(homes) == {"wl_object_map"} and self.of_both_ranges & set(files)
             if len(files) > 1 and homes != self.ends and not of_a_table:
                 twice[name] = files
-        self.assertEqual(twice.keys(), self.told_by_their_crates, twice)
+        self.assertEqual(twice, {})
 
 
 class Functions(unittest.TestCase):

@@ -20,7 +20,7 @@ pub record TellsOfPair (tables : List Interface) (pair : PairState) (text : List
   pub agree : Bool
   pub exact : IsTrue agree ↔ Agree pair.client.core.view pair.server.core.view
   pub whole : text ≡ trace_of tables (session_of usual_limit pair.recording)
-      ++ agreement_line agree (row_count pair.client.core.view.rows)
+      ++ agreement_line agree (row_count pair.client.core.view.client.rows)
 
 -- The text tells of two ends that began new, after the session of both, of which each carry moved
 -- at most `piece` bytes.

@@ -29,7 +29,7 @@ pub record Ends {C S : Type 0} (c : KnownStream C) (s : KnownStream S) (tables :
   pub played : PlaysOver c s (socket_steps tables) (begin tables client_stream server_stream) last
   pub passed : pieces ≡ last.pair.recording
   pub exact : IsTrue agree ↔ Agree last.pair.client.core.view last.pair.server.core.view
-  pub counted : objects ≡ row_count last.pair.client.core.view.rows
+  pub counted : objects ≡ row_count last.pair.client.core.view.client.rows
 
 -- The text is the trace of what passed in the session over these two streams, and a last line,
 -- which says that both ends have the same objects then, all live, and how many.

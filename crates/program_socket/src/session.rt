@@ -151,7 +151,7 @@ impl<'t, T: Table + Drop, C: Read + Write + Drop, S: Read + Write + Drop> Sessio
     fn ended(self) -> SessionOutcome<T::Alloc>
         ensures agree { IsTrue result.agree
             ↔ Agree self.entry.client.core.view self.entry.server.core.view }
-        ensures objects { result.objects ≡ row_count self.entry.client.core.view.rows }
+        ensures objects { result.objects ≡ row_count self.entry.client.core.view.client.rows }
         ensures passed { result.recording ≡ self.entry.recording }
     {
         SessionOutcome {

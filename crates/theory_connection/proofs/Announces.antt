@@ -19,7 +19,8 @@ use Rattle.wl_sigs.specs.Valid.{Valid}
 use Rattle.wl_message.specs.Outgoing.{queued}
 use Rattle.wl_objects.specs.declared.error.SendError.{SendError}
 use Rattle.wl_object_map.specs.declared.object.Object.{Object}
-use Rattle.wl_object_map.specs.View.{View, max_ids}
+use Rattle.wl_object_map.specs.View.{max_ids}
+use Rattle.wl_object_map.specs.Objects.{Objects}
 use Rattle.wl_objects.specs.Writing.{message_bytes, message_len}
 use Rattle.wl_connection.specs.Core.{Core}
 use Rattle.wl_connection.specs.Sending.{with_sent}
@@ -45,7 +46,7 @@ use Rattle.theory_connection.specs.Stands.{StandsBy, TellsFitly, IsGlobal}
 use Rattle.wl_connection.specs.Core.{max_globals}
 use Rattle.theory_connection.proofs.WholeInFlight.{ThereRow, each_more}
 use Rattle.theory_connection.proofs.RowsAfterMessage.{there_row, made_map, Aged}
-use Rattle.theory_connection.proofs.Calls.{row_low}
+use Rattle.theory_connection.proofs.MadeByClient.{row_low}
 use Rattle.theory_connection.proofs.EndedObject.{born_ends}
 use Rattle.theory_connection.proofs.EventWritten.{CanTell, told_core, tell_stands}
 use Rattle.theory_connection.proofs.ServerSendMoves.{tells_world}
@@ -97,7 +98,7 @@ pub record IsDue (tables : List Interface) (given : List Global) (s : Rows Born)
   pub there : s.rows d.object.id ≡ Some (record { birth = birth_at d.object; iface = registry; version = version })
   pub owing : IsOwing tables given d.owing
 
-dues_of : (tables : List Interface) (given : List Global) (v : View) (o : Object) (os : List Owing) → Aged v
+dues_of : (tables : List Interface) (given : List Global) (v : Objects) (o : Object) (os : List Owing) → Aged v
     → IsRegistry v o → Each (IsOwing tables given) os
     → Each (IsDue tables given (server_rows v)) (map (λ x. record { object = o; owing = x }) os)
 dues_of tables given v o [] a i h = tt
@@ -112,7 +113,7 @@ dues_of tables given v o (x ∷ os) a i h = (
   dues_of tables given v o os a i h.1,
 )
 
-all_due : (tables : List Interface) (given : List Global) (v : View) (rs : List Registry) → length given ≤ max_globals
+all_due : (tables : List Interface) (given : List Global) (v : Objects) (rs : List Registry) → length given ≤ max_globals
     → Each (IsGlobal tables) given → Aged v → ((o : Object) → IsAmong o rs → IsRegistry v o)
     → Each (IsDue tables given (server_rows v)) (owed_in given rs)
 all_due tables given v [] l g a i = tt
@@ -374,7 +375,7 @@ pub record Told (p : PairState) (w : World) (asked : List (Message Known)) (earl
   pub told : List (Coming Known)
   pub news : List (Coming Known)
   pub added : told ≡ earlier ++ news
-  pub below : Each (IsBelow p.server.core.view.births) (all_tells news)
+  pub below : Each (IsBelow p.server.core.view.client.births) (all_tells news)
   pub not_ended : NotEnded after_all world
   pub announces : AnnouncesThose p.server.core.tables w (map owed_of ds) world
   pub stands_by : StandsBy after_all world asked told
@@ -446,8 +447,8 @@ tell_all p w asked told s z (d ∷ ds) i =
       told = r.told;
       news = Event m ∷ r.news;
       added = r.added ∙ append_assoc told (Event m ∷ []) r.news;
-      below = each_more (IsBelow p.server.core.view.births) (tells (Event m)) (all_tells r.news)
-          (event_below (server_rows p.server.core.view) p.server.core.view.births s.server.sets.below m can.target
+      below = each_more (IsBelow p.server.core.view.client.births) (tells (Event m)) (all_tells r.news)
+          (event_below (server_rows p.server.core.view) p.server.core.view.client.births s.server.sets.below m can.target
           can.args tt) r.below;
       not_ended = r.not_ended;
       announces = more (writes_due p w asked told s d i.0) r.announces;

@@ -22,27 +22,29 @@ use Rattle.wl_object_map.specs.declared.object.Entry.{Entry}
 use Rattle.wl_object_map.specs.declared.object.State.{State}
 use Rattle.wl_object_map.specs.declared.object.State.TheVariants as states
 use Rattle.wl_objects.specs.declared.error.SendError.{SendError}
-use Rattle.wl_object_map.specs.View.{View, Sound, look, max_ids, next_id}
-use Rattle.wl_object_map.specs.Views
+use Rattle.wl_object_map.specs.View.{next_id}
+use Rattle.wl_object_map.specs.Objects.{Objects, look}
 use Rattle.wl_objects.specs.Reading.{is_of}
 use Rattle.wl_message.specs.Cut.{greatest_limit}
 use Rattle.wl_objects.specs.Writing.{Given, suits, has_no_nul, wrong_place, lost_place}
 use Rattle.wl_objects.specs.Writing.{is_live_as, row_is_of, can_name, wired, tokens_of, message_len}
 use Rattle.wl_objects.specs.Messages.{NewObject, made, live_row, checked, checked_by, checked_as}
 use Rattle.wl_objects.specs.Messages.{unless_hidden, unless_wrong, is_hidden}
+use Rattle.theory_connection.specs.Stands.{MadeByClient}
 use Rattle.theory_connection.specs.Meant.{Birth, client_birth, Born, Known, Arg, rearg, born_of, birth_of, wire}
 use Rattle.theory_connection.specs.Meant.{tokens, new_object_in, made_in, objects, born_of_entry, live_entry}
 use Rattle.theory_connection.specs.World.{Each, IfThere}
 use Rattle.theory_connection.specs.Answers.{handed}
 use Rattle.theory_connection.specs.Stands.{SuitKinds, NamesRightly}
 use Rattle.theory_connection.specs.Runs.{FitsWords}
+use Rattle.theory_connection.proofs.MadeByClient.{row_low}
 use Rattle.wl_object_map.specs.View.{lives}
 use Rattle.wl_objects.specs.Messages.{or_else}
 
 -- ---- what stands where nothing stands against a write
 
 -- what the checks of a call say where nothing stands against it
-pub record Checked (limit : ℕ) (tables : List Interface) (side : Side) (view : View) (target : Object) (opcode : ℕ)
+pub record Checked (limit : ℕ) (tables : List Interface) (side : Side) (view : Objects) (target : Object) (opcode : ℕ)
     (given : List Given) (signature : sigs.MessageSignature) : Type 0 where
   pub entry : Entry
   pub there : look view target.id ≡ Some entry
@@ -94,7 +96,7 @@ fine limit None None len signature s h = let k = of_len (nat_lt limit len) signa
 fine limit None (Some place) len signature s h = absurd (cc h)
 fine limit (Some place) lost len signature s h = absurd (cc h)
 
-record AsChecked (limit : ℕ) (view : View) (given : List Given) (entry : Entry) (o : Option sigs.MessageSignature)
+record AsChecked (limit : ℕ) (view : Objects) (given : List Given) (entry : Entry) (o : Option sigs.MessageSignature)
     (s : sigs.MessageSignature) : Type 0 where
   there : o ≡ Some s
   old_enough : s.since ≤ entry.version
@@ -102,7 +104,7 @@ record AsChecked (limit : ℕ) (view : View) (given : List Given) (entry : Entry
   found : lost_place (look view) 0 s.kinds given ≡ None
   len : message_len (map (wired 0) given) ≤ limit
 
-not_old : (limit : ℕ) (view : View) (given : List Given) (entry : Entry) (s t : sigs.MessageSignature) (b : Bool)
+not_old : (limit : ℕ) (view : Objects) (given : List Given) (entry : Entry) (s t : sigs.MessageSignature) (b : Bool)
     (why : SendError) → nat_lt entry.version s.since ≡ b
     → cond b (Err why) (unless_wrong limit (wrong_place 0 s.kinds given) (lost_place (look view) 0 s.kinds given)
     (message_len (map (wired 0) given)) s) ≡ Ok t → AsChecked limit view given entry (Some s) t
@@ -112,7 +114,7 @@ not_old limit view given entry s t false why e h =
     subst (λ (x : sigs.MessageSignature). AsChecked limit view given entry (Some s) x) f.same
     (record { there = refl; old_enough = ltb-false _ _ e; suit = f.suit; found = f.found; len = f.short })
 
-as_checked : (limit : ℕ) (view : View) (given : List Given) (entry : Entry) (o : Option sigs.MessageSignature)
+as_checked : (limit : ℕ) (view : Objects) (given : List Given) (entry : Entry) (o : Option sigs.MessageSignature)
     (s : sigs.MessageSignature)
     → checked_as limit view given entry o ≡ Ok s → AsChecked limit view given entry o s
 as_checked limit view given entry None s h = absurd (cc h)
@@ -123,7 +125,7 @@ not_hidden : (b : Bool) (o : Option sigs.MessageSignature) (s : sigs.MessageSign
 not_hidden true o s h = absurd (cc h)
 not_hidden false o s h = (refl, h)
 
-by_checked : (limit : ℕ) (tables : List Interface) (side : Side) (view : View) (target : Object) (opcode : ℕ)
+by_checked : (limit : ℕ) (tables : List Interface) (side : Side) (view : Objects) (target : Object) (opcode : ℕ)
     (given : List Given) (s : sigs.MessageSignature) (o : Option Entry) → live_row view target ≡ o
     → checked_by limit tables side view opcode given o ≡ Ok s → Checked limit tables side view target opcode given s
 by_checked limit tables side view target opcode given s None e h = absurd (cc h)
@@ -146,7 +148,7 @@ by_checked limit tables side view target opcode given s (Some entry) e h =
     }
 
 -- a call that nothing stands against is checked
-pub is_checked : (limit : ℕ) (tables : List Interface) (side : Side) (view : View) (target : Object) (opcode : ℕ)
+pub is_checked : (limit : ℕ) (tables : List Interface) (side : Side) (view : Objects) (target : Object) (opcode : ℕ)
     (given : List Given) (s : sigs.MessageSignature) → checked limit tables side view target opcode given ≡ Ok s
     → Checked limit tables side view target opcode given s
 is_checked limit tables side view target opcode given s h =
@@ -159,37 +161,37 @@ abbrev pub born_at : Option Entry → Born
 born_at None = record { birth = client_birth 0; iface = record { 0 = 0 }; version = 0 }
 born_at (Some e) = born_of_entry e
 
-abbrev pub resolve : View → Option Object → Option Known
+abbrev pub resolve : Objects → Option Object → Option Known
 resolve view None = None
 resolve view (Some object) = Some (record { id = object.id; born = born_at (look view object.id) })
 
 -- what a given argument means, with this new object
-abbrev pub meant : View → Known → Given → Arg Known
+abbrev pub meant : Objects → Known → Given → Arg Known
 meant view new a = reshaped (resolve view) (λ _. new) (λ t. t) a
 
 -- the new object of a call
-abbrev pub new_known : View → Option NewObject → Known
+abbrev pub new_known : Objects → Option NewObject → Known
 new_known view None = record {
-  id = next_id view;
-  born = record { birth = client_birth view.births; iface = record { 0 = 0 }; version = 0 };
+  id = next_id view.client;
+  born = record { birth = client_birth view.client.births; iface = record { 0 = 0 }; version = 0 };
 }
 new_known view (Some m) = record {
-  id = next_id view;
-  born = record { birth = client_birth view.births; iface = m.iface; version = m.version };
+  id = next_id view.client;
+  born = record { birth = client_birth view.client.births; iface = m.iface; version = m.version };
 }
 
-wire_one : (view : View) (new : Known) (a : Given) → wire (meant view new a) ≡ wired new.id a
+wire_one : (view : Objects) (new : Known) (a : Given) → wire (meant view new a) ≡ wired new.id a
 wire_one view new (Obj None) = refl
 wire_one view new a = refl
 
 -- what is meant goes out as what was given
-pub wire_all : (view : View) (new : Known) (given : List Given)
+pub wire_all : (view : Objects) (new : Known) (given : List Given)
     → map wire (map (meant view new) given) ≡ map (wired new.id) given
 wire_all view new [] = refl
 wire_all view new (a ∷ given) = rw (wire_one view new a, wire_all view new given) refl
 
 -- its tokens are those given
-pub tokens_all : (view : View) (new : Known) (given : List Given)
+pub tokens_all : (view : Objects) (new : Known) (given : List Given)
     → tokens (map (meant view new) given) ≡ tokens_of given
 tokens_all view new [] = refl
 tokens_all view new (Obj None ∷ given) = tokens_all view new given
@@ -197,12 +199,12 @@ tokens_all view new (Fd z ∷ given) = ap (λ (l : List ℕ). z ∷ l) (tokens_a
 tokens_all view new (a ∷ given) = tokens_all view new given
 
 -- each suits its kind, and can be named
-pub record Right (view : View) (kind : Kind) (a : Given) : Type 0 where
+pub record Right (view : Objects) (kind : Kind) (a : Given) : Type 0 where
   pub suit : suits kind a ≡ true
   pub named : can_name (look view) kind a ≡ true
 
 -- each given argument is as its kind asks, and names an object that is there
-abbrev pub AllRight : View → List Kind → List Given → Type 0
+abbrev pub AllRight : Objects → List Kind → List Given → Type 0
 AllRight view [] [] = Unit {0}
 AllRight view (k ∷ ks) (a ∷ given) = Right view k a × AllRight view ks given
 AllRight view _ _ = ⊥
@@ -212,7 +214,7 @@ if_none true o p h = (refl, h)
 if_none false o p h = absurd (cc h)
 
 -- with no wrong and no lost place all arguments are right
-pub all_right : (view : View) (place : ℕ) (ks : List Kind) (given : List Given) → wrong_place place ks given ≡ None
+pub all_right : (view : Objects) (place : ℕ) (ks : List Kind) (given : List Given) → wrong_place place ks given ≡ None
     → lost_place (look view) place ks given ≡ None → AllRight view ks given
 all_right view place [] [] w l = tt
 all_right view place [] (a ∷ given) w l = absurd (cc w)
@@ -224,7 +226,7 @@ all_right view place (k ∷ ks) (a ∷ given) w l =
 
 -- ---- it names what was handed
 
-handed_one : (view : View) (new : Known) (births : ℕ) (k : Kind) (a : Given)
+handed_one : (view : Objects) (new : Known) (births : ℕ) (k : Kind) (a : Given)
     → new.born.birth ≡ client_birth births → Right view k a
     → rearg birth_of (rearg born_of (meant view new a)) ≡ handed births a
 handed_one view new births k (Obj None) e r = refl
@@ -236,7 +238,7 @@ handed_one view new births k (NewNamed name own x) e r = ap (λ (b : Birth). New
 handed_one view new births k a e r = refl
 
 -- what is meant, by births, is what was handed
-pub handed_all : (view : View) (new : Known) (births : ℕ) (ks : List Kind) (given : List Given)
+pub handed_all : (view : Objects) (new : Known) (births : ℕ) (ks : List Kind) (given : List Given)
     → new.born.birth ≡ client_birth births → AllRight view ks given
     → map (rearg birth_of) (map (rearg born_of) (map (meant view new) given)) ≡ map (handed births) given
 handed_all view new births [] [] e r = refl
@@ -248,19 +250,19 @@ handed_all view new births (k ∷ ks) (a ∷ given) e r =
 -- ---- its objects
 
 -- a live object, with its row
-pub record LiveAt (view : View) (x : Known) : Type 0 where
+pub record LiveAt (view : Objects) (x : Known) : Type 0 where
   pub entry : Entry
   pub there : look view x.id ≡ Some entry
   pub same : born_of_entry entry ≡ x.born
   pub live : entry.state ≡ states.Live
 
-pub live_at : (view : View) (k : Kind) (x : Object) → can_name (look view) k (Obj (Some x)) ≡ true
+pub live_at : (view : Objects) (k : Kind) (x : Object) → can_name (look view) k (Obj (Some x)) ≡ true
     → LiveAt view (record { id = x.id; born = born_at (look view x.id) })
 live_at view k x h = let l = live_as x.birth (look view x.id) (and_parts _ _ h).0
     in record { entry = l.entry; there = l.there; same = ap born_at (sym l.there); live = l.live }
 
 -- each object that is meant is live
-pub all_live : (view : View) (new : Known) (ks : List Kind) (given : List Given) → AllRight view ks given
+pub all_live : (view : Objects) (new : Known) (ks : List Kind) (given : List Given) → AllRight view ks given
     → Each (LiveAt view) (objects (map (meant view new) given))
 all_live view new [] [] r = tt
 all_live view new [] (a ∷ given) r = absurd r
@@ -288,7 +290,7 @@ unnamed_rest : (k : Kind) (ks : List Kind) → All (λ x. x ≢ kinds.New None) 
 unnamed_rest k ks h = All-tail (λ (x : Kind). x ≢ kinds.New None) k ks h
 
 -- each kind that makes an object makes just the new one
-pub matches : (tables : List Interface) (view : View) (version id : ℕ) (ks : List Kind) (given : List Given)
+pub matches : (tables : List Interface) (view : Objects) (version id : ℕ) (ks : List Kind) (given : List Given)
     → AllRight view ks given → length (new_objects ks) ≤ 1 → All (λ x. x ≢ kinds.New None) ks
     → Each (Matches (new_known view (made tables version ks (map (wired id) given))) version) ks
 matches tables view version id [] [] r h u = tt
@@ -324,16 +326,7 @@ no_nul text e k d h z =
     let f : list_any (λ b. nat_eq b 0) text ≡ false = not-true (list_any (λ b. nat_eq b 0) text) e in
     both_ways _ f (list_any_at (λ (b : ℕ). nat_eq b 0) text k d h (eq-eqb _ 0 z))
 
--- an id with a row is from 1 to the last id
-pub row_low : (view : View) (id : ℕ) (e : Entry) → Sound view → look view id ≡ Some e → (0 < id) × (id ≤ max_ids)
-row_low view id e s h = elim (Views.place_of_id view s id) [
-  | Views.in_row d l t a b ↦ (a, omega (arith, b, s.ids_end))
-  | Views.in_list l t a b ↦ absurd (cc (l, h))
-  | Views.at_null l t z ↦ absurd (cc (l, h))
-  | Views.unused l t a ↦ absurd (cc (l, h))
-]
-
-fit_one : (tables : List Interface) (view : View) (new : Known) (version : ℕ) (k : Kind) (a : Given) → Sound view
+fit_one : (tables : List Interface) (view : Objects) (new : Known) (version : ℕ) (k : Kind) (a : Given) → MadeByClient view
     → new.id < 2 ^ 32 → Right view k a → Matches new version k → FitsWords a → spelled_len (wired 0 a) ≤ greatest_limit
     → Suits k (wire (meant view new a)) × NamesRightly tables version k (meant view new a)
 fit_one tables view new version kinds.Int (Int z) s n r m g l = (g, tt)
@@ -363,8 +356,8 @@ fit_one tables view new version kinds.Fd (Fd z) s n r m g l = (tt, tt)
 fit_one tables view new version _ _ s n r m g l = absurd (cc r.suit)
 
 -- what is meant fits the kinds
-pub fit_all : (tables : List Interface) (view : View) (new : Known) (version : ℕ) (ks : List Kind) (given : List Given)
-    → Sound view → new.id < 2 ^ 32 → AllRight view ks given → Each (Matches new version) ks
+pub fit_all : (tables : List Interface) (view : Objects) (new : Known) (version : ℕ) (ks : List Kind) (given : List Given)
+    → MadeByClient view → new.id < 2 ^ 32 → AllRight view ks given → Each (Matches new version) ks
     → Each FitsWords given → message_len (map (wired 0) given) ≤ greatest_limit
     → SuitKinds tables version ks (map (meant view new) given)
 fit_all tables view new version [] [] s n r m g l = tt
@@ -382,7 +375,7 @@ abbrev pub NewIs : Known → List (Arg Known) → Type 0
 NewIs new args = Each (λ a. IfThere (λ x. x ≡ new) (new_object_in a)) args
 
 -- each new object that is meant is this one
-pub new_all : (view : View) (new : Known) (given : List Given) → NewIs new (map (meant view new) given)
+pub new_all : (view : Objects) (new : Known) (given : List Given) → NewIs new (map (meant view new) given)
 new_all view new [] = tt
 new_all view new (New x ∷ given) = (refl, new_all view new given)
 new_all view new (NewNamed name own x ∷ given) = (refl, new_all view new given)
@@ -424,7 +417,7 @@ pub one_new : (new : Known) (args : List (Arg Known)) → NewIs new args
 one_new new args h = elim (made_new new args h) [ inl p ↦ none_in args args p | inr p ↦ some_in new args args p h ]
 
 -- a new object has the version that its kind asks for
-pub version_of : (view : View) (new : Known) (version : ℕ) (ks : List Kind) (given : List Given)
+pub version_of : (view : Objects) (new : Known) (version : ℕ) (ks : List Kind) (given : List Given)
     → AllRight view ks given → Each (Matches new version) ks → (made_in (map (meant view new) given) ≡ None → ⊥)
     → new.born.version ≡ version
 version_of view new version [] [] r m h = absurd (h refl)
@@ -444,7 +437,7 @@ version_of view new version (_ ∷ ks) (_ ∷ given) r m h = absurd (cc r.0.suit
 -- ---- a call that makes no object
 
 -- kinds that make nothing make no object
-pub no_made : (view : View) (new : Known) (ks : List Kind) (given : List Given) → AllRight view ks given
+pub no_made : (view : Objects) (new : Known) (ks : List Kind) (given : List Given) → AllRight view ks given
     → length (new_objects ks) ≤ 0 → made_in (map (meant view new) given) ≡ None
 no_made view new [] [] r h = refl
 no_made view new [] (a ∷ given) r h = absurd r
@@ -463,7 +456,7 @@ no_made view new (_ ∷ ks) (_ ∷ given) r h = absurd (cc r.0.suit)
 none_rest : (a : Arg Known) (args : List (Arg Known)) → made_in (a ∷ args) ≡ None → made_in args ≡ None
 none_rest a args h = (or_none (new_object_in a) (made_in args) h).1
 
-handed_if : (view : View) (new : Known) (births : ℕ) (k : Kind) (a : Given) → new_object_in (meant view new a) ≡ None
+handed_if : (view : Objects) (new : Known) (births : ℕ) (k : Kind) (a : Given) → new_object_in (meant view new a) ≡ None
     → Right view k a → rearg birth_of (rearg born_of (meant view new a)) ≡ handed births a
 handed_if view new births k (Obj None) e r = refl
 handed_if view new births k (Obj (Some x)) e r =
@@ -474,7 +467,7 @@ handed_if view new births k (NewNamed name own x) e r = absurd (cc e)
 handed_if view new births k a e r = refl
 
 -- where nothing is made, no argument hands a new object
-pub handed_none : (view : View) (new : Known) (births : ℕ) (ks : List Kind) (given : List Given)
+pub handed_none : (view : Objects) (new : Known) (births : ℕ) (ks : List Kind) (given : List Given)
     → made_in (map (meant view new) given) ≡ None → AllRight view ks given
     → map (rearg birth_of) (map (rearg born_of) (map (meant view new) given)) ≡ map (handed births) given
 handed_none view new births [] [] e r = refl

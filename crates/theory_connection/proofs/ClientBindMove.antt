@@ -25,7 +25,8 @@ use Rattle.wl_object_map.specs.declared.object.Entry.{Entry}
 use Rattle.wl_object_map.specs.declared.object.State.TheVariants as states
 use Rattle.wl_objects.specs.declared.error.SendError.{SendError}
 use Rattle.wl_objects.specs.declared.error.SendError.TheVariants as refusals
-use Rattle.wl_object_map.specs.View.{View, look, next_id, can_open, opened_at}
+use Rattle.wl_object_map.specs.View.{next_id, can_open}
+use Rattle.wl_object_map.specs.Objects.{Objects, look, opened_at}
 use Rattle.wl_objects.specs.Writing.{bind_values, is_live_as, message_bytes}
 use Rattle.wl_objects.specs.Messages.{live_row, same_iface}
 use Rattle.wl_connection.specs.Sending.{opening_answer}
@@ -46,7 +47,8 @@ use Rattle.theory_connection.proofs.Bridges.{next_fresh}
 use Rattle.theory_connection.proofs.EndedObject.{born_ends}
 use Rattle.theory_connection.proofs.Registries.{registry_plain}
 use Rattle.theory_connection.proofs.RequestRead.{test_of}
-use Rattle.theory_connection.proofs.Calls.{live_as, row_low}
+use Rattle.theory_connection.proofs.Calls.{live_as}
+use Rattle.theory_connection.proofs.MadeByClient.{row_low}
 use Rattle.theory_connection.proofs.Written.{opens}
 use Rattle.theory_connection.proofs.Places.{place_there, name_text, bytes_same, bytes_self}
 use Rattle.theory_connection.proofs.Announces.{each_get}
@@ -162,13 +164,13 @@ given_at P given (suc k) g e h = each_get P given k g e h
 
 -- ---- the request
 
-abbrev pub the_bound : View → ℕ → Iface → Known
+abbrev pub the_bound : Objects → ℕ → Iface → Known
 the_bound v version place = record {
-  id = next_id v;
-  born = record { birth = client_birth v.births; iface = place; version = version };
+  id = next_id v.client;
+  born = record { birth = client_birth v.client.births; iface = place; version = version };
 }
 
-abbrev pub bind_message : View → Entry → Object → ℕ → List ℕ → ℕ → Iface → Message Known
+abbrev pub bind_message : Objects → Entry → Object → ℕ → List ℕ → ℕ → Iface → Message Known
 bind_message v entry target name iface version place = record {
   target = record { id = target.id; born = born_of_entry entry };
   opcode = 0;
@@ -179,14 +181,14 @@ bind_message v entry target name iface version place = record {
 same_is : (a b : Iface) → same_iface a b ≡ true → a ≡ b
 same_is a b h = let e : a.0 ≡ b.0 = eqb-true a.0 b.0 h in λ i. record { 0 = e i }
 
-open_row : (v : View) (id : ℕ) (e : Entry) → look v id ≡ Some e → e.state ≡ states.Live
+open_row : (v : Objects) (id : ℕ) (e : Entry) → look v id ≡ Some e → e.state ≡ states.Live
     → (client_rows v).rows id ≡ Some (Open (born_of_entry e))
 open_row v id e h l = ap (option_map row_of_entry) h ∙ ap (λ s. Some (as_row s (born_of_entry e))) l
 
 pub bind_can : (p : PairState) (w : World) (asked : List (Message Known)) (told : List (Coming Known))
     (s : StandsBy p w asked told) (target : Object) (name : ℕ) (iface : List ℕ) (version : ℕ) (new : Option Object)
     → (b : Bound p.client target name iface version new)
-    (n : Names p.server.core.tables p.client.globals iface version name) → can_open p.client.core.view ≡ true
+    (n : Names p.server.core.tables p.client.globals iface version name) → can_open p.client.core.view.client ≡ true
     → CanAsk p (bind_message p.client.core.view b.entry target name iface version n.global.iface)
 bind_can p w asked told s target name iface version new b n can =
     let v = p.client.core.view in
@@ -205,11 +207,11 @@ bind_can p w asked told s target name iface version new b n can =
     ap (place_of tables) (sym n.named) ∙ place_there tables s.terms.valid n.global.iface n.interface n.place in
     let reg : b.entry.iface ≡ registry = same_is b.entry.iface registry b.registers in
     let x : Known = record {
-      id = next_id v;
+      id = next_id v.client;
       born =
-          record { birth = client_birth v.births; iface = n.global.iface; version = version };
+          record { birth = client_birth v.client.births; iface = n.global.iface; version = version };
     } in
-    let fresh = next_fresh v x s.client.sound can refl refl in
+    let fresh = next_fresh v x s.client.sound.tables can refl refl in
     let fits_name : name_fits iface (interface_at tables given.global.iface.0) ≡ true =
     ap (λ (i : Iface). name_fits iface (interface_at tables i.0)) given.iface_is ∙ ap (name_fits iface) n.place
     ∙ ap (λ (l : List ℕ). bytes_eq l iface) n.named ∙ bytes_self iface in
@@ -229,7 +231,7 @@ bind_can p w asked told s target name iface version new b n can =
               (
                 (text, omega (arith, n.most, g.word, given.version_is), omega (arith, fresh.low)),
                 ap
-                    (option_map (λ (i : Iface). record { id = next_id v; iface = i; version = version })) place,
+                    (option_map (λ (i : Iface). record { id = next_id v.client; iface = i; version = version })) place,
               ),
               tt,
             ),
@@ -284,10 +286,10 @@ left_by : (st : client.State) (entry : Entry) (target : Object) (name : ℕ) (if
 left_by st entry target name iface version g e =
     λ i. record st {
       core = record st.core {
-        view = opened_at st.core.view (next_id st.core.view) (iface_or (e i)) version;
+        view = opened_at st.core.view (next_id st.core.view.client) (iface_or (e i)) version;
         outbox = record st.core.outbox {
           messages = st.core.outbox.messages
-              ++ queued (message_bytes target.id 0 (bind_values name iface version (next_id st.core.view))) [] ∷ [];
+              ++ queued (message_bytes target.id 0 (bind_values name iface version (next_id st.core.view.client))) [] ∷ [];
         };
       };
     }

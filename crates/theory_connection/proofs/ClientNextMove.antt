@@ -184,7 +184,7 @@ at_delete p w x cs asked s n z e reply p' d =
     let i = in_delete p w x cs asked s n e in
     let f = the_found n (deleting x) (live_entry world.display_born) i.signature in
     let a = answer_is p f s.client.lives i.finds_it in
-    let b = delete_answer p x n i.entry i.signature i.deletes_it.mortal i.there i.count in
+    let b = delete_answer p x n i.entry i.signature s.client.sound i.deletes_it.mortal i.there i.count in
     keeps_delete p w x cs asked s n z e i reply p' d
     (subst (λ st. Nexts needs_memory (Ok (Some (reports.Deleted (record { id = x.id; birth = i.entry.birth })))) p
     (with_client p st) reply p') (a.leaves ∙ b.leaves)

@@ -18,11 +18,13 @@ use Rattle.wl_message.specs.Outgoing.{queued}
 use Rattle.wl_object_map.specs.declared.object.Object.{Object}
 use Rattle.wl_object_map.specs.declared.object.Entry.{Entry}
 use Rattle.wl_objects.specs.declared.error.SendError.{SendError}
-use Rattle.wl_object_map.specs.View.{View, Sound, look, next_id, can_open}
+use Rattle.wl_object_map.specs.View.{next_id, can_open}
+use Rattle.wl_object_map.specs.Objects.{Objects, look}
 use Rattle.wl_objects.specs.Writing.{Given, wired, message_bytes}
 use Rattle.wl_objects.specs.Messages.{NewObject, made, ended_id, after, checked}
 use Rattle.wl_connection.specs.Core.{Core}
 use Rattle.wl_connection.specs.Sending.{send_answer, after_send, after_checked, made_at, version_at, opens_object}
+use Rattle.theory_connection.specs.Stands.{MadeByClient}
 use Rattle.theory_connection.specs.Meant.{client_birth, Born, Known, Arg, object_at, ended_by, tokens, wire}
 use Rattle.theory_connection.specs.Meant.{Message, Coming, renamed, born_of, birth_of, made_in, objects}
 use Rattle.theory_connection.specs.Meant.{born_of_entry, live_entry}
@@ -63,7 +65,7 @@ moved t u side m e f = record {
   no_error = f.no_error;
 }
 
-open_live : (v : View) (x : Known) → LiveAt v x → OpenRow (client_rows v) x
+open_live : (v : Objects) (x : Known) → LiveAt v x → OpenRow (client_rows v) x
 open_live v x l = ap (option_map row_of_entry) l.there ∙ ap (λ s. Some (as_row s (born_of_entry l.entry))) l.live
     ∙ ap (λ (b : Born). Some (Open b)) l.same
 
@@ -73,16 +75,16 @@ if_map P f None h = tt
 if_map P f (Some x) h = h
 
 -- what the new object is, where there is one
-new_fits : (v : View) (new : Known) (o : Option Known) → Sound v → new.id ≡ next_id v
-    → new.born.birth ≡ client_birth v.births
-    → (o ≡ None) ⊎ (o ≡ Some new) → IfThere (λ (x : Known). can_open v ≡ true) o
-    → IfThere (Fresh (client_rows v)) o × IfThere (λ x. x.id ≡ next_id v) o
+new_fits : (v : Objects) (new : Known) (o : Option Known) → MadeByClient v → new.id ≡ next_id v.client
+    → new.born.birth ≡ client_birth v.client.births
+    → (o ≡ None) ⊎ (o ≡ Some new) → IfThere (λ (x : Known). can_open v.client ≡ true) o
+    → IfThere (Fresh (client_rows v)) o × IfThere (λ x. x.id ≡ next_id v.client) o
 new_fits v new None s i b h c = (tt, tt)
 new_fits v new (Some x) s i b h c =
     let e : x ≡ new = elim h [ inl p ↦ absurd (cc p) | inr p ↦ cc ] in
-    let id : x.id ≡ next_id v = ap (λ (k : Known). k.id) e ∙ i in
-    let birth : x.born.birth ≡ client_birth v.births = ap (λ (k : Known). k.born.birth) e ∙ b in
-    (next_fresh v x s c id birth, id)
+    let id : x.id ≡ next_id v.client = ap (λ (k : Known). k.id) e ∙ i in
+    let birth : x.born.birth ≡ client_birth v.client.births = ap (λ (k : Known). k.born.birth) e ∙ b in
+    (next_fresh v x s.tables c id birth, id)
 
 -- wl_display stays
 pub not_display : (p : PairState) (w : World) (asked : List (Message Known)) (told : List (Coming Known))
@@ -106,7 +108,7 @@ valid_client p w asked told s = subst Valid (sym s.terms.same_tables) s.terms.va
 pub made_same : (core : Core) (target : Object) (given : List Given) (signature : sigs.MessageSignature) (entry : Entry)
     → look core.view target.id ≡ Some entry → made_at core target signature given ≡ the_made core entry given signature
 made_same core target given signature entry h = ap
-    (λ o. made core.tables (version_at o) signature.kinds (map (wired (next_id core.view)) given)) h
+    (λ o. made core.tables (version_at o) signature.kinds (map (wired (next_id core.view.client)) given)) h
 
 signed_there : (p : PairState) (w : World) (asked : List (Message Known)) (told : List (Coming Known))
     (s : StandsBy p w asked told) (target : Object) (opcode : ℕ) (given : List Given)
@@ -169,8 +171,8 @@ client_can p w asked told s target opcode given signature new c k o =
     let m = the_call core c.entry target opcode given signature in
     let f = moved core.tables tables Request m s.terms.same_tables k.fits_it in
     let there = signed_there p w asked told s target opcode given signature c in
-    let can = if_map (can_open v ≡ true) made_of (made_in m.args)
-    (subst (IfThere (λ (x : NewObject). can_open v ≡ true))
+    let can = if_map (can_open v.client ≡ true) made_of (made_in m.args)
+    (subst (IfThere (λ (x : NewObject). can_open v.client ≡ true))
     (made_same core target given signature c.entry c.there ∙ k.made_is) o.can) in
     let n = new_fits v (the_new core c.entry given signature) (made_in m.args) s.client.sound
     (new_id v (the_made core c.entry given signature))
@@ -226,8 +228,8 @@ new_births : (o : Option Known) (births id : ℕ) → IfThere (λ x. x.born.birt
 new_births None births id h = refl
 new_births (Some x) births id h = ap Some h
 
-fresh_births : (v : View) (o : Option Known) → IfThere (Fresh (client_rows v)) o
-    → IfThere (λ x. x.born.birth ≡ client_birth v.births) o
+fresh_births : (v : Objects) (o : Option Known) → IfThere (Fresh (client_rows v)) o
+    → IfThere (λ x. x.born.birth ≡ client_birth v.client.births) o
 fresh_births v None h = tt
 fresh_births v (Some x) h = h.birth
 
@@ -247,7 +249,7 @@ asks_world p w asked told s m c =
     (rw (objects_map born_of m.args) (each_map born_of (IsOpen w.client) (objects m.args)
     (each_by (OpenRow (client_rows v)) (λ (x : Known). IsOpen w.client x.born)
     (λ x h. s.client.sets.shown x.id (Open x.born) h) (objects m.args) c.args)))
-    (rw (made_map born_of m.args, s.client.births) (if_born v.births (made_in m.args) births))
+    (rw (made_map born_of m.args, s.client.births) (if_born v.client.births (made_in m.args) births))
 
 pub sends_that : (p : PairState) (w : World) (asked : List (Message Known)) (told : List (Coming Known))
     (s : StandsBy p w asked told) (target : Object) (opcode : ℕ) (given : List Given)
@@ -272,8 +274,8 @@ sends_that p w asked told s target opcode given signature new c k o can =
       args_are = handed_all v (the_new core c.entry given signature) w.births signature.kinds given
           (new_birth v (the_made core c.entry given signature) ∙ ap client_birth (sym s.client.births)) k.right;
       new_is = ap (option_map birth_of) (made_map born_of m.args)
-          ∙ new_births (made_in m.args) v.births (next_id v) births
-          ∙ ap (option_map birth_at) (ap (option_map (λ (y : NewObject). record { id = next_id v; birth = v.births }))
+          ∙ new_births (made_in m.args) v.client.births (next_id v.client) births
+          ∙ ap (option_map birth_at) (ap (option_map (λ (y : NewObject). record { id = next_id v.client; birth = v.client.births }))
           (sym (made_same core target given signature c.entry c.there ∙ k.made_is)) ∙ sym o.is);
       steps = asks_world p w asked told s m can;
     }

@@ -12,7 +12,7 @@ use Rattle.wl_sigs.specs.Tables.{Interface, MessageSignature as Signature, destr
 use Rattle.wl_sigs.specs.Fixed as fixed
 use Rattle.wl_sigs.specs.Fixed.{registry}
 use Rattle.wl_sigs.specs.Valid.{Valid}
-use Rattle.wl_object_map.specs.View.{View}
+use Rattle.wl_object_map.specs.Objects.{Objects}
 use Rattle.wl_objects.specs.Messages.{NewObject, after, opens, destroyed, ended_id}
 use Rattle.wl_connection.proofs.Ends.{the_destroy, is_the_destroy}
 use Rattle.theory_connection.specs.Stands.{FitsSignature, SuitKinds}
@@ -128,12 +128,12 @@ pub record EndsAs (what : Destroys) (id : ℕ) (o : Option Known) : Type 0 where
   pub same : IfThere (λ x. x.id ≡ id) o
 
 -- the objects of the end that writes this side, without what a message destroys
-abbrev pub ended_view : Side → View → Option Known → View
+abbrev pub ended_view : Side → Objects → Option Known → Objects
 ended_view side v None = v
 ended_view side v (Some x) = destroyed side v x.id
 
 -- the view after a message is that with what it ends ended
-pub after_is : (side : Side) (v : View) (new : Option NewObject) (what : Destroys) (id : ℕ) (o : Option Known)
+pub after_is : (side : Side) (v : Objects) (new : Option NewObject) (what : Destroys) (id : ℕ) (o : Option Known)
     → EndsAs what id o → after side v new what id ≡ ended_view side (opens v new) o
 after_is side v new Nothing id None e = refl
 after_is side v new Nothing id (Some x) e = absurd (let f = e.flag in cc f)

@@ -19,7 +19,7 @@ use Rattle.wl_message.specs.Cut.{Whole}
 use Rattle.wl_object_map.specs.declared.object.Entry.{Entry}
 use Rattle.wl_object_map.specs.declared.object.State.{State}
 use Rattle.wl_object_map.specs.declared.object.State.TheVariants as states
-use Rattle.wl_object_map.specs.View.{View, look, closed}
+use Rattle.wl_object_map.specs.Objects.{Objects, look, closed}
 use Rattle.wl_objects.specs.Reading.{descriptors}
 use Rattle.wl_objects.specs.Messages.{is_error, is_delete_id, same_iface}
 use Rattle.wl_objects.specs.Messages.{after, ended_id, after_delete_id}
@@ -37,7 +37,8 @@ use Rattle.theory_connection.specs.World.{is_open_row, is_registry, learned, nam
 use Rattle.theory_connection.specs.Pair.{PairState, with_client}
 use Rattle.theory_connection.specs.Flight.{Rows, IsHeldInRows, ReadsInFlight, all_tells, client_rows, row_of_entry}
 use Rattle.theory_connection.specs.Flight.{as_row}
-use Rattle.theory_connection.specs.Stands.{StandsBy, FitsSignature, WasGiven, InFlight, ShowsBirths, birth_in}
+use Rattle.theory_connection.proofs.MadeByClient.{row_of_client}
+use Rattle.theory_connection.specs.Stands.{MadeByClient, StandsBy, FitsSignature, WasGiven, InFlight, ShowsBirths, birth_in}
 use Rattle.wl_object_map.specs.View.{lives}
 use Rattle.theory_connection.proofs.WholeInFlight.{client_ends, TellsAt, tells_at, DeletesAt, deletes_at}
 use Rattle.theory_connection.proofs.Bridges.{client_closed}
@@ -55,14 +56,14 @@ birth_bare : (s : State) (b : Born) → birth_in (as_row s b) ≡ b.birth
 birth_bare states.Live b = refl
 birth_bare states.Zombie b = refl
 
-pub record SeenAt (v : View) (sets : Birth → Option Row) (x : Known) : Type 0 where
+pub record SeenAt (v : Objects) (sets : Birth → Option Row) (x : Known) : Type 0 where
   pub entry : Entry
   pub there : look v x.id ≡ Some entry
   pub same : born_of_entry entry ≡ x.born
   pub shown : sets x.born.birth ≡ Some (row_of_entry entry)
 
-pub seen_at : (v : View) (sets : Birth → Option Row)
-    → ShowsBirths birth_in (client_rows v).rows v.births sets → (x : Known)
+pub seen_at : (v : Objects) (sets : Birth → Option Row)
+    → ShowsBirths birth_in (client_rows v).rows v.client.births sets → (x : Known)
     → IsHeldInRows (client_rows v) x → SeenAt v sets x
 seen_at v sets s x h =
     let r = held_row v x h in
@@ -71,7 +72,7 @@ seen_at v sets s x h =
     ∙ ap birth_of r.same in
     record { entry = r.entry; there = r.there; same = r.same; shown = ap sets (sym b) ∙ shown }
 
-pub held_at_client : (v : View) (sets : Birth → Option Row) → ShowsBirths birth_in (client_rows v).rows v.births sets
+pub held_at_client : (v : Objects) (sets : Birth → Option Row) → ShowsBirths birth_in (client_rows v).rows v.client.births sets
     → (x : Known) → 0 < x.id → IsHeldInRows (client_rows v) x → HeldAt v sets x
 held_at_client v sets s x some h = let r = seen_at v sets s x h
     in record { some = some; entry = r.entry; there = r.there; same = r.same; shown = r.shown }
@@ -353,11 +354,13 @@ pub record DeleteAnswer (p : PairState) (x : Known) (n : ℕ) (entry : Entry) (s
       ≡ after_delete p.client x n
 
 -- what the client says of a delete, and how it leaves the client
-pub delete_answer : (p : PairState) (x : Known) (n : ℕ) (entry : Entry) (signature : sigs.MessageSignature) → x.id ≢ 1
+pub delete_answer : (p : PairState) (x : Known) (n : ℕ) (entry : Entry) (signature : sigs.MessageSignature)
+    → MadeByClient p.client.core.view → x.id ≢ 1
     → look p.client.core.view x.id ≡ Some entry → descriptors signature.kinds ≡ 0 → DeleteAnswer p x n entry signature
-delete_answer p x n entry signature y l c =
+delete_answer p x n entry signature s y row c =
     let b : nat_eq x.id 1 ≡ false = ne_eqb x.id 1 y in
     let v = p.client.core.view in
+    let l = row_of_client v x.id entry s row in
     let gone : after_delete_id v x.id ≡ closed v x.id = rw (l, b) refl in
     record {
       tells_it = rw (b, l) refl;

@@ -4,7 +4,7 @@ use Rattle.std.specs.declared.option.Option.TheVariants.{None, Some}
 use Rattle.std.proofs.lemmas.List.{append_assoc}
 use Rattle.wl_sigs.specs.declared.signature.Side.TheVariants.{Event as event_side}
 use Rattle.wl_objects.specs.Writing.{message_len}
-use Rattle.wl_object_map.specs.View.{look, closed}
+use Rattle.wl_object_map.specs.Objects.{look, closed}
 use Rattle.wl_connection.specs.Core.{Core}
 use Rattle.wl_connection.proofs.Messages.{whole_within}
 use Rattle.wl_server.proofs.Registries.{has_fewer}

@@ -13,11 +13,12 @@ use Rattle.wl_sigs.specs.Tables as sigs
 use Rattle.wl_message.specs.Arrived.{in_front}
 use Rattle.wl_message.specs.Cut.{Whole}
 use Rattle.wl_object_map.specs.declared.object.Entry.{Entry}
-use Rattle.wl_object_map.specs.View.{View, Sound, look}
+use Rattle.wl_object_map.specs.Objects.{Objects, look}
 use Rattle.wl_objects.specs.Writing.{spelled as spelled_values, message_bytes}
 use Rattle.wl_objects.specs.Messages.{reader_of, Received, received}
 use Rattle.wl_connection.specs.Core.{Core}
 use Rattle.wl_connection.specs.Receiving.{Found, found, found_at, found_in, header_of}
+use Rattle.theory_connection.specs.Stands.{MadeByClient}
 use Rattle.theory_connection.specs.Meant.{Birth, Known, Message, Arg, wire, tokens, spelled_meant, new_object_in}
 use Rattle.theory_connection.specs.Meant.{made_in, objects, born_of_entry}
 use Rattle.theory_connection.specs.World.{Row, Each, IfThere}
@@ -66,7 +67,7 @@ finds core side m n rows entry f e b l s k t =
 -- ---- all is there
 
 -- each argument meets its object or a free id
-pub all_met : (tables : List Interface) (version : ℕ) (view : View) (rows : Birth → Option Row) (There : Known → Type 0)
+pub all_met : (tables : List Interface) (version : ℕ) (view : Objects) (rows : Birth → Option Row) (There : Known → Type 0)
     → ((x : Known) → 0 < x.id → There x → HeldAt view rows x)
     → (ks : List Kind) (args : List (Arg Known)) → SuitKinds tables version ks args → Each There (objects args)
     → Each (λ a. IfThere (FreeAt view) (new_object_in a)) args → AllMet view rows args
@@ -85,7 +86,7 @@ all_met tables version view rows There f (k ∷ ks) (arg ∷ args) a o n =
     (tt, all_met tables version view rows There f ks args a.1 o n.1)
 
 -- what is fresh is free to the server's tests
-pub news_free : (view : View) (args all : List (Arg Known)) → Sound view
+pub news_free : (view : Objects) (args all : List (Arg Known)) → MadeByClient view
     → IfThere (Fresh (server_rows view)) (made_in all)
     → Each (λ a. IfThere (λ x. made_in all ≡ Some x) (new_object_in a)) args
     → Each (λ a. IfThere (FreeAt view) (new_object_in a)) args
@@ -94,10 +95,10 @@ news_free view args all s g h =
     (λ (a : Arg Known). IfThere (FreeAt view) (new_object_in a))
     (λ a k. if_by {P = λ (x : Known). made_in all ≡ Some x} {Q = FreeAt view}
     (λ x e. let f : Fresh (server_rows view) x = subst (IfThere (Fresh (server_rows view))) e g
-    in record { free = fresh_free view x s f; room = fresh_room view x f; birth = f.birth }) (new_object_in a) k) args h
+    in record { free = fresh_free view x s.tables f; room = fresh_room view x f; birth = f.birth }) (new_object_in a) k) args h
 
 -- none is new
-pub news_none : (view : View) (args all : List (Arg Known)) → made_in all ≡ None
+pub news_none : (view : Objects) (args all : List (Arg Known)) → made_in all ≡ None
     → Each (λ a. IfThere (λ x. made_in all ≡ Some x) (new_object_in a)) args
     → Each (λ a. IfThere (FreeAt view) (new_object_in a)) args
 news_none view args all g h =

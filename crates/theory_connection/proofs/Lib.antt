@@ -4,6 +4,7 @@ pub mod WholeInFlight
 pub mod Sets
 pub mod Channels
 pub mod Bridges
+pub mod MadeByClient
 pub mod ReadAsMeant
 pub mod RowsAfterMessage
 pub mod Stands

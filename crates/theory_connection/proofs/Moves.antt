@@ -7,7 +7,7 @@ use Rattle.wl_sigs.specs.declared.signature.Side.TheVariants.{Request as request
 use Rattle.wl_message.specs.Arrived.{in_front}
 use Rattle.wl_message.specs.Cut.{Whole}
 use Rattle.wl_message.specs.Outgoing.{Outgoing}
-use Rattle.wl_object_map.specs.View.{View}
+use Rattle.wl_object_map.specs.Objects.{Objects}
 use Rattle.wl_object_map.specs.declared.object.Entry.{Entry}
 use Rattle.wl_objects.specs.Messages.{is_bind}
 use Rattle.wl_client.specs.declared.globals.Global.{Global as Remembered}
@@ -74,7 +74,7 @@ event_below s births b m h hs e =
 -- ---- what happens
 
 -- the pair whose server has told something
-abbrev pub told_pair : PairState → View → Outgoing → List Registry → PairState
+abbrev pub told_pair : PairState → Objects → Outgoing → List Registry → PairState
 told_pair p view outbox registries = with_server p
     (record p.server { core = record p.server.core { view = view; outbox = outbox }; registries = registries })
 
@@ -89,14 +89,14 @@ pub data LeadsTo (p : PairState) (asked : List (Message Known)) (told : List (Co
       (is_bind request_side m.target.born.iface m.opcode ≡ true → BindsRemembered p.client.globals m.args)
       → LeadsTo p asked told (asked_pair p m) (asked ++ m ∷ []) told
   -- the server wrote events or deletes, of births that it has counted
-  telling : (view : View) (outbox : Outgoing) (registries : List Registry) (news : List (Coming Known))
-      → view.births ≡ p.server.core.view.births
-      → Each (IsBelow p.server.core.view.births) (all_tells news)
+  telling : (view : Objects) (outbox : Outgoing) (registries : List Registry) (news : List (Coming Known))
+      → view.client.births ≡ p.server.core.view.client.births
+      → Each (IsBelow p.server.core.view.client.births) (all_tells news)
       → LeadsTo p asked told (told_pair p view outbox registries) asked (told ++ news)
   -- the server read the first request, and wrote the delete of what it destroys
   reading_request : (m : Message Known) (ms : List (Message Known)) (n : ℕ) → asked ≡ m ∷ ms
       → in_front p.server.core.inbox ≡ Whole n
-      → IfThere (λ x. IsAmongFirst p.server.core.view.births x.born.birth) m.ends
+      → IfThere (λ x. IsAmongFirst p.server.core.view.client.births x.born.birth) m.ends
       → LeadsTo p asked told (with_server p (left_state p.server m n)) ms (told ++ delete m.ends)
   -- the client read the first of what comes
   reading_event : (m : Message Known) (cs : List (Coming Known)) (n : ℕ) (entry : Entry) → told ≡ Event m ∷ cs

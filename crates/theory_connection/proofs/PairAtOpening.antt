@@ -14,9 +14,9 @@ use Rattle.wl_message.specs.Arrived.{Arrived}
 use Rattle.wl_object_map.specs.declared.object.Entry.{Entry}
 use Rattle.wl_object_map.specs.declared.object.State.{State}
 use Rattle.wl_object_map.specs.declared.object.State.TheVariants as states
-use Rattle.wl_object_map.specs.View.{look, opening as opening_view}
-use Rattle.wl_object_map.specs.Views.{look-opening}
-use Rattle.wl_object_map.specs.Sounds.{Sound-opening}
+use Rattle.wl_object_map.specs.Objects.{look, opening as opening_view}
+use Rattle.wl_object_map.specs.ObjectsLaws.{look-opening}
+use Rattle.theory_connection.proofs.MadeByClient.{made_opening}
 use Rattle.wl_connection.specs.Core.{Core, is_drained}
 use Rattle.wl_server.proofs.Registries.{has_none}
 use Rattle.theory_connection.specs.Meant.{Birth, Known, Message, Coming, birth_of, spelled_meant, spelled_coming}
@@ -83,14 +83,14 @@ new_stands_by tables client_sizes server_sizes one v = record {
   client = record {
     sets = shows_opening birth_in row_of_entry refl;
     births = refl;
-    sound = Sound-opening display;
+    sound = made_opening;
     display = look-opening display 1;
     versions = λ id e h. opening_aged (nat_eq id 1) e (sym (look-opening display id) ∙ h);
     lives = refl;
   };
   server = record {
     sets = shows_opening birth_of born_of_entry refl;
-    sound = Sound-opening display;
+    sound = made_opening;
     display = look-opening display 1;
     versions = λ id e h. opening_aged (nat_eq id 1) e (sym (look-opening display id) ∙ h);
     live = λ id e h. opening_live (nat_eq id 1) e (sym (look-opening display id) ∙ h);

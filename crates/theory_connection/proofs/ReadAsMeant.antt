@@ -24,7 +24,8 @@ use Rattle.wl_object_map.specs.declared.object.Object.{Object}
 use Rattle.wl_object_map.specs.declared.object.Entry.{Entry}
 use Rattle.wl_object_map.specs.declared.object.State.{State}
 use Rattle.wl_object_map.specs.declared.object.State.TheVariants as states
-use Rattle.wl_object_map.specs.View.{View, look, free_or_next, has_room}
+use Rattle.wl_object_map.specs.View.{free_or_next, has_room}
+use Rattle.wl_object_map.specs.Objects.{Objects, look}
 use Rattle.wl_objects.specs.declared.lookup.NewId.{NewId}
 use Rattle.wl_objects.specs.declared.lookup.NewId.TheVariants.{Free}
 use Rattle.wl_objects.specs.Reading.{Reader, value_fault, iface_of, is_of, arguments_at, value_or_fault}
@@ -42,7 +43,7 @@ use Rattle.theory_connection.specs.Stands.{FitsSignature, SuitKinds, NamesRightl
 use Rattle.wl_objects.specs.Messages.{or_else}
 
 -- the object of an argument is held where its reader stands, and the rows of the world show it
-pub record HeldAt (view : View) (rows : Birth → Option Row) (x : Known) : Type 0 where
+pub record HeldAt (view : Objects) (rows : Birth → Option Row) (x : Known) : Type 0 where
   pub some : 0 < x.id
   pub entry : Entry
   pub there : look view x.id ≡ Some entry
@@ -50,19 +51,19 @@ pub record HeldAt (view : View) (rows : Birth → Option Row) (x : Known) : Type
   pub shown : rows x.born.birth ≡ Some (row_of_entry entry)
 
 -- a new object fits
-pub record FreeAt (view : View) (x : Known) : Type 0 where
-  pub free : free_or_next view x.id ≡ true
-  pub room : has_room view x.id ≡ true
-  pub birth : x.born.birth ≡ client_birth view.births
+pub record FreeAt (view : Objects) (x : Known) : Type 0 where
+  pub free : free_or_next view.client x.id ≡ true
+  pub room : has_room view.client x.id ≡ true
+  pub birth : x.born.birth ≡ client_birth view.client.births
 
-abbrev pub Met : View → (Birth → Option Row) → Arg Known → Type 0
+abbrev pub Met : Objects → (Birth → Option Row) → Arg Known → Type 0
 Met view rows (Obj (Some x)) = HeldAt view rows x
 Met view rows (New x) = FreeAt view x
 Met view rows (NewNamed name own x) = FreeAt view x
 Met view rows _ = Unit {0}
 
 -- each argument meets its object or a free id
-abbrev pub AllMet : View → (Birth → Option Row) → List (Arg Known) → Type 0
+abbrev pub AllMet : Objects → (Birth → Option Row) → List (Arg Known) → Type 0
 AllMet view rows [] = Unit {0}
 AllMet view rows (a ∷ args) = Met view rows a × AllMet view rows args
 
@@ -205,7 +206,7 @@ received_by_any tables side r m header waiting o f ho hp k w =
       ho,
     ) refl
 
-object_held : (view : View) (rows : Birth → Option Row) (x : Known) → HeldAt view rows x → HasObject (reader_of view) x
+object_held : (view : Objects) (rows : Birth → Option Row) (x : Known) → HeldAt view rows x → HasObject (reader_of view) x
 object_held view rows x h = record {
   entry = h.entry;
   there = h.there;
@@ -213,20 +214,20 @@ object_held view rows x h = record {
   version = ap (λ (b : Born). b.version) h.same;
 }
 
-one_found : (view : View) (rows : Birth → Option Row) (a : Arg Known) → Met view rows a → Finds (reader_of view) a
+one_found : (view : Objects) (rows : Birth → Option Row) (a : Arg Known) → Met view rows a → Finds (reader_of view) a
 one_found view rows (Obj None) m = tt
 one_found view rows (Obj (Some x)) m = object_held view rows x m
 one_found view rows (New x) m = rw (m.free, m.room) refl
 one_found view rows (NewNamed name own x) m = rw (m.free, m.room) refl
 one_found view rows a m = tt
 
-all_found : (view : View) (rows : Birth → Option Row) (args : List (Arg Known)) → AllMet view rows args
+all_found : (view : Objects) (rows : Birth → Option Row) (args : List (Arg Known)) → AllMet view rows args
     → Each (Finds (reader_of view)) args
 all_found view rows [] m = tt
 all_found view rows (a ∷ args) m = (one_found view rows a m.0, all_found view rows args m.1)
 
 -- by an end
-pub received_right : (tables : List Interface) (side : Side) (view : View) (rows : Birth → Option Row)
+pub received_right : (tables : List Interface) (side : Side) (view : Objects) (rows : Birth → Option Row)
     (m : Message Known) (header : Header) (waiting : ℕ) (entry : Entry) (f : FitsSignature tables side m)
     → header.object ≡ m.target.id → header.opcode ≡ m.opcode → look view m.target.id ≡ Some entry
     → born_of_entry entry ≡ m.target.born → AllMet view rows m.args → length (tokens m.args) ≤ waiting
@@ -249,7 +250,7 @@ received_right tables side view rows m header waiting entry f ho hp l s k w =
 
 -- ---- the report
 
-pub report_one : (view : View) (rows : Birth → Option Row) (a : Arg Known) (args : List (Arg Known)) (more : List ℕ)
+pub report_one : (view : Objects) (rows : Birth → Option Row) (a : Arg Known) (args : List (Arg Known)) (more : List ℕ)
     → Met view rows a
     → reshaped seen_named birth_at (λ t. t) (reported_argument (reader_of view) (head_or (tokens (a ∷ args) ++ more) 0)
     (wire a))
@@ -275,7 +276,7 @@ tokens_left (Obj None) args more = refl
 tokens_left a args more = refl
 
 -- the reports of arguments, by births
-pub reports_right : (view : View) (rows : Birth → Option Row) (args : List (Arg Known)) (more : List ℕ)
+pub reports_right : (view : Objects) (rows : Birth → Option Row) (args : List (Arg Known)) (more : List ℕ)
     → AllMet view rows args
     → map (reshaped seen_named birth_at (λ t. t)) (reports_of (reader_of view) (tokens args ++ more) (map wire args))
     ≡ map (reshaped (seen_by rows) birth_of (λ t. t)) (map (rearg born_of) args)

@@ -12,7 +12,7 @@ use Rattle.wl_sigs.specs.Fixed.{registry}
 use Rattle.wl_sigs.specs.Valid.{Valid}
 use Rattle.wl_object_map.specs.declared.object.Entry.{Entry}
 use Rattle.wl_object_map.specs.declared.object.Object.{Object}
-use Rattle.wl_object_map.specs.View.{View, Sound, look}
+use Rattle.wl_object_map.specs.Objects.{Objects, look}
 use Rattle.wl_objects.specs.Messages.{same_iface, opens}
 use Rattle.wl_connection.specs.Core.{Core}
 use Rattle.wl_server.specs.State as server
@@ -23,6 +23,7 @@ use Rattle.wl_server.specs.Requests.{registries_after}
 use Rattle.wl_server.proofs.OneObject.{births-differ, same-one}
 use Rattle.wl_server.proofs.Registries.{among_after, has_opened, has_closed, has_fewer, row_kept}
 use Rattle.wl_sigs.specs.Rules.{is_ended_by_event}
+use Rattle.theory_connection.specs.Stands.{MadeByClient}
 use Rattle.theory_connection.specs.Meant.{Birth, client_birth, same_birth, Born, Known, born_of, born_of_entry}
 use Rattle.theory_connection.specs.World.{Marks, IfThere, marks_birth, without_marks}
 use Rattle.theory_connection.specs.World.{marks_after}
@@ -34,6 +35,8 @@ use Rattle.theory_connection.proofs.ReadAsMeant.{made_of}
 use Rattle.theory_connection.proofs.RowsAfterMessage.{HeldRow, there_row}
 use Rattle.theory_connection.proofs.EndedObject.{ended_view}
 use Rattle.theory_connection.proofs.Births.{client_birth_is}
+use Rattle.theory_connection.proofs.Bridges.{fresh_range}
+use Rattle.theory_connection.proofs.MadeByClient.{born, one_birth}
 
 -- ---- the marks
 
@@ -48,11 +51,11 @@ marks_cond false xs ys = refl
 
 -- the marks of the registries, with one that is made
 pub marks_with : (c : Core) (rs : List server.Registry) (n : Option Known)
-    → IfThere (λ x. x.born.birth ≡ client_birth c.view.births) n
+    → IfThere (λ x. x.born.birth ≡ client_birth c.view.client.births) n
     → map marks_of (registries_after c rs (option_map made_of n)) ≡ marks_after (option_map born_of n) (map marks_of rs)
 marks_with c rs None h = refl
 marks_with c rs (Some x) h =
-    let r : server.Registry = untold (record { id = x.id; birth = c.view.births }) in
+    let r : server.Registry = untold (record { id = x.id; birth = c.view.client.births }) in
     marks_cond (same_iface x.born.iface registry) (rs ++ r ∷ []) rs
     ∙ ap (λ (l : List Marks). cond (same_iface x.born.iface registry) l (map marks_of rs))
     (map_more marks_of rs r ∙ ap (λ (b : Birth). map marks_of rs
@@ -80,7 +83,7 @@ marks_without object (r ∷ rs) f =
     by_birth false e = births-differ r.object object (eqb-false r.object.birth object.birth e) ∙ sym e
 
 -- a registry of the birth of an object that has a row is that object
-one_of_birth : (c : Core) (rs : List server.Registry) (n : Option Known) (x : Known) → Sound c.view
+one_of_birth : (c : Core) (rs : List server.Registry) (n : Option Known) (x : Known) → MadeByClient c.view
     → HeldRow c.view x → HasRegistries c.view rs
     → (o : Object) → IsAmong o (registries_after c rs (option_map made_of n)) → o.birth ≡ x.born.birth.number
     → o ≡ object_of x
@@ -89,9 +92,9 @@ one_of_birth c rs n x s held h o a e =
     elim (among_after c rs (option_map made_of n) o a) as (λ _. o ≡ object_of x) [
       | inl there ↦ (let r = h.only o there in
           let id : o.id ≡ x.id =
-          s.one_birth o.id x.id r.entry held.entry r.row held.there (r.birth ∙ (e ∙ sym number)) in
+          one_birth c.view o.id x.id r.entry held.entry s r.row held.there (r.birth ∙ (e ∙ sym number)) in
           λ i. record { id = id i; birth = e i })
-      | inr next ↦ (let low = s.born x.id held.entry held.there in absurd (omega (arith, low, number, next, e)))
+      | inr next ↦ (let low = born c.view x.id held.entry s held.there in absurd (omega (arith, low, number, next, e)))
     ]
 
 -- the open registries after a message that destroys this
@@ -100,7 +103,7 @@ registries_left None rs = rs
 registries_left (Some x) rs = without_object true (object_of x) rs
 
 -- the marks without those of a registry that is closed
-pub marks_left : (c : Core) (rs : List server.Registry) (n o : Option Known) → Sound c.view
+pub marks_left : (c : Core) (rs : List server.Registry) (n o : Option Known) → MadeByClient c.view
     → IfThere (HeldRow c.view) o → HasRegistries c.view rs
     → map marks_of (registries_left o (registries_after c rs (option_map made_of n)))
     ≡ without_marks (option_map born_of o) (map marks_of (registries_after c rs (option_map made_of n)))
@@ -127,7 +130,7 @@ pub registry_plain : (tables : List Interface) → Valid tables → is_ended_by_
 registry_plain tables v = rw v.fixed_four.registry refl
 
 -- what ends by an event is no registry
-pub no_registry : (tables : List Interface) → Valid tables → (v : View) (x : Known) → ThereRow (server_rows v) x
+pub no_registry : (tables : List Interface) → Valid tables → (v : Objects) (x : Known) → ThereRow (server_rows v) x
     → by_event tables x.born ≡ true → (d : Entry) → look v x.id ≡ Some d → d.iface ≢ registry
 no_registry tables valid v x t e d row is =
     let r = there_row v x t in
@@ -146,9 +149,9 @@ fresh_look None h = refl
 fresh_look (Some e) h = absurd (cc h)
 
 -- what is fresh has no row
-pub fresh_row : (v : View) (n : Option Known) → IfThere (Fresh (server_rows v)) n → IsFreshId v (option_map made_of n)
+pub fresh_row : (v : Objects) (n : Option Known) → IfThere (Fresh (server_rows v)) n → IsFreshId v (option_map made_of n)
 fresh_row v None f = tt
-fresh_row v (Some x) f = fresh_look (look v x.id) f.free
+fresh_row v (Some x) f = (fresh_look (look v x.id) f.free, fresh_range (server_rows v) x f)
 
 -- the registries stand after a request is read
 pub has_read : (c : Core) (rs : List server.Registry) (n o : Option Known)
@@ -162,7 +165,7 @@ has_read c rs n (Some x) f r h =
     (row_kept c.view made x.id r.entry f r.there) (ap (λ (b : Born). b.birth.number) r.same) (has_opened c rs made f h)
 
 -- the registries stand after an event that ends no registry
-pub has_told_one : (v : View) (rs : List server.Registry) (o : Option Known)
+pub has_told_one : (v : Objects) (rs : List server.Registry) (o : Option Known)
     → IfThere (λ (x : Known). (d : Entry) → look v x.id ≡ Some d → d.iface ≢ registry) o → HasRegistries v rs
     → HasRegistries (ended_view Event v o) rs
 has_told_one v rs None f h = h

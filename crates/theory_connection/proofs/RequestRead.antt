@@ -19,7 +19,7 @@ use Rattle.wl_message.specs.Outgoing.{queued}
 use Rattle.wl_message.specs.Outgoing as boxes
 use Rattle.wl_wire.specs.Argument.{Uint, Obj}
 use Rattle.wl_object_map.specs.declared.object.Entry.{Entry}
-use Rattle.wl_object_map.specs.View.{View, Sound, look}
+use Rattle.wl_object_map.specs.Objects.{Objects, look}
 use Rattle.wl_objects.specs.Messages.{opens, made as made_message, is_bind, reader_of, after}
 use Rattle.wl_objects.specs.Reading.{descriptors, reports_of}
 use Rattle.wl_connection.specs.Core.{Core, past, with_view}
@@ -30,6 +30,7 @@ use Rattle.wl_server.specs.Requests.{unless_bad_bind, request, is_good_bind, mad
 use Rattle.wl_server.specs.Requests.{state_past, registries_after, reported_object, ended_object, ended}
 use Rattle.wl_server.specs.Requests.{report}
 use Rattle.wl_server.specs.Registries.{without_object}
+use Rattle.theory_connection.specs.Stands.{MadeByClient}
 use Rattle.theory_connection.specs.Meant.{client_birth, Event, Delete, Born, Known, Message, Coming, Arg}
 use Rattle.theory_connection.specs.Meant.{renamed, recoming, rearg, born_of, birth_of, wire, tokens}
 use Rattle.theory_connection.specs.Meant.{spelled_meant, spelled_coming, made_in, objects, born_of_entry}
@@ -49,7 +50,7 @@ use Rattle.theory_connection.proofs.Registries.{marks_with, marks_left, left_are
 use Rattle.theory_connection.proofs.ReadAsMeant.{HeldAt, AllMet, made_of, made_read, tokens_taken}
 use Rattle.wl_object_map.specs.declared.object.Object.{Object}
 use Rattle.wl_connection.proofs.Messages.{whole_within}
-use Rattle.theory_connection.proofs.Calls.{row_low}
+use Rattle.theory_connection.proofs.MadeByClient.{row_low}
 use Rattle.theory_connection.proofs.FoundInFront.{the_found, the_message, finds, all_met, news_free}
 use Rattle.theory_connection.proofs.EndedObject.{EndsAs, ended_view, after_is, argument_is, ends_have, if_by}
 use Rattle.wl_server.proofs.Fronts.{named_object}
@@ -131,8 +132,8 @@ pub map_delete : (o : Option Known) → map (recoming born_of) (delete o) ≡ de
 map_delete None = refl
 map_delete (Some x) = refl
 
-births_of : (v : View) (n : Option Known) → IfThere (Fresh (server_rows v)) n
-    → IfThere (λ x. x.born.birth ≡ client_birth v.births) n
+births_of : (v : Objects) (n : Option Known) → IfThere (Fresh (server_rows v)) n
+    → IfThere (λ x. x.born.birth ≡ client_birth v.client.births) n
 births_of v None g = tt
 births_of v (Some x) g = g.birth
 
@@ -265,7 +266,7 @@ begins_delete (Some x) = refl
 -- ---- the pair stands again
 
 -- an id that has a row is no more than the greatest
-pub low_there : (v : View) → Sound v → (x : Known) → ThereRow (server_rows v) x → x.id ≤ 1048576
+pub low_there : (v : Objects) → MadeByClient v → (x : Known) → ThereRow (server_rows v) x → x.id ≤ 1048576
 low_there v s x h = let r = there_row v x h in (row_low v x.id r.entry s r.there).1
 
 -- a pair stands again after the server has read a request

@@ -4,11 +4,16 @@ use Rattle.std.specs.Prelude.{option_map}
 use Rattle.std.specs.declared.option.Option.{Option}
 use Rattle.std.specs.declared.option.Option.TheVariants.{None, Some}
 use Rattle.wl_objects.specs.Writing.{message_len}
-use Rattle.wl_object_map.specs.View.{View, Sound, next_id, can_open, opened_at}
-use Rattle.wl_object_map.specs.Sounds.{Sound-opened}
+use Rattle.wl_object_map.specs.View.{next_id, can_open}
+use Rattle.wl_object_map.specs.Objects.{Objects, opened_at}
+use Rattle.wl_object_map.specs.declared.object.Maker.TheVariants.{Client}
+use Rattle.wl_object_map.specs.Views.{free_or_next-next_id}
+use Rattle.wl_object_map.specs.ObjectsLaws.{free_is, ObjectsAreSound-opened}
+use Rattle.theory_connection.proofs.MadeByClient.{made_opened}
 use Rattle.wl_objects.specs.Messages.{opens as opens_view}
 use Rattle.wl_connection.specs.Core.{Core}
 use Rattle.wl_connection.proofs.Messages.{whole_within}
+use Rattle.theory_connection.specs.Stands.{MadeByClient}
 use Rattle.theory_connection.specs.Meant.{Known, Message, Coming, renamed, rearg, born_of, wire}
 use Rattle.theory_connection.specs.Meant.{spelled_meant, made_in, objects}
 use Rattle.theory_connection.specs.World.{World, Row, Each, IfThere, request_written}
@@ -35,8 +40,8 @@ pub record CanAsk (p : PairState) (m : Message Known) : Type 0 where
   pub args : Each (OpenRow (client_rows p.client.core.view)) (objects m.args)
   pub args_plain : Each (λ x. test_of p x.born ≡ false) (objects m.args)
   pub new : IfThere (Fresh (client_rows p.client.core.view)) (made_in m.args)
-  pub new_next : IfThere (λ x. x.id ≡ next_id p.client.core.view) (made_in m.args)
-  pub new_can : IfThere (λ x. can_open p.client.core.view ≡ true) (made_in m.args)
+  pub new_next : IfThere (λ x. x.id ≡ next_id p.client.core.view.client) (made_in m.args)
+  pub new_can : IfThere (λ x. can_open p.client.core.view.client ≡ true) (made_in m.args)
   pub mortal : IfThere Mortal m.ends
   pub short : message_len (map wire m.args) ≤ p.client.core.outbox.limit.bytes
 
@@ -51,11 +56,14 @@ asked_core c m = record c {
 abbrev pub asked_pair : PairState → Message Known → PairState
 asked_pair p m = with_client_core p (asked_core p.client.core m)
 
-opens_sound : (v : View) (n : Option Known) → Sound v → IfThere (λ x. x.id ≡ next_id v) n
-    → IfThere (λ (x : Known). can_open v ≡ true) n → Sound (opens_view v (option_map made_of n))
+opens_sound : (v : Objects) (n : Option Known) → MadeByClient v → IfThere (λ x. x.id ≡ next_id v.client) n
+    → IfThere (λ (x : Known). can_open v.client ≡ true) n → MadeByClient (opens_view v (option_map made_of n))
 opens_sound v None s e c = s
-opens_sound v (Some x) s e c = subst (λ (i : ℕ). Sound (opened_at v i x.born.iface x.born.version)) (sym e)
-    (Sound-opened v x.born.iface x.born.version s c)
+opens_sound v (Some x) s e c =
+    let next = free_is v (next_id v.client) s.tables (free_or_next-next_id v.client) in
+    subst (λ (i : ℕ). MadeByClient (opened_at v i x.born.iface x.born.version)) (sym e)
+    (made_opened v (next_id v.client) x.born.iface x.born.version next.range s
+    (ObjectsAreSound-opened Client v x.born.iface x.born.version s.tables c))
 
 -- a pair stands again after the client has written a request
 pub ask_stands : (p : PairState) (w : World) (asked : List (Message Known)) (told : List (Coming Known))

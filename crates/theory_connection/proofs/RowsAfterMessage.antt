@@ -10,10 +10,13 @@ use Rattle.wl_sigs.specs.declared.signature.Side.TheVariants.{Request, Event}
 use Rattle.wl_object_map.specs.declared.object.Entry.{Entry}
 use Rattle.wl_object_map.specs.declared.object.State.{State}
 use Rattle.wl_object_map.specs.declared.object.State.TheVariants as states
-use Rattle.wl_object_map.specs.View.{View, Sound, look, opened_at, closed, zombie}
-use Rattle.wl_object_map.specs.Views.{look-opened_at, row-opened_at, row-closed, row-zombied}
-use Rattle.wl_object_map.specs.Sounds.{Sound-opened_at, Sound-closed, Sound-zombied}
+use Rattle.wl_object_map.specs.View.{zombie}
+use Rattle.wl_object_map.specs.Objects.{Objects, look, opened_at, closed}
+use Rattle.wl_object_map.specs.ObjectsLaws.{look-opened_at, row-opened_at, row-closed, row-zombied}
+use Rattle.wl_object_map.specs.ObjectsLaws.{births-closed, births-rise, free_of_client, room_of_client}
+use Rattle.wl_object_map.specs.ObjectsLaws.{ObjectsAreSound-opened_at}
 use Rattle.wl_objects.specs.Messages.{opens}
+use Rattle.theory_connection.specs.Stands.{MadeByClient}
 use Rattle.theory_connection.specs.Meant.{Born, Known, Arg, rearg, objects_in_arg, objects, new_object_in}
 use Rattle.theory_connection.specs.Meant.{made_in, token_in, tokens, born_of_entry}
 use Rattle.theory_connection.specs.World.{Row, Open, Ending, IfThere, Each}
@@ -23,7 +26,8 @@ use Rattle.wl_objects.specs.Messages.{or_else}
 use Rattle.theory_connection.proofs.WholeInFlight.{ThereRow, client_makes, client_ends, server_makes, server_ends}
 use Rattle.theory_connection.proofs.Sets.{there_kept}
 use Rattle.theory_connection.proofs.Bridges.{map_none, client_opened, server_opened, server_closed}
-use Rattle.theory_connection.proofs.Bridges.{client_zombied, fresh_free, fresh_room}
+use Rattle.theory_connection.proofs.Bridges.{client_zombied, fresh_free, fresh_range, fresh_room}
+use Rattle.theory_connection.proofs.MadeByClient.{made_opened, made_closed, made_zombied}
 use Rattle.theory_connection.proofs.ReadAsMeant.{made_of}
 use Rattle.theory_connection.proofs.EndedObject.{Mortal, ended_view}
 
@@ -43,13 +47,13 @@ row_born states.Live b x h = elim h [ inl p ↦ cc | inr p ↦ absurd (cc p) ]
 row_born states.Zombie b x h = elim h [ inl p ↦ absurd (cc p) | inr p ↦ cc ]
 
 -- an object that the client holds
-pub record HeldRow (v : View) (x : Known) : Type 0 where
+pub record HeldRow (v : Objects) (x : Known) : Type 0 where
   pub entry : Entry
   pub there : look v x.id ≡ Some entry
   pub same : born_of_entry entry ≡ x.born
 
 -- the entry of what the client holds
-pub held_row : (v : View) (x : Known) → IsHeldInRows (client_rows v) x → HeldRow v x
+pub held_row : (v : Objects) (x : Known) → IsHeldInRows (client_rows v) x → HeldRow v x
 held_row v x h = elim h [
   | inl p ↦ (let m = map_some row_of_entry (look v x.id) (Open x.born) p
       in record { entry = m.0; there = m.1; same = row_born m.0.state (born_of_entry m.0) x.born (inl m.2) })
@@ -58,23 +62,23 @@ held_row v x h = elim h [
 ]
 
 -- the entry of what is open at the server
-pub there_row : (v : View) (x : Known) → ThereRow (server_rows v) x → HeldRow v x
+pub there_row : (v : Objects) (x : Known) → ThereRow (server_rows v) x → HeldRow v x
 there_row v x h = let m = map_some born_of_entry (look v x.id) x.born h
     in record { entry = m.0; there = m.1; same = m.2 }
 
 -- ---- the rows
 
 -- the server's rows after a message that makes this and ends that
-pub server_after : (v : View) (n o : Option Known) → IfThere (Fresh (server_rows v)) n
+pub server_after : (v : Objects) (n o : Option Known) → IfThere (Fresh (server_rows v)) n
     → server_rows (ended_view Event (opens v (option_map made_of n)) o)
     ≡ server_ends o (server_makes (server_rows v) n)
 server_after v None None g = refl
 server_after v None (Some x) g = server_closed v x.id
-server_after v (Some y) None g = server_opened v y g.birth
+server_after v (Some y) None g = server_opened v y g
 server_after v (Some y) (Some x) g = server_closed (opened_at v y.id y.born.iface y.born.version) x.id
-    ∙ ap (λ (r : Rows Born). at r x.id None) (server_opened v y g.birth)
+    ∙ ap (λ (r : Rows Born). at r x.id None) (server_opened v y g)
 
-apart : (v : View) (y : Known) (id : ℕ) (e : Entry) → (client_rows v).rows y.id ≡ None → look v id ≡ Some e
+apart : (v : Objects) (y : Known) (id : ℕ) (e : Entry) → (client_rows v).rows y.id ≡ None → look v id ≡ Some e
     → look (opened_at v y.id y.born.iface y.born.version) id ≡ Some e
 apart v y id e f h =
     let n = map_none row_of_entry (look v y.id) f in
@@ -83,75 +87,80 @@ apart v y id e f h =
     look-opened_at v y.id y.born.iface y.born.version id ∙ rw b h
 
 -- the client's rows after a message that makes this and ends that
-pub client_after : (v : View) (n o : Option Known) → IfThere (Fresh (client_rows v)) n → IfThere (HeldRow v) o
+pub client_after : (v : Objects) (n o : Option Known) → IfThere (Fresh (client_rows v)) n → IfThere (HeldRow v) o
     → client_rows (ended_view Request (opens v (option_map made_of n)) o)
     ≡ client_ends o (client_makes (client_rows v) n)
 client_after v None None g h = refl
 client_after v None (Some x) g h = client_zombied v x.id h.entry h.there
     ∙ ap (λ (b : Born). at (client_rows v) x.id (Some (Ending b))) h.same
-client_after v (Some y) None g h = client_opened v y g.birth
+client_after v (Some y) None g h = client_opened v y g
 client_after v (Some y) (Some x) g h =
     client_zombied (opened_at v y.id y.born.iface y.born.version) x.id h.entry (apart v y x.id h.entry g.free h.there)
     ∙ ap (λ (b : Born). at (client_rows (opened_at v y.id y.born.iface y.born.version)) x.id (Some (Ending b))) h.same
-    ∙ ap (λ (r : Rows Row). at r x.id (Some (Ending x.born))) (client_opened v y g.birth)
+    ∙ ap (λ (r : Rows Row). at r x.id (Some (Ending x.born))) (client_opened v y g)
 
 -- ---- the count of births
 
 -- what is made is counted, and no count falls
-pub births_kept : (v : View) (n o : Option Known)
-    → v.births ≤ (ended_view Event (opens v (option_map made_of n)) o).births
+pub births_kept : (v : Objects) (n o : Option Known)
+    → v.client.births ≤ (ended_view Event (opens v (option_map made_of n)) o).client.births
 births_kept v None None = omega arith
-births_kept v None (Some x) = omega arith
-births_kept v (Some y) None = omega arith
-births_kept v (Some y) (Some x) = omega arith
+births_kept v None (Some x) = let same = births-closed v x.id in omega (arith, same)
+births_kept v (Some y) None = births-rise v y.id y.born.iface y.born.version
+births_kept v (Some y) (Some x) =
+    let more = births-rise v y.id y.born.iface y.born.version in
+    let same = births-closed (opened_at v y.id y.born.iface y.born.version) x.id in omega (arith, more, same)
 
 -- ---- soundness
 
-server_opens_sound : (v : View) (n : Option Known) → Sound v → IfThere (Fresh (server_rows v)) n
-    → Sound (opens v (option_map made_of n))
+server_opens_sound : (v : Objects) (n : Option Known) → MadeByClient v → IfThere (Fresh (server_rows v)) n
+    → MadeByClient (opens v (option_map made_of n))
 server_opens_sound v None s g = s
-server_opens_sound v (Some y) s g = Sound-opened_at v y.id y.born.iface y.born.version s (fresh_free v y s g)
-    (fresh_room v y g)
+server_opens_sound v (Some y) s g =
+    let range = fresh_range (server_rows v) y g in
+    made_opened v y.id y.born.iface y.born.version range s
+    (ObjectsAreSound-opened_at v y.id y.born.iface y.born.version s.tables
+    (free_of_client v y.id range ∙ fresh_free v y s.tables g) (room_of_client v y.id range ∙ fresh_room v y g))
 
-server_opens_rows : (v : View) (n : Option Known) → IfThere (Fresh (server_rows v)) n
+server_opens_rows : (v : Objects) (n : Option Known) → IfThere (Fresh (server_rows v)) n
     → server_rows (opens v (option_map made_of n)) ≡ server_makes (server_rows v) n
 server_opens_rows v None g = refl
-server_opens_rows v (Some y) g = server_opened v y g.birth
+server_opens_rows v (Some y) g = server_opened v y g
 
 -- the server's view stays sound
-pub server_sound : (v : View) (n o : Option Known) → Sound v → IfThere (Fresh (server_rows v)) n
+pub server_sound : (v : Objects) (n o : Option Known) → MadeByClient v → IfThere (Fresh (server_rows v)) n
     → IfThere (ThereRow (server_rows v)) o → IfThere Mortal o
-    → Sound (ended_view Event (opens v (option_map made_of n)) o)
+    → MadeByClient (ended_view Event (opens v (option_map made_of n)) o)
 server_sound v n None s g h y = server_opens_sound v n s g
 server_sound v n (Some x) s g h y =
     let k = there_kept (server_rows v) n x g h in
     let r = there_row (opens v (option_map made_of n)) x
     (subst (λ (r : Rows Born). ThereRow r x) (sym (server_opens_rows v n g)) k) in
-    Sound-closed (opens v (option_map made_of n)) x.id (server_opens_sound v n s g) (some_is _ r.entry r.there) y
+    made_closed (opens v (option_map made_of n)) x.id (server_opens_sound v n s g) (some_is _ r.entry r.there) y
 
 -- a new object at the client is free to the tests: it is the next
-pub client_sound : (v : View) (n o : Option Known) → Sound (opens v (option_map made_of n)) → IfThere Mortal o
-    → Sound (ended_view Request (opens v (option_map made_of n)) o)
+pub client_sound : (v : Objects) (n o : Option Known) → MadeByClient (opens v (option_map made_of n)) → IfThere Mortal o
+    → MadeByClient (ended_view Request (opens v (option_map made_of n)) o)
 client_sound v n None s y = s
-client_sound v n (Some x) s y = Sound-zombied (opens v (option_map made_of n)) x.id s y
+client_sound v n (Some x) s y = made_zombied (opens v (option_map made_of n)) x.id s y
 
 -- ---- the server's rows are live
 
-abbrev pub AllLive : View → Type 0
+abbrev pub AllLive : Objects → Type 0
 AllLive v = (id : ℕ) (e : Entry) → look v id ≡ Some e → e.state ≡ states.Live
 
-opens_live : (v : View) (n : Option Known) → AllLive v → AllLive (opens v (option_map made_of n))
+opens_live : (v : Objects) (n : Option Known) → AllLive v → AllLive (opens v (option_map made_of n))
 opens_live v None l = l
 opens_live v (Some y) l = λ id e h. ⊎_elim (λ p. ap (λ (d : Entry). d.state) p.1) (λ p. l id e p.1)
     (row-opened_at v y.id y.born.iface y.born.version id e h)
 
 -- the server's rows stay live
-pub server_live : (v : View) (n o : Option Known) → AllLive v
+pub server_live : (v : Objects) (n o : Option Known) → AllLive v
     → AllLive (ended_view Event (opens v (option_map made_of n)) o)
 server_live v n None l = opens_live v n l
 server_live v n (Some x) l = λ id e h. opens_live v n l id e (row-closed (opens v (option_map made_of n)) x.id id e h).1
 
-pub closed_live : (v : View) (x : ℕ) → AllLive v → AllLive (closed v x)
+pub closed_live : (v : Objects) (x : ℕ) → AllLive v → AllLive (closed v x)
 closed_live v x l = λ id e h. l id e (row-closed v x id e h).1
 
 -- ---- messages with their objects named otherwise
@@ -196,10 +205,10 @@ each_map f P (x ∷ xs) h = (h.0, each_map f P xs h.1)
 -- ---- versions are from 1
 
 -- each entry has a version from 1
-abbrev pub Aged : View → Type 0
+abbrev pub Aged : Objects → Type 0
 Aged v = (id : ℕ) (e : Entry) → look v id ≡ Some e → 1 ≤ e.version
 
-opens_aged : (v : View) (n : Option Known) → IfThere (λ x. 1 ≤ x.born.version) n → Aged v
+opens_aged : (v : Objects) (n : Option Known) → IfThere (λ x. 1 ≤ x.born.version) n → Aged v
     → Aged (opens v (option_map made_of n))
 opens_aged v None g a = a
 opens_aged v (Some y) g a = λ id e h. ⊎_elim (λ p. (let k = ap (λ (d : Entry). d.version) p.1 in omega (arith, k, g)))
@@ -210,7 +219,7 @@ kept_version true d = refl
 kept_version false d = refl
 
 -- versions stay from 1 at the client
-pub client_aged : (v : View) (n o : Option Known) → IfThere (λ y. 1 ≤ y.born.version) n → Aged v
+pub client_aged : (v : Objects) (n o : Option Known) → IfThere (λ y. 1 ≤ y.born.version) n → Aged v
     → Aged (ended_view Request (opens v (option_map made_of n)) o)
 client_aged v n None g a = opens_aged v n g a
 client_aged v n (Some x) g a = λ id e h.
@@ -220,12 +229,12 @@ client_aged v n (Some x) g a = λ id e h.
     omega (arith, k, q)
 
 -- versions stay from 1 at the server
-pub server_aged : (v : View) (n o : Option Known) → IfThere (λ y. 1 ≤ y.born.version) n → Aged v
+pub server_aged : (v : Objects) (n o : Option Known) → IfThere (λ y. 1 ≤ y.born.version) n → Aged v
     → Aged (ended_view Event (opens v (option_map made_of n)) o)
 server_aged v n None g a = opens_aged v n g a
 server_aged v n (Some x) g a = λ id e h. opens_aged v n g a id e
     (row-closed (opens v (option_map made_of n)) x.id id e h).1
 
 -- versions stay from 1 where an id is closed
-pub closed_aged : (v : View) (x : ℕ) → Aged v → Aged (closed v x)
+pub closed_aged : (v : Objects) (x : ℕ) → Aged v → Aged (closed v x)
 closed_aged v x a = λ id e h. a id e (row-closed v x id e h).1

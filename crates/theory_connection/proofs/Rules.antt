@@ -21,7 +21,7 @@ use Rattle.wl_sigs.specs.Tables.{message_of, new_objects, has_destroying_event, 
 use Rattle.wl_sigs.specs.Fixed.{wl_display}
 use Rattle.wl_sigs.specs.Valid.{Valid}
 use Rattle.wl_object_map.specs.declared.object.Object.{Object}
-use Rattle.wl_object_map.specs.View.{View, look}
+use Rattle.wl_object_map.specs.Objects.{Objects, look}
 use Rattle.wl_objects.specs.Reading.{iface_of}
 use Rattle.wl_objects.specs.Writing.{Given, suits, is_live_as, row_is_of}
 use Rattle.wl_objects.specs.Messages.{is_hidden}
@@ -90,7 +90,7 @@ PlainKind tables k = (null : Bool) (iface : Iface) (i : Interface) → k ≡ kin
 abbrev NamedKind : Kind → Type 0
 NamedKind k = (null : Bool) → k ≢ kinds.Obj null None
 
-named_plain : (tables : List Interface) (view : View) (k : Kind) (id birth : ℕ) (iface : Option Iface) (null : Bool)
+named_plain : (tables : List Interface) (view : Objects) (k : Kind) (id birth : ℕ) (iface : Option Iface) (null : Bool)
     → k ≡ kinds.Obj null iface → NamedKind k → PlainKind tables k
     → (is_live_as birth (look view id) && row_is_of iface (look view id)) ≡ true
     → by_event tables (born_at (look view id)) ≡ false
@@ -110,7 +110,7 @@ object_kind (kinds.New None) x h = absurd (cc h)
 object_kind kind x h = absurd (cc h)
 
 -- an object that a request can name has no destroying event
-pub objects_plain : (tables : List Interface) (view : View) (new : Known) (ks : List Kind) (given : List Given)
+pub objects_plain : (tables : List Interface) (view : Objects) (new : Known) (ks : List Kind) (given : List Given)
     → AllRight view ks given → All NamedKind ks → All (PlainKind tables) ks
     → Each (λ x. by_event tables x.born ≡ false) (objects (map (meant view new) given))
 objects_plain tables view new [] [] r n p = tt

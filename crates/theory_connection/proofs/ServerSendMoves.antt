@@ -19,7 +19,9 @@ use Rattle.wl_object_map.specs.declared.object.Object.{Object}
 use Rattle.wl_object_map.specs.declared.object.Entry.{Entry}
 use Rattle.wl_objects.specs.declared.error.SendError.{SendError}
 use Rattle.wl_objects.specs.declared.error.SendError.TheVariants as refusals
-use Rattle.wl_object_map.specs.View.{View, look, next_id, closed}
+use Rattle.wl_object_map.specs.View.{next_id}
+use Rattle.wl_object_map.specs.Objects.{Objects, look, closed}
+use Rattle.wl_object_map.specs.ObjectsLaws.{births-closed}
 use Rattle.wl_objects.specs.Writing.{Given, wired, message_bytes, is_live_as}
 use Rattle.wl_objects.specs.Messages.{NewObject, ended_id, after, checked, live_row, same_iface}
 use Rattle.wl_connection.specs.Core.{Core}
@@ -44,7 +46,8 @@ use Rattle.theory_connection.proofs.RowsAfterMessage.{made_map, objects_map, eac
 use Rattle.theory_connection.proofs.ReadAsMeant.{made_of}
 use Rattle.theory_connection.proofs.RequestRead.{followed}
 use Rattle.theory_connection.proofs.Calls.{Checked, is_checked, LiveAt, live_as, handed_none}
-use Rattle.theory_connection.proofs.Calls.{no_made, tokens_all, row_low}
+use Rattle.theory_connection.proofs.Calls.{no_made, tokens_all}
+use Rattle.theory_connection.proofs.MadeByClient.{row_low}
 use Rattle.theory_connection.proofs.Rules.{ends_so, no_event_new}
 use Rattle.theory_connection.proofs.Written.{the_new, the_args, the_call, CallIs, call_is}
 use Rattle.theory_connection.proofs.Written.{call_ends, accepted_call, opens, no_delete}
@@ -54,7 +57,7 @@ use Rattle.theory_connection.proofs.EventWritten.{CanTell, told_core, dropped_co
 use Rattle.theory_connection.proofs.Moves.{LeadsTo, Moves, Outcome, goes_on, ends_it, stays}
 use Rattle.theory_connection.proofs.Moves.{telling, event_below, delete_below}
 
-there_live : (v : View) (x : Known) → LiveAt v x → ThereRow (server_rows v) x
+there_live : (v : Objects) (x : Known) → LiveAt v x → ThereRow (server_rows v) x
 there_live v x l = ap (option_map born_of_entry) l.there ∙ ap Some l.same
 
 no_registry : (a b : Bool) → (a || b) ≡ false → b ≡ false
@@ -138,9 +141,9 @@ tells_world p w asked told s m c =
     (each_by (ThereRow (server_rows v)) (λ (x : Known). IsThere w.server x.born)
     (λ x h. s.server.sets.shown x.id x.born h) (objects m.args) c.args)))
 
-same_births : (v : View) (o : Option Known) → (ended_view Event v o).births ≡ v.births
+same_births : (v : Objects) (o : Option Known) → (ended_view Event v o).client.births ≡ v.client.births
 same_births v None = refl
-same_births v (Some x) = refl
+same_births v (Some x) = births-closed v x.id
 
 -- what is told of it
 tells_one : (p : PairState) (w : World) (asked : List (Message Known)) (told : List (Coming Known))
@@ -153,13 +156,13 @@ tells_one p w asked told s m c =
     ends_have (ThereRow (server_rows v)) p.server.core.tables Event m f c.target c.args in
     let news = event_of m ∷ delete m.ends in
     let below = s.server.sets.below in
-    let ended : IfThere (λ x. IsAmongFirst v.births x.born.birth) m.ends =
+    let ended : IfThere (λ x. IsAmongFirst v.client.births x.born.birth) m.ends =
     if_by (λ x h. below x.id x.born h) m.ends there in
     telling (ended_view Event v m.ends) (told_core p.server.core m).outbox p.server.registries news
     (same_births v m.ends)
-    (each_more (IsBelow v.births) (tells (event_of m)) (all_tells (delete m.ends))
-    (event_below (server_rows v) v.births below m c.target c.args ended)
-    (delete_below v.births m.ends ended))
+    (each_more (IsBelow v.client.births) (tells (event_of m)) (all_tells (delete m.ends))
+    (event_below (server_rows v) v.client.births below m c.target c.args ended)
+    (delete_below v.client.births m.ends ended))
 
 -- a call of the server keeps what stands
 pub server_send_keeps : (p : PairState) (w : World) (asked : List (Message Known)) (told : List (Coming Known))
@@ -184,7 +187,7 @@ server_send_keeps p w asked told s z target opcode given g reply p' (accepted {n
     let can = server_can p w asked told s target opcode given a.signature c k n in
     let m = the_call core c.entry target opcode given a.signature in
     let none : new ≡ None = o.is ∙ ap (option_map
-    (λ (y : NewObject). record { id = next_id core.view; birth = core.view.births }))
+    (λ (y : NewObject). record { id = next_id core.view.client; birth = core.view.client.births }))
     (made_same core target given a.signature c.entry c.there ∙ k.made_is ∙ ap (option_map made_of) n) in
     record {
       world = event_written w (renamed born_of m);
@@ -263,7 +266,7 @@ server_drop_keeps p w asked told s z object reply p' (done h) =
       });
       outcome = goes_on asked (told ++ Delete x ∷ []) z (drop_stands p w asked told s x there d.by low)
           (telling (closed p.server.core.view x.id) (dropped_core p.server.core x).outbox p.server.registries
-          (Delete x ∷ []) refl (s.server.sets.below x.id x.born there, tt));
+          (Delete x ∷ []) (births-closed p.server.core.view x.id) (s.server.sets.below x.id x.born there, tt));
     }
 server_drop_keeps p w asked told s z object reply p' (refused h) =
     record { world = w; answers = before z (refused h) refl; outcome = goes_on asked told z s stays }

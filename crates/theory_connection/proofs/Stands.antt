@@ -13,10 +13,12 @@ use Rattle.wl_message.specs.Cut.{Whole, IsMessage}
 use Rattle.wl_message.specs.Outgoing as boxes
 use Rattle.wl_message.specs.Outgoing.{Outgoing}
 use Rattle.wl_object_map.specs.declared.object.Entry.{Entry}
-use Rattle.wl_object_map.specs.View.{View, Sound, look, closed}
-use Rattle.wl_object_map.specs.Views.{look-opened_at, look-closed, look-zombied}
-use Rattle.wl_object_map.specs.Sounds.{Sound-closed}
+use Rattle.wl_object_map.specs.Objects.{Objects, look, closed}
+use Rattle.wl_object_map.specs.ObjectsLaws.{look-opened_at, look-closed, look-zombied}
+use Rattle.wl_object_map.specs.ObjectsLaws.{births-closed}
+use Rattle.theory_connection.proofs.MadeByClient.{made_closed}
 use Rattle.wl_objects.specs.Messages.{opens}
+use Rattle.theory_connection.specs.Stands.{MadeByClient}
 use Rattle.theory_connection.specs.Meant.{Birth, Born, Known, born_of, birth_of, born_of_entry}
 use Rattle.theory_connection.specs.World.{Row, Open, Each, IfThere, born_into, same, ending, gone, put, births_counted}
 use Rattle.theory_connection.specs.Flight.{Rows, Fresh, IsHeldInRows, client_rows, server_rows, row_of_entry}
@@ -35,7 +37,7 @@ use Rattle.theory_connection.proofs.EndedObject.{Mortal, ended_view, if_by}
 -- ---- wl_display stays
 
 -- what is made gets an id that has no row, and that of wl_display has one
-display_opens : {X : Type 0} (f : Entry → X) (v : View) (n : Option Known) (e : Entry)
+display_opens : {X : Type 0} (f : Entry → X) (v : Objects) (n : Option Known) (e : Entry)
     → IfThere (λ x. option_map f (look v x.id) ≡ None) n → look v 1 ≡ Some e
     → look (opens v (option_map made_of n)) 1 ≡ Some e
 display_opens f v None e g h = h
@@ -45,7 +47,7 @@ display_opens {X = X} f v (Some x) e g h = look-opened_at v x.id x.born.iface x.
     other i g = ne_eqb 1 i (λ k. (let q : ◌≡◌ {A = Option X} (Some (f e)) None = ap (option_map f)
         (sym h ∙ ap (look v) k) ∙ g in cc q))
 
-display_ends : (side : Side) (v : View) (o : Option Known) (e : Entry) → IfThere Mortal o → look v 1 ≡ Some e
+display_ends : (side : Side) (v : Objects) (o : Option Known) (e : Entry) → IfThere Mortal o → look v 1 ≡ Some e
     → look (ended_view side v o) 1 ≡ Some e
 display_ends side v None e y h = h
 display_ends Request v (Some x) e y h = let b : nat_eq 1 x.id ≡ false = ne_eqb 1 x.id (λ k. y (sym k))
@@ -59,10 +61,10 @@ counted_map : (f : Known → Born) (n : Option Known) (b : ℕ) → births_count
 counted_map f None b = refl
 counted_map f (Some x) b = refl
 
-module _ {view : View} {failed : Bool} {births : ℕ} {held : Birth → Option Row}
+module _ {view : Objects} {failed : Bool} {births : ℕ} {held : Birth → Option Row}
     (s : ClientStands view failed births held) where
   -- A message makes this at the client, and ends that: the client's objects stand again.
-  pub client_message : (new ends : Option Known) → Sound (opens view (option_map made_of new))
+  pub client_message : (new ends : Option Known) → MadeByClient (opens view (option_map made_of new))
       → IfThere (Fresh (client_rows view)) new → IfThere (λ x. 1 ≤ x.born.version) new
       → IfThere (IsHeldInRows (client_rows view)) ends
       → IfThere (IsHeldInRows (client_makes (client_rows view) new)) ends
@@ -92,8 +94,8 @@ module _ {view : View} {failed : Bool} {births : ℕ} {held : Birth → Option R
   client_delete x there mortal now lives = record {
     sets = subst (λ (y : Rows Row). ShowsBirths birth_in y.rows y.births (put held x.born.birth None))
         (sym (client_closed view x.id)) (client_deleted (client_rows view) held x s.sets there);
-    births = s.births;
-    sound = Sound-closed view x.id s.sound (ap is_some (held_row view x there).there) mortal;
+    births = s.births ∙ sym (births-closed view x.id);
+    sound = made_closed view x.id s.sound (ap is_some (held_row view x there).there) mortal;
     display = display_ends Event view (Some x) _ mortal s.display;
     versions = closed_aged view x.id s.versions;
     lives = lives;
@@ -101,7 +103,7 @@ module _ {view : View} {failed : Bool} {births : ℕ} {held : Birth → Option R
 
 -- ---- the server's objects
 
-module _ {view : View} {failed : Bool} {there : Birth → Option Born} (s : ServerStands view failed there) where
+module _ {view : Objects} {failed : Bool} {there : Birth → Option Born} (s : ServerStands view failed there) where
   -- A message makes this at the server, and ends that: the server's objects stand again.
   pub server_message : (new ends : Option Known) → IfThere (Fresh (server_rows view)) new
       → IfThere (λ x. 1 ≤ x.born.version) new → IfThere (ThereRow (server_rows view)) ends → IfThere Mortal ends

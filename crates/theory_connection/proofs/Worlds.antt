@@ -478,11 +478,11 @@ module _ (p : PairState) (w : World) (asked : List (Message Known)) (told : List
       in let b = ap (λ (x : Born). x.birth.number) (j.1.1 ∙ sym k.1.1) in omega (arith, l.number, b))
 
   -- what is made on the way was not counted by the server
-  pub made_not_counted : (x : Born) → MakeComes w x → x.birth.number < p.server.core.view.births → ⊥
+  pub made_not_counted : (x : Born) → MakeComes w x → x.birth.number < p.server.core.view.client.births → ⊥
   made_not_counted x h l =
       let k = make_known x h in
       plain.not_made_counted k.0 s.meet k.1.0
-      (subst (λ (b : Born). b.birth.number < p.server.core.view.births) (sym k.1.1) l)
+      (subst (λ (b : Born). b.birth.number < p.server.core.view.client.births) (sym k.1.1) l)
 
   -- what is ending at the client is deleted or destroyed on the way
   pub where_ending : (x : Born) → w.client x.birth ≡ Some (Ending x) → DeleteComes w x ⊎ DestroyComes w x
@@ -583,8 +583,8 @@ module _ (p : PairState) (w : World) (asked : List (Message Known)) (told : List
       in made_news x a.message asked a.there a.is
 
   -- the ids used at the client are those used at the server and those made on the way
-  pub ids_counted : (id : ℕ) → 0 < id → (id ≤ p.client.core.view.used) ↔
-      ((id ≤ p.server.core.view.used) ⊎ In id (map known_id (news asked)))
+  pub ids_counted : (id : ℕ) → 0 < id → (id ≤ p.client.core.view.client.used) ↔
+      ((id ≤ p.server.core.view.client.used) ⊎ In id (map known_id (news asked)))
   ids_counted id some =
       let c = (counts_after s.meet.reads).0 in (
         λ h. elim (used_tied id s.meet.tied (omega (arith, h, c))) [
@@ -601,8 +601,8 @@ module _ (p : PairState) (w : World) (asked : List (Message Known)) (told : List
       )
 
   -- the births counted at the client are those counted at the server and those made on the way
-  pub births_counted : (birth : Birth) → IsAmongFirst p.client.core.view.births birth ↔
-      (IsAmongFirst p.server.core.view.births birth ⊎ In birth (map birth_of (news w.requests)))
+  pub births_counted : (birth : Birth) → IsAmongFirst p.client.core.view.client.births birth ↔
+      (IsAmongFirst p.server.core.view.client.births birth ⊎ In birth (map birth_of (news w.requests)))
   births_counted birth =
       let c = (counts_after s.meet.reads).1 in (
         λ h. elim (births_tied birth s.meet.tied (subst (λ (n : ℕ). IsAmongFirst n birth) (sym c) h)) [

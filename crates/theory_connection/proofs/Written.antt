@@ -14,6 +14,7 @@ use Rattle.wl_sigs.specs.declared.signature.Destroys.{Destroys}
 use Rattle.wl_sigs.specs.declared.signature.Destroys.TheVariants.{Nothing, Target, Arg as ends_arg}
 use Rattle.std.proofs.lemmas.Option.{slice_get-map}
 use Rattle.wl_wire.specs.Argument.{Int, Uint, Fixed, Str, Obj, New, NewNamed, Array, Fd}
+use Rattle.theory_connection.specs.Stands.{MadeByClient}
 use Rattle.theory_connection.proofs.EndedObject.{EndsAs, ends_as}
 use Rattle.wl_sigs.specs.Tables as sigs
 use Rattle.wl_sigs.specs.Valid.{Valid}
@@ -22,8 +23,10 @@ use Rattle.wl_object_map.specs.declared.object.Entry.{Entry}
 use Rattle.wl_objects.specs.declared.error.SendError.{SendError}
 use Rattle.wl_objects.specs.declared.error.SendError.TheVariants as refusals
 use Rattle.wl_sigs.specs.Fixed.{display, registry}
-use Rattle.wl_object_map.specs.View.{View, Sound, next_id, can_open}
-use Rattle.wl_object_map.specs.Views.{free_is, free_or_next-next_id}
+use Rattle.wl_object_map.specs.View.{next_id, can_open}
+use Rattle.wl_object_map.specs.Objects.{Objects}
+use Rattle.wl_object_map.specs.Views.{free_or_next-next_id}
+use Rattle.wl_object_map.specs.ObjectsLaws.{free_is}
 use Rattle.wl_objects.specs.Writing.{Given, wired, message_len}
 use Rattle.wl_objects.specs.Messages.{id_named, id_at, ended_id, NewObject, made, checked}
 use Rattle.wl_objects.specs.Messages.{is_hidden, is_error, is_delete_id, same_iface}
@@ -37,14 +40,15 @@ use Rattle.theory_connection.specs.Stands.{FitsSignature}
 use Rattle.theory_connection.specs.Runs.{FitsWords}
 use Rattle.theory_connection.proofs.ReadAsMeant.{made_of, made_read}
 use Rattle.theory_connection.proofs.Calls.{Checked, AllRight, all_right, meant, new_known, wire_all}
-use Rattle.theory_connection.proofs.Calls.{LiveAt, all_live, matches, fit_all, row_low, new_all}
+use Rattle.theory_connection.proofs.Calls.{LiveAt, all_live, matches, fit_all, new_all}
+use Rattle.theory_connection.proofs.MadeByClient.{row_low}
 use Rattle.theory_connection.proofs.Calls.{one_new, made_new, version_of}
 use Rattle.theory_connection.proofs.Rules.{opcode_low, few_new, unnamed_none}
 
 -- what a call makes
 abbrev pub the_made : Core → Entry → List Given → sigs.MessageSignature → Option NewObject
 the_made core entry given signature = made core.tables entry.version signature.kinds
-    (map (wired (next_id core.view)) given)
+    (map (wired (next_id core.view.client)) given)
 
 -- the new object of a call
 abbrev pub the_new : Core → Entry → List Given → sigs.MessageSignature → Known
@@ -65,12 +69,12 @@ the_call core entry target opcode given signature = record {
 }
 
 -- a new object gets the next id
-pub new_id : (view : View) (o : Option NewObject) → (new_known view o).id ≡ next_id view
+pub new_id : (view : Objects) (o : Option NewObject) → (new_known view o).id ≡ next_id view.client
 new_id view None = refl
 new_id view (Some m) = refl
 
 -- a new object gets the next birth
-pub new_birth : (view : View) (o : Option NewObject) → (new_known view o).born.birth ≡ client_birth view.births
+pub new_birth : (view : Objects) (o : Option NewObject) → (new_known view o).born.birth ≡ client_birth view.client.births
 new_birth view None = refl
 new_birth view (Some m) = refl
 
@@ -95,7 +99,7 @@ pub record CallIs (core : Core) (side : Side) (target : Object) (opcode : ℕ) (
   pub made_is : the_made core entry given signature ≡ option_map made_of (made_in (the_args core entry given signature))
   pub new : (made_in (the_args core entry given signature) ≡ None)
       ⊎ (made_in (the_args core entry given signature) ≡ Some (the_new core entry given signature))
-  pub wire_is : map (wired (next_id core.view)) given ≡ map wire (the_args core entry given signature)
+  pub wire_is : map (wired (next_id core.view.client)) given ≡ map wire (the_args core entry given signature)
   pub live : Each (LiveAt core.view) (objects (the_args core entry given signature))
   pub short : message_len (map wire (the_args core entry given signature)) ≤ core.outbox.limit.bytes
 
@@ -107,7 +111,7 @@ if_made P (Some y) x h f = elim h [ inl p ↦ absurd (cc p) | inr p ↦ subst (I
 -- the message of a call that nothing stands against is so
 pub call_is : (core : Core) (side : Side) (target : Object) (opcode : ℕ) (given : List Given)
     (signature : sigs.MessageSignature)
-    → Valid core.tables → Sound core.view → Each FitsWords given
+    → Valid core.tables → MadeByClient core.view → Each FitsWords given
     → (c : Checked core.outbox.limit.bytes core.tables side core.view target opcode given signature)
     → CallIs core side target opcode given signature c.entry
 call_is core side target opcode given signature v s g c =
@@ -116,14 +120,14 @@ call_is core side target opcode given signature v s g c =
     let new = the_new core c.entry given signature in
     let args = the_args core c.entry given signature in
     let id = new_id core.view mk in
-    let f = free_is core.view (next_id core.view) s (free_or_next-next_id core.view) in
-    let low : new.id < 2 ^ 32 = omega (arith, id, f.at_most_next, s.ids_end) in
-    let m = matches core.tables core.view c.entry.version (next_id core.view) signature.kinds given r
+    let f = free_is core.view (next_id core.view.client) s.tables (free_or_next-next_id core.view.client) in
+    let low : new.id < 2 ^ 32 = omega (arith, id, f.at_most_next, s.tables.client.ids_end) in
+    let m = matches core.tables core.view c.entry.version (next_id core.view.client) signature.kinds given r
     (few_new core.tables v c.entry.iface.0 side opcode signature c.signed)
     (unnamed_none core.tables v c.entry.iface side opcode signature c.signed c.hidden) in
     let a = fit_all core.tables core.view new c.entry.version signature.kinds given s low r m g
     (omega (arith, c.len, core.outbox.limit.in_range.1)) in
-    let w : map wire args ≡ map (wired (next_id core.view)) given =
+    let w : map wire args ≡ map (wired (next_id core.view.client)) given =
     wire_all core.view new given ∙ ap (λ (n : ℕ). map (wired n) given) id in
     let n = new_all core.view new given in
     let short : message_len (map wire args) ≤ core.outbox.limit.bytes = let e =
@@ -190,7 +194,7 @@ call_ends core side target opcode given signature v c k =
     let m = the_call core c.entry target opcode given signature in
     let there = c.signed in
     let same : k.fits_it.signature ≡ signature = cc (k.fits_it.there, there) in
-    let ids = ids_wired signature.destroys target.id (next_id core.view) given
+    let ids = ids_wired signature.destroys target.id (next_id core.view.client) given
     ∙ ap (ended_id signature.destroys target.id) k.wire_is in
     subst (λ (n : ℕ). EndsAs signature.destroys n m.ends) (sym ids)
     (subst (λ (x : sigs.MessageSignature). EndsAs x.destroys (ended_id x.destroys target.id (map wire m.args)) m.ends)
@@ -232,11 +236,11 @@ accepted_call core side target opcode given new l h =
 
 -- an opening: it can be opened, and is the next
 pub record Opens (core : Core) (o : Option NewObject) (new : Option Object) : Type 0 where
-  pub can : IfThere (λ (m : NewObject). can_open core.view ≡ true) o
-  pub is : new ≡ option_map (λ (m : NewObject). record { id = next_id core.view; birth = core.view.births }) o
+  pub can : IfThere (λ (m : NewObject). can_open core.view.client ≡ true) o
+  pub is : new ≡ option_map (λ (m : NewObject). record { id = next_id core.view.client; birth = core.view.client.births }) o
 
-opens_if : (core : Core) (m : NewObject) (new : Option Object) (b : Bool) (why : SendError) → can_open core.view ≡ b
-    → cond b (Ok (Some (record { id = next_id core.view; birth = core.view.births }))) (Err why) ≡ Ok new
+opens_if : (core : Core) (m : NewObject) (new : Option Object) (b : Bool) (why : SendError) → can_open core.view.client ≡ b
+    → cond b (Ok (Some (record { id = next_id core.view.client; birth = core.view.client.births }))) (Err why) ≡ Ok new
     → Opens core (Some m) new
 opens_if core m new true why e h = record { can = e; is = cc h }
 opens_if core m new false why e h = absurd (cc h)
@@ -245,4 +249,4 @@ opens_if core m new false why e h = absurd (cc h)
 pub opens : (core : Core) (o : Option NewObject) (new : Option Object) → opening_answer core o ≡ Ok new
     → Opens core o new
 opens core None new h = record { can = tt; is = cc h }
-opens core (Some m) new h = opens_if core m new (can_open core.view) _ refl h
+opens core (Some m) new h = opens_if core m new (can_open core.view.client) _ refl h

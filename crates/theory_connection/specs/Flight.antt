@@ -2,7 +2,8 @@
 use Rattle.std.specs.Prelude.{◌≡◌, ◌≢◌, ◌⊎◌, ℕ, ◌+◌, ◌<◌, ◌≤◌, Bool, true, false, cond, ltb, nat_eq}
 use Rattle.std.specs.Prelude.{if◌then◌else◌, List, [], ◌∷◌, ◌++◌, map, Option, Some, None}
 use Rattle.std.specs.Prelude.{option_map}
-use Rattle.wl_object_map.specs.View.{View, look, max_ids, max_births}
+use Rattle.wl_object_map.specs.View.{max_ids, max_births}
+use Rattle.wl_object_map.specs.Objects.{Objects, look}
 use Rattle.wl_object_map.specs.declared.object.Entry.{Entry}
 use Rattle.wl_object_map.specs.declared.object.State.{State}
 use Rattle.wl_object_map.specs.declared.object.State.TheVariants as states
@@ -45,18 +46,18 @@ as_row states.Zombie x = Ending x
 abbrev pub row_of_entry : Entry → Row
 row_of_entry e = as_row e.state (born_of_entry e)
 
-abbrev pub client_rows : View → Rows Row
+abbrev pub client_rows : Objects → Rows Row
 client_rows view = record {
   rows = λ id. option_map row_of_entry (look view id);
-  used = view.used;
-  births = view.births;
+  used = view.client.used;
+  births = view.client.births;
 }
 
-abbrev pub server_rows : View → Rows Born
+abbrev pub server_rows : Objects → Rows Born
 server_rows view = record {
   rows = λ id. option_map born_of_entry (look view id);
-  used = view.used;
-  births = view.births;
+  used = view.client.used;
+  births = view.client.births;
 }
 
 -- ---- actions

@@ -108,13 +108,14 @@ IsNowhere id asked told = IsUnnamed id told × Each (λ a. ask_id a ≢ id) (all
 abbrev pub IdsAreOf : PairState → List (Message Known) → Type 0
 IdsAreOf p asked =
     (id : ℕ) → 0 < id
-    → (id ≤ p.client.core.view.used)
-    ↔ ((id ≤ p.server.core.view.used) ⊎ In id (map known_id (news asked)))
+    → (id ≤ p.client.core.view.client.used)
+    ↔ ((id ≤ p.server.core.view.client.used) ⊎ In id (map known_id (news asked)))
 
 -- The births counted at the client are those counted at the server and those of the objects that
 -- requests on the way make.
 abbrev pub BirthsAreOf : PairState → World → Type 0
 BirthsAreOf p w =
     (birth : Birth)
-    → IsAmongFirst p.client.core.view.births birth
-    ↔ (IsAmongFirst p.server.core.view.births birth ⊎ In birth (map birth_of (news w.requests)))
+    → IsAmongFirst p.client.core.view.client.births birth
+    ↔ (IsAmongFirst p.server.core.view.client.births birth
+    ⊎ In birth (map birth_of (news w.requests)))

@@ -4,7 +4,7 @@ use Rattle.std.specs.Int.{w32}
 use Rattle.wl_wire.specs.Argument.{Int, Uint, Fixed, NewNamed}
 use Rattle.wl_object_map.specs.declared.object.Entry.{Entry}
 use Rattle.wl_object_map.specs.declared.object.State.TheVariants as states
-use Rattle.wl_object_map.specs.View.{View, look}
+use Rattle.wl_object_map.specs.Objects.{Objects, look}
 use Rattle.wl_objects.specs.Writing.{Given}
 use Rattle.theory_connection.specs.World.{World, Each}
 use Rattle.theory_connection.specs.Pair.{PairState, Move, Reply, ClientSend, ServerSend, AddGlobal}
@@ -45,7 +45,7 @@ IsMove (AddGlobal iface version) = version < 2 ^ 32
 IsMove _ = Unit {0}
 
 -- Both ends have the same rows, all live.
-pub record Agree (client server : View) : Type 0 where
+pub record Agree (client server : Objects) : Type 0 where
   pub same : (id : ℕ) → look client id ≡ look server id
   pub live : (id : ℕ) (e : Entry) → look client id ≡ Some e → e.state ≡ states.Live
 

@@ -18,7 +18,9 @@ use Rattle.wl_message.specs.Outgoing as boxes
 use Rattle.wl_message.specs.Outgoing.{Outgoing, all_bytes, all_tokens}
 use Rattle.wl_object_map.specs.declared.object.Entry.{Entry}
 use Rattle.wl_object_map.specs.declared.object.State.TheVariants as states
-use Rattle.wl_object_map.specs.View.{View, Sound, look, max_ids}
+use Rattle.wl_object_map.specs.Ranges.{is_of_server}
+use Rattle.wl_object_map.specs.View.{max_ids}
+use Rattle.wl_object_map.specs.Objects.{Objects, ObjectsAreSound, look}
 use Rattle.wl_objects.specs.Reading.{iface_of, is_of}
 use Rattle.wl_objects.specs.Writing.{message_len}
 use Rattle.wl_objects.specs.Messages.{made_by, is_error, is_delete_id, is_bind, same_iface}
@@ -208,21 +210,28 @@ pub record SameTerms (client server : Terms) : Type 0 where
   pub down_limit : server.out_limit ≡ client.in_limit
   pub one_limit : client.in_limit ≡ server.in_limit
 
+-- All of an end's objects were made by the client: both tables are sound, and no id of the server's
+-- range has a row.
+pub record MadeByClient (view : Objects) : Type 0 where
+  pub tables : ObjectsAreSound view
+  pub none : (id : ℕ) → is_of_server id ≡ true → look view id ≡ None
+
 -- The rows at the client are the births open and ending there.
-pub record ClientStands (view : View) (failed : Bool) (counted : ℕ) (held : Birth → Option Row)
+pub record ClientStands (view : Objects) (failed : Bool) (counted : ℕ) (held : Birth → Option Row)
     : Type 0 where
-  pub sets : ShowsBirths birth_in (client_rows view).rows view.births held
-  pub births : counted ≡ view.births
-  pub sound : Sound view
+  pub sets : ShowsBirths birth_in (client_rows view).rows view.client.births held
+  pub births : counted ≡ view.client.births
+  pub sound : MadeByClient view
   pub display : look view 1 ≡ Some (live_entry display_born)
   pub versions : (id : ℕ) (e : Entry) → look view id ≡ Some e → 1 ≤ e.version
   -- it has not failed
   pub lives : failed ≡ false
 
 -- The rows at the server are the births open there.
-pub record ServerStands (view : View) (failed : Bool) (there : Birth → Option Born) : Type 0 where
-  pub sets : ShowsBirths birth_of (server_rows view).rows view.births there
-  pub sound : Sound view
+pub record ServerStands (view : Objects) (failed : Bool) (there : Birth → Option Born)
+    : Type 0 where
+  pub sets : ShowsBirths birth_of (server_rows view).rows view.client.births there
+  pub sound : MadeByClient view
   pub display : look view 1 ≡ Some (live_entry display_born)
   pub versions : (id : ℕ) (e : Entry) → look view id ≡ Some e → 1 ≤ e.version
   pub live : (id : ℕ) (e : Entry) → look view id ≡ Some e → e.state ≡ states.Live
@@ -249,7 +258,7 @@ pub record GlobalsStand (tables : List Interface) (client_knows : List Remembere
   pub globals : Each (IsGlobal tables) server_gave
   pub few_globals : length server_gave ≤ max_globals
 
-pub record RegistriesStand (view : View) (registries : List server.Registry) (marks : List Marks)
+pub record RegistriesStand (view : Objects) (registries : List server.Registry) (marks : List Marks)
     : Type 0 where
   pub told : marks ≡ map marks_of registries
   -- the open registries are the server's objects of interface wl_registry, by rising birth

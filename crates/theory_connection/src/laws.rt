@@ -3,7 +3,8 @@ ghost use Rattle.std.specs.Prelude.{◌≡◌, ◌⊎◌, ◌<◌, ℕ, List, �
 ghost use Rattle.wl_sigs.specs.Tables.{Interface};
 ghost use Rattle.wl_sigs.specs.Fixed.{registry};
 ghost use Rattle.wl_sigs.specs.Valid.{Valid};
-ghost use Rattle.wl_object_map.specs.View.{look, IdsOfBirths};
+ghost use Rattle.wl_object_map.specs.View.{IdsOfBirths};
+ghost use Rattle.wl_object_map.specs.Objects.{look};
 ghost use Rattle.wl_message.specs.declared.amounts.Sizes.{Sizes};
 ghost use Rattle.wl_objects.specs.declared.error.Fault.{Fault};
 ghost use Rattle.wl_objects.specs.declared.error.NextError.TheVariants as errors;
@@ -139,7 +140,7 @@ pub fn ids_are_deleted_last()
 /// What is made on the way has a birth that the server has not counted.
 pub fn made_is_not_counted()
     ensures { OfEach (λ pair world object. MakeComes world object
-        → object.birth.number < pair.server.core.view.births → ⊥) }
+        → object.birth.number < pair.server.core.view.client.births → ⊥) }
 {}
 
 /// The ids used at the client are those used at the server and those of the objects that are made
@@ -154,9 +155,9 @@ pub fn counted_where()
 /// got one of them, and each of them was given to such a birth.
 pub fn ids_are_of_births()
     ensures client { (pair : PairState) (world : World)
-        → StandsIn pair world → IdsOfBirths pair.client.core.view }
+        → StandsIn pair world → IdsOfBirths pair.client.core.view.client }
     ensures server { (pair : PairState) (world : World)
-        → StandsIn pair world → IdsOfBirths pair.server.core.view }
+        → StandsIn pair world → IdsOfBirths pair.server.core.view.client }
 {}
 
 /// Each registry that is open at the server is one of those that hear of globals.

@@ -10,8 +10,8 @@ use Rattle.wl_message.specs.declared.amounts.Sizes.{Sizes}
 use Rattle.wl_message.specs.Arrived.{nothing_arrived}
 use Rattle.wl_object_map.specs.declared.object.Entry.{Entry}
 use Rattle.wl_object_map.specs.declared.object.State.TheVariants.{Live}
-use Rattle.wl_object_map.specs.View.{opening as opening_view}
-use Rattle.wl_object_map.specs.Views.{look-opening}
+use Rattle.wl_object_map.specs.Objects.{opening as opening_view}
+use Rattle.wl_object_map.specs.ObjectsLaws.{look-opening}
 use Rattle.wl_recording.specs.declared.piece.Direction.{Direction}
 use Rattle.wl_recording.specs.declared.piece.Direction.TheVariants.{ToServer, ToClient}
 use Rattle.wl_check.specs.Merged.{merged_within, cutting}

@@ -12,7 +12,7 @@ use Rattle.wl_message.specs.Arrived.{without_first, in_front}
 use Rattle.wl_message.specs.Cut.{Whole}
 use Rattle.wl_message.specs.Outgoing.{Outgoing}
 use Rattle.wl_object_map.specs.declared.object.Entry.{Entry}
-use Rattle.wl_object_map.specs.View.{View, closed}
+use Rattle.wl_object_map.specs.Objects.{Objects, closed}
 use Rattle.wl_objects.specs.Messages.{opens, is_bind}
 use Rattle.wl_client.specs.declared.globals.Global.{Global as Remembered}
 use Rattle.wl_client.specs.State as client
@@ -162,8 +162,8 @@ more_counted births told news h below =
 
 -- a pair stays linked when the server writes, none of which is yet recorded
 pub told_links : (p : PairState) (w w' : World) (asked : List (Message Known)) (told : List (Coming Known))
-    (view : View) (outbox : Outgoing) (registries : List Registry) (news : List (Coming Known))
-    → view.births ≡ p.server.core.view.births → Each (IsBelow p.server.core.view.births) (all_tells news)
+    (view : Objects) (outbox : Outgoing) (registries : List Registry) (news : List (Coming Known))
+    → view.client.births ≡ p.server.core.view.client.births → Each (IsBelow p.server.core.view.client.births) (all_tells news)
     → LinkedBy p w asked told
     → StandsBy (told_pair p view outbox registries) w' asked (told ++ news)
     → LinkedBy (told_pair p view outbox registries) w' asked (told ++ news)
@@ -178,7 +178,7 @@ told_links p w w' asked told view outbox registries news births below l s = reco
   };
   follows = l.follows;
   counted = subst (λ (n : ℕ). Each (IsBelow n) (all_tells (told ++ news))) (sym births)
-      (more_counted p.server.core.view.births told news l.counted below);
+      (more_counted p.server.core.view.client.births told news l.counted below);
 }
 
 -- ---- the server reads
@@ -189,15 +189,15 @@ below_more few many h t l = counted_more (about t).born.birth few many l h
 -- a pair stays linked when the server reads the first request
 pub request_links : (p : PairState) (w w' : World) (m : Message Known) (ms : List (Message Known))
     (told : List (Coming Known)) (n : ℕ)
-    → in_front p.server.core.inbox ≡ Whole n → IfThere (λ x. IsAmongFirst p.server.core.view.births x.born.birth) m.ends
+    → in_front p.server.core.inbox ≡ Whole n → IfThere (λ x. IsAmongFirst p.server.core.view.client.births x.born.birth) m.ends
     → LinkedBy p w (m ∷ ms) told
     → StandsBy (with_server p (left_state p.server m n)) w' ms (told ++ delete m.ends)
     → LinkedBy (with_server p (left_state p.server m n)) w' ms (told ++ delete m.ends)
 request_links p w w' m ms told n whole there l s =
     let seen = rest_seen spelled_meant (pair_limit p) ToServer p.recording p.client.core.outbox p.server.core.inbox
     ((knows p).taken ToServer) n m ms l.stands.requests.in_boxes whole l.requests in
-    let births = p.server.core.view.births in
-    let now = (ended_view event_side (opens p.server.core.view (option_map made_of (made_in m.args))) m.ends).births in
+    let births = p.server.core.view.client.births in
+    let now = (ended_view event_side (opens p.server.core.view (option_map made_of (made_in m.args))) m.ends).client.births in
     let dead = delete m.ends in
     let counted = more_counted births told dead l.counted (delete_below births m.ends there) in
     record {
@@ -229,7 +229,7 @@ told_advertised tables given k m a r e t = a (rw (r, eq-eqb m.opcode 0 e) refl) 
     (name_at tables t.iface) t.iface (ap (map wire) t.args_are) t.known
 
 event_joins : (test : Born → Bool) (m : Message Known) (asked_later : List (Message Known)) (rest : List (Coming Known))
-    (here : Rows Row) (v : View) (tables : List Interface) (f : FitsSignature tables event_side m)
+    (here : Rows Row) (v : Objects) (tables : List Interface) (f : FitsSignature tables event_side m)
     → Joins test (all_asks asked_later) (all_tells (Event m ∷ rest)) here (client_rows v)
     → Joins test (all_asks asked_later) (all_tells rest) here (client_rows (ended_view request_side v m.ends))
 event_joins test m asked_later rest here v tables f j =
@@ -246,7 +246,7 @@ event_joins test m asked_later rest here v tables f j =
     }
 
 -- the client behind the first of what comes, with this view and these globals
-abbrev read_client : client.State → Coming Known → ℕ → View → List Remembered → client.State
+abbrev read_client : client.State → Coming Known → ℕ → Objects → List Remembered → client.State
 read_client st c n view globals = record {
   core = record st.core {
     view = view;
@@ -260,7 +260,7 @@ read_client st c n view globals = record {
 -- A pair stays linked when the client reads the first of what comes, where its rows still join and
 -- what it remembers is advertised.
 coming_links : (p : PairState) (w w' : World) (asked : List (Message Known)) (c : Coming Known)
-    (cs : List (Coming Known)) (n : ℕ) (view : View) (globals : List Remembered)
+    (cs : List (Coming Known)) (n : ℕ) (view : Objects) (globals : List Remembered)
     → in_front p.client.core.inbox ≡ Whole n → (l : LinkedBy p w asked (c ∷ cs))
     → ((here : Rows Row) (rest : List (Coming Known))
     → Joins (by_event p.server.core.tables) (all_asks l.requests.later) (all_tells (c ∷ rest)) here
@@ -289,7 +289,7 @@ coming_links p w w' asked c cs n view globals whole l joins learned s =
         tells = told.1;
         binds = f.binds;
       };
-      counted = each_rest (IsBelow p.server.core.view.births) (tells c) (all_tells cs) l.counted;
+      counted = each_rest (IsBelow p.server.core.view.client.births) (tells c) (all_tells cs) l.counted;
     }
 
 -- a pair stays linked when the client reads an event

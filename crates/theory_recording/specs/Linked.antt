@@ -57,7 +57,7 @@ pub record LinkedBy (p : PairState) (w : World) (asked : List (Message Known))
   pub follows : Follows p.server.core.tables (judged_in p) requests.later events.seen
       (client_rows p.client.core.view) p.client.globals
   -- what an event in flight is about was counted by the server
-  pub counted : Each (IsBelow p.server.core.view.births) (all_tells told)
+  pub counted : Each (IsBelow p.server.core.view.client.births) (all_tells told)
 
 -- the pieces up to the mark
 abbrev pub up_to : Option ℕ → List Piece → List Piece

@@ -7,7 +7,7 @@ use Rattle.wl_wire.specs.Argument.{Int, Uint, Fixed, Str, Obj, New, NewNamed, Ar
 use Rattle.wl_sigs.specs.Fixed.{registry}
 use Rattle.wl_object_map.specs.declared.object.Object.{Object}
 use Rattle.wl_object_map.specs.declared.object.Entry.{Entry}
-use Rattle.wl_object_map.specs.View.{View, look}
+use Rattle.wl_object_map.specs.Objects.{Objects, look}
 use Rattle.wl_objects.specs.declared.argument.Named.{Named}
 use Rattle.wl_objects.specs.declared.argument.Named.TheVariants as named_as
 use Rattle.wl_objects.specs.declared.error.NextError.{NextError}
@@ -181,7 +181,7 @@ entry_told None = record { interface = 0; version = 0 }
 entry_told (Some entry) = record { interface = entry.iface.0; version = entry.version }
 
 -- the entry of what a client's report is about, where these objects were there before it
-abbrev pub event_entry : View → Result (Option client.Report) NextError → Option Entry
+abbrev pub event_entry : Objects → Result (Option client.Report) NextError → Option Entry
 event_entry view (Ok (Some report)) = client.entry_of view report
 event_entry view _ = None
 
@@ -234,7 +234,7 @@ told_request room (Ok (Some report)) =
     told_message room report.target report.opcode report.args
 
 -- the entry of a request's target
-abbrev pub request_entry : View → Result (Option server.Report) NextError → Option Entry
+abbrev pub request_entry : Objects → Result (Option server.Report) NextError → Option Entry
 request_entry view (Ok (Some report)) = look view report.target.id
 request_entry view _ = None
 

@@ -3,7 +3,7 @@ ghost use Rattle.std.specs.Prelude.{◌≡◌, ◌≢◌, ◌↔◌, ◌+◌, �
 ghost use Rattle.std.specs.Prelude.{min, slice_get, IfSome, MatchOption};
 ghost use Rattle.std.specs.FinMap.{len as row_count};
 ghost use Rattle.wl_sigs.specs.declared.signature.Side.TheVariants.{Request as request_side};
-ghost use Rattle.wl_object_map.specs.View.{look};
+ghost use Rattle.wl_object_map.specs.Objects.{look};
 ghost use Rattle.wl_message.specs.Outgoing.{goes, Peeks, waiting_bytes, waiting_tokens};
 ghost use Rattle.wl_connection.specs.Core.{in_room, is_drained, live, display_object, feeds};
 ghost use Rattle.wl_connection.specs.Core.{feeds_len, with_arrived};
@@ -98,22 +98,24 @@ pub extern "C" fn waywire_c_client_live(
 /// How many objects the client has, wl_display and those that it destroyed counted.
 #[unsafe(no_mangle)]
 pub extern "C" fn waywire_c_client_object_count(client: &mut ClientHandle) -> u32
-    ensures answer { result ≡ row_count client.old.held.client.core.view.rows }
+    ensures answer { result ≡ row_count client.old.held.client.core.view.client.rows }
     ensures unchanged { client.new.held ≡ client.old.held }
 {
     client.get_mut().client.table().len()
 }
 
-/// How many ids were ever used. No object has a greater one.
+/// How many ids of the client's range were ever used. No object that the client made has a greater
+/// one.
 #[unsafe(no_mangle)]
 pub extern "C" fn waywire_c_client_ids_used(client: &mut ClientHandle) -> u32
-    ensures answer { result ≡ client.old.held.client.core.view.used }
+    ensures answer { result ≡ client.old.held.client.core.view.client.used }
     ensures unchanged { client.new.held ≡ client.old.held }
 {
     client.get_mut().client.table().used()
 }
 
-/// Writes the birth of the object that has this id to `birth`, also of one that the client has destroyed.
+/// Writes the birth of the object that has this id to `birth`, also of one that the client has
+/// destroyed.
 #[unsafe(no_mangle)]
 pub extern "C" fn waywire_c_client_look(client: &mut ClientHandle, id: u32, birth: &mut u64) -> u32
     ensures answer { result ≡ find_outcome (look client.old.held.client.core.view id) }
@@ -121,7 +123,7 @@ pub extern "C" fn waywire_c_client_look(client: &mut ClientHandle, id: u32, birt
         (λ entry. birth.new ≡ entry.birth) }
     ensures unchanged { client.new.held ≡ client.old.held }
 {
-    match client.get_mut().client.table().look(id) {
+    match client.get_mut().client.objects().look(id) {
         Some(entry) => {
             *birth = entry.birth;
             OK

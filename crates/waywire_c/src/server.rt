@@ -3,7 +3,7 @@ ghost use Rattle.std.specs.Prelude.{◌≡◌, ◌≢◌, ◌↔◌, ◌+◌, �
 ghost use Rattle.std.specs.Prelude.{min, slice_get, MatchOption, None};
 ghost use Rattle.std.specs.FinMap.{len as row_count};
 ghost use Rattle.wl_sigs.specs.declared.signature.Side.TheVariants.{Event as event_side};
-ghost use Rattle.wl_object_map.specs.View.{look};
+ghost use Rattle.wl_object_map.specs.Objects.{look};
 ghost use Rattle.wl_message.specs.Outgoing.{goes, Peeks, waiting_bytes, waiting_tokens};
 ghost use Rattle.wl_connection.specs.Core.{in_room, is_drained, live, display_object, feeds};
 ghost use Rattle.wl_connection.specs.Core.{feeds_len, with_arrived};
@@ -102,16 +102,17 @@ pub extern "C" fn waywire_c_server_live(
 /// How many objects the server has, wl_display counted.
 #[unsafe(no_mangle)]
 pub extern "C" fn waywire_c_server_object_count(server: &mut ServerHandle) -> u32
-    ensures answer { result ≡ row_count server.old.held.server.core.view.rows }
+    ensures answer { result ≡ row_count server.old.held.server.core.view.client.rows }
     ensures unchanged { server.new.held ≡ server.old.held }
 {
     server.get_mut().server.table().len()
 }
 
-/// How many ids were ever used. No object has a greater one.
+/// How many ids of the client's range were ever used. No object that the client made has a greater
+/// one.
 #[unsafe(no_mangle)]
 pub extern "C" fn waywire_c_server_ids_used(server: &mut ServerHandle) -> u32
-    ensures answer { result ≡ server.old.held.server.core.view.used }
+    ensures answer { result ≡ server.old.held.server.core.view.client.used }
     ensures unchanged { server.new.held ≡ server.old.held }
 {
     server.get_mut().server.table().used()
@@ -125,7 +126,7 @@ pub extern "C" fn waywire_c_server_look(server: &mut ServerHandle, id: u32, birt
         (λ entry. birth.new ≡ entry.birth) }
     ensures unchanged { server.new.held ≡ server.old.held }
 {
-    match server.get_mut().server.table().look(id) {
+    match server.get_mut().server.objects().look(id) {
         Some(entry) => {
             *birth = entry.birth;
             OK

@@ -356,6 +356,7 @@
 //!     fn token_to_go(&self, place: usize) -> Option<u32>
 //!     fn display(&self) -> Object
 //!     fn live(&self, object: Object) -> Option<(Iface, u32)>
+//!     fn objects(&self) -> &Objects<Self::Table>
 //!     fn table(&self) -> &Self::Table
 //! Client<'t, T: Table>
 //!     fn new(alloc: T::Alloc, tables: &'t Tables, sizes: Sizes) -> Result<Self, AllocError>
@@ -462,6 +463,23 @@
 //!     fn reopen(&mut self, id: u32, iface: Iface, version: u32) -> Object
 //!     fn make_zombie(&mut self, id: u32)
 //!     fn close(&mut self, id: u32)
+//! Objects<T: Table>
+//!     fn new(alloc: T::Alloc, display: Iface) -> Result<Self, AllocError>
+//!     fn with_server_range(alloc: T::Alloc, display: Iface) -> Result<Self, AllocError>
+//!     fn client(&self) -> &T
+//!     fn look(&self, id: u32) -> Option<Entry>
+//!     fn is_free(&self, id: u32) -> bool
+//!     fn has_room(&self, id: u32) -> bool
+//!     fn can_open(&self, maker: Maker) -> bool
+//!     fn used(&self, maker: Maker) -> u32
+//!     fn births(&self, id: u32) -> u64
+//!     fn open_next(
+//!         &mut self, maker: Maker, iface: Iface, version: u32,
+//!     ) -> Result<Object, TableError>
+//!     fn open_at(&mut self, id: u32, iface: Iface, version: u32) -> Result<Object, TableError>
+//!     fn reopen(&mut self, id: u32, iface: Iface, version: u32) -> Object
+//!     fn make_zombie(&mut self, id: u32)
+//!     fn close(&mut self, id: u32)
 //! Pair<'t, T: Table>
 //!     fn new(
 //!         alloc: T::Alloc, tables: &'t Tables, client: Sizes, server: Sizes,
@@ -561,8 +579,8 @@ pub use wl_client::{
 pub use wl_connection::{End, ReadAll};
 pub use wl_message::{Amounts, Fed, FillError, FlushError, Limit, Peek, Piece, Sizes, Taken};
 pub use wl_objects::{
-    Arg, Args, Entry, Fault, Got, GotRef, MapTable, Named, NextError, Object, OwnedArgs, SendError,
-    SlotTable, State, Table, TableError,
+    Arg, Args, Entry, Fault, Got, GotRef, Maker, MapTable, Named, NextError, Object, Objects,
+    OwnedArgs, SendError, SlotTable, State, Table, TableError,
 };
 pub use wl_server::{
     GlobalError, OwnedRequest, OwnedRequestWithEntry, Request, RequestWithEntry, Server,

@@ -18,13 +18,14 @@ use Rattle.wl_object_map.specs.View.{next_id}
 use Rattle.wl_object_map.specs.Views.{free_is, free_or_next-next_id}
 use Rattle.wl_objects.specs.declared.error.SendError.{SendError}
 use Rattle.wl_objects.specs.declared.error.SendError.TheVariants as refusals
-use Rattle.wl_objects.specs.Writing.{bind_values, message_bytes}
+use Rattle.wl_objects.specs.Writing.{bind_values, message_bytes, message_len}
 use Rattle.wl_objects.specs.Messages.{live_row, same_iface}
 use Rattle.wl_message.specs.Cut.{usual_limit}
+use Rattle.wl_connection.specs.Sending.{fits, opening_answer}
 use Rattle.wl_connection.specs.Spelled.{MessageSpells}
 use Rattle.wl_connection.proofs.Spelled.{own-spelled}
 use Rattle.wl_client.specs.State.{State, Global, global_of}
-use Rattle.wl_client.specs.Calls.{can_bind, version_fits, bind_at, bind_answer}
+use Rattle.wl_client.specs.Calls.{can_bind, version_fits, bind_at, bind_answer, bound_object}
 use Rattle.wl_client.specs.Binding.{FitsBind, BindSpells}
 use Rattle.wl_client.proofs.Names.{name_fits}
 
@@ -86,12 +87,25 @@ kinds_in o m signature e there = let same = sym e ∙ there in let is : m ≡ si
 pub bind_spells : (state : State) (target : Object) (name version : ℕ) (iface : List ℕ)
     → BindSpells state target name iface version
 bind_spells state target name version iface v s n w made e signature there =
-    let id = next_id state.core.view in
+    let id = next_id state.core.view.client in
     let values = bind_values name iface version id in
-    let f = free_is state.core.view id s (free_or_next-next_id state.core.view) in
-    let low : id < 2 ^ 32 = omega (arith, f.at_most_next, s.ids_end) in
+    let f = free_is state.core.view.client id s.client (free_or_next-next_id state.core.view.client) in
+    let low : id < 2 ^ 32 = omega (arith, f.at_most_next, s.client.ids_end) in
     let fits = fits_answer state target name version iface made v e in
     subst (λ (ks : List Kind). MessageSpells usual_limit ks target.id 0 values (message_bytes target.id 0 values))
     (kinds_in _ _ signature (ap (option_and_then (message_of Request 0)) v.fixed_four.registry) there)
     (own-spelled (uint ∷ new None ∷ []) target.id 0 values (n, (((fits.fits 0 0 0).1.0, w, low), tt))
     (fits.len name version id))
+
+-- ---- an accepted bind opens its object
+
+pub bind_opens : (state : State) (target : Object) (name : ℕ) (iface : List ℕ) (version : ℕ) (entry : Entry)
+    (global : Global)
+    → state.core.failed ≡ false → live_row state.core.view target ≡ Some entry
+    → not (same_iface entry.iface registry) ≡ false → global_of state.globals name ≡ Some global
+    → can_bind state.core.tables iface version (Some global) ≡ true
+    → fits state.core.outbox (message_len (bind_values name iface version 0)) 0 ≡ true
+    → bind_answer state target name iface version
+    ≡ opening_answer state.core (Some (bound_object state name version))
+bind_opens state target name iface version entry global lives row registers there can room =
+    rw (lives, row, registers, ap (can_bind state.core.tables iface version) there ∙ can, room) refl

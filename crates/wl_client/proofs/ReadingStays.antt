@@ -6,7 +6,7 @@ use Rattle.wl_sigs.specs.declared.signature.Side.TheVariants.{Event as event_sid
 use Rattle.wl_object_map.specs.declared.object.Entry.{Entry}
 use Rattle.wl_object_map.specs.declared.object.State.{State as ObjectState}
 use Rattle.wl_object_map.specs.declared.object.State.TheVariants.{Live, Zombie}
-use Rattle.wl_object_map.specs.View.{look}
+use Rattle.wl_object_map.specs.View as table
 use Rattle.wl_connection.specs.Core.{Core, with_arrived, with_view}
 use Rattle.wl_connection.specs.Receiving.{Found}
 use Rattle.wl_connection.specs.Reads.{with_arrivals}
@@ -67,8 +67,8 @@ last_by true core f = refl
 last_by false core f =
     either_not_last (is_delete_event f) (delete_report core (deleted_id f))
     (plain_report core f.opcode f.message f.message.entry.state)
-    (either_not_last _ (Stray 1) (deleted (deleted_id f) (look core.view (deleted_id f))) refl
-    (deleted_not_last (deleted_id f) (look core.view (deleted_id f))))
+    (either_not_last _ (Stray 1) (deleted (deleted_id f) (table.look core.view.client (deleted_id f))) refl
+    (deleted_not_last (deleted_id f) (table.look core.view.client (deleted_id f))))
     (plain_not_last core f f.message.entry.state)
 
 -- ---- so a client reads as an end does

@@ -1,6 +1,6 @@
 -- A zombie that is made a zombie stays one.
-use Rattle.std.proofs.Common.{◌≡◌, ℕ, List, Bool, true, false, refl, sym, ap, ◌∙◌, cond, eqb}
-use Rattle.std.proofs.lemmas.Bool.{eqb-true}
+use Rattle.std.proofs.Common.{◌≡◌, ℕ, List, Bool, true, false, refl, sym, ap, ◌∙◌, cond, eqb, inl, inr}
+use Rattle.std.proofs.lemmas.Bool.{cases_Bool, eqb-true}
 use Rattle.std.specs.Ordering.{nat_cmp}
 use Rattle.std.specs.Cmp.{nat_cmp_total}
 use Rattle.std.specs.FinMap.{FinMap, get, insert, same_map, nat_cmp-IsAntisymmetric}
@@ -12,7 +12,12 @@ use Rattle.wl_sigs.specs.Tables.{destroys_argument}
 use Rattle.wl_wire.specs.Argument.{Argument}
 use Rattle.wl_object_map.specs.declared.object.Entry.{Entry}
 use Rattle.wl_object_map.specs.declared.object.State.TheVariants.{Zombie}
-use Rattle.wl_object_map.specs.View.{View, look, zombie, with_zombie, zombied}
+use Rattle.wl_object_map.specs.Ranges.{is_of_server, table_id}
+use Rattle.wl_object_map.specs.View as table
+use Rattle.wl_object_map.specs.View.{View, zombie, with_zombie}
+use Rattle.wl_object_map.specs.Objects.{Objects, look, zombied}
+use Rattle.wl_object_map.specs.ObjectsLaws.{in_range-server, in_range-client}
+use Rattle.wl_object_map.specs.ObjectsLaws.{changed_server, changed_client}
 use Rattle.wl_object_map.specs.Views.{get_put}
 use Rattle.wl_objects.specs.Messages.{after, ended_id}
 
@@ -29,14 +34,25 @@ put_same rows id e h = same_map nat_cmp_total nat_cmp-IsAntisymmetric _ _
 zombie_same : (e : Entry) → e.state ≡ Zombie → zombie e ≡ e
 zombie_same e h = λ i. record e { state = sym h i }
 
-pub zombied_same : (view : View) (id : ℕ) (e : Entry) → look view id ≡ Some e → e.state ≡ Zombie
-    → zombied view id ≡ view
-zombied_same view id e l z =
+same_in_table : (view : View) (id : ℕ) (e : Entry) → table.look view id ≡ Some e → e.state ≡ Zombie
+    → table.zombied view id ≡ view
+same_in_table view id e l z =
     ap (λ (r : FinMap nat_cmp Entry). record view { rows = r })
     (ap (with_zombie view.rows id) l ∙ ap (insert view.rows id) (zombie_same e z) ∙ put_same view.rows id e l)
 
+pub zombied_same : (view : Objects) (id : ℕ) (e : Entry) → look view id ≡ Some e → e.state ≡ Zombie
+    → zombied view id ≡ view
+zombied_same view id e l z = elim (cases_Bool (is_of_server id)) [
+  | inl h ↦
+      (let same = same_in_table view.server (table_id id) e (sym (in_range-server table.look view id h) ∙ l) z in
+      changed_server table.zombied view id h ∙ (λ i. record { client = view.client; server = same i }))
+  | inr h ↦
+      (let same = same_in_table view.client id e (sym (in_range-client table.look view id h) ∙ l) z in
+      changed_client table.zombied view id h ∙ (λ i. record { client = same i; server = view.server }))
+]
+
 -- an event for a zombie changes no object, since no event destroys an argument
-pub after_zombie : (view : View) (what : Destroys) (id : ℕ) (values : List Argument) (e : Entry)
+pub after_zombie : (view : Objects) (what : Destroys) (id : ℕ) (values : List Argument) (e : Entry)
     → destroys_argument what ≡ false → look view id ≡ Some e → e.state ≡ Zombie
     → after request_side view None what (ended_id what id values) ≡ view
 after_zombie view Nothing id values e n l z = refl

@@ -10,7 +10,8 @@ use Rattle.wl_object_map.specs.declared.object.Object.{Object}
 use Rattle.wl_object_map.specs.declared.object.Entry.{Entry}
 use Rattle.wl_objects.specs.declared.error.SendError.{SendError}
 use Rattle.wl_objects.specs.declared.error.SendError.TheVariants as refusals
-use Rattle.wl_object_map.specs.View.{next_id, opened}
+use Rattle.wl_object_map.specs.View.{next_id}
+use Rattle.wl_object_map.specs.Objects.{opened_at}
 use Rattle.wl_objects.specs.Writing.{bind_values, message_len}
 use Rattle.wl_objects.specs.Messages.{NewObject, live_row, same_iface}
 use Rattle.wl_connection.specs.Core.{with_view}
@@ -37,7 +38,7 @@ iface_or (Some global) = global.iface
 -- the object that a bind makes, at the next id
 abbrev pub bound_object : State → ℕ → ℕ → NewObject
 bound_object state name version = record {
-  id = next_id state.core.view;
+  id = next_id state.core.view.client;
   iface = iface_or (global_of state.globals name);
   version = version;
 }
@@ -63,6 +64,7 @@ abbrev pub after_bind : State → Object → ℕ → List ℕ → ℕ → State
 after_bind state target name iface version = record state {
   core =
       with_view (with_sent state.core target.id 0
-      (bind_values name iface version (next_id state.core.view)) [])
-      (opened state.core.view (bound_object state name version).iface version);
+      (bind_values name iface version (next_id state.core.view.client)) [])
+      (opened_at state.core.view (next_id state.core.view.client)
+      (bound_object state name version).iface version);
 }

@@ -8,7 +8,7 @@ use Rattle.std.specs.declared.alloc.Allocator as allocator
 use Rattle.std.specs.declared.clone.Clone as clone
 use Rattle.wl_object_map.specs.declared.table.Table as table
 use Rattle.wl_object_map.specs.declared.object.Entry.{Entry}
-use Rattle.wl_object_map.specs.View.{View}
+use Rattle.wl_object_map.specs.Objects.{Objects}
 use Rattle.wl_objects.specs.declared.error.NextError.{NextError}
 use Rattle.wl_objects.specs.declared.parsed.ParsedArg.{ParsedArg}
 use Rattle.wl_objects.specs.Parsed.{reported_in, spelled_in, seen_args}
@@ -47,7 +47,7 @@ outlined body args tokens (outlines.Error id object code) =
     Error id object code (text_in (argument (spelled_in body args) 2))
 
 -- the entry of the object that an outline's report is about
-abbrev pub outline_entry : View → Outline → Option Entry
+abbrev pub outline_entry : Objects → Outline → Option Entry
 outline_entry view outline = entry_of view (outlined [] [] [] outline)
 
 -- what was read with the entry of what it is about, and what is reported of it

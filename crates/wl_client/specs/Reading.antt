@@ -8,7 +8,7 @@ use Rattle.wl_objects.specs.declared.error.Fault.{Fault}
 use Rattle.wl_objects.specs.declared.error.NextError.{NextError}
 use Rattle.wl_objects.specs.declared.error.NextError.TheVariants as errors
 use Rattle.wl_objects.specs.declared.parsed.ParsedArg.{ParsedArg}
-use Rattle.wl_object_map.specs.View.{View}
+use Rattle.wl_object_map.specs.Objects.{Objects}
 use Rattle.wl_objects.specs.Messages.{Received}
 use Rattle.wl_message.specs.Arrived.{in_front}
 use Rattle.wl_message.specs.Cut.{Whole}
@@ -23,7 +23,7 @@ use Rattle.wl_client.specs.Steps.{stepped, with_global_change}
 
 -- A pending event is what this message, of this body and these parsed arguments, is and does where
 -- these tables and objects are there.
-pub record IsPending (tables : List Interface) (view : View) (body : List ℕ)
+pub record IsPending (tables : List Interface) (view : Objects) (body : List ℕ)
     (args : List ParsedArg) (f : Found) (event : PendingEvent) : Type 0 where
   pub report : (tokens : List ℕ)
       → outlined body args tokens event.outline ≡ report_by view tokens f
@@ -41,7 +41,7 @@ abbrev pub headed : Header → Received → Found
 headed header m = record { size = header.size; opcode = header.opcode; message = m }
 
 -- What comes of a message in front, which its reader reads as this: a pending event, or its fault.
-abbrev pub IsPendingOf : List Interface → View → Header → List ℕ → List ParsedArg
+abbrev pub IsPendingOf : List Interface → Objects → Header → List ℕ → List ParsedArg
     → Result Received Fault → Result PendingEvent Fault → Type 0
 IsPendingOf tables view header body args r (Err fault) = r ≡ Err fault
 IsPendingOf tables view header body args r (Ok event) =

@@ -5,7 +5,8 @@ use Rattle.std.specs.Prelude.{unwrap_or, slice_get}
 use Rattle.std.specs.declared.result.Result.{Result}
 use Rattle.wl_wire.specs.declared.kind.Iface.{Iface}
 use Rattle.wl_wire.specs.Argument.{Argument, Uint, Str, Obj}
-use Rattle.wl_sigs.specs.declared.signature.Side.TheVariants.{Request as request_side, Event as event_side}
+use Rattle.wl_sigs.specs.declared.signature.Side.TheVariants.{Request as request_side}
+use Rattle.wl_sigs.specs.declared.signature.Side.TheVariants.{Event as event_side}
 use Rattle.wl_sigs.specs.Tables.{Interface, place_of}
 use Rattle.wl_sigs.specs.Fixed.{registry}
 use Rattle.wl_object_map.specs.declared.object.Object.{Object}
@@ -16,7 +17,8 @@ use Rattle.wl_objects.specs.declared.error.Fault.{Fault}
 use Rattle.wl_objects.specs.declared.error.NextError.{NextError}
 use Rattle.wl_objects.specs.declared.error.NextError.TheVariants as errors
 use Rattle.wl_object_map.specs.declared.object.Entry.{Entry}
-use Rattle.wl_object_map.specs.View.{View, look, is_held}
+use Rattle.wl_object_map.specs.View as table
+use Rattle.wl_object_map.specs.Objects.{Objects, look}
 use Rattle.wl_objects.specs.Reading.{Reported, named_at}
 use Rattle.wl_objects.specs.Messages.{Received, reader_of, is_error, is_delete_id, same_iface}
 use Rattle.wl_objects.specs.Messages.{after, after_delete_id, ended_id}
@@ -71,16 +73,12 @@ error_report core values =
     Error (id_in (argument values 0)) (named_at (reader_of core.view) (id_in (argument values 0)))
     (number_in (argument values 1)) (text_in (argument values 2))
 
--- whether delete_id of an id ends an object
-abbrev pub deletes_held : Core → ℕ → Bool
-deletes_held core id = is_held core.view id && not (nat_eq id 1)
-
 abbrev pub deleted : ℕ → Option Entry → Report
 deleted id None = Stray id
 deleted id (Some entry) = Deleted (record { id = id; birth = entry.birth })
 
 abbrev pub delete_report : Core → ℕ → Report
-delete_report core id = if nat_eq id 1 then Stray 1 else deleted id (look core.view id)
+delete_report core id = if nat_eq id 1 then Stray 1 else deleted id (table.look core.view.client id)
 
 abbrev pub plain_report : Core → ℕ → Received → ObjectState → Report
 plain_report core opcode message Live = Event message.target opcode (reported core message)
@@ -107,7 +105,7 @@ report core f =
 -- The entry of the object that a report is about, where these objects are there: of an event's
 -- target, of what delete_id has ended, of the object that wl_display.error names. None where there
 -- is no such object.
-abbrev pub entry_of : View → Report → Option Entry
+abbrev pub entry_of : Objects → Report → Option Entry
 entry_of view (Event target opcode args) = look view target.id
 entry_of view (Discarded target opcode tokens) = look view target.id
 entry_of view (Deleted object) = look view object.id
@@ -122,7 +120,7 @@ needs_memory _ = false
 
 -- ---- what it leaves
 
-abbrev pub view_after : Core → Found → View
+abbrev pub view_after : Core → Found → Objects
 view_after core f =
     if is_error_event f then core.view
     else if is_delete_event f then after_delete_id core.view (deleted_id f)

@@ -4,7 +4,7 @@ use Rattle.wl_sigs.specs.Tables.{Interface}
 use Rattle.wl_message.specs.Outgoing.{no_messages}
 use Rattle.wl_objects.specs.declared.reading.Received.{Received as Read}
 use Rattle.wl_sigs.specs.Fixed.{display}
-use Rattle.wl_object_map.specs.View.{View, opening, is_held, is_live, closed, zombied}
+use Rattle.wl_object_map.specs.Objects.{Objects, opening, is_held, is_live, closed, zombied}
 use Rattle.wl_objects.specs.Seen.{received_of}
 use Rattle.wl_connection.specs.Core.{Core, past, with_view}
 use Rattle.wl_connection.specs.Receiving.{Found}
@@ -19,7 +19,7 @@ use Rattle.wl_client.specs.Reports.{Report, report, view_after, globals_after, f
 use Rattle.wl_client.specs.Reports.{remembered}
 
 -- an end with these tables and objects, at which these tokens wait
-abbrev pub end_with : List Interface → View → List ℕ → Core
+abbrev pub end_with : List Interface → Objects → List ℕ → Core
 end_with tables view tokens = record {
   tables = tables;
   view = view;
@@ -45,11 +45,11 @@ abbrev pub client_state : Core → List Global → State
 client_state core globals = record { core = core; globals = globals }
 
 -- what is reported where these objects and tokens are there
-abbrev pub report_by : View → List ℕ → Found → Report
+abbrev pub report_by : Objects → List ℕ → Found → Report
 report_by view tokens f = report (end_with [] view tokens) f
 
 -- the objects after a message
-abbrev pub view_by : View → Found → View
+abbrev pub view_by : Objects → Found → Objects
 view_by view f = view_after (end_with [] view []) f
 
 -- the globals after a message
@@ -58,7 +58,7 @@ globals_by tables globals f =
     globals_after (client_state (end_with tables (opening display) []) globals) f
 
 -- the objects after a change
-abbrev pub changed : View → ObjectChange → View
+abbrev pub changed : Objects → ObjectChange → Objects
 changed view object_changes.Nothing = view
 changed view (object_changes.Zombie id) = zombied view id
 changed view (object_changes.Close id) = closed view id
@@ -70,7 +70,7 @@ stepped core event =
     { failed = event.change.last }
 
 -- the change can be made: of an object that is there, and is not wl_display
-abbrev pub CanChange : View → ObjectChange → Type 0
+abbrev pub CanChange : Objects → ObjectChange → Type 0
 CanChange view object_changes.Nothing = Unit {0}
 CanChange view (object_changes.Zombie id) = IsTrue (is_live view id) × (id ≢ 1)
 CanChange view (object_changes.Close id) = IsTrue (is_held view id) × (id ≢ 1)

@@ -40,7 +40,7 @@ impl<'t, T: Table> Client<'t, T> {
         if self.end.core.failed {
             return Err(SendError::Failed);
         }
-        let Some(entry) = live_row(&self.end.core.table, registry) else {
+        let Some(entry) = live_row(&self.end.core.objects, registry) else {
             return Err(SendError::Stale);
         };
         if entry.iface != REGISTRY {

@@ -23,12 +23,12 @@ pub struct Client<'t, T: Table> {
 
 impl<'t, T: Table> Model for Client<'t, T> {
     ghost use Rattle.std.specs.Coded.{codes};
-    ghost use Rattle.wl_object_map.specs.View.{view_code};
+    ghost use Rattle.wl_object_map.specs.Objects.{objects_code};
     ghost use Rattle.wl_client.specs.State.{State};
 
     ghost Value = { State };
 
-    ghost coded = { Prim.hlevel (codes, view_code) };
+    ghost coded = { Prim.hlevel (codes, objects_code) };
 
     ghost view = { λ c. record { core = c.end.core; globals = c.globals } };
 }

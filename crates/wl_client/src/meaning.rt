@@ -2,7 +2,7 @@
 ghost use Rattle.std.specs.Prelude.{◌≡◌, ◌≢◌, ℕ, List, [], Some, false};
 ghost use Rattle.wl_sigs.specs.declared.signature.Side.TheVariants.{Event};
 ghost use Rattle.wl_sigs.specs.Tables.{destroys_argument};
-ghost use Rattle.wl_object_map.specs.View.{View, look};
+ghost use Rattle.wl_object_map.specs.Objects.{Objects as ObjectsView, look};
 ghost use Rattle.wl_connection.specs.Core.{HasDisplay};
 ghost use Rattle.wl_client.specs.Outlines.{outline_entry, outlined};
 ghost use Rattle.wl_client.specs.Reports.{argument, delete_report, error_report, id_in};
@@ -19,43 +19,43 @@ ghost use Rattle.wl_objects.specs.Seen.{received_of};
 use crate::arguments::{id_at, number_at};
 use crate::changes::{Change, GlobalChange, ObjectChange, global_change_of};
 use crate::outline::Outline;
-use wl_objects::{Entry, Object, ParsedArgs, Received, State, Table, is_delete_id};
+use wl_objects::{Entry, Object, Objects, ParsedArgs, Received, State, Table, is_delete_id};
 use wl_sigs::{Destroys, Side, Tables};
 
 /// What is reported of a message, what it changes, and the entry of the object that it is about.
 pub(crate) fn meaning_of<T: Table>(
     tables: &Tables,
-    table: &T,
+    objects: &Objects<T>,
     opcode: u16,
     message: &Received<'_, '_>,
 ) -> (Outline, Change, Option<Entry>)
-    requires parsed { AreParsed (reader_of (T.view table.now)) message.now.body.now
+    requires parsed { AreParsed (reader_of objects.now) message.now.body.now
         message.now.args.now (received_of message.now).values }
     requires tokens { message.now.tokens ≡ descriptors message.now.signature.now.kinds }
     requires error { message.now.is_error ≡ is_error Event message.now.entry.iface opcode }
-    requires display { HasDisplay (T.view table.now) }
-    requires row { look (T.view table.now) message.now.target.id ≡ Some message.now.entry }
+    requires display { HasDisplay objects.now }
+    requires row { look objects.now message.now.target.id ≡ Some message.now.entry }
     requires lasts { message.now.target.id ≡ 1
         → message.now.signature.now.destroys ≢ Destroys.Target }
     requires argument { destroys_argument message.now.signature.now.destroys ≡ false }
     ensures outline { (tokens : List ℕ)
         → outlined message.now.body.now message.now.args.now tokens result.0
-        ≡ report_by (T.view table.now) tokens (found_as opcode message.now) }
-    ensures changed { changed (T.view table.now) result.1.objects
-        ≡ view_by (T.view table.now) (found_as opcode message.now) }
-    ensures can { CanChange (T.view table.now) result.1.objects }
+        ≡ report_by objects.now tokens (found_as opcode message.now) }
+    ensures changed { changed objects.now result.1.objects
+        ≡ view_by objects.now (found_as opcode message.now) }
+    ensures can { CanChange objects.now result.1.objects }
     ensures globals { (globals : List Told) → with_global_change globals result.1.globals
         ≡ globals_by tables.now globals (found_as opcode message.now) }
     ensures last { result.1.last ≡ is_error_event (found_as opcode message.now) }
-    ensures entry { result.2 ≡ outline_entry (T.view table.now) result.0 }
+    ensures entry { result.2 ≡ outline_entry objects.now result.0 }
 {
     if message.is_error {
         let id = id_at(message.args, message.body, 0);
         let outline = error_outline(message.args, message.body);
-        return (outline, no_change(true), table.look(id));
+        return (outline, no_change(true), objects.look(id));
     }
     if is_delete_id(Side::Event, message.entry.iface, opcode) {
-        return meaning_of_delete_id(table, number_at(message.args, message.body, 0));
+        return meaning_of_delete_id(objects, number_at(message.args, message.body, 0));
     }
     let target = message.target;
     match message.entry.state {
@@ -72,7 +72,7 @@ pub(crate) fn meaning_of<T: Table>(
             Outline::Event {
                 target,
                 opcode,
-                birth: table.births(),
+                birth: objects.client().births(),
             },
             Change {
                 objects: match message.signature.destroys() {
@@ -106,11 +106,11 @@ fn no_change(last: bool) -> Change
 
 /// The outline of wl_display.error.
 fn error_outline(args: &ParsedArgs, body: &[u8]) -> Outline
-    ensures outline { (view : View) (tokens : List ℕ)
+    ensures outline { (view : ObjectsView) (tokens : List ℕ)
         → AreParsed (reader_of view) body.now args.now (spelled_in body.now args.now)
         → outlined body.now args.now tokens result
         ≡ error_report (end_with [] view tokens) (spelled_in body.now args.now) }
-    ensures entry { (view : View) → outline_entry view result
+    ensures entry { (view : ObjectsView) → outline_entry view result
         ≡ look view (id_in (argument (spelled_in body.now args.now) 0)) }
 {
     Outline::Error {
@@ -121,18 +121,18 @@ fn error_outline(args: &ParsedArgs, body: &[u8]) -> Outline
 }
 
 /// What wl_display.delete_id of an id is: the object of the id, if it has one, is gone.
-fn meaning_of_delete_id<T: Table>(table: &T, id: u32) -> (Outline, Change, Option<Entry>)
+fn meaning_of_delete_id<T: Table>(objects: &Objects<T>, id: u32) -> (Outline, Change, Option<Entry>)
     ensures outline { (body tokens : List ℕ) (args : List ParsedArg)
         → outlined body args tokens result.0
-        ≡ delete_report (end_with [] (T.view table.now) tokens) id }
-    ensures changed { changed (T.view table.now) result.1.objects
-        ≡ after_delete_id (T.view table.now) id }
-    ensures can { CanChange (T.view table.now) result.1.objects }
+        ≡ delete_report (end_with [] objects.now tokens) id }
+    ensures changed { changed objects.now result.1.objects
+        ≡ after_delete_id objects.now id }
+    ensures can { CanChange objects.now result.1.objects }
     ensures globals { result.1.globals ≡ GlobalChange.Nothing }
     ensures last { result.1.last ≡ false }
-    ensures entry { result.2 ≡ outline_entry (T.view table.now) result.0 }
+    ensures entry { result.2 ≡ outline_entry objects.now result.0 }
 {
-    match table.look(id) {
+    match objects.client().look(id) {
         Some(entry) if id != 1 => (
             Outline::Deleted {
                 object: Object {

@@ -2,7 +2,7 @@
 //! copies.
 ghost use Rattle.std.specs.Prelude.{◌≡◌, IfOk, OnErr, ◌≤◌, true, length, take};
 ghost use Rattle.wl_sigs.specs.Tables.{max_args};
-ghost use Rattle.wl_object_map.specs.View.{View};
+ghost use Rattle.wl_object_map.specs.Objects.{Objects};
 ghost use Rattle.wl_client.specs.Reports.{entry_of, needs_memory};
 ghost use Rattle.wl_client.specs.Seen.{report_of};
 ghost use Rattle.wl_client.specs.Outlines.{lent_report, outline_entry, outlined};
@@ -52,7 +52,7 @@ impl Outline {
         tokens: &'a [u32],
     ) -> Incoming<'a>
         ensures report { lent_report result ≡ outlined body.now args.now tokens.now self.now }
-        ensures entry { (view : View)
+        ensures entry { (view : Objects)
             → entry_of view (lent_report result) ≡ outline_entry view self.now }
     {
         match self {
@@ -100,7 +100,7 @@ impl Outline {
             (λ report. report_of report ≡ outlined body.now args.now tokens.now self.now) }
         ensures err { OnErr result
             (needs_memory (outlined body.now args.now tokens.now self.now) ≡ true) }
-        ensures entry { IfOk result (λ report. (view : View)
+        ensures entry { IfOk result (λ report. (view : Objects)
             → entry_of view (report_of report) ≡ outline_entry view self.now) }
     {
         match self {

@@ -13,7 +13,7 @@ use crate::meaning::meaning_of;
 use crate::outline::Outline;
 use wl_connection::Endpoint;
 use wl_message::Frame;
-use wl_objects::{Entry, Fault, Messages, ParsedArgs, Table, TableLookup, receive};
+use wl_objects::{Entry, Fault, Messages, Objects, ObjectsLookup, ParsedArgs, Table, receive};
 use wl_sigs::{Side, Tables};
 
 /// An event that was read and not yet taken: what is reported of it, and what it changes. It lends
@@ -41,7 +41,7 @@ pub(crate) fn find<T: Table>(end: &mut Endpoint<'_, T>) -> Result<Option<Pending
         Ok(None) => return Ok(None),
         Err(_) => return Err(Fault::BadSize),
     };
-    match pending_of(args, core.tables, &core.table, frame) {
+    match pending_of(args, core.tables, &core.objects, frame) {
         Ok(event) => Ok(Some(event)),
         Err(fault) => Err(fault),
     }
@@ -51,19 +51,19 @@ pub(crate) fn find<T: Table>(end: &mut Endpoint<'_, T>) -> Result<Option<Pending
 fn pending_of<T: Table>(
     args: &mut ParsedArgs,
     tables: &Tables,
-    table: &T,
+    objects: &Objects<T>,
     frame: Frame<'_>,
 ) -> Result<PendingEvent, Fault>
-    requires display { HasDisplay (T.view table.now) }
+    requires display { HasDisplay objects.now }
     ensures header { IsHeader frame.entry.header }
     ensures valid { IfOk result (λ _. Valid tables.now) }
-    ensures comes { IsPendingOf tables.now (T.view table.now)
+    ensures comes { IsPendingOf tables.now objects.now
         frame.entry.header frame.entry.body.now args.new
-        (received tables.now event_side (reader_of (T.view table.now))
+        (received tables.now event_side (reader_of objects.now)
         frame.entry.header frame.entry.body.now frame.entry.tokens) result }
 {
     let header = frame.header;
-    let lookup = TableLookup { table };
+    let lookup = ObjectsLookup { objects };
     let messages = Messages {
         tables,
         side: Side::Event,
@@ -73,7 +73,7 @@ fn pending_of<T: Table>(
         Ok(message) => message,
         Err(fault) => return Err(fault),
     };
-    let (outline, change, entry) = meaning_of(tables, table, header.opcode, &message);
+    let (outline, change, entry) = meaning_of(tables, objects, header.opcode, &message);
     Ok(PendingEvent {
         outline,
         change,

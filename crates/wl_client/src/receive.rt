@@ -2,7 +2,7 @@
 ghost use Rattle.std.specs.Prelude.{◌≡◌, List, [], IfOk, IfSome, OnErr, false, true};
 ghost use Rattle.std.specs.Borrow.{sem};
 ghost use Rattle.std.specs.Io.BufRead.{Rests};
-ghost use Rattle.wl_object_map.specs.View.{View};
+ghost use Rattle.wl_object_map.specs.Objects.{Objects};
 ghost use Rattle.wl_connection.specs.Outcomes.{unless_memory};
 ghost use Rattle.wl_client.specs.State.{Global as Told};
 ghost use Rattle.wl_client.specs.Reports.{IsClientNext, after_next, entry_of, needs_memory};
@@ -174,7 +174,7 @@ fn copy<T: Table>(
         (λ report. report_of report ≡ front_report end.old.core end.old.args event.now) }
     ensures err { OnErr result
         (needs_memory (front_report end.old.core end.old.args event.now) ≡ true) }
-    ensures entry { IfOk result (λ report. (view : View)
+    ensures entry { IfOk result (λ report. (view : Objects)
         → entry_of view (report_of report) ≡ outline_entry view event.now.outline) }
 {
     let tokens = end.core.first_tokens(event.tokens);
@@ -206,7 +206,7 @@ fn take_event<T: Table>(
 fn lend<'a, T: Table>(end: &'a Endpoint<'_, T>, event: PendingEvent) -> Incoming<'a>
     ensures report { lent_report result ≡ outlined end.now.core.inbox.last end.now.args
         end.now.core.inbox.last_tokens event.outline }
-    ensures entry { (view : View)
+    ensures entry { (view : Objects)
         → entry_of view (lent_report result) ≡ outline_entry view event.outline }
 {
     event.outline.lend(

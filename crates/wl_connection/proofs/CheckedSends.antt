@@ -25,8 +25,9 @@ use Rattle.wl_object_map.specs.declared.object.State.{State}
 use Rattle.wl_object_map.specs.declared.object.State.TheVariants.{Live, Zombie}
 use Rattle.wl_objects.specs.declared.error.SendError.{SendError}
 use Rattle.wl_objects.specs.declared.error.SendError.TheVariants as refusals
-use Rattle.wl_object_map.specs.View.{View, look, is_live, lives, lives_in, next_id}
-use Rattle.wl_object_map.specs.Views.{look-opened_at}
+use Rattle.wl_object_map.specs.View.{lives, lives_in, next_id}
+use Rattle.wl_object_map.specs.Objects.{Objects, look, is_live, births}
+use Rattle.wl_object_map.specs.ObjectsLaws.{look-opened_at}
 use Rattle.wl_objects.specs.Writing.{Given, given, given_of, wired, on_wire, suits, wrong_place}
 use Rattle.wl_objects.specs.Writing.{lost_place, call_makes, id_of, message_len, message_bytes}
 use Rattle.wl_objects.specs.Writing.{tokens_of}
@@ -101,7 +102,7 @@ version-at : (core : Core) (target : Object) (signature : MessageSignature) (lis
     → wrong_place 0 signature.kinds (given list) ≡ None
     → made_at core target signature (given list) ≡ next_object core.view entry.version (call_makes signature.kinds)
 version-at core target signature list entry row w =
-    rw row (call-makes core.tables entry.version (next_id core.view) 0 signature.kinds list w)
+    rw row (call-makes core.tables entry.version (next_id core.view.client) 0 signature.kinds list w)
 
 -- the object that a call makes is the one that is opened next, if its signature has one
 pub made-next : (core : Core) (side : Side) (target : Object) (opcode : ℕ) (list : List Arg)
@@ -119,22 +120,22 @@ pub wired-next : (core : Core) (side : Side) (target : Object) (opcode : ℕ) (l
     (signature : MessageSignature)
     (id : ℕ) (iface : Option Iface)
     → checked core.outbox.limit.bytes core.tables side core.view target opcode (given list) ≡ Ok signature
-    → iface ≡ call_makes signature.kinds → (is_some iface ≡ true → id ≡ next_id core.view)
-    → on_wire id list ≡ on_wire (next_id core.view) list
+    → iface ≡ call_makes signature.kinds → (is_some iface ≡ true → id ≡ next_id core.view.client)
+    → on_wire id list ≡ on_wire (next_id core.view.client) list
 wired-next core side target opcode list signature id None e f h =
-    same-wired id (next_id core.view) 0 signature.kinds list
+    same-wired id (next_id core.view.client) 0 signature.kinds list
     (passes core.outbox.limit.bytes core.tables side core.view target opcode (given list) signature e).suit (sym f)
 wired-next core side target opcode list signature id (Some iface) e f h = ap (λ n. on_wire n list) (h refl)
 
 -- the target is live still after an object was opened
-live-opened : (view : View) (new : Option Iface) (version id : ℕ) → is_live view id ≡ true
+live-opened : (view : Objects) (new : Option Iface) (version id : ℕ) → is_live view id ≡ true
     → is_live (opens view (next_object view version new)) id ≡ true
 live-opened view None version id h = h
 live-opened view (Some iface) version id h =
-    ap lives_in (look-opened_at view (next_id view) iface version id) ∙ by_id (eqb id (next_id view))
+    ap lives_in (look-opened_at view (next_id view.client) iface version id) ∙ by_id (eqb id (next_id view.client))
   where
     by_id : (b : Bool) → lives_in (cond b (Some (record {
-      birth = view.births;
+      birth = births view (next_id view.client);
       iface = iface;
       version = version;
       state = Live;
@@ -166,7 +167,7 @@ fits-known o list len more other count b whole m tokens e =
     ∙ ap (fits o (message_len (on_wire 0 list) + other)) tokens))
 
 -- what follows a message has room behind it
-pub fits-behind : (core written : Core) (view : View) (list : List Arg) (target opcode id more : ℕ) (tokens : List ℕ)
+pub fits-behind : (core written : Core) (view : Objects) (list : List Arg) (target opcode id more : ℕ) (tokens : List ℕ)
     → fits core.outbox (message_len (on_wire 0 list) + more) (length tokens) ≡ true
     → written ≡ with_sent (with_view core view) target opcode (on_wire id list) tokens
     → fits written.outbox more 0 ≡ true
@@ -206,8 +207,8 @@ answered core side target opcode list signature entry result e row fit g =
     (subst (λ (a : Result (Option Object) SendError). AnswersOrMemory refusals.Memory
     (is_some (call_makes signature.kinds)) a result) (sym same) g)
 
-id-where : (new : Option Object) (view : View) (iface : Option Iface) → IfSome iface (λ _. id_of new ≡ next_id view)
-    → is_some iface ≡ true → id_of new ≡ next_id view
+id-where : (new : Option Object) (view : Objects) (iface : Option Iface) → IfSome iface (λ _. id_of new ≡ next_id view.client)
+    → is_some iface ≡ true → id_of new ≡ next_id view.client
 id-where new view None h s = absurd (cc)
 id-where new view (Some iface) h s = h
 
@@ -217,21 +218,21 @@ pub written-known : (core opened written : Core) (side : Side) (target : Object)
     → checked core.outbox.limit.bytes core.tables side core.view target opcode (given list) ≡ Ok signature
     → look core.view target.id ≡ Some entry → iface ≡ call_makes signature.kinds
     → opened ≡ with_view core (opens core.view (next_object core.view entry.version iface))
-    → IfSome iface (λ _. id_of new ≡ next_id core.view)
+    → IfSome iface (λ _. id_of new ≡ next_id core.view.client)
     → written ≡ with_sent opened target.id opcode (on_wire (id_of new) list) tokens → tokens ≡ tokens_of (given list)
-    → written ≡ with_view (with_sent core target.id opcode (map (wired (next_id core.view)) (given list))
+    → written ≡ with_view (with_sent core target.id opcode (map (wired (next_id core.view.client)) (given list))
     (tokens_of (given list))) (opens core.view (made_at core target signature (given list)))
 written-known core opened written side target opcode list signature entry new iface tokens e row f o i w t =
     let made : next_object core.view entry.version iface ≡ made_at core target signature (given list) =
     ap (next_object core.view entry.version) f ∙ sym (made-next core side target opcode list signature entry e row) in
-    let values : on_wire (id_of new) list ≡ on_wire (next_id core.view) list =
+    let values : on_wire (id_of new) list ≡ on_wire (next_id core.view.client) list =
     wired-next core side target opcode list signature (id_of new) iface e f (id-where new core.view iface i) in
     w ∙ (ap (λ (c : Core). with_sent c target.id opcode (on_wire (id_of new) list) tokens)
     (o ∙ ap (λ (m : Option NewObject). with_view core (opens core.view m)) made)
     ∙ (ap (λ (vs : List Argument). with_sent (with_view core
     (opens core.view (made_at core target signature (given list)))) target.id opcode vs tokens) values
     ∙ ap (with_sent (with_view core (opens core.view (made_at core target signature (given list)))) target.id opcode
-    (on_wire (next_id core.view) list)) t))
+    (on_wire (next_id core.view.client) list)) t))
 
 -- no message ends wl_display
 pub ends-other : (core : Core) (side : Side) (target : Object) (opcode : ℕ) (list : List Arg)
@@ -246,7 +247,7 @@ ends-other core side target opcode list signature v d e t =
 -- and then what the message ends
 pub ended-known : (core written ended : Core) (side : Side) (target : Object) (opcode : ℕ) (list : List Arg)
     (signature : MessageSignature) (what : Destroys) (id : ℕ)
-    → written ≡ with_view (with_sent core target.id opcode (map (wired (next_id core.view)) (given list))
+    → written ≡ with_view (with_sent core target.id opcode (map (wired (next_id core.view.client)) (given list))
     (tokens_of (given list))) (opens core.view (made_at core target signature (given list)))
     → ended ≡ with_following (following side what) id (with_view written (destroys side what id written.view))
     → what ≡ signature.destroys → id ≡ ended_id what target.id (on_wire 0 list)
@@ -259,7 +260,7 @@ ended-known core written ended side target opcode list signature what id w e d i
 
 -- ---- what is destroyed is live, and not wl_display
 
-open_row : (view : View) (new : Option Iface) (version id : ℕ) → NamesRegistry view id
+open_row : (view : Objects) (new : Option Iface) (version id : ℕ) → NamesRegistry view id
     → is_live (opens view (next_object view version new)) id ≡ true
 open_row view new version id n = live-opened view new version id
     (ap lives_in n.there ∙ state-lives n.entry.state n.live)
@@ -295,7 +296,7 @@ ended-live core side target opcode list signature new version v e = by_what sign
     by_what (ends_arg k) d = open_row core.view new version _
         (argument-named core side target opcode list signature k v e d)
 
-registry-other : (view : View) (id : ℕ) → HasDisplay view → NamesRegistry view id → id ≢ 1
+registry-other : (view : Objects) (id : ℕ) → HasDisplay view → NamesRegistry view id → id ≢ 1
 registry-other view id d n = λ same. (
     let one : Some n.entry ≡ Some (record { birth = 0; iface = display; version = 1; state = Live }) =
     sym n.there ∙ ap (look view) same ∙ d in

@@ -14,20 +14,24 @@ use Rattle.wl_sigs.specs.Fixed.{wl_display, display}
 use Rattle.wl_sigs.specs.Valid.{Valid}
 use Rattle.wl_object_map.specs.declared.object.Entry.{Entry}
 use Rattle.wl_object_map.specs.declared.object.State.TheVariants.{Live}
+use Rattle.wl_object_map.specs.declared.object.Maker.TheVariants.{Client}
 use Rattle.wl_object_map.specs.declared.object.Object.{Object}
 use Rattle.wl_object_map.specs.declared.object.TableError.{TableError}
 use Rattle.wl_object_map.specs.declared.object.TableError.TheVariants as refusals
-use Rattle.wl_object_map.specs.View.{View, Sound, look, is_held, free_or_next, next_id, opening}
-use Rattle.wl_object_map.specs.View.{opened_at, opened, closed, zombied, zombie}
-use Rattle.wl_object_map.specs.Views.{look-opening, look-opened_at, look-closed, look-zombied}
-use Rattle.wl_object_map.specs.Views.{free_is, free_or_next-next_id}
+use Rattle.wl_object_map.specs.View.{free_or_next, next_id}
+use Rattle.wl_object_map.specs.Objects.{Objects, ObjectsAreSound, look, is_held, births, opening}
+use Rattle.wl_object_map.specs.View.{zombie}
+use Rattle.wl_object_map.specs.Objects.{opened_at, opened, closed, zombied}
+use Rattle.wl_object_map.specs.ObjectsLaws.{look-opening, look-opened_at, look-closed, look-zombied}
+use Rattle.wl_object_map.specs.ObjectsLaws.{free_is}
+use Rattle.wl_object_map.specs.Views.{free_or_next-next_id}
 use Rattle.wl_connection.specs.Core.{HasDisplay}
 
 pub HasDisplay-opening : HasDisplay (opening display)
 HasDisplay-opening = look-opening display 1
 
 -- an id that has no row is another
-not_display : (view : View) (id : ℕ) → HasDisplay view → look view id ≡ None → eqb 1 id ≡ false
+not_display : (view : Objects) (id : ℕ) → HasDisplay view → look view id ≡ None → eqb 1 id ≡ false
 not_display view id d n = by_test (eqb 1 id) refl
   where
     by_test : (b : Bool) → eqb 1 id ≡ b → b ≡ false
@@ -35,22 +39,22 @@ not_display view id d n = by_test (eqb 1 id) refl
     by_test true e = let same : 1 ≡ id = grind (arith, nat_tests, e) in let row : look view 1 ≡ None =
         subst (λ (i : ℕ). look view i ≡ None) (sym same) n in absurd (cc (row, d))
 
-pub HasDisplay-opened_at : (view : View) (id : ℕ) (iface : Iface) (version : ℕ) → Sound view
-    → free_or_next view id ≡ true → HasDisplay view → HasDisplay (opened_at view id iface version)
+pub HasDisplay-opened_at : (view : Objects) (id : ℕ) (iface : Iface) (version : ℕ) → ObjectsAreSound view
+    → free_or_next view.client id ≡ true → HasDisplay view → HasDisplay (opened_at view id iface version)
 HasDisplay-opened_at view id iface version s f d =
     look-opened_at view id iface version 1
-    ∙ (ap (λ b. cond b (Some (record { birth = view.births; iface = iface; version = version; state = Live }))
+    ∙ (ap (λ b. cond b (Some (record { birth = births view id; iface = iface; version = version; state = Live }))
     (look view 1)) (not_display view id d (free_is view id s f).no_row) ∙ d)
 
-pub HasDisplay-opened : (view : View) (iface : Iface) (version : ℕ) → Sound view → HasDisplay view
-    → HasDisplay (opened view iface version)
-HasDisplay-opened view iface version s d = HasDisplay-opened_at view (next_id view) iface version s
-    (free_or_next-next_id view) d
+pub HasDisplay-opened : (view : Objects) (iface : Iface) (version : ℕ) → ObjectsAreSound view → HasDisplay view
+    → HasDisplay (opened Client view iface version)
+HasDisplay-opened view iface version s d = HasDisplay-opened_at view (next_id view.client) iface version s
+    (free_or_next-next_id view.client) d
 
 -- an opening that may be refused
-pub HasDisplay-opening_next : {X E : Type 0} (result : Result X E) (before now : View) (iface : Iface) (version : ℕ)
-    → Sound before → HasDisplay before
-    → OnOk result (now ≡ opened before iface version) → OnErr result (now ≡ before) → HasDisplay now
+pub HasDisplay-opening_next : {X E : Type 0} (result : Result X E) (before now : Objects) (iface : Iface) (version : ℕ)
+    → ObjectsAreSound before → HasDisplay before
+    → OnOk result (now ≡ opened Client before iface version) → OnErr result (now ≡ before) → HasDisplay now
 HasDisplay-opening_next (Ok object) before now iface version s d ok err =
     subst HasDisplay (sym ok) (HasDisplay-opened before iface version s d)
 HasDisplay-opening_next (Err why) before now iface version s d ok err = subst HasDisplay (sym err) d
@@ -58,10 +62,10 @@ HasDisplay-opening_next (Err why) before now iface version s d ok err = subst Ha
 other : (id : ℕ) → id ≢ 1 → eqb 1 id ≡ false
 other id n = grind (arith, nat_tests, n)
 
-pub HasDisplay-closed : (view : View) (id : ℕ) → id ≢ 1 → HasDisplay view → HasDisplay (closed view id)
+pub HasDisplay-closed : (view : Objects) (id : ℕ) → id ≢ 1 → HasDisplay view → HasDisplay (closed view id)
 HasDisplay-closed view id n d = look-closed view id 1 ∙ (ap (λ b. cond b None (look view 1)) (other id n) ∙ d)
 
-pub HasDisplay-zombied : (view : View) (id : ℕ) → id ≢ 1 → HasDisplay view → HasDisplay (zombied view id)
+pub HasDisplay-zombied : (view : Objects) (id : ℕ) → id ≢ 1 → HasDisplay view → HasDisplay (zombied view id)
 HasDisplay-zombied view id n d = look-zombied view id 1
     ∙ (ap (λ b. cond b (option_map zombie (look view 1)) (look view 1)) (other id n) ∙ d)
 
@@ -76,7 +80,7 @@ nothing-at Event (suc zero) m e = let d = ap (option_map (λ (n : MessageSignatu
 nothing-at Event (suc (suc n)) m e = absurd (cc)
 
 -- no message destroys wl_display
-pub ends-another : (tables : List Interface) (view : View) (side : Side) (id opcode : ℕ) (entry : Entry)
+pub ends-another : (tables : List Interface) (view : Objects) (side : Side) (id opcode : ℕ) (entry : Entry)
     (m : MessageSignature)
     → Valid tables → HasDisplay view
     → look view id ≡ Some entry → signature_at tables entry.iface.0 side opcode ≡ Some m → m.destroys ≡ Target → id ≢ 1
@@ -96,7 +100,7 @@ is_held-of None e = refl
 is_held-of (Some x) e = absurd (cc e)
 
 -- what `open_at` opens had no row, so it is another
-pub HasDisplay-open : (view after : View) (id : ℕ) (iface : Iface) (version : ℕ) (r : Result Object TableError)
+pub HasDisplay-open : (view after : Objects) (id : ℕ) (iface : Iface) (version : ℕ) (r : Result Object TableError)
     → OnOk r (after ≡ opened_at view id iface version) → OnErr r (after ≡ view)
     → ((r ≡ Err refusals.InUse) ↔ IsTrue (is_held view id)) → HasDisplay view → HasDisplay after
 HasDisplay-open view after id iface version (Err why) o e u d = subst HasDisplay (sym e) d
@@ -106,5 +110,5 @@ HasDisplay-open view after id iface version (Ok object) o e u d = by_test (is_he
     by_test true h = let no : Ok object ≡ Err refusals.InUse = u.1 h in absurd (cc no)
     by_test false h =
         subst HasDisplay (sym o) (look-opened_at view id iface version 1
-        ∙ (ap (λ b. cond b (Some (record { birth = view.births; iface = iface; version = version; state = Live }))
+        ∙ (ap (λ b. cond b (Some (record { birth = births view id; iface = iface; version = version; state = Live }))
         (look view 1)) (not_display view id d (is_held-of (look view id) h)) ∙ d))

@@ -19,7 +19,7 @@ use Rattle.wl_sigs.specs.Tables.{destroys_one}
 use Rattle.wl_sigs.specs.Fixed as fixed
 use Rattle.wl_sigs.specs.Fixed.{registry, wl_fixes}
 use Rattle.wl_sigs.specs.Valid.{Valid}
-use Rattle.wl_object_map.specs.View.{View, look}
+use Rattle.wl_object_map.specs.Objects.{Objects, look}
 use Rattle.wl_object_map.specs.declared.object.Object.{Object}
 use Rattle.wl_object_map.specs.declared.object.Entry.{Entry}
 use Rattle.wl_objects.specs.declared.argument.Arg.{Arg}
@@ -89,13 +89,13 @@ no_event tables place opcode m k v e d = let yes : true ≡ false =
     sym (ap destroys_argument d) ∙ ends_no_argument tables place opcode m v e in cc yes
 
 -- the live registry that such a call names
-pub record NamesRegistry (view : View) (id : ℕ) : Type 0 where
+pub record NamesRegistry (view : Objects) (id : ℕ) : Type 0 where
   pub entry : Entry
   pub there : look view id ≡ Some entry
   pub live : lives entry.state ≡ true
   pub registers : entry.iface.0 ≡ 1
 
-row_named : (view : View) (o : Object) (row : Option Entry) → look view o.id ≡ row
+row_named : (view : Objects) (o : Object) (row : Option Entry) → look view o.id ≡ row
     → names_one (Some registry) o row ≡ true → NamesRegistry view o.id
 row_named view o None e h = absurd (cc h)
 row_named view o (Some entry) e h =
@@ -115,7 +115,7 @@ no_lost : (b : Bool) (place : ℕ) → (if b then None else Some place) ≡ None
 no_lost true place h = refl
 no_lost false place h = absurd (cc h)
 
-pub names_registry : (view : View) (list : List Given) → wrong_place 0 the_destroy.kinds list ≡ None
+pub names_registry : (view : Objects) (list : List Given) → wrong_place 0 the_destroy.kinds list ≡ None
     → lost_place (look view) 0 the_destroy.kinds list ≡ None → NamesRegistry view (id_at (map (wired 0) list) 0)
 names_registry view [] w l = absurd (cc w)
 names_registry view (Obj (Some o) ∷ []) w l = row_named view o (look view o.id) refl (no_lost _ 0 l)
@@ -143,7 +143,7 @@ pub named_past : (list : List Arg) (place : ℕ) → length list ≤ place → i
 named_past list place h = named_known list place ∙ ap
     (λ (o : Option Arg). id_named (option_map (λ a. wired 0 (given_of a)) o)) (none_past list place h)
 
-pub ends_by : (side : Side) (what : Destroys) (id : ℕ) (view : View) → true ≡ destroys_one what
+pub ends_by : (side : Side) (what : Destroys) (id : ℕ) (view : Objects) → true ≡ destroys_one what
     → destroys side what id view ≡ destroyed side view id
 ends_by side Nothing id view h = absurd (cc h)
 ends_by side Target id view h = refl

@@ -15,7 +15,8 @@ use Rattle.wl_wire.specs.Argument.{Argument, New, NewNamed}
 use Rattle.wl_wire.specs.Reading.{reading}
 use Rattle.wl_sigs.specs.declared.signature.Side.{Side}
 use Rattle.wl_sigs.specs.Tables.{Interface, place_of}
-use Rattle.wl_object_map.specs.View.{View, free_or_next, has_room, look}
+use Rattle.wl_object_map.specs.View.{free_or_next, has_room}
+use Rattle.wl_object_map.specs.Objects.{Objects, look}
 use Rattle.wl_objects.specs.declared.error.Fault.{Fault}
 use Rattle.wl_objects.specs.declared.lookup.NewId.{NewId}
 use Rattle.wl_objects.specs.declared.lookup.NewId.TheVariants.{Free, Wrong, TooMany}
@@ -116,12 +117,12 @@ free_by true true h = (refl, refl)
 free_by true false h = absurd (cc h)
 free_by false room h = absurd (cc h)
 
-pub new_is_free : (tables : List Interface) (side : Side) (view : View) (h : Header) (body : List ℕ) (waiting : ℕ)
+pub new_is_free : (tables : List Interface) (side : Side) (view : Objects) (h : Header) (body : List ℕ) (waiting : ℕ)
     (m : Received) (new : NewObject) → received tables side (reader_of view) h body waiting ≡ Ok m
     → made tables m.entry.version m.signature.kinds m.values ≡ Some new
-    → (free_or_next view new.id ≡ true) × (has_room view new.id ≡ true)
+    → (free_or_next view.client new.id ≡ true) × (has_room view.client new.id ≡ true)
 new_is_free tables side view h body waiting m new e is =
     let r = forgiving (is_error side m.entry.iface h.opcode) (reader_of view) in
-    free_by (free_or_next view new.id) (has_room view new.id)
+    free_by (free_or_next view.client new.id) (has_room view.client new.id)
     (made_free tables r m.entry.version 0 m.signature.kinds body m.values [] new
     (read_row tables side (reader_of view) h body waiting m (look view h.object) e) is)

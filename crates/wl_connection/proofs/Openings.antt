@@ -15,7 +15,8 @@ use Rattle.wl_sigs.specs.Tables.{Interface, MessageSignature, makes, new_objects
 use Rattle.wl_sigs.specs.Valid.{Valid}
 use Rattle.wl_object_map.specs.declared.object.Object.{Object}
 use Rattle.wl_object_map.specs.declared.object.Entry.{Entry}
-use Rattle.wl_object_map.specs.View.{View, look, next_id}
+use Rattle.wl_object_map.specs.View.{next_id}
+use Rattle.wl_object_map.specs.Objects.{Objects, look}
 use Rattle.wl_objects.specs.declared.error.SendError.{SendError}
 use Rattle.wl_objects.specs.declared.error.SendError.TheVariants as refusals
 use Rattle.wl_objects.specs.Writing.{Given, wired, suits, wrong_place, lost_place, message_len}
@@ -50,7 +51,7 @@ early_old : (b : Bool) (r : Result MessageSignature SendError) → IsEarly r
 early_old true r h = (λ e. cc e, λ e. cc e)
 early_old false r h = h
 
-early_as : (limit : ℕ) (view : View) (given : List Given) (entry : Entry) (o : Option MessageSignature)
+early_as : (limit : ℕ) (view : Objects) (given : List Given) (entry : Entry) (o : Option MessageSignature)
     → IsEarly (checked_as limit view given entry o)
 early_as limit view given entry None = (λ e. cc e, λ e. cc e)
 early_as limit view given entry (Some m) =
@@ -59,14 +60,14 @@ early_as limit view given entry (Some m) =
     (early_wrong limit (message_len (map (wired 0) given)) (wrong_place 0 m.kinds given)
     (lost_place (look view) 0 m.kinds given) m)
 
-early_by : (limit : ℕ) (tables : List Interface) (side : Side) (view : View) (opcode : ℕ) (given : List Given)
+early_by : (limit : ℕ) (tables : List Interface) (side : Side) (view : Objects) (opcode : ℕ) (given : List Given)
     (o : Option Entry) → IsEarly (checked_by limit tables side view opcode given o)
 early_by limit tables side view opcode given None = (λ e. cc e, λ e. cc e)
 early_by limit tables side view opcode given (Some entry) =
     early_as limit view given entry (unless_hidden (is_hidden side entry.iface opcode)
     (signature_at tables entry.iface.0 side opcode))
 
-early_checked : (limit : ℕ) (tables : List Interface) (side : Side) (view : View) (target : Object) (opcode : ℕ)
+early_checked : (limit : ℕ) (tables : List Interface) (side : Side) (view : Objects) (target : Object) (opcode : ℕ)
     (given : List Given) → IsEarly (checked limit tables side view target opcode given)
 early_checked limit tables side view target opcode given =
     early_by limit tables side view opcode given (live_row view target)
@@ -97,7 +98,7 @@ nothing_of core side target given (Err why) early h = early
 nothing_of core side target given (Ok m) early h =
     nothing_room core (fits core.outbox (message_len (map (wired 0) given) + following_len side m.destroys)
     (length (tokens_of given))) (made_at core target m given)
-    (makes_none core.tables (version_at (look core.view target.id)) m.kinds (map (wired (next_id core.view)) given) h)
+    (makes_none core.tables (version_at (look core.view target.id)) m.kinds (map (wired (next_id core.view.client)) given) h)
 
 nothing_unless : (b : Bool) (r : Result (Option Object) SendError) → OpensNothing r
     → OpensNothing (if b then Err refusals.Failed else r)
@@ -143,7 +144,7 @@ none_made (k ∷ ks) (x ∷ list) place h w =
 
 -- no event that is written opens an object
 event_as : (b : Bool) (o : Option MessageSignature) → ((m : MessageSignature) → o ≡ Some m → new_objects m.kinds ≡ [])
-    → (limit : ℕ) (view : View) (given : List Given) (entry : Entry)
+    → (limit : ℕ) (view : Objects) (given : List Given) (entry : Entry)
     → opens_object (checked_as limit view given entry (unless_hidden b o)) ≡ false
 event_as true o h limit view given entry = refl
 event_as false None h limit view given entry = refl
@@ -173,14 +174,14 @@ event_as false (Some m) h limit view given entry =
     by_test true o lost is = refl
     by_test false o lost is = by_wrong o lost is
 
-event_by : (limit : ℕ) (tables : List Interface) (view : View) (opcode : ℕ) (given : List Given) (o : Option Entry)
+event_by : (limit : ℕ) (tables : List Interface) (view : Objects) (opcode : ℕ) (given : List Given) (o : Option Entry)
     → Valid tables → opens_object (checked_by limit tables Event view opcode given o) ≡ false
 event_by limit tables view opcode given None v = refl
 event_by limit tables view opcode given (Some entry) v =
     event_as (is_hidden Event entry.iface opcode) (signature_at tables entry.iface.0 Event opcode)
     (v.few_objects_made.events entry.iface.0 opcode) limit view given entry
 
-pub event_opens_none : (limit : ℕ) (tables : List Interface) (view : View) (target : Object) (opcode : ℕ)
+pub event_opens_none : (limit : ℕ) (tables : List Interface) (view : Objects) (target : Object) (opcode : ℕ)
     (given : List Given) → Valid tables → opens_object (checked limit tables Event view target opcode given) ≡ false
 event_opens_none limit tables view target opcode given v =
     event_by limit tables view opcode given (live_row view target) v

@@ -23,7 +23,8 @@ use Rattle.wl_message.proofs.Fronts.{front_stands, parts_of}
 use Rattle.wl_message.proofs.Cuts.{message_there}
 use Rattle.wl_object_map.specs.declared.object.Object.{Object}
 use Rattle.wl_object_map.specs.declared.object.Entry.{Entry}
-use Rattle.wl_object_map.specs.View.{View, Sound, look, next_id, times}
+use Rattle.wl_object_map.specs.View.{next_id, times}
+use Rattle.wl_object_map.specs.Objects.{Objects, ObjectsAreSound, look}
 use Rattle.wl_object_map.specs.Views.{free_is, free_or_next-next_id}
 use Rattle.wl_objects.specs.declared.error.Fault.{Fault}
 use Rattle.wl_objects.specs.declared.error.Fault.TheVariants as faults
@@ -53,8 +54,8 @@ row_of : (birth : ℕ) (o : Option Entry) → is_live_as birth o ≡ true → is
 row_of birth None h = absurd (cc h)
 row_of birth (Some e) h = refl
 
-no_row : (view : View) → Sound view → is_some (look view 0) ≡ true → ⊥
-no_row view s h = by_held (is_some (look view 0)) (times 0 view.freed) h s.no_other
+no_row : (view : Objects) → ObjectsAreSound view → is_some (look view 0) ≡ true → ⊥
+no_row view s h = by_held (is_some (look view 0)) (times 0 view.client.freed) h s.client.no_other
   where
     by_held : (b : Bool) (n : ℕ) → b ≡ true → cond b 1 0 + n ≡ 0 → ⊥
     by_held true n e z = absurd (omega (arith, z))
@@ -63,7 +64,7 @@ no_row view s h = by_held (is_some (look view 0)) (times 0 view.freed) h s.no_ot
 abbrev NoNull : Given → Type 0
 NoNull x = (object : Object) → x ≡ Obj (Some object) → object.id ≢ 0
 
-no_null : (view : View) (kind : Kind) (x : Given) → Sound view → can_name (look view) kind x ≡ true → NoNull x
+no_null : (view : Objects) (kind : Kind) (x : Given) → ObjectsAreSound view → can_name (look view) kind x ≡ true → NoNull x
 no_null view kind (Obj (Some y)) s h object e z =
     let same : y ≡ object = cc e in
     let row = row_of y.birth (look view y.id) (and_parts (is_live_as y.birth (look view y.id)) _ h).0 in
@@ -78,7 +79,7 @@ no_null view kind (NewNamed name own z) s h object e n = absurd (cc e)
 no_null view kind (Array z) s h object e n = absurd (cc e)
 no_null view kind (Fd z) s h object e n = absurd (cc e)
 
-none_null : (view : View) (place : ℕ) (ks : List Kind) (list : List Given) → Sound view
+none_null : (view : Objects) (place : ℕ) (ks : List Kind) (list : List Given) → ObjectsAreSound view
     → wrong_place place ks list ≡ None → lost_place (look view) place ks list ≡ None → All NoNull list
 none_null view place [] [] s w l = All-nil NoNull
 none_null view place [] (x ∷ list) s w l = absurd (cc w)
@@ -92,11 +93,11 @@ pub calls_spell : (core : Core) (side : Side) (target : Object) (opcode : ℕ) (
     (signature : MessageSignature)
     → CallsSpell core side target opcode list signature
 calls_spell core side target opcode list signature s e r =
-    let n = next_id core.view in
+    let n = next_id core.view.client in
     let values = map (wired n) list in
     let p = passes core.outbox.limit.bytes core.tables side core.view target opcode list signature e in
-    let f = free_is core.view n s (free_or_next-next_id core.view) in
-    let low : n < 2 ^ 32 = omega (arith, f.at_most_next, s.ids_end) in
+    let f = free_is core.view.client n s.client (free_or_next-next_id core.view.client) in
+    let low : n < 2 ^ 32 = omega (arith, f.at_most_next, s.client.ids_end) in
     let len : length (message_bytes target.id opcode values) ≡ message_len values =
     length-message target.id opcode values in
     let any = len-any n list in

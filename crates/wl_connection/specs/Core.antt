@@ -15,13 +15,13 @@ use Rattle.wl_message.specs.Outgoing.{after_taking}
 use Rattle.wl_object_map.specs.declared.object.Object.{Object}
 use Rattle.wl_object_map.specs.declared.object.Entry.{Entry}
 use Rattle.wl_object_map.specs.declared.object.State.TheVariants.{Live}
-use Rattle.wl_object_map.specs.View.{View, opening, look}
+use Rattle.wl_object_map.specs.Objects.{Objects, opening, look}
 use Rattle.wl_objects.specs.Messages.{live_row}
 use Rattle.wl_sigs.specs.Rules.{is_empty}
 
 pub record Core : Type 0 where
   pub tables : List Interface
-  pub view : View
+  pub view : Objects
   pub inbox : Arrived
   pub outbox : Outgoing
   pub failed : Bool
@@ -51,7 +51,7 @@ abbrev pub display_object : Object
 display_object = record { id = 1; birth = 0 }
 
 -- its row, which stays as it is for good
-abbrev pub HasDisplay : View → Type 0
+abbrev pub HasDisplay : Objects → Type 0
 HasDisplay view =
     look view 1 ≡ Some (record { birth = 0; iface = display; version = 1; state = Live })
 
@@ -107,7 +107,7 @@ past core bytes tokens = record core {
 }
 
 -- the end with other objects
-abbrev pub with_view : Core → View → Core
+abbrev pub with_view : Core → Objects → Core
 with_view core view = record core { view = view }
 
 -- the end for good

@@ -14,7 +14,8 @@ use Rattle.wl_object_map.specs.declared.object.Entry.{Entry}
 use Rattle.wl_objects.specs.declared.error.SendError.{SendError}
 use Rattle.wl_objects.specs.declared.error.SendError.TheVariants as refusals
 use Rattle.wl_wire.specs.declared.kind.Iface.{Iface}
-use Rattle.wl_object_map.specs.View.{View, next_id, can_open, look}
+use Rattle.wl_object_map.specs.View.{next_id, can_open}
+use Rattle.wl_object_map.specs.Objects.{Objects, look}
 use Rattle.wl_objects.specs.Writing.{Given, wired, message_len, message_bytes, tokens_of}
 use Rattle.wl_objects.specs.Messages.{NewObject, made, checked, after}
 use Rattle.wl_objects.specs.Messages.{ended_id}
@@ -52,21 +53,21 @@ with_error_event core object code text = record core {
 }
 
 -- the object of this interface and version that is opened next, if one is made
-abbrev pub next_object : View → ℕ → Option Iface → Option NewObject
+abbrev pub next_object : Objects → ℕ → Option Iface → Option NewObject
 next_object view version iface =
-    option_map (λ i. record { id = next_id view; iface = i; version = version }) iface
+    option_map (λ i. record { id = next_id view.client; iface = i; version = version }) iface
 
 -- the object that a call makes, at the next id
 abbrev pub made_by_call : Core → ℕ → MessageSignature → List Given → Option NewObject
 made_by_call core version signature given =
-    made core.tables version signature.kinds (map (wired (next_id core.view)) given)
+    made core.tables version signature.kinds (map (wired (next_id core.view.client)) given)
 
 -- what a call with room returns that makes this: its new object, or S10 where none can be opened
 abbrev pub opening_answer : Core → Option NewObject → Result (Option Object) SendError
 opening_answer core None = Ok None
 opening_answer core (Some m) =
-    if can_open core.view
-    then Ok (Some (record { id = next_id core.view; birth = core.view.births }))
+    if can_open core.view.client
+    then Ok (Some (record { id = next_id core.view.client; birth = core.view.client.births }))
     else Err refusals.NoIds
 
 -- the delete_id that directly follows a destroying event
@@ -112,7 +113,8 @@ sent core side target opcode given signature =
     let id = ended_id signature.destroys target.id (map (wired 0) given) in
     with_following (following side signature.destroys) id
     (with_view
-    (with_sent core target.id opcode (map (wired (next_id core.view)) given) (tokens_of given))
+    (with_sent core target.id opcode (map (wired (next_id core.view.client)) given)
+    (tokens_of given))
     (after side core.view (made_at core target signature given) signature.destroys id))
 
 abbrev pub after_checked : Core → Side → Object → ℕ → List Given

@@ -9,7 +9,8 @@ use Rattle.wl_sigs.specs.declared.signature.Side.{Side}
 use Rattle.wl_sigs.specs.Tables.{MessageSignature}
 use Rattle.wl_message.specs.Cut.{IsSize}
 use Rattle.wl_object_map.specs.declared.object.Object.{Object}
-use Rattle.wl_object_map.specs.View.{Sound, next_id}
+use Rattle.wl_object_map.specs.View.{next_id}
+use Rattle.wl_object_map.specs.Objects.{ObjectsAreSound}
 use Rattle.wl_objects.specs.Reading.{forgiving_kind}
 use Rattle.wl_objects.specs.Spelling.{SpellsAll}
 use Rattle.wl_objects.specs.Writing.{Given, wired, message_bytes}
@@ -33,12 +34,13 @@ pub record MessageSpells (limit : ℕ) (kinds : List Kind) (object opcode : ℕ)
 -- the new one by the next id.
 abbrev pub CallsSpell : Core → Side → Object → ℕ → List Given → MessageSignature → Type 0
 CallsSpell core side target opcode given signature =
-    Sound core.view → checked core.outbox.limit.bytes core.tables side core.view target opcode given
+    ObjectsAreSound core.view
+    → checked core.outbox.limit.bytes core.tables side core.view target opcode given
     ≡ Ok signature
     → All InRange given
     → MessageSpells core.outbox.limit.bytes signature.kinds target.id opcode
-    (map (wired (next_id core.view)) given)
-    (message_bytes target.id opcode (map (wired (next_id core.view)) given))
+    (map (wired (next_id core.view.client)) given)
+    (message_bytes target.id opcode (map (wired (next_id core.view.client)) given))
 
 -- The kinds of a message that was found: the object of wl_display.error may be null.
 abbrev pub kinds_of : Side → Found → List Kind

@@ -15,7 +15,7 @@ use crate::shared::Core;
 use std::io::{Read, Write};
 use wl_message::{Fed, FillError, FlushError, Peek, Taken};
 use wl_object_map::DISPLAY_ID;
-use wl_objects::{Object, Table};
+use wl_objects::{Object, Objects, Table};
 use wl_wire::Iface;
 
 /// A client or a server: the calls that both have.
@@ -140,11 +140,18 @@ pub trait End {
         self.core().live(object)
     }
 
-    /// The objects.
-    final fn table(&self) -> &Self::Table
-        ensures { Self.Table.view result.now ≡ (core self.now).view }
+    /// The objects, in both ranges of ids.
+    final fn objects(&self) -> &Objects<Self::Table>
+        ensures { result.now ≡ (core self.now).view }
     {
-        &self.core().table
+        &self.core().objects
+    }
+
+    /// The table of the client's range, in which the objects are that the client made.
+    final fn table(&self) -> &Self::Table
+        ensures { Self.Table.view result.now ≡ (core self.now).view.client }
+    {
+        self.core().objects.client()
     }
 
     /// The free bytes and tokens of the inbox; zeros at a failed end.

@@ -11,7 +11,7 @@ ghost use Rattle.wl_message.specs.InStep.{Part, Need, part_bytes, part_tokens, I
 ghost use Rattle.wl_sigs.specs.Tables.{Interface, MessageSignature};
 ghost use Rattle.wl_sigs.specs.Valid.{Valid};
 ghost use Rattle.wl_object_map.specs.declared.object.Object.{Object};
-ghost use Rattle.wl_object_map.specs.View.{View};
+ghost use Rattle.wl_object_map.specs.Objects.{Objects};
 ghost use Rattle.wl_objects.specs.declared.error.Fault.{Fault};
 ghost use Rattle.wl_objects.specs.declared.error.Fault.TheVariants as faults;
 ghost use Rattle.wl_objects.specs.declared.error.SendError.{SendError};
@@ -78,7 +78,7 @@ pub fn openings_alone_need_memory()
         → opens_object
         (checked core.outbox.limit.bytes core.tables side core.view target opcode given)
         ≡ false → OpensNothing result }
-    ensures event { (limit : ℕ) (tables : List Interface) (view : View) (target : Object)
+    ensures event { (limit : ℕ) (tables : List Interface) (view : Objects) (target : Object)
         (opcode : ℕ) (given : List Given)
         → Valid tables
         → opens_object (checked limit tables event_side view target opcode given) ≡ false }

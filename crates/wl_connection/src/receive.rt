@@ -4,8 +4,8 @@ ghost use Rattle.std.specs.Prelude.{OnErr, length, take, slice_index_or};
 ghost use Rattle.wl_sigs.specs.Tables.{max_args};
 ghost use Rattle.wl_message.specs.Arrived.{in_front};
 ghost use Rattle.wl_message.specs.Cut.{Whole};
-ghost use Rattle.wl_object_map.specs.View.{Sound, closed, free_or_next, has_room, is_held};
-ghost use Rattle.wl_object_map.specs.View.{is_live, opened_at, zombied};
+ghost use Rattle.wl_object_map.specs.Objects.{ObjectsAreSound, births, closed, is_held};
+ghost use Rattle.wl_object_map.specs.Objects.{free_or_next, has_room, is_live, opened_at, zombied};
 ghost use Rattle.wl_connection.specs.Core.{past, with_view};
 
 use crate::shared::Core;
@@ -38,14 +38,14 @@ impl<'t, T: Table> Core<'t, T> {
         self.read = self.read.saturating_add(u64::from(size));
     }
 
-    /// Opens the object that a message makes. O3 is tested first, then O2, O1 and O4, as the table
-    /// does; what is refused changes nothing.
+    /// Opens the object that a message makes. O3 is tested first, then O2, O1 and O4, as by the
+    /// objects; what is refused changes nothing.
     pub fn open_at(&mut self, new: NewObject) -> Result<Object, TableError>
         ensures ok { OnOk result
             (self.new ≡ with_view self.old
             (opened_at self.old.view new.id new.iface new.version)) }
         ensures object { IfOk result
-            (λ object. object ≡ record { id = new.id; birth = self.old.view.births }) }
+            (λ object. object ≡ record { id = new.id; birth = births self.old.view new.id }) }
         ensures err { OnErr result (self.new ≡ self.old) }
 
         ensures in_use { (result ≡ Err TableError.InUse) ↔ IsTrue (is_held self.old.view new.id) }
@@ -54,9 +54,9 @@ impl<'t, T: Table> Core<'t, T> {
             (free_or_next self.old.view new.id)) }
         ensures no_ids { (result ≡ Err TableError.NoIds)
             ↔ IsTrue (free_or_next self.old.view new.id && not (has_room self.old.view new.id)) }
-        ensures sound { Sound self.old.view }
+        ensures sound { ObjectsAreSound self.old.view }
     {
-        self.table.open_at(new.id, new.iface, new.version)
+        self.objects.open_at(new.id, new.iface, new.version)
     }
 
     /// Makes a live object a zombie: it has ended, and its id stays in use.
@@ -65,7 +65,7 @@ impl<'t, T: Table> Core<'t, T> {
         requires not_display { id ≢ 1 }
         ensures { self.new ≡ with_view self.old (zombied self.old.view id) }
     {
-        self.table.make_zombie(id);
+        self.objects.make_zombie(id);
     }
 
     /// Closes an object: its id is free again.
@@ -74,6 +74,6 @@ impl<'t, T: Table> Core<'t, T> {
         requires not_display { id ≢ 1 }
         ensures { self.new ≡ with_view self.old (closed self.old.view id) }
     {
-        self.table.close(id);
+        self.objects.close(id);
     }
 }

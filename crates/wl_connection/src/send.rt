@@ -6,7 +6,9 @@ ghost use Rattle.wl_sigs.specs.Tables.{destroys_one, makes, max_args};
 ghost use Rattle.wl_sigs.specs.Valid.{Valid};
 ghost use Rattle.wl_message.specs.Cut.{usual_limit};
 ghost use Rattle.wl_objects.specs.Messages.{checked, destroys, ended_id, id_named, opens};
-ghost use Rattle.wl_object_map.specs.View.{Sound, closed, is_held, is_live, look, next_id, opened};
+ghost use Rattle.wl_object_map.specs.View.{next_id};
+ghost use Rattle.wl_object_map.specs.Objects.{ObjectsAreSound, closed, is_held, is_live, look};
+ghost use Rattle.wl_object_map.specs.Objects.{opened_at};
 ghost use Rattle.wl_objects.specs.Writing.{CallFits, EachFits, bind_values, call_makes, given};
 ghost use Rattle.wl_objects.specs.Writing.{given_of, has_no_nul, id_of, message_len, on_wire};
 ghost use Rattle.wl_objects.specs.Writing.{tokens_of, wired};
@@ -21,7 +23,7 @@ ghost use Rattle.wl_connection.specs.Sending.{with_following, with_sent};
 
 use crate::receive::MAX_TOKENS;
 use crate::shared::Core;
-use wl_object_map::DISPLAY_ID;
+use wl_object_map::{DISPLAY_ID, Maker};
 use wl_objects::{
     Arg, BindMessage, CallMessage, CheckedCall, Messages, Object, SendError, Table, TableError,
     check_call, take_tokens,
@@ -147,16 +149,17 @@ impl<'t, T: Table> Core<'t, T> {
 
     /// Opens an object at the next id. S10 is tested before S11.
     pub fn open_next(&mut self, iface: Iface, version: u32) -> Result<Object, SendError>
-        requires { Sound self.old.view }
+        requires { ObjectsAreSound self.old.view }
         ensures answer { AnswersOrMemory SendError.Memory true
             (opening_answer self.old (next_object self.old.view version (Some iface)))
             (some_object result) }
         ensures ok { OnOk result
-            (self.new ≡ with_view self.old (opened self.old.view iface version)) }
-        ensures id { IfOk result (λ object. object.id ≡ next_id self.old.view) }
+            (self.new ≡ with_view self.old
+            (opened_at self.old.view (next_id self.old.view.client) iface version)) }
+        ensures id { IfOk result (λ object. object.id ≡ next_id self.old.view.client) }
         ensures err { OnErr result (self.new ≡ self.old) }
     {
-        match self.table.open_next(iface, version) {
+        match self.objects.open_next(Maker::Client, iface, version) {
             Ok(object) => Ok(object),
             Err(TableError::Memory) => Err(SendError::Memory),
             Err(_) => Err(SendError::NoIds),
@@ -165,13 +168,14 @@ impl<'t, T: Table> Core<'t, T> {
 
     /// Opens the object that a message makes, if it makes one: of this interface and version.
     fn open_new(&mut self, iface: Option<Iface>, version: u32) -> Result<Option<Object>, SendError>
-        requires { Sound self.old.view }
+        requires { ObjectsAreSound self.old.view }
         ensures answer { AnswersOrMemory SendError.Memory (is_some iface)
             (opening_answer self.old (next_object self.old.view version iface)) result }
         ensures ok { OnOk result
             (self.new ≡ with_view self.old
             (opens self.old.view (next_object self.old.view version iface))) }
-        ensures id { IfOk result (λ new. IfSome iface (λ _. id_of new ≡ next_id self.old.view)) }
+        ensures id { IfOk result (λ new. IfSome iface (λ _. id_of new
+            ≡ next_id self.old.view.client)) }
         ensures err { OnErr result (self.new ≡ self.old) }
     {
         match iface {
@@ -237,7 +241,7 @@ impl<'t, T: Table> Core<'t, T> {
         requires fits { (id : ℕ) → EachFits (on_wire id args.now)
             × (message_len (on_wire id args.now) ≤ self.old.outbox.limit.bytes) }
         requires few { length args.now ≤ max_args }
-        requires sound { Sound self.old.view }
+        requires sound { ObjectsAreSound self.old.view }
         requires display { HasDisplay self.old.view }
         requires valid { Valid self.old.tables }
         ensures answer { AnswersOrMemory SendError.Memory (is_some (makes call.entry.signature.now))
@@ -294,7 +298,7 @@ impl<'t, T: Table> Core<'t, T> {
             tables: self.tables,
             side,
         };
-        let call = check_call(messages, &self.table, target, opcode, args, limit)?;
+        let call = check_call(messages, &self.objects, target, opcode, args, limit)?;
         self.write_checked(side, target, opcode, args, call)
     }
 }

@@ -6,7 +6,7 @@ ghost use Rattle.wl_connection.specs.Core.{new_core, live, feeds, with_arrived};
 use std::alloc::AllocError;
 use std::marker::Model;
 use wl_message::{Fed, Inbox, Outbox, Sizes};
-use wl_objects::{DISPLAY, Object, Table, live_row};
+use wl_objects::{DISPLAY, Object, Objects, Table, live_row};
 use wl_sigs::Tables;
 use wl_wire::Iface;
 
@@ -19,7 +19,7 @@ pub const MAX_GLOBALS: usize = 1024;
 #[derive(Drop)]
 pub struct Core<'t, T: Table> {
     pub tables: &'t Tables,
-    pub table: T,
+    pub objects: Objects<T>,
     pub inbox: Inbox<T::Alloc>,
     pub outbox: Outbox<T::Alloc>,
     /// Where a message is encoded before it goes to the outbox, as long as the longest.
@@ -34,16 +34,16 @@ impl<'t, T: Table> Model for Core<'t, T> {
     ghost use Rattle.std.specs.Prelude.{◌≡◌, ◌≤◌, false, length};
     ghost use Rattle.std.specs.Coded.{codes};
     ghost use Rattle.wl_message.specs.Cut.{usual_limit};
-    ghost use Rattle.wl_object_map.specs.View.{view_code};
+    ghost use Rattle.wl_object_map.specs.Objects.{objects_code};
     ghost use Rattle.wl_connection.specs.Core.{Core as CoreState, HasDisplay, IsOrdinary};
 
     ghost Value = { CoreState };
 
-    ghost coded = { Prim.hlevel (codes, view_code) };
+    ghost coded = { Prim.hlevel (codes, objects_code) };
 
     ghost view = { λ c. record {
       tables = c.tables.now;
-      view = T.view c.table;
+      view = c.objects;
       inbox = c.inbox;
       outbox = c.outbox;
       failed = c.failed;
@@ -54,7 +54,7 @@ impl<'t, T: Table> Model for Core<'t, T> {
     ghost invariant = { λ c. record {
       store : usual_limit ≤ length c.store.items;
       room : c.outbox.limit.bytes ≤ length c.store.items;
-      display : HasDisplay (T.view c.table);
+      display : HasDisplay c.objects;
       no_error : c.failed ≡ false → IsOrdinary c.outbox;
       whole : c.inbox.limit.bytes ≤ c.inbox.capacity;
     } };
@@ -70,10 +70,10 @@ impl<'t, T: Table> Core<'t, T> {
         let inbox = Inbox::new(alloc.clone()?, sizes.in_bytes, sizes.in_tokens, limit)?;
         let outbox = Outbox::new(alloc.clone()?, sizes.out_bytes, sizes.out_tokens, limit)?;
         let store = Vec::from_elem(alloc.clone()?, 0, limit.bytes as usize)?;
-        let table = T::new(alloc, DISPLAY)?;
+        let objects = Objects::new(alloc, DISPLAY)?;
         Ok(Core {
             tables,
-            table,
+            objects,
             inbox,
             outbox,
             store,
@@ -86,7 +86,7 @@ impl<'t, T: Table> Core<'t, T> {
     pub fn live(&self, object: Object) -> Option<(Iface, u32)>
         ensures { result ≡ live self.now object }
     {
-        let entry = live_row(&self.table, object)?;
+        let entry = live_row(&self.objects, object)?;
         Some((entry.iface, entry.version))
     }
 

@@ -8,7 +8,7 @@ use Rattle.wl_wire.specs.declared.kind.Iface.{Iface}
 use Rattle.wl_object_map.specs.declared.object.Object.{Object}
 use Rattle.wl_object_map.specs.declared.object.TableError.{TableError}
 use Rattle.wl_object_map.specs.declared.object.TableError.TheVariants.{NoIds, NotNext, InUse}
-use Rattle.wl_object_map.specs.Ranges.{first_server_id, place_of}
+use Rattle.wl_object_map.specs.Ranges.{first_server_id, table_id}
 use Rattle.wl_object_map.specs.View.{View, Sound, is_held, free_or_next, has_room, can_open, opened_at, opened}
 use Rattle.wl_object_map.specs.Sounds.{Sound-opened_at, Sound-opened}
 use Rattle.wl_object_map.specs.Objects.{Objects, changed_at}
@@ -23,7 +23,7 @@ client_changed change o id l e =
     (λ i. record { client = e i; server = o.server }) ∙ sym (changed_client change o id (of_client id l))
 
 pub server_changed : (change : View → ℕ → View) (o : Objects) (id : ℕ) {place : ℕ} {old new : View}
-    → first_server_id ≤ id → o.server ≡ old → place ≡ place_of id → new ≡ change old place
+    → first_server_id ≤ id → o.server ≡ old → place ≡ table_id id → new ≡ change old place
     → ◌≡◌ {A = Objects} (record { client = o.client; server = new }) (changed_at change o id)
 server_changed change o id l was at e =
     (λ i. record { client = o.client; server = (e ∙ (λ j. change (sym was j) (at j))) i })

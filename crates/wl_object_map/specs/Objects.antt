@@ -7,7 +7,7 @@ use Rattle.wl_wire.specs.declared.kind.Iface.{Iface}
 use Rattle.wl_object_map.specs.declared.object.Entry.{Entry}
 use Rattle.wl_object_map.specs.declared.object.Maker.{Maker}
 use Rattle.wl_object_map.specs.declared.object.Maker.TheVariants.{Client, Server}
-use Rattle.wl_object_map.specs.Ranges.{is_of_server, place_of, id_at}
+use Rattle.wl_object_map.specs.Ranges.{is_of_server, table_id, wire_id}
 use Rattle.wl_object_map.specs.View as table
 use Rattle.wl_object_map.specs.View.{View}
 
@@ -16,20 +16,25 @@ pub record Objects : Type 0 where
   pub client : View
   pub server : View
 
+-- who makes the objects of an id
+abbrev pub maker_of : ℕ → Maker
+maker_of id = cond (is_of_server id) Server Client
+
 -- what is said of the table of an id's range, and of the id there
-abbrev pub at : {X : Type 0} → (View → ℕ → X) → Objects → ℕ → X
-at says objects id = cond (is_of_server id) (says objects.server (place_of id)) (says objects.client id)
+abbrev pub in_range : {X : Type 0} → (View → ℕ → X) → Objects → ℕ → X
+in_range says objects id =
+    cond (is_of_server id) (says objects.server (table_id id)) (says objects.client id)
 
 -- after a change of the table of an id's range, at the id there
 abbrev pub changed_at : (View → ℕ → View) → Objects → ℕ → Objects
 changed_at change objects id = record {
   client = cond (is_of_server id) objects.client (change objects.client id);
-  server = cond (is_of_server id) (change objects.server (place_of id)) objects.server;
+  server = cond (is_of_server id) (change objects.server (table_id id)) objects.server;
 }
 
 -- the row of an id, if it has one
 abbrev pub look : Objects → ℕ → Option Entry
-look objects id = at table.look objects id
+look objects id = in_range table.look objects id
 
 -- whether an id has a row
 abbrev pub is_held : Objects → ℕ → Bool
@@ -41,26 +46,26 @@ is_live objects id = table.lives_in (look objects id)
 
 -- how many objects were born in an id's range: the birth that the next object gets there
 abbrev pub births : Objects → ℕ → ℕ
-births objects id = at (λ view place. view.births) objects id
+births objects id = in_range (λ view place. view.births) objects id
 
 -- how many ids of a maker's range were used
-abbrev pub used : Maker → Objects → ℕ
-used Client objects = objects.client.used
-used Server objects = objects.server.used - 1
+abbrev pub ids_used : Maker → Objects → ℕ
+ids_used Client objects = objects.client.used
+ids_used Server objects = objects.server.used - 1
 
 -- whether an id is freed, or the next new one of its range
 abbrev pub free_or_next : Objects → ℕ → Bool
-free_or_next objects id = at table.free_or_next objects id
+free_or_next objects id = in_range table.free_or_next objects id
 
 -- whether the limits of an id's range leave room for an object at the id
 abbrev pub has_room : Objects → ℕ → Bool
-has_room objects id = at table.has_room objects id
+has_room objects id = in_range table.has_room objects id
 
 -- the id that a maker's next object gets: the one of its range that was freed last, or the next new
 -- one where none is free
 abbrev pub next_id : Maker → Objects → ℕ
 next_id Client objects = table.next_id objects.client
-next_id Server objects = id_at (table.next_id objects.server)
+next_id Server objects = wire_id (table.next_id objects.server)
 
 -- whether the limits leave room for one more object of a maker's
 abbrev pub can_open : Maker → Objects → Bool
@@ -97,7 +102,7 @@ abbrev pub zombied : Objects → ℕ → Objects
 zombied objects id = changed_at table.zombied objects id
 
 -- What always holds of them.
-pub record AreSound (objects : Objects) : Type 0 where
+pub record ObjectsAreSound (objects : Objects) : Type 0 where
   pub client : table.Sound objects.client
   pub server : table.Sound objects.server
 

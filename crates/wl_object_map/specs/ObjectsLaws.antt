@@ -1,7 +1,7 @@
 -- Laws of the objects in both ranges: what an id's row is after each change, and that each change
 -- keeps both tables sound.
-use Rattle.std.proofs.Common.{◌≡◌, ◌≢◌, ℕ, ◌<◌, ◌≤◌, sym, ◌∙◌, ap, cond}
-use Rattle.std.proofs.Common.{true, false, arith, eqb, is_some, subst, inl, inr}
+use Rattle.std.proofs.Common.{◌≡◌, ◌≢◌, ℕ, ◌+◌, ◌<◌, ◌≤◌, refl, sym, ◌∙◌, ap, cond}
+use Rattle.std.proofs.Common.{true, false, arith, eqb, is_some, subst, ◌⊎◌, inl, inr, ⊎_elim}
 use Rattle.std.proofs.lemmas.Bool.{cases_Bool}
 use Rattle.std.proofs.lemmas.Grind.{common_steps}
 use Rattle.std.proofs.lemmas.Bool.Decides.{nat_tests}
@@ -13,12 +13,14 @@ use Rattle.wl_object_map.specs.declared.object.Entry.{Entry}
 use Rattle.wl_object_map.specs.declared.object.State.TheVariants.{Live}
 use Rattle.wl_object_map.specs.declared.object.Maker.{Maker}
 use Rattle.wl_object_map.specs.declared.object.Maker.TheVariants.{Client, Server}
-use Rattle.wl_object_map.specs.Ranges.{first_server_id, is_of_server, place_of, id_at}
+use Rattle.wl_object_map.specs.Ranges.{first_server_id, is_of_server, table_id, wire_id}
 use Rattle.wl_object_map.specs.View as table
 use Rattle.wl_object_map.specs.View.{View, Sound, zombie}
 use Rattle.wl_object_map.specs.Views as rows
+use Rattle.wl_object_map.specs.Views.{in_row, in_list, at_null, unused}
 use Rattle.wl_object_map.specs.Sounds as sounds
-use Rattle.wl_object_map.specs.Objects.{Objects, AreSound, at, changed_at, look, is_held, births}
+use Rattle.wl_object_map.specs.Objects.{Objects, ObjectsAreSound, in_range, changed_at, look}
+use Rattle.wl_object_map.specs.Objects.{is_held, births}
 use Rattle.wl_object_map.specs.Objects.{free_or_next, has_room, next_id, can_open, no_interface}
 use Rattle.wl_object_map.specs.Objects.{opening, opened_at, opened, closed, zombied}
 
@@ -37,15 +39,15 @@ pub is_below : (id : ℕ) → is_of_server id ≡ false → id < first_server_id
 is_below id h = grind (arith, common_steps, nat_tests, h)
 
 -- an id of the server's range is at no place below 2
-pub place_not_one : (id : ℕ) → is_of_server id ≡ true → place_of id ≢ 1
+pub place_not_one : (id : ℕ) → is_of_server id ≡ true → table_id id ≢ 1
 place_not_one id h e = let l = is_from id h in absurd (omega (arith, l, e))
 
 same_place : (q id : ℕ) → is_of_server q ≡ true → is_of_server id ≡ true
-    → eqb (place_of q) (place_of id) ≡ eqb q id
+    → eqb (table_id q) (table_id id) ≡ eqb q id
 same_place q id a b =
     let l = is_from q a in let k = is_from id b in grind (arith, common_steps, nat_tests, l, k)
 
-apart : (q id : ℕ) → is_of_server q ≡ true → is_of_server id ≡ false → eqb q id ≡ false
+pub apart : (q id : ℕ) → is_of_server q ≡ true → is_of_server id ≡ false → eqb q id ≡ false
 apart q id a b =
     let l = is_from q a in let k = is_below id b in grind (arith, common_steps, nat_tests, l, k)
 
@@ -55,26 +57,28 @@ apart_too q id a b =
 
 -- What an id's row is after each.
 
-pub at_server : {X : Type 0} (says : View → ℕ → X) (o : Objects) (id : ℕ) → is_of_server id ≡ true
-    → at says o id ≡ says o.server (place_of id)
-at_server says o id h = ap (λ b. cond b (says o.server (place_of id)) (says o.client id)) h
+pub in_range-server : {X : Type 0} (says : View → ℕ → X) (o : Objects) (id : ℕ)
+    → is_of_server id ≡ true
+    → in_range says o id ≡ says o.server (table_id id)
+in_range-server says o id h = ap (λ b. cond b (says o.server (table_id id)) (says o.client id)) h
 
-pub at_client : {X : Type 0} (says : View → ℕ → X) (o : Objects) (id : ℕ) → is_of_server id ≡ false
-    → at says o id ≡ says o.client id
-at_client says o id h = ap (λ b. cond b (says o.server (place_of id)) (says o.client id)) h
+pub in_range-client : {X : Type 0} (says : View → ℕ → X) (o : Objects) (id : ℕ)
+    → is_of_server id ≡ false
+    → in_range says o id ≡ says o.client id
+in_range-client says o id h = ap (λ b. cond b (says o.server (table_id id)) (says o.client id)) h
 
 pub changed_server : (change : View → ℕ → View) (o : Objects) (id : ℕ) → is_of_server id ≡ true
-    → changed_at change o id ≡ record { client = o.client; server = change o.server (place_of id) }
+    → changed_at change o id ≡ record { client = o.client; server = change o.server (table_id id) }
 changed_server change o id h = ap (λ b. record {
   client = cond b o.client (change o.client id);
-  server = cond b (change o.server (place_of id)) o.server;
+  server = cond b (change o.server (table_id id)) o.server;
 }) h
 
 pub changed_client : (change : View → ℕ → View) (o : Objects) (id : ℕ) → is_of_server id ≡ false
     → changed_at change o id ≡ record { client = change o.client id; server = o.server }
 changed_client change o id h = ap (λ b. record {
   client = cond b o.client (change o.client id);
-  server = cond b (change o.server (place_of id)) o.server;
+  server = cond b (change o.server (table_id id)) o.server;
 }) h
 
 -- a change of one table at one id: what the table says of the rows holds of ids on the wire
@@ -83,23 +87,24 @@ pub look-changed : (change : View → ℕ → View) (row : View → Option Entry
     ≡ cond (eqb q id) (row view (table.look view q)) (table.look view q))
     → (o : Objects) (id q : ℕ)
     → look (changed_at change o id) q
-    ≡ cond (eqb q id) (at (λ view place. row view (look o q)) o id) (look o q)
+    ≡ cond (eqb q id) (in_range (λ view place. row view (look o q)) o id) (look o q)
 look-changed change row law o id q = elim (cases_Bool (is_of_server id)) [
   | inl s ↦
-      (let new : Objects = record { client = o.client; server = change o.server (place_of id) } in
+      (let new : Objects = record { client = o.client; server = change o.server (table_id id) } in
       ap (λ (x : Objects). look x q) (changed_server change o id s)
       ∙ elim (cases_Bool (is_of_server q)) [
         | inl t ↦
-            (let same : look o q ≡ table.look o.server (place_of q) = at_server table.look o q t in
-            at_server table.look new q t
-            ∙ law o.server (place_of id) (place_of q)
+            (let same : look o q ≡ table.look o.server (table_id q) =
+            in_range-server table.look o q t in
+            in_range-server table.look new q t
+            ∙ law o.server (table_id id) (table_id q)
             ∙ (λ i. cond (same_place q id t s i) (row o.server (sym same i)) (sym same i))
             ∙ ap (λ (e : Option Entry). cond (eqb q id) e (look o q))
-            (sym (at_server (λ view place. row view (look o q)) o id s)))
+            (sym (in_range-server (λ view place. row view (look o q)) o id s)))
         | inr t ↦
-            (at_client table.look new q t
-            ∙ sym (at_client table.look o q t)
-            ∙ sym (ap (λ b. cond b (at (λ view place. row view (look o q)) o id) (look o q))
+            (in_range-client table.look new q t
+            ∙ sym (in_range-client table.look o q t)
+            ∙ sym (ap (λ b. cond b (in_range (λ view place. row view (look o q)) o id) (look o q))
             (apart_too q id t s)))
       ])
   | inr s ↦
@@ -107,17 +112,17 @@ look-changed change row law o id q = elim (cases_Bool (is_of_server id)) [
       ap (λ (x : Objects). look x q) (changed_client change o id s)
       ∙ elim (cases_Bool (is_of_server q)) [
         | inl t ↦
-            (at_server table.look new q t
-            ∙ sym (at_server table.look o q t)
-            ∙ sym (ap (λ b. cond b (at (λ view place. row view (look o q)) o id) (look o q))
+            (in_range-server table.look new q t
+            ∙ sym (in_range-server table.look o q t)
+            ∙ sym (ap (λ b. cond b (in_range (λ view place. row view (look o q)) o id) (look o q))
             (apart q id t s)))
         | inr t ↦
-            (let same : look o q ≡ table.look o.client q = at_client table.look o q t in
-            at_client table.look new q t
+            (let same : look o q ≡ table.look o.client q = in_range-client table.look o q t in
+            in_range-client table.look new q t
             ∙ law o.client id q
             ∙ (λ i. cond (eqb q id) (row o.client (sym same i)) (sym same i))
             ∙ ap (λ (e : Option Entry). cond (eqb q id) e (look o q))
-            (sym (at_client (λ view place. row view (look o q)) o id s)))
+            (sym (in_range-client (λ view place. row view (look o q)) o id s)))
       ])
 ]
 
@@ -127,10 +132,10 @@ pub look-opening : (display : Iface) (q : ℕ)
     ≡ cond (eqb q 1) (Some (record { birth = 0; iface = display; version = 1; state = Live })) None
 look-opening display q = elim (cases_Bool (is_of_server q)) [
   | inl t ↦
-      at_server table.look (opening display) q t
-      ∙ rows.look-opening no_interface (place_of q)
+      in_range-server table.look (opening display) q t
+      ∙ rows.look-opening no_interface (table_id q)
       ∙ (let l = is_from q t in grind (arith, common_steps, nat_tests, l))
-  | inr t ↦ at_client table.look (opening display) q t ∙ rows.look-opening display q
+  | inr t ↦ in_range-client table.look (opening display) q t ∙ rows.look-opening display q
 ]
 
 -- the row of a new object that is the birth-th of its range
@@ -153,19 +158,20 @@ look-opened_at o id iface version q =
     (λ view _. Some (new_row view.births iface version))
     (λ view place p. rows.look-opened_at view place iface version p) o id q
     ∙ ap (λ (e : Option Entry). cond (eqb q id) e (look o q)) (elim (cases_Bool (is_of_server id)) [
-      | inl s ↦ at_server (λ view place. Some (new_row view.births iface version)) o id s
+      | inl s ↦ in_range-server (λ view place. Some (new_row view.births iface version)) o id s
           ∙ ap (λ n. Some (new_row n iface version))
-          (sym (at_server (λ view place. view.births) o id s))
-      | inr s ↦ at_client (λ view place. Some (new_row view.births iface version)) o id s
+          (sym (in_range-server (λ view place. view.births) o id s))
+      | inr s ↦ in_range-client (λ view place. Some (new_row view.births iface version)) o id s
           ∙ ap (λ n. Some (new_row n iface version))
-          (sym (at_client (λ view place. view.births) o id s))
+          (sym (in_range-client (λ view place. view.births) o id s))
     ])
 
 -- what every table says of an id without looking at the table is said of it
-pub at-same : {X : Type 0} (x : X) (o : Objects) (id : ℕ) → at (λ view place. x) o id ≡ x
-at-same x o id = elim (cases_Bool (is_of_server id)) [
-  | inl s ↦ at_server (λ view place. x) o id s
-  | inr s ↦ at_client (λ view place. x) o id s
+pub in_range-same : {X : Type 0} (x : X) (o : Objects) (id : ℕ)
+    → in_range (λ view place. x) o id ≡ x
+in_range-same x o id = elim (cases_Bool (is_of_server id)) [
+  | inl s ↦ in_range-server (λ view place. x) o id s
+  | inr s ↦ in_range-client (λ view place. x) o id s
 ]
 
 -- at the id none, at others as before
@@ -173,7 +179,7 @@ pub look-closed : (o : Objects) (id q : ℕ)
     → look (closed o id) q ≡ cond (eqb q id) None (look o q)
 look-closed o id q =
     look-changed table.closed (λ view e. None) rows.look-closed o id q
-    ∙ ap (λ (e : Option Entry). cond (eqb q id) e (look o q)) (at-same None o id)
+    ∙ ap (λ (e : Option Entry). cond (eqb q id) e (look o q)) (in_range-same None o id)
 
 -- at the id the same row as a zombie, at others as before
 pub look-zombied : (o : Objects) (id q : ℕ)
@@ -181,104 +187,110 @@ pub look-zombied : (o : Objects) (id q : ℕ)
 look-zombied o id q =
     look-changed table.zombied (λ view e. option_map zombie e) rows.look-zombied o id q
     ∙ ap (λ (e : Option Entry). cond (eqb q id) e (look o q))
-    (at-same (option_map zombie (look o q)) o id)
+    (in_range-same (option_map zombie (look o q)) o id)
 
 -- Each change keeps both tables sound.
 
 -- where a change of the table of the id's range does
-AreSound-changed : (change : View → ℕ → View) (o : Objects) (id : ℕ) → AreSound o
-    → (is_of_server id ≡ true → Sound (change o.server (place_of id)))
+ObjectsAreSound-changed : (change : View → ℕ → View) (o : Objects) (id : ℕ) → ObjectsAreSound o
+    → (is_of_server id ≡ true → Sound (change o.server (table_id id)))
     → (is_of_server id ≡ false → Sound (change o.client id))
-    → AreSound (changed_at change o id)
-AreSound-changed change o id s server client = elim (cases_Bool (is_of_server id)) [
-  | inl h ↦ subst AreSound (sym (changed_server change o id h))
+    → ObjectsAreSound (changed_at change o id)
+ObjectsAreSound-changed change o id s server client = elim (cases_Bool (is_of_server id)) [
+  | inl h ↦ subst ObjectsAreSound (sym (changed_server change o id h))
       (record { client = s.client; server = server h })
-  | inr h ↦ subst AreSound (sym (changed_client change o id h))
+  | inr h ↦ subst ObjectsAreSound (sym (changed_client change o id h))
       (record { client = client h; server = s.server })
 ]
 
-pub AreSound-opening : (display : Iface) → AreSound (opening display)
-AreSound-opening display = record {
+pub ObjectsAreSound-opening : (display : Iface) → ObjectsAreSound (opening display)
+ObjectsAreSound-opening display = record {
   client = sounds.Sound-opening display;
   server = sounds.Sound-opening no_interface;
 }
 
 -- an opening at an id that is freed or next
-pub AreSound-opened_at : (o : Objects) (id : ℕ) (iface : Iface) (version : ℕ) → AreSound o
-    → free_or_next o id ≡ true → has_room o id ≡ true → AreSound (opened_at o id iface version)
-AreSound-opened_at o id iface version s free room =
-    AreSound-changed (λ view place. table.opened_at view place iface version) o id s
-    (λ h. sounds.Sound-opened_at o.server (place_of id) iface version s.server
-    (sym (at_server table.free_or_next o id h) ∙ free)
-    (sym (at_server table.has_room o id h) ∙ room))
+pub ObjectsAreSound-opened_at : (o : Objects) (id : ℕ) (iface : Iface) (version : ℕ)
+    → ObjectsAreSound o
+    → free_or_next o id ≡ true → has_room o id ≡ true
+    → ObjectsAreSound (opened_at o id iface version)
+ObjectsAreSound-opened_at o id iface version s free room =
+    ObjectsAreSound-changed (λ view place. table.opened_at view place iface version) o id s
+    (λ h. sounds.Sound-opened_at o.server (table_id id) iface version s.server
+    (sym (in_range-server table.free_or_next o id h) ∙ free)
+    (sym (in_range-server table.has_room o id h) ∙ room))
     (λ h. sounds.Sound-opened_at o.client id iface version s.client
-    (sym (at_client table.free_or_next o id h) ∙ free)
-    (sym (at_client table.has_room o id h) ∙ room))
+    (sym (in_range-client table.free_or_next o id h) ∙ free)
+    (sym (in_range-client table.has_room o id h) ∙ room))
 
 held_server : (o : Objects) (id : ℕ) → is_of_server id ≡ true → is_held o id ≡ true
-    → table.is_held o.server (place_of id) ≡ true
-held_server o id h held = sym (ap is_some (at_server table.look o id h)) ∙ held
+    → table.is_held o.server (table_id id) ≡ true
+held_server o id h held = sym (ap is_some (in_range-server table.look o id h)) ∙ held
 
 held_client : (o : Objects) (id : ℕ) → is_of_server id ≡ false → is_held o id ≡ true
     → table.is_held o.client id ≡ true
-held_client o id h held = sym (ap is_some (at_client table.look o id h)) ∙ held
+held_client o id h held = sym (ap is_some (in_range-client table.look o id h)) ∙ held
 
 -- an opening at an id that has a row, in place of it
-pub AreSound-reopened : (o : Objects) (id : ℕ) (iface : Iface) (version : ℕ) → AreSound o
+pub ObjectsAreSound-reopened : (o : Objects) (id : ℕ) (iface : Iface) (version : ℕ)
+    → ObjectsAreSound o
     → is_held o id ≡ true → id ≢ 1 → has_room o id ≡ true
-    → AreSound (opened_at o id iface version)
-AreSound-reopened o id iface version s held other room =
-    AreSound-changed (λ view place. table.opened_at view place iface version) o id s
-    (λ h. sounds.Sound-reopened o.server (place_of id) iface version s.server
-    (held_server o id h held) (place_not_one id h) (sym (at_server table.has_room o id h) ∙ room))
+    → ObjectsAreSound (opened_at o id iface version)
+ObjectsAreSound-reopened o id iface version s held other room =
+    ObjectsAreSound-changed (λ view place. table.opened_at view place iface version) o id s
+    (λ h. sounds.Sound-reopened o.server (table_id id) iface version s.server
+    (held_server o id h held) (place_not_one id h)
+    (sym (in_range-server table.has_room o id h) ∙ room))
     (λ h. sounds.Sound-reopened o.client id iface version s.client
-    (held_client o id h held) other (sym (at_client table.has_room o id h) ∙ room))
+    (held_client o id h held) other (sym (in_range-client table.has_room o id h) ∙ room))
 
-pub AreSound-closed : (o : Objects) (id : ℕ) → AreSound o → is_held o id ≡ true → id ≢ 1
-    → AreSound (closed o id)
-AreSound-closed o id s held other =
-    AreSound-changed table.closed o id s
-    (λ h. sounds.Sound-closed o.server (place_of id) s.server (held_server o id h held)
+pub ObjectsAreSound-closed : (o : Objects) (id : ℕ) → ObjectsAreSound o → is_held o id ≡ true
+    → id ≢ 1
+    → ObjectsAreSound (closed o id)
+ObjectsAreSound-closed o id s held other =
+    ObjectsAreSound-changed table.closed o id s
+    (λ h. sounds.Sound-closed o.server (table_id id) s.server (held_server o id h held)
     (place_not_one id h))
     (λ h. sounds.Sound-closed o.client id s.client (held_client o id h held) other)
 
-pub AreSound-zombied : (o : Objects) (id : ℕ) → AreSound o → id ≢ 1 → AreSound (zombied o id)
-AreSound-zombied o id s other =
-    AreSound-changed table.zombied o id s
-    (λ h. sounds.Sound-zombied o.server (place_of id) s.server (place_not_one id h))
+pub ObjectsAreSound-zombied : (o : Objects) (id : ℕ) → ObjectsAreSound o → id ≢ 1
+    → ObjectsAreSound (zombied o id)
+ObjectsAreSound-zombied o id s other =
+    ObjectsAreSound-changed table.zombied o id s
+    (λ h. sounds.Sound-zombied o.server (table_id id) s.server (place_not_one id h))
     (λ h. sounds.Sound-zombied o.client id s.client other)
 
 -- The next id of each maker.
 
 -- it is of the maker's range
-pub next_of_client : (o : Objects) → AreSound o → is_of_server (next_id Client o) ≡ false
+pub next_of_client : (o : Objects) → ObjectsAreSound o → is_of_server (next_id Client o) ≡ false
 next_of_client o s =
     let f = rows.free_is o.client (table.next_id o.client) s.client
     (rows.free_or_next-next_id o.client) in
     let top = f.at_most_next in let e = s.client.ids_end in
     of_client (table.next_id o.client) (omega (arith, top, e))
 
-pub next_of_server : (o : Objects) → AreSound o → is_of_server (next_id Server o) ≡ true
+pub next_of_server : (o : Objects) → ObjectsAreSound o → is_of_server (next_id Server o) ≡ true
 next_of_server o s =
     let free = rows.free_or_next-next_id o.server in
     let null = (rows.free_is o.server (table.next_id o.server) s.server free).above_null in
     let other = rows.free_not_display o.server (table.next_id o.server) s.server free in
-    of_server (id_at (table.next_id o.server))
+    of_server (wire_id (table.next_id o.server))
     (grind (arith, common_steps, nat_tests, null, other))
 
 -- and the table of the range has it for its next
-pub place-id_at : (place : ℕ) → place_of (id_at place) ≡ place
-place-id_at place = omega arith
+pub table_id-wire_id : (place : ℕ) → table_id (wire_id place) ≡ place
+table_id-wire_id place = omega arith
 
 -- so an opening at the next id is one of the maker's table
-pub opened-client : (o : Objects) (iface : Iface) (version : ℕ) → AreSound o
+pub opened-client : (o : Objects) (iface : Iface) (version : ℕ) → ObjectsAreSound o
     → opened Client o iface version
     ≡ record { client = table.opened o.client iface version; server = o.server }
 opened-client o iface version s =
     changed_client (λ view place. table.opened_at view place iface version) o (next_id Client o)
     (next_of_client o s)
 
-pub opened-server : (o : Objects) (iface : Iface) (version : ℕ) → AreSound o
+pub opened-server : (o : Objects) (iface : Iface) (version : ℕ) → ObjectsAreSound o
     → opened Server o iface version
     ≡ record { client = o.client; server = table.opened o.server iface version }
 opened-server o iface version s =
@@ -287,13 +299,168 @@ opened-server o iface version s =
     ∙ ap (λ place. record {
       client = o.client;
       server = table.opened_at o.server place iface version;
-    }) (place-id_at (table.next_id o.server))
+    }) (table_id-wire_id (table.next_id o.server))
 
-pub AreSound-opened : (maker : Maker) (o : Objects) (iface : Iface) (version : ℕ) → AreSound o
-    → can_open maker o ≡ true → AreSound (opened maker o iface version)
-AreSound-opened Client o iface version s room =
-    subst AreSound (sym (opened-client o iface version s))
-    (record { client = sounds.Sound-opened o.client iface version s.client room; server = s.server })
-AreSound-opened Server o iface version s room =
-    subst AreSound (sym (opened-server o iface version s))
-    (record { client = s.client; server = sounds.Sound-opened o.server iface version s.server room })
+pub ObjectsAreSound-opened : (maker : Maker) (o : Objects) (iface : Iface) (version : ℕ)
+    → ObjectsAreSound o
+    → can_open maker o ≡ true → ObjectsAreSound (opened maker o iface version)
+ObjectsAreSound-opened Client o iface version s room =
+    subst ObjectsAreSound (sym (opened-client o iface version s))
+    (record {
+      client = sounds.Sound-opened o.client iface version s.client room;
+      server = s.server;
+    })
+ObjectsAreSound-opened Server o iface version s room =
+    subst ObjectsAreSound (sym (opened-server o iface version s))
+    (record {
+      client = s.client;
+      server = sounds.Sound-opened o.server iface version s.server room;
+    })
+
+-- What a table says of the client's range is said of an id there.
+
+pub births_of_client : (o : Objects) (id : ℕ) → is_of_server id ≡ false
+    → births o id ≡ o.client.births
+births_of_client o id h = in_range-client (λ view place. view.births) o id h
+
+pub free_of_client : (o : Objects) (id : ℕ) → is_of_server id ≡ false
+    → free_or_next o id ≡ table.free_or_next o.client id
+free_of_client o id h = in_range-client table.free_or_next o id h
+
+pub room_of_client : (o : Objects) (id : ℕ) → is_of_server id ≡ false
+    → has_room o id ≡ table.has_room o.client id
+room_of_client o id h = in_range-client table.has_room o id h
+
+-- an id at which an object of the client's can be opened: it has no row, is from 1 to one past the
+-- ids used, and is of the client's range
+pub record IsFree (o : Objects) (id : ℕ) : Type 0 where
+  pub no_row : look o id ≡ None
+  pub above_null : 0 < id
+  pub at_most_next : id ≤ o.client.used + 1
+  pub range : is_of_server id ≡ false
+
+pub free_is : (o : Objects) (id : ℕ) → ObjectsAreSound o → table.free_or_next o.client id ≡ true
+    → IsFree o id
+free_is o id s h =
+    let free = rows.free_is o.client id s.client h in
+    let top = free.at_most_next in let e = s.client.ids_end in
+    let range : is_of_server id ≡ false = of_client id (omega (arith, top, e)) in
+    record {
+      no_row = in_range-client table.look o id range ∙ free.no_row;
+      above_null = free.above_null;
+      at_most_next = top;
+      range = range;
+    }
+
+pub opened_at-client : (o : Objects) (id : ℕ) (iface : Iface) (version : ℕ)
+    → is_of_server id ≡ false
+    → opened_at o id iface version
+    ≡ record { client = table.opened_at o.client id iface version; server = o.server }
+opened_at-client o id iface version h =
+    changed_client (λ view place. table.opened_at view place iface version) o id h
+
+pub look-opened_by_client : (o : Objects) (id : ℕ) (iface : Iface) (version q : ℕ)
+    → is_of_server id ≡ false
+    → look (opened_at o id iface version) q
+    ≡ cond (eqb q id) (Some (record {
+      birth = o.client.births;
+      iface = iface;
+      version = version;
+      state = Live;
+    })) (look o q)
+look-opened_by_client o id iface version q h =
+    look-opened_at o id iface version q
+    ∙ ap (λ n. cond (eqb q id) (Some (new_row n iface version)) (look o q))
+    (births_of_client o id h)
+
+-- How many births are counted in the client's range and how many ids used there, after each change:
+-- an ending leaves both.
+
+client-changed : {X : Type 0} (says : View → X) (change : View → ℕ → View)
+    → ((view : View) (id : ℕ) → says (change view id) ≡ says view)
+    → (o : Objects) (id : ℕ) → says (changed_at change o id).client ≡ says o.client
+client-changed says change law o id = elim (cases_Bool (is_of_server id)) [
+  | inl h ↦ ap (λ (x : Objects). says x.client) (changed_server change o id h)
+  | inr h ↦ ap (λ (x : Objects). says x.client) (changed_client change o id h) ∙ law o.client id
+]
+
+-- an opening counts no fewer
+pub births-rise : (o : Objects) (id : ℕ) (iface : Iface) (version : ℕ)
+    → o.client.births ≤ (opened_at o id iface version).client.births
+births-rise o id iface version =
+    let change = λ (view : View) (place : ℕ). table.opened_at view place iface version in
+    elim (cases_Bool (is_of_server id)) [
+      | inl h ↦ (let same = ap (λ (x : Objects). x.client.births) (changed_server change o id h) in
+          omega (arith, same))
+      | inr h ↦ (let more = ap (λ (x : Objects). x.client.births) (changed_client change o id h) in
+          omega (arith, more))
+    ]
+
+pub births-closed : (o : Objects) (id : ℕ) → (closed o id).client.births ≡ o.client.births
+births-closed o id = client-changed (λ view. view.births) table.closed (λ view place. refl) o id
+
+pub used-closed : (o : Objects) (id : ℕ) → (closed o id).client.used ≡ o.client.used
+used-closed o id = client-changed (λ view. view.used) table.closed (λ view place. refl) o id
+
+pub births-zombied : (o : Objects) (id : ℕ) → (zombied o id).client.births ≡ o.client.births
+births-zombied o id = client-changed (λ view. view.births) table.zombied (λ view place. refl) o id
+
+pub used-zombied : (o : Objects) (id : ℕ) → (zombied o id).client.used ≡ o.client.used
+used-zombied o id = client-changed (λ view. view.used) table.zombied (λ view place. refl) o id
+
+-- An id with a row in the client's table is of the client's range.
+
+pub held_by_client : (o : Objects) (id : ℕ) (e : Entry) → Sound o.client
+    → table.look o.client id ≡ Some e → is_of_server id ≡ false
+held_by_client o id e s row =
+    let place = rows.place_of_id o.client s id in
+    let top = s.ids_end in
+    elim place [
+      | in_row d l t a b ↦ of_client id (omega (arith, b, top))
+      | in_list l t a b ↦ absurd (cc (row, l))
+      | at_null l t z ↦ absurd (cc (row, l))
+      | unused l t a ↦ absurd (cc (row, l))
+    ]
+
+pub look-held_by_client : (o : Objects) (id : ℕ) (e : Entry) → Sound o.client
+    → table.look o.client id ≡ Some e → look o id ≡ Some e
+look-held_by_client o id e s row =
+    in_range-client table.look o id (held_by_client o id e s row) ∙ row
+
+-- What a row after a change was before it.
+
+-- after an opening it is the new object's, or another's that stood there before
+pub row-opened_at : (o : Objects) (id : ℕ) (iface : Iface) (version q : ℕ) (e : Entry)
+    → look (opened_at o id iface version) q ≡ Some e
+    → ((q ≡ id)
+    × (e ≡ record { birth = births o id; iface = iface; version = version; state = Live }))
+    ⊎ ((q ≢ id) × (look o q ≡ Some e))
+row-opened_at o id iface version q e h = ⊎_elim
+    (λ p. inl (rows.eqb_is q id p.0, sym (rows.some_is _ e p.1)))
+    (λ p. inr (rows.eqb_not q id p.0, p.1))
+    (rows.cases_row (eqb q id) (Some (new_row (births o id) iface version)) (look o q) e
+    (sym (look-opened_at o id iface version q) ∙ h))
+
+pub row-opened_by_client : (o : Objects) (id : ℕ) (iface : Iface) (version q : ℕ) (e : Entry)
+    → is_of_server id ≡ false → look (opened_at o id iface version) q ≡ Some e
+    → ((q ≡ id)
+    × (e ≡ record { birth = o.client.births; iface = iface; version = version; state = Live }))
+    ⊎ ((q ≢ id) × (look o q ≡ Some e))
+row-opened_by_client o id iface version q e range h = ⊎_elim
+    (λ p. inl (p.0, p.1 ∙ ap (λ n. new_row n iface version) (births_of_client o id range)))
+    (λ p. inr p)
+    (row-opened_at o id iface version q e h)
+
+-- after a closing it is another's that stood there before
+pub row-closed : (o : Objects) (id q : ℕ) (e : Entry) → look (closed o id) q ≡ Some e
+    → (q ≢ id) × (look o q ≡ Some e)
+row-closed o id q e h = ⊎_elim
+    (λ p. let no = p.1 in cc)
+    (λ p. (rows.eqb_not q id p.0, p.1))
+    (rows.cases_row (eqb q id) None (look o q) e (sym (look-closed o id q) ∙ h))
+
+-- after a zombie-making it stood there before, and is a zombie's now where its id is the one
+pub row-zombied : (o : Objects) (id q : ℕ) (e : Entry) → look (zombied o id) q ≡ Some e
+    → (d : Entry) × ((look o q ≡ Some d) × (e ≡ cond (eqb q id) (zombie d) d))
+row-zombied o id q e h =
+    rows.of_zombie (eqb q id) (look o q) e (sym (look-zombied o id q) ∙ h)

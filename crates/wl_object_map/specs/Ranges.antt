@@ -16,9 +16,9 @@ is_of_server id = nat_le first_server_id id
 -- The table of the server's range counts its ids from 2 on, so that its row 1 stands for nothing.
 
 -- the id that this table has for an id of the range
-abbrev pub place_of : ℕ → ℕ
-place_of id = id - 4278190078
+abbrev pub table_id : ℕ → ℕ
+table_id id = id - 4278190078
 
 -- the id for which this table has one
-abbrev pub id_at : ℕ → ℕ
-id_at place = place + 4278190078
+abbrev pub wire_id : ℕ → ℕ
+wire_id place = place + 4278190078

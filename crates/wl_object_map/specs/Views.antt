@@ -246,7 +246,7 @@ row-closed view id q e h = ⊎_elim
     (λ p. (eqb_not q id p.0, p.1))
     (cases_row (eqb q id) None (look view q) e (sym (look-closed view id q) ∙ h))
 
-of_zombie : (b : Bool) (o : Option Entry) (e : Entry) → cond b (option_map zombie o) o ≡ Some e
+pub of_zombie : (b : Bool) (o : Option Entry) (e : Entry) → cond b (option_map zombie o) o ≡ Some e
     → (d : Entry) × ((o ≡ Some d) × (e ≡ cond b (zombie d) d))
 of_zombie true None e h = cc
 of_zombie true (Some d) e h = (d, (refl, sym (some_is _ e h)))

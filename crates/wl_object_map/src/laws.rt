@@ -7,7 +7,7 @@ ghost use Rattle.wl_object_map.specs.View.{View, Sound, is_held, free_or_next, h
 ghost use Rattle.wl_object_map.specs.View.{next_id, opening, opened, opened_at, closed, zombied};
 ghost use Rattle.wl_object_map.specs.declared.object.Maker.{Maker};
 ghost use Rattle.wl_object_map.specs.Objects as objects;
-ghost use Rattle.wl_object_map.specs.Objects.{Objects, AreSound};
+ghost use Rattle.wl_object_map.specs.Objects.{Objects, ObjectsAreSound};
 
 /// What each call makes of a sound table is sound.
 pub fn tables_stay_sound()
@@ -50,17 +50,18 @@ pub fn reopening_uses_no_id()
 
 /// What each call makes of both tables of an end is sound.
 pub fn objects_stay_sound()
-    ensures opening { (display : Iface) → AreSound (objects.opening display) }
-    ensures opened_at { (o : Objects) (id : ℕ) (iface : Iface) (version : ℕ) → AreSound o
+    ensures opening { (display : Iface) → ObjectsAreSound (objects.opening display) }
+    ensures opened_at { (o : Objects) (id : ℕ) (iface : Iface) (version : ℕ) → ObjectsAreSound o
         → objects.free_or_next o id ≡ true → objects.has_room o id ≡ true
-        → AreSound (objects.opened_at o id iface version) }
-    ensures opened { (maker : Maker) (o : Objects) (iface : Iface) (version : ℕ) → AreSound o
-        → objects.can_open maker o ≡ true → AreSound (objects.opened maker o iface version) }
-    ensures reopened { (o : Objects) (id : ℕ) (iface : Iface) (version : ℕ) → AreSound o
+        → ObjectsAreSound (objects.opened_at o id iface version) }
+    ensures opened { (maker : Maker) (o : Objects) (iface : Iface) (version : ℕ) → ObjectsAreSound o
+        → objects.can_open maker o ≡ true → ObjectsAreSound (objects.opened maker o iface version) }
+    ensures reopened { (o : Objects) (id : ℕ) (iface : Iface) (version : ℕ) → ObjectsAreSound o
         → objects.is_held o id ≡ true → id ≢ 1 → objects.has_room o id ≡ true
-        → AreSound (objects.opened_at o id iface version) }
-    ensures zombied { (o : Objects) (id : ℕ) → AreSound o → id ≢ 1
-        → AreSound (objects.zombied o id) }
-    ensures closed { (o : Objects) (id : ℕ) → AreSound o → objects.is_held o id ≡ true → id ≢ 1
-        → AreSound (objects.closed o id) }
+        → ObjectsAreSound (objects.opened_at o id iface version) }
+    ensures zombied { (o : Objects) (id : ℕ) → ObjectsAreSound o → id ≢ 1
+        → ObjectsAreSound (objects.zombied o id) }
+    ensures closed { (o : Objects) (id : ℕ) → ObjectsAreSound o → objects.is_held o id ≡ true
+        → id ≢ 1
+        → ObjectsAreSound (objects.closed o id) }
 {}

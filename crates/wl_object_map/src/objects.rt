@@ -1,9 +1,10 @@
 //! The objects of one end in both ranges of ids: a table for each.
 ghost use Rattle.std.specs.Prelude.{◌≡◌, ◌≢◌, ◌≤◌, ◌↔◌, ◌&&◌, not, Err, IfOk, OnOk, OnErr, IsTrue};
-ghost use Rattle.wl_object_map.specs.Ranges.{is_of_server, place_of, id_at};
+ghost use Rattle.wl_object_map.specs.Ranges.{is_of_server, table_id, wire_id};
 ghost use Rattle.wl_object_map.specs.View.{max_ids};
-ghost use Rattle.wl_object_map.specs.Objects.{Objects, AreSound, look, is_held, is_live, births};
-ghost use Rattle.wl_object_map.specs.Objects.{used, free_or_next, has_room, can_open, next_id};
+ghost use Rattle.wl_object_map.specs.Objects.{Objects, ObjectsAreSound, look, is_held, is_live};
+ghost use Rattle.wl_object_map.specs.Objects.{births};
+ghost use Rattle.wl_object_map.specs.Objects.{ids_used, free_or_next, has_room, can_open, next_id};
 ghost use Rattle.wl_object_map.specs.Objects.{opening, opened, opened_at, closed, zombied};
 
 use super::table::{FIRST_SERVER_ID, MAX_SERVER_ID};
@@ -39,7 +40,8 @@ pub struct Objects<T: Table> {
 }
 
 impl<T: Table> Model for Objects<T> {
-    ghost use Rattle.wl_object_map.specs.Objects.{Objects, AreSound, objects_code, server_view};
+    ghost use Rattle.wl_object_map.specs.Objects.{Objects, ObjectsAreSound, objects_code};
+    ghost use Rattle.wl_object_map.specs.Objects.{server_view};
 
     ghost Value = { Objects };
 
@@ -50,16 +52,16 @@ impl<T: Table> Model for Objects<T> {
       server = server_view T.view o.server;
     } };
 
-    ghost invariant = { λ o. AreSound (record {
+    ghost invariant = { λ o. ObjectsAreSound (record {
       client = T.view o.client;
       server = server_view T.view o.server;
     }) };
 }
 
 /// The id that the server's table has for an id of its range.
-fn place_of(id: u32) -> u32
+fn table_id(id: u32) -> u32
     requires { IsTrue (is_of_server id) }
-    ensures { result ≡ place_of id }
+    ensures { result ≡ table_id id }
 {
     id - ABOVE_PLACE
 }
@@ -67,7 +69,7 @@ fn place_of(id: u32) -> u32
 /// An object of the server's table, with its id on the wire.
 fn on_wire(object: Object) -> Object
     requires { object.id ≤ max_ids }
-    ensures { result ≡ record { id = id_at object.id; birth = object.birth } }
+    ensures { result ≡ record { id = wire_id object.id; birth = object.birth } }
 {
     Object {
         id: object.id + ABOVE_PLACE,
@@ -97,7 +99,7 @@ impl<T: Table> Objects<T> {
     /// The entry of an id, live or zombie.
     pub fn look(&self, id: u32) -> Option<Entry>
         ensures entry { result ≡ look self.now id }
-        ensures sound { AreSound self.now }
+        ensures sound { ObjectsAreSound self.now }
     {
         if id < FIRST_SERVER_ID {
             return self.client.look(id);
@@ -105,7 +107,7 @@ impl<T: Table> Objects<T> {
         let Some(table) = &self.server else {
             return None;
         };
-        table.look(place_of(id))
+        table.look(table_id(id))
     }
 
     /// Whether an id is freed or the next new one of its range, so that `open_at` returns neither
@@ -119,7 +121,7 @@ impl<T: Table> Objects<T> {
         let Some(table) = &self.server else {
             return id == FIRST_SERVER_ID;
         };
-        table.is_free(place_of(id))
+        table.is_free(table_id(id))
     }
 
     /// Whether the limits of O1 leave room for an object at this id, in the id's range.
@@ -132,7 +134,7 @@ impl<T: Table> Objects<T> {
         let Some(table) = &self.server else {
             return id <= MAX_SERVER_ID;
         };
-        table.has_room(place_of(id))
+        table.has_room(table_id(id))
     }
 
     /// Whether the limits leave room for one more object of this maker's, so that `open_next` does
@@ -151,7 +153,7 @@ impl<T: Table> Objects<T> {
 
     /// How many ids of this maker's range were ever used.
     pub fn used(&self, maker: Maker) -> u32
-        ensures { result ≡ used maker self.now }
+        ensures { result ≡ ids_used maker self.now }
     {
         match maker {
             Maker::Client => self.client.used(),
@@ -238,7 +240,7 @@ impl<T: Table> Objects<T> {
         ensures no_ids { (result ≡ Err TableError.NoIds)
             ↔ IsTrue (free_or_next self.old id && not (has_room self.old id)) }
         // So an id that is free has no entry.
-        ensures sound { AreSound self.old }
+        ensures sound { ObjectsAreSound self.old }
     {
         if id < FIRST_SERVER_ID {
             return self.client.open_at(id, iface, version);
@@ -250,7 +252,7 @@ impl<T: Table> Objects<T> {
                 TableError::NotNext
             });
         };
-        let object = table.open_at(place_of(id), iface, version)?;
+        let object = table.open_at(table_id(id), iface, version)?;
         Ok(Object {
             id,
             birth: object.birth,
@@ -273,7 +275,7 @@ impl<T: Table> Objects<T> {
         let Some(table) = &mut self.server else {
             return Object { id, birth: 0 };
         };
-        let object = table.reopen(place_of(id), iface, version);
+        let object = table.reopen(table_id(id), iface, version);
         Object {
             id,
             birth: object.birth,
@@ -293,7 +295,7 @@ impl<T: Table> Objects<T> {
         let Some(table) = &mut self.server else {
             return;
         };
-        table.make_zombie(place_of(id));
+        table.make_zombie(table_id(id));
     }
 
     /// Removes an object's entry and frees its id, which is then the first of its range to be used
@@ -310,7 +312,7 @@ impl<T: Table> Objects<T> {
         let Some(table) = &mut self.server else {
             return;
         };
-        table.close(place_of(id));
+        table.close(table_id(id));
     }
 }
 

@@ -11,7 +11,7 @@ use Rattle.wl_sigs.specs.declared.signature.Side.{Side}
 use Rattle.wl_sigs.specs.Tables.{MessageSignature, Interface, signature_at}
 use Rattle.wl_object_map.specs.declared.object.Object.{Object}
 use Rattle.wl_object_map.specs.declared.object.Entry.{Entry}
-use Rattle.wl_object_map.specs.View.{View, look}
+use Rattle.wl_object_map.specs.Objects.{Objects, look}
 use Rattle.wl_objects.specs.declared.error.SendError.{SendError}
 use Rattle.wl_objects.specs.declared.error.SendError.TheVariants as refusals
 use Rattle.wl_objects.specs.Writing.{Given, wired, suits, can_name, wrong_place, lost_place, message_len}
@@ -285,11 +285,11 @@ IsLate (Err refusals.TooOld) = ⊥
 IsLate _ = Unit {0}
 
 -- what the arguments come to
-abbrev judged_list : ℕ → View → List Given → MessageSignature → Result MessageSignature SendError
+abbrev judged_list : ℕ → Objects → List Given → MessageSignature → Result MessageSignature SendError
 judged_list limit view list m = unless_wrong limit (wrong_place 0 m.kinds list) (lost_place (look view) 0 m.kinds list)
     (message_len (map (wired 0) list)) m
 
-late_signature : (limit : ℕ) (view : View) (list : List Given) (entry : Entry) (at : Option MessageSignature)
+late_signature : (limit : ℕ) (view : Objects) (list : List Given) (entry : Entry) (at : Option MessageSignature)
     (x : Result MessageSignature SendError) → IsLate x → checked_as limit view list entry at ≡ x
     → (m : MessageSignature) × (at ≡ Some m) × (m.since ≤ entry.version) × (judged_list limit view list m ≡ x)
 late_signature limit view list entry None x late e = absurd (subst IsLate (sym e) late)
@@ -301,7 +301,7 @@ late_signature limit view list entry (Some m) x late e = by_version (nat_lt entr
     by_version true t e = absurd (subst IsLate (sym e) late)
     by_version false t e = (m, refl, ltb-false entry.version m.since t, e)
 
-late : (limit : ℕ) (tables : List Interface) (side : Side) (view : View) (target : Object) (opcode : ℕ)
+late : (limit : ℕ) (tables : List Interface) (side : Side) (view : Objects) (target : Object) (opcode : ℕ)
     (list : List Given) (x : Result MessageSignature SendError) → IsLate x
     → checked limit tables side view target opcode list ≡ x
     → (m : MessageSignature) × ReachesArguments tables side view target opcode m × (judged_list limit view list m ≡ x)
@@ -331,7 +331,7 @@ late limit tables side view target opcode list x h e = by_row (live_row view tar
           s.3,
         )
 
-reached : (limit : ℕ) (tables : List Interface) (side : Side) (view : View) (target : Object) (opcode : ℕ)
+reached : (limit : ℕ) (tables : List Interface) (side : Side) (view : Objects) (target : Object) (opcode : ℕ)
     (list : List Given) (m : MessageSignature)
     → ReachesArguments tables side view target opcode m → checked limit tables side view target opcode list
     ≡ judged_list limit view list m
@@ -360,7 +360,7 @@ lost_of limit None None len place m e = absurd (by_len (nat_lt limit len) e)
     by_len true e = cc
     by_len false e = cc
 
-pub wrong-refused : (limit : ℕ) (tables : List Interface) (side : Side) (view : View) (target : Object) (opcode : ℕ)
+pub wrong-refused : (limit : ℕ) (tables : List Interface) (side : Side) (view : Objects) (target : Object) (opcode : ℕ)
     (list : List Given) (place : ℕ)
     → (checked limit tables side view target opcode list ≡ Err (refusals.WrongArgs place)) ↔
     ((m : MessageSignature) × ReachesArguments tables side view target opcode m × IsFirstWrong m.kinds list place)
@@ -378,7 +378,7 @@ wrong-refused limit tables side view target opcode list place = (
       (message_len (map (wired 0) list)) f.0) (first-wrong f.0.kinds list place f.2),
 )
 
-pub lost-refused : (limit : ℕ) (tables : List Interface) (side : Side) (view : View) (target : Object) (opcode : ℕ)
+pub lost-refused : (limit : ℕ) (tables : List Interface) (side : Side) (view : Objects) (target : Object) (opcode : ℕ)
     (list : List Given) (place : ℕ)
     → (checked limit tables side view target opcode list ≡ Err (refusals.BadObject place))
     ↔ ((m : MessageSignature) × ReachesArguments tables side view target opcode m × (length list ≡ length m.kinds)

@@ -22,7 +22,7 @@ use Rattle.wl_sigs.specs.Tables.{MessageSignature, Interface, signature_at}
 use Rattle.wl_object_map.specs.declared.object.Object.{Object}
 use Rattle.wl_object_map.specs.declared.object.Entry.{Entry}
 use Rattle.wl_objects.specs.declared.error.SendError.TheVariants as refusals
-use Rattle.wl_object_map.specs.View.{View, look}
+use Rattle.wl_object_map.specs.Objects.{Objects, look}
 use Rattle.wl_objects.specs.Reading.{Reader, forgiving_kind, forgiving, arguments_at, descriptors}
 use Rattle.wl_objects.specs.Spelling.{SpellsAll, MeetsKinds}
 use Rattle.wl_objects.specs.Spelling as spelling
@@ -122,7 +122,7 @@ checked-places limit None None len signature found e = let o = checked-of limit 
     in (refl, refl, o.0, o.1)
 
 -- what a signature and a row give
-checked-signature : (limit : ℕ) (view : View) (list : List Given) (entry : Entry) (at : Option MessageSignature)
+checked-signature : (limit : ℕ) (view : Objects) (list : List Given) (entry : Entry) (at : Option MessageSignature)
     (found : MessageSignature) → checked_as limit view list entry at ≡ Ok found
     → (at ≡ Some found) × (found.since ≤ entry.version) × (wrong_place 0 found.kinds list ≡ None)
     × (lost_place (look view) 0 found.kinds list ≡ None) × (message_len (map (wired 0) list) ≤ limit)
@@ -150,7 +150,7 @@ pub shown-signature : (b : Bool) (at : Option MessageSignature) (found : Message
 shown-signature true at found e = absurd (cc)
 shown-signature false at found e = (refl, e)
 
-pub live-target : (view : View) (target : Object) (entry : Entry) → live_row view target ≡ Some entry
+pub live-target : (view : Objects) (target : Object) (entry : Entry) → live_row view target ≡ Some entry
     → (look view target.id ≡ Some entry) × (entry.birth ≡ target.birth) × (lives entry.state ≡ true)
 live-target view target entry e = by_row (look view target.id) refl e
   where
@@ -171,7 +171,7 @@ live-target view target entry e = by_row (look view target.id) refl e
             let want = subst Want same (eqb-true row.birth target.birth parts.0, parts.1) in
             (l ∙ ap (λ (r : Entry). Some r) same, want.0, want.1)
 
-checked-found : (limit : ℕ) (tables : List Interface) (side : Side) (view : View) (target : Object) (opcode : ℕ)
+checked-found : (limit : ℕ) (tables : List Interface) (side : Side) (view : Objects) (target : Object) (opcode : ℕ)
     (list : List Given) (found : MessageSignature) (at : Option Entry) → live_row view target ≡ at
     → checked_by limit tables side view opcode list at ≡ Ok found
     → CallPasses limit tables side view target opcode list found
@@ -196,19 +196,19 @@ checked-found limit tables side view target opcode list found (Some entry) l e =
       len = s.4;
     }
 
-pub passes : (limit : ℕ) (tables : List Interface) (side : Side) (view : View) (target : Object) (opcode : ℕ)
+pub passes : (limit : ℕ) (tables : List Interface) (side : Side) (view : Objects) (target : Object) (opcode : ℕ)
     (list : List Given) (found : MessageSignature)
     → checked limit tables side view target opcode list ≡ Ok found
     → CallPasses limit tables side view target opcode list found
 passes limit tables side view target opcode list found e =
     checked-found limit tables side view target opcode list found (live_row view target) refl e
 
-pub live-row : (view : View) (target : Object) (entry : Entry) → look view target.id ≡ Some entry
+pub live-row : (view : Objects) (target : Object) (entry : Entry) → look view target.id ≡ Some entry
     → entry.birth ≡ target.birth → lives entry.state ≡ true → live_row view target ≡ Some entry
 live-row view target entry row birth live = let same : nat_eq entry.birth target.birth ≡ true =
     eq-eqb entry.birth target.birth birth in rw (row, same, live) refl
 
-pub passed : (limit : ℕ) (tables : List Interface) (side : Side) (view : View) (target : Object) (opcode : ℕ)
+pub passed : (limit : ℕ) (tables : List Interface) (side : Side) (view : Objects) (target : Object) (opcode : ℕ)
     (list : List Given) (found : MessageSignature)
     → CallPasses limit tables side view target opcode list found
     → checked limit tables side view target opcode list ≡ Ok found
@@ -234,7 +234,7 @@ shown-error Event iface opcode e = by_display (same_iface iface display) refl e
 forgiving-not : (r : Reader) → r.forgives ≡ false → forgiving false r ≡ r
 forgiving-not r f = let g : false ≡ r.forgives = sym f in λ i. record r { forgives = g i }
 
-pub message-arrives : (limit : ℕ) (tables : List Interface) (side : Side) (view : View) (r : Reader) (target : Object)
+pub message-arrives : (limit : ℕ) (tables : List Interface) (side : Side) (view : Objects) (r : Reader) (target : Object)
     (opcode size n waiting : ℕ) (list : List Given) (signature : MessageSignature)
     (p : CallPasses limit tables side view target opcode list signature) (t : IsTarget p.entry r target)
     → r.forgives ≡ false → n < 2 ^ 32 → All InRange list → All (IsExpected (look view) r n) list

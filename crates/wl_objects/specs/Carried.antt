@@ -16,7 +16,7 @@ use Rattle.wl_objects.specs.declared.argument.Named.TheVariants as named_as
 use Rattle.wl_objects.specs.declared.lookup.NewId.TheVariants.{Free}
 use Rattle.wl_objects.specs.Reading.{Reader, Reported, in_state, arguments_at, reports_of}
 use Rattle.wl_objects.specs.Reading.{descriptors}
-use Rattle.wl_object_map.specs.View.{View, look}
+use Rattle.wl_object_map.specs.Objects.{Objects, look}
 use Rattle.wl_objects.specs.Writing.{Given, wired, spelled, message_len, tokens_of, wrong_place}
 use Rattle.wl_objects.specs.Writing.{lost_place}
 use Rattle.wl_objects.specs.Messages.{Received, is_hidden}
@@ -109,7 +109,7 @@ received_as_meant target row signature values = record {
 -- Nothing stands against a call: its target is live with this birth, the message is one that `send`
 -- writes and exists at the target's version, its arguments suit and name live objects of the right
 -- interfaces, and it is not longer than the limit.
-pub record CallPasses (limit : ℕ) (tables : List Interface) (side : Side) (view : View)
+pub record CallPasses (limit : ℕ) (tables : List Interface) (side : Side) (view : Objects)
     (target : Object) (opcode : ℕ) (list : List Given) (signature : MessageSignature) : Type 0 where
   pub entry : Entry
   pub row : look view target.id ≡ Some entry

@@ -21,8 +21,9 @@ use Rattle.wl_objects.specs.declared.error.Fault.{Fault}
 use Rattle.wl_objects.specs.declared.error.Fault.TheVariants as faults
 use Rattle.wl_objects.specs.declared.error.SendError.{SendError}
 use Rattle.wl_objects.specs.declared.error.SendError.TheVariants as refusals
-use Rattle.wl_object_map.specs.View.{View, look, free_or_next, has_room, opened_at, closed, zombied}
-use Rattle.wl_object_map.specs.View.{is_held}
+use Rattle.wl_object_map.specs.View as table
+use Rattle.wl_object_map.specs.View.{free_or_next, has_room}
+use Rattle.wl_object_map.specs.Objects.{Objects, look, opened_at, closed, zombied}
 use Rattle.wl_objects.specs.declared.lookup.NewId.{NewId}
 use Rattle.wl_objects.specs.declared.lookup.NewId.TheVariants.{Free, Wrong, TooMany}
 use Rattle.wl_objects.specs.Reading.{Reader, forgiving, arguments_at, descriptors}
@@ -38,12 +39,12 @@ new_id_of free room = if free then (if room then Free else TooMany) else Wrong
 
 -- What an end knows that has these objects. It speaks no messages by which the server makes an
 -- object: no id is free for such a one.
-abbrev pub reader_of : View → Reader
+abbrev pub reader_of : Objects → Reader
 reader_of view = record {
   object = look view;
-  new_id = λ id. new_id_of (free_or_next view id) (has_room view id);
+  new_id = λ id. new_id_of (free_or_next view.client id) (has_room view.client id);
   new_server_id = λ id. Wrong;
-  birth = view.births;
+  birth = view.client.births;
   forgives = false;
 }
 
@@ -141,15 +142,15 @@ made tables version _ _ = None
 
 -- An object destroyed at the end that writes this side: at the client a zombie, until its delete_id
 -- comes; at the server gone, and its id free.
-abbrev pub destroyed : Side → View → ℕ → View
+abbrev pub destroyed : Side → Objects → ℕ → Objects
 destroyed Request view id = zombied view id
 destroyed Event view id = closed view id
 
-abbrev pub opens : View → Option NewObject → View
+abbrev pub opens : Objects → Option NewObject → Objects
 opens view None = view
 opens view (Some m) = opened_at view m.id m.iface m.version
 
-abbrev pub destroys : Side → Destroys → ℕ → View → View
+abbrev pub destroys : Side → Destroys → ℕ → Objects → Objects
 destroys side Nothing target view = view
 destroys side Target target view = destroyed side view target
 destroys side (Arg place) target view = destroyed side view target
@@ -170,12 +171,13 @@ ended_id (Arg place) target values = id_at values place
 
 -- The objects of the end that writes this side, after it has written or read a message, other than
 -- delete_id: the making comes first.
-abbrev pub after : Side → View → Option NewObject → Destroys → ℕ → View
+abbrev pub after : Side → Objects → Option NewObject → Destroys → ℕ → Objects
 after side view new what target = destroys side what target (opens view new)
 
 -- The client's objects after delete_id: the row of a held id other than 1 is closed.
-abbrev pub after_delete_id : View → ℕ → View
-after_delete_id view id = if is_held view id && not (nat_eq id 1) then closed view id else view
+abbrev pub after_delete_id : Objects → ℕ → Objects
+after_delete_id view id = if table.is_held view.client id && not (nat_eq id 1)
+    then closed view id else view
 
 -- ---- writing
 
@@ -196,7 +198,7 @@ abbrev pub unless_wrong : ℕ → Option ℕ → Option ℕ → ℕ → MessageS
 unless_wrong limit None lost len signature = unless_lost limit lost len signature
 unless_wrong limit (Some place) lost len signature = Err (refusals.WrongArgs place)
 
-abbrev pub checked_as : ℕ → View → List Given → Entry → Option MessageSignature
+abbrev pub checked_as : ℕ → Objects → List Given → Entry → Option MessageSignature
     → Result MessageSignature SendError
 checked_as limit view given entry None = Err refusals.NoSuchMessage
 checked_as limit view given entry (Some signature) =
@@ -208,7 +210,7 @@ abbrev pub unless_hidden : Bool → Option MessageSignature → Option MessageSi
 unless_hidden true signature = None
 unless_hidden false signature = signature
 
-abbrev pub checked_by : ℕ → List Interface → Side → View → ℕ → List Given → Option Entry
+abbrev pub checked_by : ℕ → List Interface → Side → Objects → ℕ → List Given → Option Entry
     → Result MessageSignature SendError
 checked_by limit tables side view opcode given None = Err refusals.Stale
 checked_by limit tables side view opcode given (Some entry) =
@@ -217,13 +219,13 @@ checked_by limit tables side view opcode given (Some entry) =
     (signature_at tables entry.iface.0 side opcode))
 
 -- the row of an object that is live with this birth
-abbrev pub live_row : View → Object → Option Entry
+abbrev pub live_row : Objects → Object → Option Entry
 live_row view object =
     if is_live_as object.birth (look view object.id) then look view object.id else None
 
 -- What stands against a write, before its room is looked at: the first of S2, S3, S4, S5, S6 and
 -- S8; else the message's signature. The first argument is the limit of S8.
-abbrev pub checked : ℕ → List Interface → Side → View → Object → ℕ → List Given
+abbrev pub checked : ℕ → List Interface → Side → Objects → Object → ℕ → List Given
     → Result MessageSignature SendError
 checked limit tables side view target opcode given =
     checked_by limit tables side view opcode given (live_row view target)

@@ -6,7 +6,7 @@ use Rattle.wl_sigs.specs.declared.signature.Side.{Side}
 use Rattle.wl_sigs.specs.Tables.{MessageSignature, Interface, signature_at}
 use Rattle.wl_object_map.specs.declared.object.Object.{Object}
 use Rattle.wl_object_map.specs.declared.object.Entry.{Entry}
-use Rattle.wl_object_map.specs.View.{View, look}
+use Rattle.wl_object_map.specs.Objects.{Objects, look}
 use Rattle.wl_objects.specs.Reading.{iface_of}
 use Rattle.wl_objects.specs.Writing.{Given, suits, can_name, names_one}
 use Rattle.wl_objects.specs.Messages.{is_hidden}
@@ -62,8 +62,8 @@ pub record IsFirstLost (rows : ℕ → Option Entry) (ks : List Kind) (list : Li
 
 -- A call comes to its arguments: its target is live with this birth, and the message is one that
 -- `send` writes and exists at the target's version.
-pub record ReachesArguments (tables : List Interface) (side : Side) (view : View) (target : Object)
-    (opcode : ℕ) (signature : MessageSignature) : Type 0 where
+pub record ReachesArguments (tables : List Interface) (side : Side) (view : Objects)
+    (target : Object) (opcode : ℕ) (signature : MessageSignature) : Type 0 where
   pub entry : Entry
   pub row : look view target.id ≡ Some entry
   pub birth : entry.birth ≡ target.birth

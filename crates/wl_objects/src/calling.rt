@@ -5,7 +5,7 @@ ghost use Rattle.std.specs.List.{All};
 ghost use Rattle.wl_wire.specs.Spelling.{padded, spelled_len};
 ghost use Rattle.wl_sigs.specs.Tables.{MessageSignature, max_args};
 ghost use Rattle.wl_sigs.specs.Valid.{Valid};
-ghost use Rattle.wl_object_map.specs.View.{look, Sound};
+ghost use Rattle.wl_object_map.specs.Objects.{look, ObjectsAreSound};
 ghost use Rattle.wl_objects.specs.Reading.{is_of, iface_of};
 ghost use Rattle.wl_objects.specs.Messages.{checked, live_row, unless_wrong};
 ghost use Rattle.wl_objects.specs.Carried.{InRange};
@@ -17,7 +17,7 @@ ghost use Rattle.wl_objects.specs.Writing.{suits, tokens_of, wired, wrong_place,
 use crate::argument::Arg;
 use crate::error::SendError;
 use crate::messages::{Messages, is_hidden};
-use wl_object_map::{Entry, Object, State, Table};
+use wl_object_map::{Entry, Object, Objects, State, Table};
 use wl_sigs::Signature;
 use wl_wire::{HEADER_LEN, Iface, Kind, has_nul};
 
@@ -49,7 +49,7 @@ struct Measured {
 /// arguments come to. Takes no memory.
 pub fn check_call<'t, T: Table>(
     messages: Messages<'t>,
-    table: &T,
+    objects: &Objects<T>,
     target: Object,
     opcode: u16,
     args: &[Arg<'_>],
@@ -57,8 +57,8 @@ pub fn check_call<'t, T: Table>(
 ) -> Result<CheckedCall<'t>, SendError>
     requires { 8 ≤ limit }
     ensures answer { signature_in result ≡ checked limit messages.entry.tables.now
-        messages.entry.side (T.view table.now) target opcode (given args.now) }
-    ensures entry { IfOk result (λ call. look (T.view table.now) target.id ≡ Some call.entry) }
+        messages.entry.side (objects.now) target opcode (given args.now) }
+    ensures entry { IfOk result (λ call. look (objects.now) target.id ≡ Some call.entry) }
     ensures len { IfOk result
         (λ call. (id : ℕ) → call.len ≡ message_len (on_wire id args.now)) }
     ensures tokens { IfOk result (λ call. call.tokens ≡ length (tokens_of (given args.now))) }
@@ -69,12 +69,12 @@ pub fn check_call<'t, T: Table>(
         × (message_len (on_wire id args.now) ≤ limit)) }
     ensures in_range { IfOk result (λ _. All InRange (given args.now)) }
     ensures few { IfOk result (λ _. length args.now ≤ max_args) }
-    // Always so, and known because the table and the tables were asked.
-    ensures sound { Sound (T.view table.now) }
+    // Always so, and known because the objects and the tables were asked.
+    ensures sound { ObjectsAreSound (objects.now) }
     ensures valid { IfOk result (λ _. Valid messages.entry.tables.now) }
 {
     let Messages { tables, side } = messages;
-    let entry = match live_row(table, target) {
+    let entry = match live_row(objects, target) {
         Some(entry) => entry,
         None => return Err(SendError::Stale),
     };
@@ -88,7 +88,7 @@ pub fn check_call<'t, T: Table>(
     if entry.version < signature.since() {
         return Err(SendError::TooOld);
     }
-    let Measured { len, tokens, makes } = measure(table, signature.kinds(), args, limit)?;
+    let Measured { len, tokens, makes } = measure(objects, signature.kinds(), args, limit)?;
     Ok(CheckedCall {
         entry,
         signature,
@@ -101,7 +101,7 @@ pub fn check_call<'t, T: Table>(
 /// Goes through the arguments of a call once: the first of S5, S6 and S8, else what they come to.
 /// An argument of the wrong kind stands before a lost object, wherever the two stand.
 fn measure<T: Table>(
-    table: &T,
+    objects: &Objects<T>,
     kinds: &[Kind],
     args: &[Arg<'_>],
     limit: u16,
@@ -109,7 +109,7 @@ fn measure<T: Table>(
     requires few { length kinds.now ≤ max_args }
     ensures answer { (signature : MessageSignature) → signature_of signature result
         ≡ unless_wrong limit (wrong_place 0 kinds.now (given args.now))
-        (lost_place (look (T.view table.now)) 0 kinds.now (given args.now))
+        (lost_place (look (objects.now)) 0 kinds.now (given args.now))
         (message_len (on_wire 0 args.now)) signature }
     ensures measured { IfOk result (IsMeasured kinds.now args.now limit) }
     ensures in_range { IfOk result (λ _. All InRange (given args.now)) }
@@ -124,7 +124,7 @@ fn measure<T: Table>(
             Some(arg) if suits(*kind, arg) => arg,
             _ => return Err(SendError::WrongArgs(place)),
         };
-        lost = lost.or(lost_at(table, place, *kind, arg));
+        lost = lost.or(lost_at(objects, place, *kind, arg));
         len += len_of(*arg);
         tokens += token_count(arg);
         makes = makes.or(new_iface(*kind));
@@ -215,12 +215,12 @@ fn new_iface(kind: Kind) -> Option<Iface>
 }
 
 /// The entry of an object that is live with this birth.
-pub fn live_row<T: Table>(table: &T, object: Object) -> Option<Entry>
-    ensures row { result ≡ live_row (T.view table.now) object }
-    ensures sound { Sound (T.view table.now) }
-    ensures held { IfSome result (λ entry. look (T.view table.now) object.id ≡ Some entry) }
+pub fn live_row<T: Table>(objects: &Objects<T>, object: Object) -> Option<Entry>
+    ensures row { result ≡ live_row (objects.now) object }
+    ensures sound { ObjectsAreSound (objects.now) }
+    ensures held { IfSome result (λ entry. look (objects.now) object.id ≡ Some entry) }
 {
-    match table.look(object.id) {
+    match objects.look(object.id) {
         Some(entry) if entry.birth == object.birth && entry.state == State::Live => Some(entry),
         _ => None,
     }
@@ -245,33 +245,33 @@ fn suits(kind: Kind, arg: &Arg<'_>) -> bool
 }
 
 /// Whether an object is live with this birth, and of the interface, if one is asked for.
-fn names_one<T: Table>(table: &T, iface: Option<Iface>, object: Object) -> bool
-    ensures { result ≡ names_one iface object (look (T.view table.now) object.id) }
+fn names_one<T: Table>(objects: &Objects<T>, iface: Option<Iface>, object: Object) -> bool
+    ensures { result ≡ names_one iface object (look (objects.now) object.id) }
 {
-    match live_row(table, object) {
+    match live_row(objects, object) {
         Some(entry) => iface.is_none_or(|iface| iface == entry.iface),
         None => false,
     }
 }
 
 /// Whether an argument of this kind names no object, or one that can be named.
-fn can_name<T: Table>(table: &T, kind: Kind, arg: &Arg<'_>) -> bool
-    ensures { result ≡ can_name (look (T.view table.now)) kind (given_of arg.now) }
+fn can_name<T: Table>(objects: &Objects<T>, kind: Kind, arg: &Arg<'_>) -> bool
+    ensures { result ≡ can_name (look (objects.now)) kind (given_of arg.now) }
 {
     match (kind, arg) {
-        (Kind::Obj { iface, .. }, Arg::Obj(Some(object))) => names_one(table, iface, *object),
-        (_, Arg::Obj(Some(object))) => names_one(table, None, *object),
+        (Kind::Obj { iface, .. }, Arg::Obj(Some(object))) => names_one(objects, iface, *object),
+        (_, Arg::Obj(Some(object))) => names_one(objects, None, *object),
         _ => true,
     }
 }
 
 /// The place of an argument of this kind, if the object that it names is not live or of another
 /// interface.
-fn lost_at<T: Table>(table: &T, place: usize, kind: Kind, arg: &Arg<'_>) -> Option<usize>
-    ensures { result ≡ lost_place (look (T.view table.now)) place (kind ∷ [])
+fn lost_at<T: Table>(objects: &Objects<T>, place: usize, kind: Kind, arg: &Arg<'_>) -> Option<usize>
+    ensures { result ≡ lost_place (look (objects.now)) place (kind ∷ [])
         (given_of arg.now ∷ []) }
 {
-    if can_name(table, kind, arg) {
+    if can_name(objects, kind, arg) {
         None
     } else {
         Some(place)

@@ -11,7 +11,7 @@ ghost use Rattle.wl_objects.specs.declared.error.Fault.{Fault as SpecFault};
 ghost use Rattle.wl_objects.specs.declared.error.SendError.TheVariants.{BadObject, WrongArgs};
 ghost use Rattle.wl_object_map.specs.declared.object.Entry.{Entry as SpecEntry};
 ghost use Rattle.wl_object_map.specs.declared.object.Object.{Object as SpecObject};
-ghost use Rattle.wl_object_map.specs.View.{View, look};
+ghost use Rattle.wl_object_map.specs.Objects.{Objects, look};
 ghost use Rattle.wl_objects.specs.Reading.{Reader, arguments_at, forgiving_kind};
 ghost use Rattle.wl_objects.specs.Spelling.{MeetsKinds, FirstFault, SpellsAll};
 ghost use Rattle.wl_objects.specs.Writing.{Given, call_makes, given, message_bytes, message_len};
@@ -63,7 +63,7 @@ pub fn call_makes_its_object()
 
 /// A call passes its checks exactly where nothing stands against it.
 pub fn a_call_passes()
-    ensures { (limit : ℕ) (tables : List Interface) (side : SpecSide) (view : View)
+    ensures { (limit : ℕ) (tables : List Interface) (side : SpecSide) (view : Objects)
         (target : SpecObject) (opcode : ℕ) (list : List Given) (signature : MessageSignature)
         → (checked limit tables side view target opcode list ≡ Ok signature)
         ↔ CallPasses limit tables side view target opcode list signature }
@@ -91,13 +91,13 @@ pub fn first_lost_object()
 /// for the first that does not suit, and S6 for the first object that cannot be named, which is
 /// looked for only where all arguments suit.
 pub fn a_call_is_refused_for_an_argument()
-    ensures wrong { (limit : ℕ) (tables : List Interface) (side : SpecSide) (view : View)
+    ensures wrong { (limit : ℕ) (tables : List Interface) (side : SpecSide) (view : Objects)
         (target : SpecObject) (opcode : ℕ) (list : List Given) (place : ℕ)
         → (checked limit tables side view target opcode list ≡ Err (WrongArgs place))
         ↔ ((signature : MessageSignature) × ReachesArguments tables side view target opcode
         signature
         × IsFirstWrong signature.kinds list place) }
-    ensures lost { (limit : ℕ) (tables : List Interface) (side : SpecSide) (view : View)
+    ensures lost { (limit : ℕ) (tables : List Interface) (side : SpecSide) (view : Objects)
         (target : SpecObject) (opcode : ℕ) (list : List Given) (place : ℕ)
         → (checked limit tables side view target opcode list ≡ Err (BadObject place))
         ↔ ((signature : MessageSignature) × ReachesArguments tables side view target opcode
@@ -110,7 +110,7 @@ pub fn a_call_is_refused_for_an_argument()
 /// A whole message arrives: what passed its checks at one end is received at the other, where the
 /// reader holds the target and each named object, live or a zombie, and the new id is free.
 pub fn a_message_arrives()
-    ensures { (limit : ℕ) (tables : List Interface) (side : SpecSide) (view : View)
+    ensures { (limit : ℕ) (tables : List Interface) (side : SpecSide) (view : Objects)
         (reader : Reader) (target : SpecObject) (opcode size n waiting : ℕ) (list : List Given)
         (signature : MessageSignature) → (passes : CallPasses limit tables side view target opcode
         list signature)

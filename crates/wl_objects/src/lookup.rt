@@ -3,7 +3,7 @@ ghost use Rattle.std.specs.Prelude.{◌≡◌};
 ghost use Rattle.wl_objects.specs.Reading.{Reader};
 ghost use Rattle.wl_objects.specs.Messages.{reader_of};
 
-use wl_object_map::{Entry, Table};
+use wl_object_map::{Entry, Objects, Table};
 
 /// What an id is to a reader that finds it as a new object's.
 #[derive(Clone, Copy, Debug, PartialEq, Eq)]
@@ -34,23 +34,24 @@ pub trait Lookup {
         ensures { result ≡ (reader self.now).new_server_id id };
 }
 
-/// An end's table, as the reading of a message asks it.
-#[derive(Debug, Drop)]
-pub struct TableLookup<'a, T: Table> {
-    pub table: &'a T,
+/// An end's objects, as the reading of a message asks them.
+#[derive(Drop)]
+pub struct ObjectsLookup<'a, T: Table> {
+    pub objects: &'a Objects<T>,
 }
 
-impl<'a, T: Table> Lookup for TableLookup<'a, T> {
-    ghost reader = { λ held. reader_of (T.view held.table.now) };
+impl<'a, T: Table> Lookup for ObjectsLookup<'a, T> {
+    ghost reader = { λ held. reader_of held.objects.now };
 
     fn object(&self, id: u32) -> Option<Entry> {
-        self.table.look(id)
+        self.objects.look(id)
     }
 
     fn new_id(&self, id: u32) -> NewId {
-        if !self.table.is_free(id) {
+        let table = self.objects.client();
+        if !table.is_free(id) {
             NewId::Wrong
-        } else if !self.table.has_room(id) {
+        } else if !table.has_room(id) {
             NewId::TooMany
         } else {
             NewId::Free

@@ -8,7 +8,7 @@ ghost use Rattle.wl_objects.specs.Seen.{got_values};
 use crate::argument::{Got, Named};
 use std::alloc::{Allocator, Global};
 use std::marker::Model;
-use wl_object_map::{Object, State, Table};
+use wl_object_map::{Object, Objects, State, Table};
 
 /// The arguments of a report, in memory of their own.
 #[derive(Debug, Drop)]
@@ -63,13 +63,13 @@ impl<A: Allocator> OwnedArgs<A> {
 }
 
 /// The object that an id names, live or dead as its entry is. Null where the id is 0 or unknown.
-pub fn named<T: Table>(table: &T, id: u32) -> Named
-    ensures { result ≡ named_at (reader_of (T.view table.now)) id }
+pub fn named<T: Table>(objects: &Objects<T>, id: u32) -> Named
+    ensures { result ≡ named_at (reader_of objects.now) id }
 {
     if id == 0 {
         return Named::Null;
     }
-    match table.look(id) {
+    match objects.look(id) {
         None => Named::Null,
         Some(entry) => {
             let object = Object {

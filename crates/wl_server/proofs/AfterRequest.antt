@@ -14,8 +14,8 @@ use Rattle.wl_objects.specs.declared.error.Fault.{Fault}
 use Rattle.wl_objects.specs.declared.error.NextError.{NextError}
 use Rattle.wl_objects.specs.declared.error.NextError.TheVariants as errors
 use Rattle.wl_object_map.specs.declared.object.Object.{Object}
-use Rattle.wl_object_map.specs.View.{View, is_held, look}
-use Rattle.wl_object_map.specs.Views.{look-opened_at}
+use Rattle.wl_object_map.specs.Objects.{Objects, is_held, look}
+use Rattle.wl_object_map.specs.ObjectsLaws.{look-opened_at, opened_at-client}
 use Rattle.wl_objects.specs.declared.parsed.ParsedArg.{ParsedArg}
 use Rattle.wl_objects.specs.Messages.{NewObject, made, opens, same_iface, reader_of}
 use Rattle.wl_sigs.specs.Fixed.{registry}
@@ -37,20 +37,24 @@ use Rattle.wl_server.specs.Steps.{CanTake, Step, ended_by_request, pending_in, o
 use Rattle.wl_server.specs.Steps.{step_of, step_found, front_step, checked_front, after_front}
 use Rattle.wl_server.specs.Steps.{after_step, report_of_step, core_by, core_told, core_without}
 use Rattle.wl_server.specs.Steps.{registries_by, server_state, whole_state}
+use Rattle.wl_server.specs.Registries.{IsFreshId}
 use Rattle.wl_server.proofs.RisingBirths.{rise-below, rise-new}
 
 -- ---- the registries
 
 pub rise-opened : (core : Core) (registries : List Registry) (made : Option NewObject)
-    → RiseFrom 0 core.view.births registries → RiseFrom 0 (opens core.view made).births
+    → IsFreshId core.view made
+    → RiseFrom 0 core.view.client.births registries → RiseFrom 0 (opens core.view made).client.births
     (registries_after core registries made)
-rise-opened core registries None r = r
-rise-opened core registries (Some m) r = by_test (same_iface m.iface registry)
+rise-opened core registries None f r = r
+rise-opened core registries (Some m) f r =
+    subst (λ (v : Objects). RiseFrom 0 v.client.births (registries_after core registries (Some m)))
+    (sym (opened_at-client core.view m.id m.iface m.version f.1)) (by_test (same_iface m.iface registry))
   where
-    by_test : (b : Bool) → RiseFrom 0 (core.view.births + 1)
-        (if b then registries ++ untold (record { id = m.id; birth = core.view.births }) ∷ [] else registries)
-    by_test true = rise-new 0 m.id core.view.births registries r
-    by_test false = rise-below 0 core.view.births (core.view.births + 1) registries (omega arith) r
+    by_test : (b : Bool) → RiseFrom 0 (core.view.client.births + 1)
+        (if b then registries ++ untold (record { id = m.id; birth = core.view.client.births }) ∷ [] else registries)
+    by_test true = rise-new 0 m.id core.view.client.births registries r
+    by_test false = rise-below 0 core.view.client.births (core.view.client.births + 1) registries (omega arith) r
 
 -- ---- the target is still there
 
@@ -58,7 +62,7 @@ held-either : (b : Bool) (e : Entry) (o : Option Entry) → is_some o ≡ true �
 held-either true e o h = refl
 held-either false e o h = h
 
-pub held-opened : (view : View) (made : Option NewObject) (id : ℕ) → IsTrue (is_held view id)
+pub held-opened : (view : Objects) (made : Option NewObject) (id : ℕ) → IsTrue (is_held view id)
     → IsTrue (is_held (opens view made) id)
 held-opened view None id h = h
 held-opened view (Some m) id h = ap is_some (look-opened_at view m.id m.iface m.version id)

@@ -7,7 +7,7 @@ use Rattle.wl_wire.specs.declared.kind.Iface.{Iface}
 use Rattle.wl_sigs.specs.Fixed.{registry}
 use Rattle.wl_object_map.specs.declared.object.Object.{Object}
 use Rattle.wl_object_map.specs.declared.object.Entry.{Entry}
-use Rattle.wl_object_map.specs.View.{View, look}
+use Rattle.wl_object_map.specs.Objects.{Objects, look}
 use Rattle.wl_objects.specs.Messages.{NewObject, opens, same_iface}
 use Rattle.wl_connection.specs.Core.{Core}
 use Rattle.wl_server.specs.State.{Registry}
@@ -26,7 +26,7 @@ without-none object (r ∷ rs) f =
     (differ r.object object (f r.object (inl refl)))
     ∙ ap (λ (l : List Registry). r ∷ l) (without-none object rs (λ o a. f o (inr a)))
 
-pub no_registry : (v : View) (rs : List Registry) (object : Object) (d : Entry) → look v object.id ≡ Some d
+pub no_registry : (v : Objects) (rs : List Registry) (object : Object) (d : Entry) → look v object.id ≡ Some d
     → d.iface ≢ registry → HasRegistries v rs → without_object true object rs ≡ rs
 no_registry v rs object d row ne h =
     without-none object rs (λ o a same.
@@ -35,7 +35,7 @@ no_registry v rs object d row ne h =
     let entry : r.entry ≡ d = cc both in
     ne (ap (λ (x : Entry). x.iface) (sym entry) ∙ r.iface))
 
-pub not_same : (v : View) (id : ℕ) (d : Entry) (b : Bool)
+pub not_same : (v : Objects) (id : ℕ) (d : Entry) (b : Bool)
     → b ≡ option_map_or (λ (e : Entry). same_iface e.iface registry) (look v id) false → b ≡ false → look v id ≡ Some d
     → d.iface ≢ registry
 not_same v id d b e f row is =
@@ -46,14 +46,14 @@ not_same v id d b e f row is =
 
 -- ---- once an object was opened
 
-pub row_opened : (v w : View) (m : Option NewObject) (o : Object) → w ≡ opens v m → IsFreshId v m → HasRow v o
+pub row_opened : (v w : Objects) (m : Option NewObject) (o : Object) → w ≡ opens v m → IsFreshId v m → HasRow v o
     → HasRow w o
-row_opened v w m o e f h = subst (λ (x : View). HasRow x o) (sym e)
+row_opened v w m o e f h = subst (λ (x : Objects). HasRow x o) (sym e)
     (record { entry = h.entry; row = row_kept v m o.id h.entry f h.row; birth = h.birth })
 
 pub registries_opened : (core now : Core) (rs ms : List Registry) (m : Option NewObject)
     → now.view ≡ opens core.view m → ms ≡ registries_after core rs m → IsFreshId core.view m
     → HasRegistries core.view rs → HasRegistries now.view ms
 registries_opened core now rs ms m e r f h =
-    subst (λ (v : View). HasRegistries v ms) (sym e)
+    subst (λ (v : Objects). HasRegistries v ms) (sym e)
     (subst (HasRegistries (opens core.view m)) (sym r) (has_opened core rs m f h))

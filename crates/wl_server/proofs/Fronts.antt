@@ -30,7 +30,8 @@ use Rattle.wl_object_map.specs.declared.object.Object.{Object}
 use Rattle.wl_object_map.specs.declared.object.State.{State}
 use Rattle.wl_object_map.specs.declared.object.State.TheVariants.{Live, Zombie}
 use Rattle.wl_wire.specs.Argument.{Obj}
-use Rattle.wl_object_map.specs.View.{View, free_or_next, has_room, look}
+use Rattle.wl_object_map.specs.View.{free_or_next, has_room}
+use Rattle.wl_object_map.specs.Objects.{Objects, look}
 use Rattle.wl_objects.specs.declared.parsed.ParsedArg.{ParsedArg}
 use Rattle.wl_objects.specs.Parsed.{AreParsed, reported_in}
 use Rattle.wl_objects.specs.Reading.{Reader, in_state, reports_of, Reported}
@@ -123,7 +124,7 @@ nothing_of zero m h t = cc (h, t)
 nothing_of (suc zero) m h t = cc (h, t)
 nothing_of (suc (suc n)) m h t = cc h
 
-display_lasts : (tables : List Interface) → Valid tables → (view : View) → HasDisplay view
+display_lasts : (tables : List Interface) → Valid tables → (view : Objects) → HasDisplay view
     → (id opcode : ℕ) (entry : Entry) (m : MessageSignature) → look view id ≡ Some entry
     → signature_at tables entry.iface.0 request_side opcode ≡ Some m → m.destroys ≡ Target → id ≢ 1
 display_lasts tables v view d id opcode entry m r s t e =
@@ -167,7 +168,7 @@ ended_target core h body waiting m v d e t =
     }
 
 -- a registry is not wl_display
-registry_lasts : (view : View) (id : ℕ) (entry : Entry) → HasDisplay view → look view id ≡ Some entry
+registry_lasts : (view : Objects) (id : ℕ) (entry : Entry) → HasDisplay view → look view id ≡ Some entry
     → entry.iface.0 ≡ 1 → id ≢ 1
 registry_lasts view id entry d row is e =
     let one = sym row ∙ (ap (look view) e ∙ d) in
@@ -219,7 +220,7 @@ ended_is : (core : Core) (h : Header) (body : List ℕ) (m : Received) (args : L
     → AreParsed (reader_of core.view) body args m.values → IsEndedBy m args ended
     → ended ≡ ended_by_request m.signature.destroys (report core (the_found h m))
 ended_is core h body m args ended a k =
-    k h.opcode core.view.births body core.inbox.tokens
+    k h.opcode core.view.client.births body core.inbox.tokens
     ∙ ap (λ (l : List Reported). ended_by_request m.signature.destroys (report_with m.target h.opcode l))
     (a.reported core.inbox.tokens)
 
@@ -233,8 +234,8 @@ full_by core m args ended b k e =
     (report_with m.target 0 (reported_in [] 0 [] args)))) ∙ e
 
 -- what a request makes can be opened
-has_free : (view : View) (o : Option NewObject)
-    → ((new : NewObject) → o ≡ Some new → (free_or_next view new.id ≡ true) × (has_room view new.id ≡ true))
+has_free : (view : Objects) (o : Option NewObject)
+    → ((new : NewObject) → o ≡ Some new → (free_or_next view.client new.id ≡ true) × (has_room view.client new.id ≡ true))
     → HasFreeId view o
 has_free view None h = tt
 has_free view (Some new) h = h new refl
@@ -285,13 +286,13 @@ tokens_enough core f e =
 same_step : (core : Core) (h : Header) (body : List ℕ) (waiting : ℕ) (m : Received) (args : List ParsedArg)
     (ended : Option Object) → IsFrame core h body waiting → Ok m ≡ read_by core h body waiting
     → AreParsed (reader_of core.view) body args m.values → IsEndedBy m args ended
-    → pending_in core args (pending_of core.tables core.view.births ended h m) ≡ step_of core (the_found h m)
+    → pending_in core args (pending_of core.tables core.view.client.births ended h m) ≡ step_of core (the_found h m)
 same_step core h body waiting m args ended s e a k =
     let rest : drop 8 (take h.size core.inbox.bytes) ≡ body = ap (drop 8) s.parts in
     let tokens = take (takes m) core.inbox.tokens in
     let f = the_found h m in
-    let same : reported_in (drop 8 (take h.size core.inbox.bytes)) core.view.births tokens args ≡ reported core m =
-    ap (λ (b : List ℕ). reported_in b core.view.births tokens args) rest
+    let same : reported_in (drop 8 (take h.size core.inbox.bytes)) core.view.client.births tokens args ≡ reported core m =
+    ap (λ (b : List ℕ). reported_in b core.view.client.births tokens args) rest
     ∙ (a.reported tokens ∙ tokens_enough core f (found_is core h body waiting s (Ok m) e)) in
     let ends = ended_is core h body m args ended a k in
     (λ i. let step = step_of core f in let next : Step =
@@ -302,7 +303,7 @@ pub can_take : (core : Core) (h : Header) (body : List ℕ) (waiting : ℕ) (m :
     → Ok m ≡ read_by core h body waiting
     → AreParsed (reader_of core.view) body args m.values → IsEndedBy m args ended
     → (is_some ended && nat_lt (room_of core.outbox) delete_id_len) ≡ false
-    → CanTake core (pending_in core args (pending_of core.tables core.view.births ended h m))
+    → CanTake core (pending_in core args (pending_of core.tables core.view.client.births ended h m))
 can_take core h body waiting m args ended v d s e a k f =
     subst (CanTake core) (sym (same_step core h body waiting m args ended s e a k))
     (can_take_found core h body waiting m v d s e (full_by core m args ended false k f))
@@ -312,7 +313,7 @@ pub answers_ok : (core : Core) (globals : List Global) (h : Header) (body : List
     → is_bad_bind core.tables globals h.opcode m ≡ false
     → (is_some ended && nat_lt (room_of core.outbox) delete_id_len) ≡ false
     → AreParsed (reader_of core.view) body args m.values → IsEndedBy m args ended
-    → Answers core globals (Ok (Some (pending_in core args (pending_of core.tables core.view.births ended h m))))
+    → Answers core globals (Ok (Some (pending_in core args (pending_of core.tables core.view.client.births ended h m))))
 answers_ok core globals h body waiting m args ended s e b f a k =
     ap (λ (x : Step). let answer : Result (Option Step) NextError = Ok (Some x) in answer)
     (same_step core h body waiting m args ended s e a k)

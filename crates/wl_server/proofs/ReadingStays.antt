@@ -10,7 +10,7 @@ use Rattle.wl_objects.specs.declared.error.Fault.{Fault}
 use Rattle.wl_objects.specs.declared.error.Fault.TheVariants as faults
 use Rattle.wl_objects.specs.declared.error.NextError.{NextError}
 use Rattle.wl_object_map.specs.declared.object.Object.{Object}
-use Rattle.wl_object_map.specs.View.{View}
+use Rattle.wl_object_map.specs.Objects.{Objects}
 use Rattle.wl_objects.specs.Messages.{after}
 use Rattle.wl_connection.specs.Core.{Core, with_arrived, with_view}
 use Rattle.wl_connection.specs.Receiving.{Found, found, past_found}
@@ -45,7 +45,7 @@ core_arrived : (core : Core) (f : Found) (bytes tokens : List ℕ) → IsFound c
     → core_after (with_arrived core bytes tokens) f ≡ with_arrived (core_after core f) bytes tokens
 core_arrived core f bytes tokens h =
     let id = (ended core f).id in
-    let view : ℕ → View = λ n. after event_side core.view (made_by_request core f.message) f.message.signature.destroys n in
+    let view : ℕ → Objects = λ n. after event_side core.view (made_by_request core f.message) f.message.signature.destroys n in
     ap (λ (o : Object). with_following (destroys_it f.message) o.id
     (with_view (past_found (with_arrived core bytes tokens) f) (view o.id))) (ended_stays core f bytes tokens h)
     ∙ (ap (λ (c : Core). with_following (destroys_it f.message) id (with_view c (view id)))

@@ -18,9 +18,11 @@ use Rattle.wl_sigs.specs.Valid.{Valid}
 use Rattle.wl_object_map.specs.declared.object.Object.{Object}
 use Rattle.wl_object_map.specs.declared.object.Entry.{Entry}
 use Rattle.wl_object_map.specs.declared.object.State.TheVariants.{Live}
-use Rattle.wl_object_map.specs.View.{View, Sound, look, opening, closed}
-use Rattle.wl_object_map.specs.Views.{row-opened_at, row-closed, look-opening, look-opened_at}
-use Rattle.wl_object_map.specs.Views.{look-closed, eqb_is, cases_row, some_is}
+use Rattle.wl_object_map.specs.Objects.{Objects, look, opening, closed}
+use Rattle.wl_object_map.specs.Ranges.{is_of_server}
+use Rattle.wl_object_map.specs.ObjectsLaws.{look-opening, look-opened_at, look-closed, look-opened_by_client}
+use Rattle.wl_object_map.specs.ObjectsLaws.{row-opened_by_client, row-closed, births-closed}
+use Rattle.wl_object_map.specs.Views.{eqb_is, cases_row, some_is}
 use Rattle.wl_objects.specs.declared.error.SendError.{SendError}
 use Rattle.wl_objects.specs.declared.error.SendError.TheVariants as refusals
 use Rattle.wl_objects.specs.Writing.{Given}
@@ -29,7 +31,7 @@ use Rattle.wl_objects.specs.Writing.{is_live_as}
 use Rattle.wl_objects.proofs.Wholes.{passes}
 use Rattle.wl_connection.specs.Core.{Core, past, with_view}
 use Rattle.wl_connection.specs.Sending.{after_send, after_checked, made_at, version_at, fits, delete_id_len}
-use Rattle.wl_server.specs.State.{Registry, untold}
+use Rattle.wl_server.specs.State.{Registry, RiseFrom, untold}
 use Rattle.wl_server.specs.Registries.{same_object, without_object, IsAmong}
 use Rattle.wl_server.specs.Registries.{IsRegistry, IsFreshId, HasRegistries}
 use Rattle.wl_server.specs.Requests.{registries_after}
@@ -96,15 +98,15 @@ among_before o (x ∷ rs) r h = elim h as (λ _. (r.object ≡ o) ⊎ ((x.object
 
 -- what stands in the list after an opening stood there, or has the next birth
 pub among_after : (core : Core) (rs : List Registry) (m : Option NewObject) (o : Object)
-    → IsAmong o (registries_after core rs m) → IsAmong o rs ⊎ (o.birth ≡ core.view.births)
+    → IsAmong o (registries_after core rs m) → IsAmong o rs ⊎ (o.birth ≡ core.view.client.births)
 among_after core rs None o h = inl h
 among_after core rs (Some m) o h = by_test (same_iface m.iface registry) h
   where
     new : Registry
-    new = untold (record { id = m.id; birth = core.view.births })
+    new = untold (record { id = m.id; birth = core.view.client.births })
 
-    by_test : (b : Bool) → IsAmong o (cond b (rs ++ new ∷ []) rs) → IsAmong o rs ⊎ (o.birth ≡ core.view.births)
-    by_test true a = elim (among_before o rs new a) as (λ _. IsAmong o rs ⊎ (o.birth ≡ core.view.births)) [
+    by_test : (b : Bool) → IsAmong o (cond b (rs ++ new ∷ []) rs) → IsAmong o rs ⊎ (o.birth ≡ core.view.client.births)
+    by_test true a = elim (among_before o rs new a) as (λ _. IsAmong o rs ⊎ (o.birth ≡ core.view.client.births)) [
       | inl p ↦ inr (ap (λ (x : Object). x.birth) (sym p))
       | inr p ↦ inl p
     ]
@@ -153,14 +155,14 @@ old_there rs r true o h = among_more o rs r h
 old_there rs r false o h = h
 
 -- the rows that were there stay
-pub row_kept : (v : View) (m : Option NewObject) (id : ℕ) (d : Entry) → IsFreshId v m → look v id ≡ Some d
+pub row_kept : (v : Objects) (m : Option NewObject) (id : ℕ) (d : Entry) → IsFreshId v m → look v id ≡ Some d
     → look (opens v m) id ≡ Some d
 row_kept v None id d f row = row
 row_kept v (Some m) id d f row =
-    let other : eqb id m.id ≡ false = ne_eqb id m.id (λ e. (let no = sym row ∙ (ap (look v) e ∙ f) in cc no)) in
+    let other : eqb id m.id ≡ false = ne_eqb id m.id (λ e. (let no = sym row ∙ (ap (look v) e ∙ f.0) in cc no)) in
     look-opened_at v m.id m.iface m.version id ∙ rw other row
 
-registry_kept : (v : View) (m : Option NewObject) (o : Object) → IsFreshId v m → IsRegistry v o
+registry_kept : (v : Objects) (m : Option NewObject) (o : Object) → IsFreshId v m → IsRegistry v o
     → IsRegistry (opens v m) o
 registry_kept v m o f r = record {
   entry = r.entry;
@@ -172,21 +174,21 @@ registry_kept v m o f r = record {
 same_is : (a b : Iface) → same_iface a b ≡ true → a ≡ b
 same_is a b h = let e : a.0 ≡ b.0 = eqb-true a.0 b.0 h in λ i. record { 0 = e i }
 
-registry_new : (v : View) (m : NewObject) → same_iface m.iface registry ≡ true
-    → IsRegistry (opens v (Some m)) (record { id = m.id; birth = v.births })
-registry_new v m is = record {
-  entry = record { birth = v.births; iface = m.iface; version = m.version; state = Live };
-  row = look-opened_at v m.id m.iface m.version m.id ∙ rw (eq-eqb m.id m.id refl) refl;
+registry_new : (v : Objects) (m : NewObject) → is_of_server m.id ≡ false → same_iface m.iface registry ≡ true
+    → IsRegistry (opens v (Some m)) (record { id = m.id; birth = v.client.births })
+registry_new v m range is = record {
+  entry = record { birth = v.client.births; iface = m.iface; version = m.version; state = Live };
+  row = look-opened_by_client v m.id m.iface m.version m.id range ∙ rw (eq-eqb m.id m.id refl) refl;
   birth = refl;
   iface = same_is m.iface registry is;
 }
 
-each_opened : (v : View) (rs : List Registry) (m : NewObject) (r : Registry) (b : Bool) (o : Object)
-    → same_iface m.iface registry ≡ b → r.object ≡ record { id = m.id; birth = v.births } → IsFreshId v (Some m)
+each_opened : (v : Objects) (rs : List Registry) (m : NewObject) (r : Registry) (b : Bool) (o : Object)
+    → same_iface m.iface registry ≡ b → r.object ≡ record { id = m.id; birth = v.client.births } → IsFreshId v (Some m)
     → ((x : Object) → IsAmong x rs → IsRegistry v x) → IsAmong o (cond b (rs ++ r ∷ []) rs)
     → IsRegistry (opens v (Some m)) o
 each_opened v rs m r true o is s f h a = elim (among_before o rs r a) as (λ _. IsRegistry (opens v (Some m)) o) [
-  | inl p ↦ subst (IsRegistry (opens v (Some m))) (sym s ∙ p) (registry_new v m is)
+  | inl p ↦ subst (IsRegistry (opens v (Some m))) (sym s ∙ p) (registry_new v m f.1 is)
   | inr p ↦ registry_kept v (Some m) o f (h o p)
 ]
 each_opened v rs m r false o is s f h a = registry_kept v (Some m) o f (h o a)
@@ -196,21 +198,21 @@ pub has_opened : (core : Core) (rs : List Registry) (m : Option NewObject) → I
 has_opened core rs None f h = h
 has_opened core rs (Some m) f h =
     let v = core.view in
-    let r : Registry = untold (record { id = m.id; birth = v.births }) in
+    let r : Registry = untold (record { id = m.id; birth = v.client.births }) in
     record {
-      rising = rise-opened core rs (Some m) h.rising;
+      rising = rise-opened core rs (Some m) f h.rising;
       all = λ id e there is. ⊎_elim
-          (λ p. (let birth : e.birth ≡ v.births = ap (λ (x : Entry). x.birth) p.1 in
+          (λ p. (let birth : e.birth ≡ v.client.births = ap (λ (x : Entry). x.birth) p.1 in
           new_there rs r m.iface (same_iface m.iface registry) (record { id = id; birth = e.birth }) refl
           (sym (ap (λ (x : Entry). x.iface) p.1) ∙ is) (λ i. record { id = sym p.0 i; birth = sym birth i })))
           (λ p. old_there rs r (same_iface m.iface registry) (record { id = id; birth = e.birth }) (h.all id e p.1 is))
-          (row-opened_at v m.id m.iface m.version id e there);
+          (row-opened_by_client v m.id m.iface m.version id e f.1 there);
       only = λ o a. each_opened v rs m r (same_iface m.iface registry) o refl refl f h.only a;
     }
 
 -- ---- an object is closed
 
-registry_apart : (v : View) (object : Object) (d : Entry) (o : Object) → look v object.id ≡ Some d
+registry_apart : (v : Objects) (object : Object) (d : Entry) (o : Object) → look v object.id ≡ Some d
     → d.birth ≡ object.birth → o ≢ object → IsRegistry v o → IsRegistry (closed v object.id) o
 registry_apart v object d o row is ne r =
     let other : eqb o.id object.id ≡ false = ne_eqb o.id object.id
@@ -220,28 +222,29 @@ registry_apart v object d o row is ne r =
     record { entry = r.entry; row = look-closed v object.id o.id ∙ rw other r.row; birth = r.birth; iface = r.iface }
 
 -- the object of this row
-pub has_closed : (v : View) (rs : List Registry) (object : Object) (d : Entry) → look v object.id ≡ Some d
+pub has_closed : (v : Objects) (rs : List Registry) (object : Object) (d : Entry) → look v object.id ≡ Some d
     → d.birth ≡ object.birth → HasRegistries v rs
     → HasRegistries (closed v object.id) (without_object true object rs)
 has_closed v rs object d row is h = record {
-  rising = rise-without 0 v.births object rs h.rising;
+  rising = subst (λ (n : ℕ). RiseFrom 0 n (without_object true object rs)) (sym (births-closed v object.id))
+      (rise-without 0 v.client.births object rs h.rising);
   all = λ q e there reg. (let r = row-closed v object.id q e there in
       among_other (record { id = q; birth = e.birth }) object rs (λ k. r.0 (ap (λ (o : Object). o.id) k))
       (h.all q e r.1 reg));
   only = λ o a. (let k = among_left o object rs a in registry_apart v object d o row is k.0 (h.only o k.1));
 }
 
-registry_other : (v : View) (id : ℕ) (o : Object) → ((d : Entry) → look v id ≡ Some d → d.iface ≢ registry)
+registry_other : (v : Objects) (id : ℕ) (o : Object) → ((d : Entry) → look v id ≡ Some d → d.iface ≢ registry)
     → IsRegistry v o → IsRegistry (closed v id) o
 registry_other v id o f r =
     let other : eqb o.id id ≡ false = ne_eqb o.id id (λ e. f r.entry (ap (look v) (sym e) ∙ r.row) r.iface) in
     record { entry = r.entry; row = look-closed v id o.id ∙ rw other r.row; birth = r.birth; iface = r.iface }
 
 -- one that is no registry
-pub has_fewer : (v : View) (rs : List Registry) (id : ℕ) → ((d : Entry) → look v id ≡ Some d → d.iface ≢ registry)
+pub has_fewer : (v : Objects) (rs : List Registry) (id : ℕ) → ((d : Entry) → look v id ≡ Some d → d.iface ≢ registry)
     → HasRegistries v rs → HasRegistries (closed v id) rs
 has_fewer v rs id f h = record {
-  rising = h.rising;
+  rising = subst (λ (n : ℕ). RiseFrom 0 n rs) (sym (births-closed v id)) h.rising;
   all = λ q e there is. h.all q e (row-closed v id q e there).1 is;
   only = λ o a. registry_other v id o f (h.only o a);
 }
@@ -343,16 +346,17 @@ pub has_sent : (core now : Core) (rs : List Registry) (target : Object) (opcode 
     → HasRegistries now.view rs
 has_sent core now rs target opcode list v e h =
     subst (λ (k : Core). HasRegistries k.view rs) (sym e) (elim (after_event core target opcode list v) [
-      | inl p ↦ subst (λ (w : View). HasRegistries w rs) (sym p) h
-      | inr p ↦ subst (λ (w : View). HasRegistries w rs) (sym p.0) (has_fewer core.view rs target.id p.1 h)
+      | inl p ↦ subst (λ (w : Objects). HasRegistries w rs) (sym p) h
+      | inr p ↦ subst (λ (w : Objects). HasRegistries w rs) (sym p.0) (has_fewer core.view rs target.id p.1 h)
     ])
 
 pub past_sent : (core now : Core) (past : ℕ) (target : Object) (opcode : ℕ) (list : List Given) → Valid core.tables
-    → now ≡ after_send core Event target opcode list → past ≤ core.view.births → past ≤ now.view.births
+    → now ≡ after_send core Event target opcode list → past ≤ core.view.client.births → past ≤ now.view.client.births
 past_sent core now past target opcode list v e h =
-    subst (λ (k : Core). past ≤ k.view.births) (sym e) (elim (after_event core target opcode list v) [
-      | inl p ↦ subst (λ (w : View). past ≤ w.births) (sym p) h
-      | inr p ↦ subst (λ (w : View). past ≤ w.births) (sym p.0) h
+    subst (λ (k : Core). past ≤ k.view.client.births) (sym e) (elim (after_event core target opcode list v) [
+      | inl p ↦ subst (λ (w : Objects). past ≤ w.client.births) (sym p) h
+      | inr p ↦ subst (λ (w : Objects). past ≤ w.client.births) (sym p.0)
+          (subst (λ (n : ℕ). past ≤ n) (sym (births-closed core.view target.id)) h)
     ])
 
 -- ---- an object is dropped
@@ -386,9 +390,9 @@ has_dropped core rs object v e h = has_fewer core.view rs object.id (not_dropped
 
 -- ---- registries are told
 
-pub has_marked : (v : View) (d : Due) (rs : List Registry) → HasRegistries v rs → HasRegistries v (marked_in d rs)
+pub has_marked : (v : Objects) (d : Due) (rs : List Registry) → HasRegistries v rs → HasRegistries v (marked_in d rs)
 has_marked v d rs h = record {
-  rising = rising-marked d 0 v.births rs h.rising;
+  rising = rising-marked d 0 v.client.births rs h.rising;
   all = λ id e there is. among_marked (record { id = id; birth = e.birth }) d rs (h.all id e there is);
   only = λ o a. h.only o (among_unmarked o d rs a);
 }
@@ -403,16 +407,16 @@ has_told core rs all told now ms t h = record {
   rising = rising-told core rs all told now ms t h.rising;
   all = λ id e there is. subst (IsAmong (record { id = id; birth = e.birth })) (sym t.progress.marks)
       (among_all_marked (record { id = id; birth = e.birth }) t.progress.done rs
-      (h.all id e (ap (λ (w : View). look w id) (sym (view_told core rs all told now ms t)) ∙ there) is));
-  only = λ o a. subst (λ (w : View). IsRegistry w o) (sym (view_told core rs all told now ms t))
+      (h.all id e (ap (λ (w : Objects). look w id) (sym (view_told core rs all told now ms t)) ∙ there) is));
+  only = λ o a. subst (λ (w : Objects). IsRegistry w o) (sym (view_told core rs all told now ms t))
       (h.only o (among_all_unmarked o t.progress.done rs (subst (IsAmong o) t.progress.marks a)));
 }
 
 pub past_told : (core : Core) (rs : List Registry) (all : List Due) (told : Announced) (now : Core)
-    (ms : List Registry) (past : ℕ) → IsAnnounced core rs all told now ms → past ≤ core.view.births
-    → past ≤ now.view.births
+    (ms : List Registry) (past : ℕ) → IsAnnounced core rs all told now ms → past ≤ core.view.client.births
+    → past ≤ now.view.client.births
 past_told core rs all told now ms past t h =
-    subst (λ (w : View). past ≤ w.births) (sym (view_told core rs all told now ms t)) h
+    subst (λ (w : Objects). past ≤ w.client.births) (sym (view_told core rs all told now ms t)) h
 
 -- ---- a new server
 

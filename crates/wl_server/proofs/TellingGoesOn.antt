@@ -7,7 +7,7 @@ use Rattle.std.proofs.Common.{inl, inr}
 use Rattle.std.proofs.lemmas.Bool.{cases_lt}
 use Rattle.std.proofs.lemmas.List.{drop_all, drop-set-lt, take_at}
 use Rattle.wl_message.specs.Outgoing.{room_of}
-use Rattle.wl_object_map.specs.View.{View}
+use Rattle.wl_object_map.specs.Objects.{Objects}
 use Rattle.wl_objects.specs.Writing.{message_len}
 use Rattle.wl_connection.specs.Core.{Core, IsOrdinary}
 use Rattle.wl_connection.specs.Sending.{with_sent}
@@ -234,10 +234,10 @@ told-end core rs all count now xs globals i p l = record {
 
 -- the registries' births still rise
 pub rising-told : (core : Core) (rs : List Registry) (all : List Due) (told : Announced) (now : Core)
-    (ms : List Registry) → IsAnnounced core rs all told now ms → RiseFrom 0 core.view.births rs
-    → RiseFrom 0 now.view.births ms
+    (ms : List Registry) → IsAnnounced core rs all told now ms → RiseFrom 0 core.view.client.births rs
+    → RiseFrom 0 now.view.client.births ms
 rising-told core rs all told now ms t h =
     let view : now.view ≡ core.view = ap (λ (c : Core). c.view) t.progress.written ∙ view-dues core t.progress.done in
-    subst (λ (v : View). RiseFrom 0 v.births ms) (sym view)
-    (subst (RiseFrom 0 core.view.births) (sym t.progress.marks)
-    (rising-all t.progress.done 0 core.view.births rs h))
+    subst (λ (v : Objects). RiseFrom 0 v.client.births ms) (sym view)
+    (subst (RiseFrom 0 core.view.client.births) (sym t.progress.marks)
+    (rising-all t.progress.done 0 core.view.client.births rs h))

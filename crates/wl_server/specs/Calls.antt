@@ -13,7 +13,7 @@ use Rattle.wl_object_map.specs.declared.object.Object.{Object}
 use Rattle.wl_object_map.specs.declared.object.Entry.{Entry}
 use Rattle.wl_objects.specs.declared.error.SendError.{SendError}
 use Rattle.wl_objects.specs.declared.error.SendError.TheVariants as refusals
-use Rattle.wl_object_map.specs.View.{closed}
+use Rattle.wl_object_map.specs.Objects.{closed}
 use Rattle.wl_objects.specs.Messages.{live_row, same_iface}
 use Rattle.wl_connection.specs.Core.{Core, with_view}
 use Rattle.wl_connection.specs.Sending.{fits, with_delete_id, delete_id_len, with_error_event}

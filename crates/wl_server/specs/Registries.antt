@@ -5,7 +5,8 @@ use Rattle.wl_wire.specs.declared.kind.Iface.{Iface}
 use Rattle.wl_sigs.specs.Fixed.{registry}
 use Rattle.wl_object_map.specs.declared.object.Object.{Object}
 use Rattle.wl_object_map.specs.declared.object.Entry.{Entry}
-use Rattle.wl_object_map.specs.View.{View, look}
+use Rattle.wl_object_map.specs.Ranges.{is_of_server}
+use Rattle.wl_object_map.specs.Objects.{Objects, look}
 use Rattle.wl_objects.specs.Messages.{NewObject, same_iface}
 use Rattle.wl_server.specs.State.{Registry, RiseFrom}
 
@@ -41,20 +42,20 @@ IsAmong object [] = ⊥
 IsAmong object (r ∷ registries) = (r.object ≡ object) ⊎ IsAmong object registries
 
 -- this is an open object of interface wl_registry
-pub record IsRegistry (view : View) (object : Object) : Type 0 where
+pub record IsRegistry (view : Objects) (object : Object) : Type 0 where
   pub entry : Entry
   pub row : look view object.id ≡ Some entry
   pub birth : entry.birth ≡ object.birth
   pub iface : entry.iface ≡ registry
 
 -- These are the open objects of interface wl_registry: all of them, no other, and by rising births.
-pub record HasRegistries (view : View) (registries : List Registry) : Type 0 where
-  pub rising : RiseFrom 0 view.births registries
+pub record HasRegistries (view : Objects) (registries : List Registry) : Type 0 where
+  pub rising : RiseFrom 0 view.client.births registries
   pub all : (id : ℕ) (e : Entry) → look view id ≡ Some e → e.iface ≡ registry
       → IsAmong (record { id = id; birth = e.birth }) registries
   pub only : (object : Object) → IsAmong object registries → IsRegistry view object
 
--- the id at which an object is to be opened has no row
-abbrev pub IsFreshId : View → Option NewObject → Type 0
+-- the id at which an object is to be opened has no row, and is of the client's range
+abbrev pub IsFreshId : Objects → Option NewObject → Type 0
 IsFreshId view None = Unit {0}
-IsFreshId view (Some m) = look view m.id ≡ None
+IsFreshId view (Some m) = (look view m.id ≡ None) × (is_of_server m.id ≡ false)

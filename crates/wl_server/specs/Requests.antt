@@ -6,7 +6,8 @@ use Rattle.std.specs.declared.result.Result.TheVariants.{Ok, Err}
 use Rattle.wl_wire.specs.Argument.{Argument, Uint, Obj, NewNamed}
 use Rattle.wl_sigs.specs.declared.signature.Destroys.{Destroys}
 use Rattle.wl_sigs.specs.declared.signature.Destroys.TheVariants.{Nothing, Target, Arg}
-use Rattle.wl_sigs.specs.declared.signature.Side.TheVariants.{Request as request_side, Event as event_side}
+use Rattle.wl_sigs.specs.declared.signature.Side.TheVariants.{Request as request_side}
+use Rattle.wl_sigs.specs.declared.signature.Side.TheVariants.{Event as event_side}
 use Rattle.wl_sigs.specs.Tables.{Interface, interface_at, destroys_one}
 use Rattle.wl_message.specs.Outgoing.{room_of}
 use Rattle.wl_object_map.specs.declared.object.Object.{Object}
@@ -135,7 +136,8 @@ core_after core f =
 abbrev pub registries_after : Core → List Registry → Option NewObject → List Registry
 registries_after core registries None = registries
 registries_after core registries (Some m) =
-    with_registry m.iface (untold (record { id = m.id; birth = core.view.births })) registries
+    with_registry m.iface (untold (record { id = m.id; birth = core.view.client.births }))
+    registries
 
 abbrev pub state_past : State → Found → State
 state_past state f = record state {

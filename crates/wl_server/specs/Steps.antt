@@ -16,7 +16,8 @@ use Rattle.wl_objects.specs.declared.error.Fault.TheVariants as faults
 use Rattle.wl_objects.specs.declared.error.NextError.{NextError}
 use Rattle.wl_objects.specs.declared.error.NextError.TheVariants as errors
 use Rattle.wl_object_map.specs.declared.object.Object.{Object}
-use Rattle.wl_object_map.specs.View.{View, look, closed, free_or_next, has_room}
+use Rattle.wl_object_map.specs.View.{free_or_next, has_room}
+use Rattle.wl_object_map.specs.Objects.{Objects, look, closed}
 use Rattle.wl_wire.specs.declared.header.Header.{Header}
 use Rattle.wl_objects.specs.Reading.{Reported, descriptors}
 use Rattle.wl_objects.specs.declared.parsed.ParsedArg.{ParsedArg}
@@ -57,7 +58,7 @@ step_of core f = record {
   report = report core f;
   size = f.size;
   tokens = takes f.message;
-  birth = core.view.births;
+  birth = core.view.client.births;
   made = made_by_request core f.message;
   ended = ended_by_request f.message.signature.destroys (report core f);
 }
@@ -105,11 +106,11 @@ pending_of tables birth ended header message = record {
 
 -- A pending request is what this message, of this body and these parsed arguments, is and does
 -- where these tables and objects are there.
-pub record IsPending (tables : List Interface) (view : View) (header : Header) (body : List ℕ)
+pub record IsPending (tables : List Interface) (view : Objects) (header : Header) (body : List ℕ)
     (args : List ParsedArg) (message : Received) (p : PendingRequest) : Type 0 where
   pub parsed : AreParsed (reader_of view) body args message.values
   pub ended : IsEndedBy message args p.change.ended
-  pub same : p ≡ pending_of tables view.births p.change.ended header message
+  pub same : p ≡ pending_of tables view.client.births p.change.ended header message
 
 -- whether a message is a bind that names no global that was ever advertised so
 abbrev pub is_bad_bind : List Interface → List Global → ℕ → Received → Bool
@@ -118,7 +119,7 @@ is_bad_bind tables globals opcode message =
     && not (is_good_bind_of tables globals message.values)
 
 -- What comes of a message in front, which its reader reads as this: a request, or its fault.
-abbrev pub IsPendingOf : List Interface → View → List Global → Header → List ℕ → List ParsedArg
+abbrev pub IsPendingOf : List Interface → Objects → List Global → Header → List ℕ → List ParsedArg
     → Result Received Fault → Result PendingRequest Fault → Type 0
 IsPendingOf tables view globals header body args r (Err fault) =
     (r ≡ Err fault)
@@ -162,7 +163,7 @@ abbrev pub front_step : State → Result (Option Step) NextError
 front_step state = step_found state.core (request state)
 
 -- an object has the row of its birth
-pub record HasRow (view : View) (object : Object) : Type 0 where
+pub record HasRow (view : Objects) (object : Object) : Type 0 where
   pub entry : Entry
   pub row : look view object.id ≡ Some entry
   pub birth : entry.birth ≡ object.birth
@@ -175,9 +176,10 @@ pub record CanEnd (core : Core) (object : Object) : Type 0 where
   pub room : IsTrue (fits core.outbox delete_id_len 0)
 
 -- what is made can be opened: its id is free, and the limits leave room for it
-abbrev pub HasFreeId : View → Option NewObject → Type 0
+abbrev pub HasFreeId : Objects → Option NewObject → Type 0
 HasFreeId view None = Unit {0}
-HasFreeId view (Some m) = IsTrue (free_or_next view m.id) × IsTrue (has_room view m.id)
+HasFreeId view (Some m) = IsTrue (free_or_next view.client m.id)
+    × IsTrue (has_room view.client m.id)
 
 -- A step can be taken: its message stands in front and its tokens wait, the next object gets its
 -- birth, what it makes can be opened, and an object that it destroys can be closed.
@@ -185,7 +187,7 @@ pub record CanTake (core : Core) (step : Step) : Type 0 where
   pub whole : in_front core.inbox ≡ Whole step.size
   pub tokens : step.tokens ≤ length core.inbox.tokens
   pub few : step.tokens ≤ max_args
-  pub birth : step.birth ≡ core.view.births
+  pub birth : step.birth ≡ core.view.client.births
   pub made : HasFreeId core.view step.made
   pub ended : (object : Object) → step.ended ≡ Some object → CanEnd core object
 

@@ -2,7 +2,7 @@
 ghost use Rattle.std.specs.Prelude.{◌≡◌, ◌≢◌, ◌≤◌, Some, None, IsTrue, OnOk, false, OnErr};
 ghost use Rattle.std.specs.Option.{option_map_or};
 ghost use Rattle.wl_sigs.specs.Fixed.{registry};
-ghost use Rattle.wl_object_map.specs.View.{look};
+ghost use Rattle.wl_object_map.specs.Objects.{look};
 ghost use Rattle.wl_objects.specs.Messages.{opens, same_iface};
 ghost use Rattle.wl_connection.specs.Core.{with_view};
 ghost use Rattle.wl_connection.specs.Sending.{delete_id_len, fits};
@@ -33,8 +33,8 @@ pub(crate) fn open_new_object<T: Table>(
     birth: u64,
 ) -> Result<(), AllocError>
     requires free { HasFreeId core.old.view made }
-    requires birth { birth ≡ core.old.view.births }
-    requires past { registries.old.past ≤ core.old.view.births }
+    requires birth { birth ≡ core.old.view.client.births }
+    requires past { registries.old.past ≤ core.old.view.client.births }
     ensures core { OnOk result (core.new ≡ with_view core.old (opens core.old.view made)) }
     ensures registries { OnOk result
         (registries.new.list ≡ registries_after core.old registries.old.list made) }
@@ -43,7 +43,7 @@ pub(crate) fn open_new_object<T: Table>(
     ensures wants { OnErr result (made ≢ None) }
     ensures fresh { OnOk result (IsFreshId core.old.view made) }
     ensures settled { KeepsSettled registries.old registries.new }
-    ensures past { registries.new.past ≤ core.new.view.births }
+    ensures past { registries.new.past ≤ core.new.view.client.births }
 {
     match made {
         Some(made) => open_object(core, registries, made, birth),
@@ -60,8 +60,8 @@ fn open_object<T: Table>(
     birth: u64,
 ) -> Result<(), AllocError>
     requires free { HasFreeId core.old.view (Some made) }
-    requires birth { birth ≡ core.old.view.births }
-    requires past { registries.old.past ≤ core.old.view.births }
+    requires birth { birth ≡ core.old.view.client.births }
+    requires past { registries.old.past ≤ core.old.view.client.births }
     ensures core { OnOk result (core.new ≡ with_view core.old (opens core.old.view (Some made))) }
     ensures registries { OnOk result
         (registries.new.list ≡ registries_after core.old registries.old.list (Some made)) }
@@ -69,7 +69,7 @@ fn open_object<T: Table>(
         ((core.new ≡ core.old) × (registries.new.list ≡ registries.old.list)) }
     ensures fresh { OnOk result (IsFreshId core.old.view (Some made)) }
     ensures settled { KeepsSettled registries.old registries.new }
-    ensures past { registries.new.past ≤ core.new.view.births }
+    ensures past { registries.new.past ≤ core.new.view.client.births }
 {
     if made.iface == REGISTRY {
         let object = Object { id: made.id, birth };
@@ -124,7 +124,7 @@ fn is_registry<T: Table>(core: &Core<'_, T>, id: u32) -> bool
     ensures { result
         ≡ option_map_or (λ entry. same_iface entry.iface registry) (look core.now.view id) false }
 {
-    match core.table.look(id) {
+    match core.objects.look(id) {
         Some(entry) => entry.iface == REGISTRY,
         None => false,
     }

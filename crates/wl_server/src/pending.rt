@@ -3,7 +3,7 @@ ghost use Rattle.std.specs.Prelude.{◌≡◌, ◌&&◌, ℕ, List, Some, IfOk, 
 ghost use Rattle.wl_wire.specs.Word.{IsHeader};
 ghost use Rattle.wl_sigs.specs.declared.signature.Side.TheVariants.{Request as request_side};
 ghost use Rattle.wl_sigs.specs.Valid.{Valid};
-ghost use Rattle.wl_object_map.specs.View.{look};
+ghost use Rattle.wl_object_map.specs.Objects.{look};
 ghost use Rattle.wl_objects.specs.Messages.{made, reader_of, received};
 ghost use Rattle.wl_objects.specs.Parsed.{reported_in};
 ghost use Rattle.wl_objects.specs.Seen.{received_of};
@@ -19,8 +19,8 @@ use crate::outline::Outline;
 use wl_connection::{DELETE_ID_LEN, Endpoint};
 use wl_message::Frame;
 use wl_objects::{
-    Entry, Fault, Messages, NextError, Object, ParsedArg, ParsedArgs, Received, Table, TableLookup,
-    made_by_message, receive,
+    Entry, Fault, Messages, NextError, Object, Objects, ObjectsLookup, ParsedArg, ParsedArgs,
+    Received, Table, made_by_message, receive,
 };
 use wl_sigs::{Destroys, Side, Tables};
 
@@ -83,7 +83,7 @@ pub(crate) fn find<T: Table>(
             offset,
         }),
     };
-    let request = match pending_of(args, core.tables, &core.table, globals, frame) {
+    let request = match pending_of(args, core.tables, &core.objects, globals, frame) {
         Ok(request) => request,
         Err(fault) => return Err(NextError::Fault { fault, offset }),
     };
@@ -97,21 +97,21 @@ pub(crate) fn find<T: Table>(
 fn pending_of<T: Table>(
     args: &mut ParsedArgs,
     tables: &Tables,
-    table: &T,
+    objects: &Objects<T>,
     globals: &[Advertised],
     frame: Frame<'_>,
 ) -> Result<PendingRequest, Fault>
     ensures header { IsHeader frame.entry.header }
     ensures valid { IfOk result (λ _. Valid tables.now) }
-    ensures comes { IsPendingOf tables.now (T.view table.now) globals.now
+    ensures comes { IsPendingOf tables.now objects.now globals.now
         frame.entry.header frame.entry.body.now args.new
-        (received tables.now request_side (reader_of (T.view table.now))
+        (received tables.now request_side (reader_of objects.now)
         frame.entry.header frame.entry.body.now frame.entry.tokens) result }
     ensures entry { IfOk result (λ request.
-        look (T.view table.now) request.outline.target.id ≡ Some request.entry) }
+        look objects.now request.outline.target.id ≡ Some request.entry) }
 {
     let header = frame.header;
-    let lookup = TableLookup { table };
+    let lookup = ObjectsLookup { objects };
     let messages = Messages {
         tables,
         side: Side::Request,
@@ -128,7 +128,7 @@ fn pending_of<T: Table>(
         outline: Outline {
             target: message.target,
             opcode: header.opcode,
-            birth: table.births(),
+            birth: objects.client().births(),
         },
         change: change_of(tables, &message),
         entry: message.entry,

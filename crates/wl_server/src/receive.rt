@@ -2,7 +2,7 @@
 ghost use Rattle.std.specs.Prelude.{◌≡◌, ◌≢◌, ◌≤◌, None, Some, [], OnOk, IfOk, IfSome, OnErr};
 ghost use Rattle.std.specs.Borrow.{sem};
 ghost use Rattle.std.specs.Io.BufRead.{Rests};
-ghost use Rattle.wl_object_map.specs.View.{look};
+ghost use Rattle.wl_object_map.specs.Objects.{look};
 ghost use Rattle.wl_connection.specs.Outcomes.{unless_memory};
 ghost use Rattle.wl_server.specs.Registries.{HasRegistries};
 ghost use Rattle.wl_server.specs.Slots.{KeepsSettled};
@@ -112,7 +112,7 @@ fn read<T: Table>(
     globals: &[Advertised],
 ) -> Result<Option<PendingRequest>, NextError>
     requires sound { HasRegistries end.old.core.view registries.old.list }
-    requires past { registries.old.past ≤ end.old.core.view.births }
+    requires past { registries.old.past ≤ end.old.core.view.client.births }
     ensures answer { IsLentNext (whole_state end.old.core globals.now registries.old.list)
         (taken_in end.new.core end.new.args result) }
     ensures state { whole_state end.new.core globals.now registries.new.list
@@ -123,7 +123,7 @@ fn read<T: Table>(
     ensures entry { IfOk result (λ read. IfSome read (λ request.
         look end.old.core.view request.outline.target.id ≡ Some request.entry)) }
     ensures settled { KeepsSettled registries.old registries.new }
-    ensures past { registries.new.past ≤ end.new.core.view.births }
+    ensures past { registries.new.past ≤ end.new.core.view.client.births }
 {
     let request = match find_or_fail(end, globals)? {
         Some(request) => request,
@@ -143,7 +143,7 @@ fn read_owned<T: Table>(
     alloc: &T::Alloc,
 ) -> Result<Option<OwnedRequestWithEntry<T::Alloc>>, NextError>
     requires sound { HasRegistries end.old.core.view registries.old.list }
-    requires past { registries.old.past ≤ end.old.core.view.births }
+    requires past { registries.old.past ≤ end.old.core.view.client.births }
     ensures answer { IsServerNext (whole_state end.old.core globals.now registries.old.list)
         (request_in result) }
     ensures state { whole_state end.new.core globals.now registries.new.list
@@ -154,7 +154,7 @@ fn read_owned<T: Table>(
     ensures entry { IfOk result (λ read. IfSome read (λ told.
         look end.old.core.view told.request.target.id ≡ Some told.entry)) }
     ensures settled { KeepsSettled registries.old registries.new }
-    ensures past { registries.new.past ≤ end.new.core.view.births }
+    ensures past { registries.new.past ≤ end.new.core.view.client.births }
 {
     let request = match find_or_fail(end, globals)? {
         Some(request) => request,
@@ -229,7 +229,7 @@ fn take_request<T: Table>(
 ) -> Result<(), AllocError>
     requires can { CanTake end.old.core (pending_in end.old.core end.old.args request.now) }
     requires sound { HasRegistries end.old.core.view registries.old.list }
-    requires past { registries.old.past ≤ end.old.core.view.births }
+    requires past { registries.old.past ≤ end.old.core.view.client.births }
     ensures args { end.new.args ≡ end.old.args }
     ensures core { OnOk result (end.new.core
         ≡ core_by end.old.core (pending_in end.old.core end.old.args request.now)) }
@@ -241,7 +241,7 @@ fn take_request<T: Table>(
     ensures wants { OnErr result (request.now.change.made ≢ None) }
     ensures sound { OnOk result (HasRegistries end.new.core.view registries.new.list) }
     ensures settled { KeepsSettled registries.old registries.new }
-    ensures past { registries.new.past ≤ end.new.core.view.births }
+    ensures past { registries.new.past ≤ end.new.core.view.client.births }
 {
     let Change { made, ended } = request.change;
     open_new_object(&mut end.core, registries, made, request.outline.birth)?;

@@ -27,7 +27,7 @@ pub struct Server<'t, T: Table> {
 impl<'t, T: Table> Model for Server<'t, T> {
     ghost use Rattle.std.specs.Prelude.{◌≡◌, ◌≤◌, [], length};
     ghost use Rattle.std.specs.Coded.{codes};
-    ghost use Rattle.wl_object_map.specs.View.{view_code};
+    ghost use Rattle.wl_object_map.specs.Objects.{objects_code};
     ghost use Rattle.wl_connection.specs.Core.{max_globals};
     ghost use Rattle.wl_server.specs.State.{State};
     ghost use Rattle.wl_server.specs.Registries.{HasRegistries};
@@ -36,7 +36,7 @@ impl<'t, T: Table> Model for Server<'t, T> {
 
     ghost Value = { State };
 
-    ghost coded = { Prim.hlevel (codes, view_code) };
+    ghost coded = { Prim.hlevel (codes, objects_code) };
 
     ghost view = { λ s. record {
       core = s.end.core;
@@ -47,7 +47,7 @@ impl<'t, T: Table> Model for Server<'t, T> {
     ghost invariant = { λ s. record {
       few : length s.globals.items ≤ max_globals;
       registries : HasRegistries s.end.core.view s.registries.list;
-      past : s.registries.past ≤ s.end.core.view.births;
+      past : s.registries.past ≤ s.end.core.view.client.births;
       settled : owed_in s.globals.items (settled_in s.registries) ≡ [];
     } };
 }

@@ -1,16 +1,17 @@
 //! Whether both ends have the same objects.
 ghost use Rattle.std.specs.Prelude.{◌≡◌, ◌↔◌, false, IsTrue};
-ghost use Rattle.wl_object_map.specs.View.{Sound};
+ghost use Rattle.wl_object_map.specs.Objects.{ObjectsAreSound, ids_used};
 ghost use Rattle.theory_connection.specs.World.{World};
 ghost use Rattle.theory_connection.specs.Pair.{drained};
 ghost use Rattle.theory_connection.specs.Stands.{Stands};
 ghost use Rattle.theory_connection.specs.Runs.{Agree};
-ghost use Rattle.wl_session.specs.Room.{AreSame};
+ghost use Rattle.wl_session.specs.Room.{AreSame, AreSameInRange, first_id_of};
 
 use crate::pair::Pair;
 use wl_client::Client;
 use wl_connection::End;
-use wl_objects::{Entry, State, Table};
+use wl_object_map::{FIRST_SERVER_ID, Maker};
+use wl_objects::{Entry, Objects, State, Table};
 use wl_server::Server;
 
 impl<'t, T: Table> Pair<'t, T> {
@@ -30,10 +31,18 @@ impl<'t, T: Table> Pair<'t, T> {
 pub fn same_rows<T: Table>(client: &Client<'_, T>, server: &Server<'_, T>) -> bool
     ensures { IsTrue result ↔ Agree client.now.core.view server.now.core.view }
 {
-    let client = client.table();
-    let server = server.table();
-    let used = used_ids(client).max(used_ids(server));
-    for id in 1..used + 1 {
+    let client = client.objects();
+    let server = server.objects();
+    same_in_range(client, server, Maker::Client) && same_in_range(client, server, Maker::Server)
+}
+
+/// Whether the two have the same live object, or none, at each id of a maker's range.
+fn same_in_range<T: Table>(client: &Objects<T>, server: &Objects<T>, maker: Maker) -> bool
+    ensures { IsTrue result ↔ AreSameInRange maker client.now server.now }
+{
+    let used = used_ids(client, maker).max(used_ids(server, maker));
+    let first = first_id_of(maker);
+    for id in first..first + used {
         if !are_same(client.look(id), server.look(id)) {
             return false;
         }
@@ -41,13 +50,23 @@ pub fn same_rows<T: Table>(client: &Client<'_, T>, server: &Server<'_, T>) -> bo
     true
 }
 
-/// How many ids were used in a table.
-fn used_ids<T: Table>(table: &T) -> u32
-    ensures used { result ≡ (T.view table.now).used }
-    ensures sound { Sound (T.view table.now) }
+/// The first id of a maker's range.
+fn first_id_of(maker: Maker) -> u32
+    ensures { result ≡ first_id_of maker }
 {
-    let _display = table.look(1);
-    table.used()
+    match maker {
+        Maker::Client => 1,
+        Maker::Server => FIRST_SERVER_ID,
+    }
+}
+
+/// How many ids of a maker's range were used.
+fn used_ids<T: Table>(objects: &Objects<T>, maker: Maker) -> u32
+    ensures used { result ≡ ids_used maker objects.now }
+    ensures sound { ObjectsAreSound objects.now }
+{
+    let _display = objects.look(1);
+    objects.used(maker)
 }
 
 /// Whether these are the same live object, or none.

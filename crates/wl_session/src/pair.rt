@@ -41,13 +41,13 @@ pub struct Pair<'t, T: Table> {
 impl<'t, T: Table> Model for Pair<'t, T> {
     ghost use Rattle.std.specs.Prelude.{◌≤◌, length};
     ghost use Rattle.std.specs.Coded.{codes};
-    ghost use Rattle.wl_object_map.specs.View.{view_code};
+    ghost use Rattle.wl_object_map.specs.Objects.{objects_code};
     ghost use Rattle.theory_connection.specs.Pair.{PairState};
     ghost use Rattle.wl_session.specs.Room.{HoldsInbox};
 
     ghost Value = { PairState };
 
-    ghost coded = { Prim.hlevel (codes, view_code) };
+    ghost coded = { Prim.hlevel (codes, objects_code) };
 
     ghost view = { λ p. record {
       client = p.client;
@@ -106,7 +106,7 @@ impl<'t, T: Table> Pair<'t, T> {
     /// The number of objects that the client has, counting those that it has destroyed and whose
     /// delete_id has not come.
     pub fn len(&self) -> usize
-        ensures { result ≡ row_count self.now.client.core.view.rows }
+        ensures { result ≡ row_count self.now.client.core.view.client.rows }
     {
         self.client.table().len() as usize
     }

@@ -3,6 +3,6 @@ use Rattle.theory_connection.proofs.laws.ids_are_of_births.Goals as goal
 
 pub returns : goal.returns
 returns c = record {
-  client = λ pair world h. in_world pair world h (λ asked told s. s.client.sound.ids);
-  server = λ pair world h. in_world pair world h (λ asked told s. s.server.sound.ids);
+  client = λ pair world h. in_world pair world h (λ asked told s. s.client.sound.tables.client.ids);
+  server = λ pair world h. in_world pair world h (λ asked told s. s.server.sound.tables.client.ids);
 }

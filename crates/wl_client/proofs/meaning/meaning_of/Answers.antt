@@ -7,7 +7,7 @@ use Rattle.wl_client.proofs.meaning.meaning_of.Goals as goal
 
 pub returns-in-Zombie-clause-changed : goal.returns-in-Zombie-clause-changed
 returns-in-Zombie-clause-changed g c =
-    let view = g.T.Table.view c.args.table.now in
+    let view = c.args.objects.now in
     let m = c.args.message.now in
     let same = after_zombie view m.signature.now.destroys m.target.id
     (received_of m).values m.entry c.requires.argument c.requires.row (search c.in-Zombie.is) in

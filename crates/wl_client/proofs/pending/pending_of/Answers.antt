@@ -9,7 +9,7 @@ use Rattle.wl_client.proofs.pending.pending_of.Goals as goal
 
 pub meaning_of-outline-requires-clause-lasts : goal.meaning_of-outline-requires-clause-lasts
 meaning_of-outline-requires-clause-lasts g c one t =
-    let view = g.T.Table.view c.args.table.now in
+    let view = c.args.objects.now in
     let p = is_received c.args.tables.now event_side
     (reader_of view) c.args.frame.header c.args.frame.body.now c.args.frame.tokens (received_of c.in-Ok.message)
     (sym c.in-Ok.ensures.answer) in
@@ -19,7 +19,7 @@ meaning_of-outline-requires-clause-lasts g c one t =
 
 pub meaning_of-outline-requires-clause-argument : goal.meaning_of-outline-requires-clause-argument
 meaning_of-outline-requires-clause-argument g c =
-    let view = g.T.Table.view c.args.table.now in
+    let view = c.args.objects.now in
     let p = is_received c.args.tables.now event_side
     (reader_of view) c.args.frame.header c.args.frame.body.now c.args.frame.tokens (received_of c.in-Ok.message)
     (sym c.in-Ok.ensures.answer) in

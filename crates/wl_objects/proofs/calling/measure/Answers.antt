@@ -1,7 +1,7 @@
 use Rattle.std.proofs.Common.{◌≡◌, ◌≤◌, ◌<◌, ◌+◌, length, Some, drop, get_or, refl, ap, ◌∙◌, sym, arith}
 use Rattle.std.specs.Option.{option_or}
 use Rattle.wl_wire.specs.declared.kind.Kind.TheVariants.{Int}
-use Rattle.wl_object_map.specs.View.{look}
+use Rattle.wl_object_map.specs.Objects.{look}
 use Rattle.wl_objects.specs.Writing.{given, wrong_place, lost_place, call_makes}
 use Rattle.wl_objects.proofs.Calls.{wrong-missing, wrong-more, wrong-next, refused-wrong, lost-next}
 use Rattle.wl_objects.proofs.Calls.{or-or, len-next, range-next, tokens-next, makes-next}
@@ -31,7 +31,7 @@ kinds-preserved-in-Some g c =
     let a = c.in-Some.arg.now in
     let inside : i < length list = c.in-Some.ensures.lookup.3.0 in
     let at : a ≡ get_or list i a = c.in-Some.ensures.lookup.1 in
-    let rows = look (g.T.Table.view c.args.table.now) in
+    let rows = look c.args.objects.now in
     let number = c.if-is_number.ensures.given refl in
     let four = number-len number in
     let none = number-tokens number in
@@ -63,7 +63,7 @@ kinds-preserved g c =
     let a = c.in-Some.arg.now in
     let inside : i < length list = c.in-Some.ensures.lookup.3.0 in
     let at : a ≡ get_or list i a = c.in-Some.ensures.lookup.1 in
-    let rows = look (g.T.Table.view c.args.table.now) in
+    let rows = look c.args.objects.now in
     let len = len-next i list a inside at in
     let tokens = tokens-next i list a inside at in
     record {

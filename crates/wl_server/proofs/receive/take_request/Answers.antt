@@ -1,5 +1,6 @@
 use Rattle.std.proofs.Common.{◌≡◌, sym, ap, subst, ◌∙◌, arith, rules}
 use Rattle.std.specs.Prelude.{IsTrue}
+use Rattle.wl_object_map.specs.ObjectsLaws.{births-closed}
 use Rattle.wl_objects.specs.Messages.{opens}
 use Rattle.wl_message.specs.Outgoing.{Outgoing}
 use Rattle.wl_connection.specs.Core.{Core, past, with_view}
@@ -82,6 +83,7 @@ returns-in-Some-clause-past g c = omega (
   arith,
   c.close_object.ensures.past,
   c.in_ok-open_new_object.ensures.past,
-  ap (λ (k : Core). k.view.births) c.pass.ensures,
-  ap (λ (k : Core). k.view.births) c.close_object.ensures.core,
+  ap (λ (k : Core). k.view.client.births) c.pass.ensures,
+  ap (λ (k : Core). k.view.client.births) c.close_object.ensures.core,
+  births-closed c.pass.new.self.view c.in-Some.object.id,
 )

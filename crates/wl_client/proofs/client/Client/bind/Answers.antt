@@ -1,12 +1,18 @@
-use Rattle.std.proofs.Common.{◌≡◌, [], refl, ap, ◌∙◌, arith}
+use Rattle.std.proofs.Common.{◌≡◌, [], true, Ok, Some, Option, Result, refl, sym, ap, subst, ◌∙◌, arith, rules}
+use Rattle.wl_object_map.specs.declared.object.Object.{Object}
+use Rattle.wl_objects.specs.declared.error.SendError.{SendError}
+use Rattle.wl_client.proofs.Binds.{bind_opens}
+use Rattle.wl_objects.specs.declared.error.SendError.TheVariants as refusals
 use Rattle.wl_wire.specs.declared.kind.Iface.{Iface}
-use Rattle.wl_object_map.specs.View.{next_id, opened}
+use Rattle.wl_object_map.specs.View.{next_id}
+use Rattle.wl_object_map.specs.Objects.{opened_at}
 use Rattle.wl_objects.specs.Writing.{bind_values}
 use Rattle.wl_connection.specs.Core.{Core, with_view}
+use Rattle.wl_connection.specs.Outcomes.{AnswersOrMemory}
 use Rattle.wl_connection.specs.Sending.{with_sent}
 use Rattle.wl_client.specs.declared.client.Client.TheInside.{Inside}
 use Rattle.wl_client.specs.Binding.{FitsBind}
-use Rattle.wl_client.specs.Calls.{after_bind, iface_or}
+use Rattle.wl_client.specs.Calls.{after_bind, bind_answer, iface_or}
 use Rattle.wl_client.specs.State.{State, global_of}
 use Rattle.wl_client.proofs.client.Client.bind.Goals as goal
 
@@ -38,6 +44,17 @@ returns-clause-ok g c =
     ∙ (λ i. with_sent (c.in_ok-object.ensures.ok i) target.id 0
     (bind_values c.args.name iface c.args.version (c.in_ok-object.ensures.id i)) [])
     ∙ ap (λ (f : Iface). with_view (with_sent state.core target.id 0
-    (bind_values c.args.name iface c.args.version (next_id state.core.view)) [])
-    (opened state.core.view f c.args.version)) made)
+    (bind_values c.args.name iface c.args.version (next_id state.core.view.client)) [])
+    (opened_at state.core.view (next_id state.core.view.client) f c.args.version)) made)
     ∙ ap (λ (s : State). after_bind s target c.args.name iface c.args.version) c.self.view_is
+
+pub returns-clause-answer : goal.returns-clause-answer
+returns-clause-answer g c =
+    let state : State = record { core = c.self.inside.end.core; globals = c.self.inside.globals } in
+    let opens = bind_opens state c.args.registry c.args.name c.args.iface.now c.args.version c.in-Some.entry
+    c.in-Some-get.global (search rules) (search rules) (sym c.if-ne.ensures) (search rules) (search rules) (search rules) in
+    subst (λ (s : State). AnswersOrMemory refusals.Memory true
+    (bind_answer s c.args.registry c.args.name c.args.iface.now c.args.version) (Ok (Some c.in_ok-object.object)))
+    c.self.view_is
+    (subst (λ (a : Result (Option Object) SendError). AnswersOrMemory refusals.Memory true a
+    (Ok (Some c.in_ok-object.object))) (sym opens) c.in_ok-object.ensures.answer)

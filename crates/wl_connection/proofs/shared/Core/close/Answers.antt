@@ -8,7 +8,7 @@ invariant_of-self g c = record {
   store = c.self.invariant.store;
   room = c.self.invariant.room;
   display = subst HasDisplay (sym c.close.ensures)
-      (HasDisplay-closed (g.T.Table.view c.self.inside.table) c.args.id c.requires.not_display
+      (HasDisplay-closed c.self.inside.objects c.args.id c.requires.not_display
       c.self.invariant.display);
   no_error = c.self.invariant.no_error;
   whole = c.self.invariant.whole;

@@ -10,7 +10,7 @@ invariant_of-result g c = record {
   store = omega (arith, c.in_ok-store.ensures.len, c.in_ok-store.store.ok.0, c.args.sizes.limit.in_range.0);
   room = subst (λ (o : Outgoing). o.limit.bytes ≤ length c.in_ok-store.store.items) (sym c.in_ok-outbox.ensures)
       (omega (arith, c.in_ok-store.ensures.len, c.in_ok-store.store.ok.0));
-  display = subst HasDisplay (sym c.in_ok-table.ensures) HasDisplay-opening;
+  display = subst HasDisplay (sym c.in_ok-objects.ensures) HasDisplay-opening;
   no_error = λ h. subst IsOrdinary (sym c.in_ok-outbox.ensures) (refl, refl, c.requires.out_bytes);
   whole = subst (λ (i : Arrived). i.limit.bytes ≤ i.capacity) (sym c.in_ok-inbox.ensures) c.requires.in_bytes_low;
 }
@@ -19,7 +19,7 @@ pub returns : goal.returns
 returns g c =
     λ i. record {
       tables = c.args.tables.now;
-      view = c.in_ok-table.ensures i;
+      view = c.in_ok-objects.ensures i;
       inbox = c.in_ok-inbox.ensures i;
       outbox = c.in_ok-outbox.ensures i;
       failed = false;

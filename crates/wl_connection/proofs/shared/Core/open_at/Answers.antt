@@ -5,8 +5,8 @@ pub invariant_of-self : goal.invariant_of-self
 invariant_of-self g c = record {
   store = c.self.invariant.store;
   room = c.self.invariant.room;
-  display = HasDisplay-open (g.T.Table.view c.self.inside.table)
-      (g.T.Table.view c.open_at.new.self) c.args.new.id c.args.new.iface c.args.new.version c.open_at.result
+  display = HasDisplay-open c.self.inside.objects
+      c.open_at.new.self c.args.new.id c.args.new.iface c.args.new.version c.open_at.result
       c.open_at.ensures.ok c.open_at.ensures.err c.open_at.ensures.in_use c.self.invariant.display;
   no_error = c.self.invariant.no_error;
   whole = c.self.invariant.whole;

@@ -1,5 +1,5 @@
 use Rattle.std.proofs.Common.{sym, subst}
-use Rattle.wl_object_map.specs.View.{Sound}
+use Rattle.wl_object_map.specs.Objects.{ObjectsAreSound}
 use Rattle.wl_connection.specs.Core.{Core}
 use Rattle.wl_connection.proofs.Displays.{HasDisplay-opening_next}
 use Rattle.wl_connection.proofs.shared.Core.open_next.Goals as goal
@@ -8,9 +8,9 @@ pub invariant_of-self : goal.invariant_of-self
 invariant_of-self g c = record {
   store = c.self.invariant.store;
   room = c.self.invariant.room;
-  display = HasDisplay-opening_next c.open_next.result (g.T.Table.view c.self.inside.table)
-      (g.T.Table.view c.open_next.new.self) c.args.iface c.args.version
-      (subst (λ (core : Core). Sound core.view) (sym c.self.view_is) c.requires) c.self.invariant.display
+  display = HasDisplay-opening_next c.open_next.result c.self.inside.objects
+      c.open_next.new.self c.args.iface c.args.version
+      (subst (λ (core : Core). ObjectsAreSound core.view) (sym c.self.view_is) c.requires) c.self.invariant.display
       c.open_next.ensures.ok c.open_next.ensures.err;
   no_error = c.self.invariant.no_error;
   whole = c.self.invariant.whole;

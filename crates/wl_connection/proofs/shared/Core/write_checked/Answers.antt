@@ -6,7 +6,7 @@ use Rattle.wl_wire.specs.declared.kind.Iface.{Iface}
 use Rattle.wl_sigs.specs.declared.signature.Destroys.{Destroys}
 use Rattle.wl_sigs.specs.Tables.{destroys_one}
 use Rattle.wl_objects.specs.declared.error.SendError.TheVariants as refusals
-use Rattle.wl_object_map.specs.View.{is_live}
+use Rattle.wl_object_map.specs.Objects.{is_live}
 use Rattle.wl_objects.specs.Messages.{opens, ended_id}
 use Rattle.wl_objects.specs.Writing.{on_wire, tokens_of, given}
 use Rattle.wl_connection.specs.Core.{Core}

@@ -33,7 +33,7 @@ pub returns : goal.returns
 returns g c =
     let before : Core = record {
       tables = c.self.inside.tables.now;
-      view = g.T.Table.view c.self.inside.table;
+      view = c.self.inside.objects;
       inbox = c.self.inside.inbox;
       outbox = c.self.inside.outbox;
       failed = c.self.inside.failed;

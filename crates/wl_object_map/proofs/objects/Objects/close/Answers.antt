@@ -2,8 +2,8 @@ use Rattle.std.proofs.Common.{◌≡◌, true, sym, ap, subst, arith}
 use Rattle.std.proofs.lemmas.Grind.{common_steps}
 use Rattle.std.proofs.lemmas.Bool.Decides.{nat_tests}
 use Rattle.wl_object_map.specs.View as table
-use Rattle.wl_object_map.specs.Objects.{Objects, AreSound, server_view, is_held}
-use Rattle.wl_object_map.specs.ObjectsLaws.{AreSound-closed}
+use Rattle.wl_object_map.specs.Objects.{Objects, ObjectsAreSound, server_view, is_held}
+use Rattle.wl_object_map.specs.ObjectsLaws.{ObjectsAreSound-closed}
 use Rattle.wl_object_map.proofs.ObjectsCalls.{client_changed, server_changed}
 use Rattle.wl_object_map.proofs.objects.Objects.close.Goals as goal
 
@@ -13,9 +13,9 @@ invariant_of-self g c =
       client = g.T.Table.view c.self.inside.client;
       server = server_view g.T.Table.view c.self.inside.server;
     } in
-    subst AreSound (sym (client_changed table.closed o c.args.id
+    subst ObjectsAreSound (sym (client_changed table.closed o c.args.id
     (grind (arith, common_steps, nat_tests, c.if-id-lt-FIRST_SERVER_ID.true)) c.close.ensures))
-    (AreSound-closed o c.args.id c.self.invariant
+    (ObjectsAreSound-closed o c.args.id c.self.invariant
     (subst (λ (x : Objects). is_held x c.args.id ≡ true) (sym c.self.view_is) c.requires.held) c.requires.not_display)
 
 pub invariant_of-self-2 : goal.invariant_of-self-2
@@ -24,8 +24,8 @@ invariant_of-self-2 g c =
       client = g.T.Table.view c.self.inside.client;
       server = server_view g.T.Table.view c.self.inside.server;
     } in
-    subst AreSound (sym (server_changed table.closed o c.args.id
+    subst ObjectsAreSound (sym (server_changed table.closed o c.args.id
     (grind (arith, common_steps, nat_tests, c.if-id-lt-FIRST_SERVER_ID.false))
-    (ap (server_view g.T.Table.view) c.in-Some.is) c.place_of.ensures c.close-2.ensures))
-    (AreSound-closed o c.args.id c.self.invariant
+    (ap (server_view g.T.Table.view) c.in-Some.is) c.table_id.ensures c.close-2.ensures))
+    (ObjectsAreSound-closed o c.args.id c.self.invariant
     (subst (λ (x : Objects). is_held x c.args.id ≡ true) (sym c.self.view_is) c.requires.held) c.requires.not_display)

@@ -2,8 +2,8 @@ use Rattle.std.proofs.Common.{sym, ap, subst, arith}
 use Rattle.std.proofs.lemmas.Grind.{common_steps}
 use Rattle.std.proofs.lemmas.Bool.Decides.{nat_tests}
 use Rattle.wl_object_map.specs.View as table
-use Rattle.wl_object_map.specs.Objects.{Objects, AreSound, server_view}
-use Rattle.wl_object_map.specs.ObjectsLaws.{AreSound-zombied}
+use Rattle.wl_object_map.specs.Objects.{Objects, ObjectsAreSound, server_view}
+use Rattle.wl_object_map.specs.ObjectsLaws.{ObjectsAreSound-zombied}
 use Rattle.wl_object_map.proofs.ObjectsCalls.{client_changed, server_changed}
 use Rattle.wl_object_map.proofs.objects.Objects.make_zombie.Goals as goal
 
@@ -13,9 +13,9 @@ invariant_of-self g c =
       client = g.T.Table.view c.self.inside.client;
       server = server_view g.T.Table.view c.self.inside.server;
     } in
-    subst AreSound (sym (client_changed table.zombied o c.args.id
+    subst ObjectsAreSound (sym (client_changed table.zombied o c.args.id
     (grind (arith, common_steps, nat_tests, c.if-id-lt-FIRST_SERVER_ID.true)) c.make_zombie.ensures))
-    (AreSound-zombied o c.args.id c.self.invariant c.requires.not_display)
+    (ObjectsAreSound-zombied o c.args.id c.self.invariant c.requires.not_display)
 
 pub invariant_of-self-2 : goal.invariant_of-self-2
 invariant_of-self-2 g c =
@@ -23,7 +23,7 @@ invariant_of-self-2 g c =
       client = g.T.Table.view c.self.inside.client;
       server = server_view g.T.Table.view c.self.inside.server;
     } in
-    subst AreSound (sym (server_changed table.zombied o c.args.id
+    subst ObjectsAreSound (sym (server_changed table.zombied o c.args.id
     (grind (arith, common_steps, nat_tests, c.if-id-lt-FIRST_SERVER_ID.false))
-    (ap (server_view g.T.Table.view) c.in-Some.is) c.place_of.ensures c.make_zombie-2.ensures))
-    (AreSound-zombied o c.args.id c.self.invariant c.requires.not_display)
+    (ap (server_view g.T.Table.view) c.in-Some.is) c.table_id.ensures c.make_zombie-2.ensures))
+    (ObjectsAreSound-zombied o c.args.id c.self.invariant c.requires.not_display)

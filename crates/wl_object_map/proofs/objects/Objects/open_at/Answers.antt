@@ -14,7 +14,7 @@ invariant_of-self g c = let e = c.open_at.ensures in record {
 pub invariant_of-self-2 : goal.invariant_of-self-2
 invariant_of-self-2 g c = let e = c.open_at-2.ensures in record {
   client = c.self.invariant.client;
-  server = opened_at_or_same c.open_at-2.result _ (g.T.Table.view c.open_at-2.new.self) c.place_of.result
+  server = opened_at_or_same c.open_at-2.result _ (g.T.Table.view c.open_at-2.new.self) c.table_id.result
       c.args.iface c.args.version
       (subst Sound (ap (server_view g.T.Table.view) c.in-Some.is) c.self.invariant.server)
       e.ok e.err e.in_use.1 e.not_next.1 e.no_ids.1;

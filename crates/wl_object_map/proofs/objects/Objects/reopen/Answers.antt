@@ -2,8 +2,8 @@ use Rattle.std.proofs.Common.{◌≡◌, true, sym, ap, subst, arith}
 use Rattle.std.proofs.lemmas.Grind.{common_steps}
 use Rattle.std.proofs.lemmas.Bool.Decides.{nat_tests}
 use Rattle.wl_object_map.specs.View as table
-use Rattle.wl_object_map.specs.Objects.{Objects, AreSound, server_view, is_held, has_room}
-use Rattle.wl_object_map.specs.ObjectsLaws.{AreSound-reopened}
+use Rattle.wl_object_map.specs.Objects.{Objects, ObjectsAreSound, server_view, is_held, has_room}
+use Rattle.wl_object_map.specs.ObjectsLaws.{ObjectsAreSound-reopened}
 use Rattle.wl_object_map.proofs.ObjectsCalls.{client_changed, server_changed}
 use Rattle.wl_object_map.proofs.objects.Objects.reopen.Goals as goal
 
@@ -13,9 +13,9 @@ invariant_of-self g c =
       client = g.T.Table.view c.self.inside.client;
       server = server_view g.T.Table.view c.self.inside.server;
     } in
-    subst AreSound (sym (client_changed (λ view place. table.opened_at view place c.args.iface c.args.version) o c.args.id
+    subst ObjectsAreSound (sym (client_changed (λ view place. table.opened_at view place c.args.iface c.args.version) o c.args.id
     (grind (arith, common_steps, nat_tests, c.if-id-lt-FIRST_SERVER_ID.true)) c.reopen.ensures.table))
-    (AreSound-reopened o c.args.id c.args.iface c.args.version c.self.invariant
+    (ObjectsAreSound-reopened o c.args.id c.args.iface c.args.version c.self.invariant
     (subst (λ (x : Objects). is_held x c.args.id ≡ true) (sym c.self.view_is) c.requires.held) c.requires.not_display
     (subst (λ (x : Objects). has_room x c.args.id ≡ true) (sym c.self.view_is) c.requires.room))
 
@@ -25,9 +25,9 @@ invariant_of-self-2 g c =
       client = g.T.Table.view c.self.inside.client;
       server = server_view g.T.Table.view c.self.inside.server;
     } in
-    subst AreSound (sym (server_changed (λ view place. table.opened_at view place c.args.iface c.args.version) o c.args.id
+    subst ObjectsAreSound (sym (server_changed (λ view place. table.opened_at view place c.args.iface c.args.version) o c.args.id
     (grind (arith, common_steps, nat_tests, c.if-id-lt-FIRST_SERVER_ID.false))
-    (ap (server_view g.T.Table.view) c.in-Some.is) c.place_of.ensures c.reopen-object.ensures.table))
-    (AreSound-reopened o c.args.id c.args.iface c.args.version c.self.invariant
+    (ap (server_view g.T.Table.view) c.in-Some.is) c.table_id.ensures c.reopen-object.ensures.table))
+    (ObjectsAreSound-reopened o c.args.id c.args.iface c.args.version c.self.invariant
     (subst (λ (x : Objects). is_held x c.args.id ≡ true) (sym c.self.view_is) c.requires.held) c.requires.not_display
     (subst (λ (x : Objects). has_room x c.args.id ≡ true) (sym c.self.view_is) c.requires.room))

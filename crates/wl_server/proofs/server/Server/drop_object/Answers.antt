@@ -4,6 +4,7 @@ use Rattle.std.specs.declared.result.Result.TheVariants.{Ok, Err}
 use Rattle.wl_sigs.specs.Valid.{Valid}
 use Rattle.wl_objects.specs.declared.error.SendError.{SendError}
 use Rattle.wl_object_map.specs.declared.object.Object.{Object}
+use Rattle.wl_object_map.specs.ObjectsLaws.{births-closed}
 use Rattle.wl_connection.specs.Core.{Core}
 use Rattle.wl_connection.specs.Outcomes.{refusal_in}
 use Rattle.wl_server.specs.Calls.{after_drop, drop_refusal}
@@ -21,10 +22,12 @@ has_by rs object (Ok x) before now a ok err v h =
 has_by rs object (Err why) before now a ok err v h = subst (λ (k : Core). HasRegistries k.view rs) (sym err) h
 
 past_by : {X E : Type 0} (past : ℕ) (object : Object) (r : Result X E) (before now : Core)
-    → OnOk r (now ≡ after_drop before object) → OnErr r (now ≡ before) → past ≤ before.view.births
-    → past ≤ now.view.births
-past_by past object (Ok x) before now ok err h = subst (λ (k : Core). past ≤ k.view.births) (sym ok) h
-past_by past object (Err why) before now ok err h = subst (λ (k : Core). past ≤ k.view.births) (sym err) h
+    → OnOk r (now ≡ after_drop before object) → OnErr r (now ≡ before) → past ≤ before.view.client.births
+    → past ≤ now.view.client.births
+past_by past object (Ok x) before now ok err h =
+    subst (λ (k : Core). past ≤ k.view.client.births) (sym ok)
+    (subst (λ (n : ℕ). past ≤ n) (sym (births-closed before.view object.id)) h)
+past_by past object (Err why) before now ok err h = subst (λ (k : Core). past ≤ k.view.client.births) (sym err) h
 
 pub invariant_of-self : goal.invariant_of-self
 invariant_of-self g c =

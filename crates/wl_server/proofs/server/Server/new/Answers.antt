@@ -1,5 +1,5 @@
 use Rattle.std.proofs.Common.{rules, sym, ap, subst, ◌∙◌, arith, []}
-use Rattle.wl_object_map.specs.View.{View}
+use Rattle.wl_object_map.specs.Objects.{Objects}
 use Rattle.wl_connection.specs.Core.{Core}
 use Rattle.wl_server.specs.Announcing.{owed_in}
 use Rattle.wl_server.specs.Registries.{HasRegistries}
@@ -15,7 +15,7 @@ invariant_of-result g c =
     record {
       few = grind (arith, c.new-globals.ensures.items);
       registries = subst (HasRegistries c.new-2.result.core.view) (sym c.new-registries.ensures.list)
-          (subst (λ (v : View). HasRegistries v []) (sym view) has_none);
+          (subst (λ (v : Objects). HasRegistries v []) (sym view) has_none);
       past = omega (arith, c.new-registries.ensures.past);
       settled = ap (owed_in c.new-globals.result.items) c.new-registries.ensures.settled;
     }

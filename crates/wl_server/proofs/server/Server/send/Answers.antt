@@ -30,7 +30,7 @@ invariant_of-self g c =
           sent e.ok e.err e.valid
           (λ v is. has_sent core now c.self.inside.registries.list c.args.target c.args.opcode list v is
           c.self.invariant.registries) c.self.invariant.registries;
-      past = by_result (λ (k : Core). c.self.inside.registries.past ≤ k.view.births) c.send.result core now sent e.ok
+      past = by_result (λ (k : Core). c.self.inside.registries.past ≤ k.view.client.births) c.send.result core now sent e.ok
           e.err e.valid
           (λ v is. past_sent core now c.self.inside.registries.past c.args.target c.args.opcode list v is
           c.self.invariant.past) c.self.invariant.past;
