@@ -12,8 +12,8 @@
 	void waywire_c_##end##_display(const struct handle *, waywire_object *display); \
 	uint32_t waywire_c_##end##_live(const struct handle *, waywire_object, uint16_t *interface, \
 		uint32_t *version); \
-	uint32_t waywire_c_##end##_object_count(const struct handle *); \
-	uint32_t waywire_c_##end##_ids_used(const struct handle *); \
+	uint32_t waywire_c_##end##_object_count(const struct handle *, bool by_server); \
+	uint32_t waywire_c_##end##_ids_used(const struct handle *, bool by_server); \
 	uint32_t waywire_c_##end##_look(const struct handle *, uint32_t id, uint64_t *birth); \
 	bool waywire_c_##end##_has_failed(const struct handle *); \
 	void waywire_c_##end##_in_room(const struct handle *, waywire_amounts *room); \
@@ -40,6 +40,7 @@
 EXPORTS_OF_BOTH(client);
 EXPORTS_OF_BOTH(server);
 
+void waywire_c_client_made(const struct handle *, waywire_object *made);
 uint32_t waywire_c_client_bind(struct handle *, waywire_object registry, uint32_t name,
 	const void *interface, size_t length, uint32_t version, waywire_object *bound);
 uint32_t waywire_c_server_drop_object(struct handle *, waywire_object);
@@ -137,6 +138,18 @@ static void list_tokens(waywire_report *report, uint32_t tokens[WAYWIRE_MAX_ARGS
 		}
 }
 
+#define BEFORE_SERVER_IDS (FIRST_SERVER_ID - 1)
+
+/* The id after this one where so many ids of each range were used; 0 behind the last. */
+static uint32_t id_after(uint32_t id, uint32_t of_client, uint32_t of_server)
+{
+	if (id < of_client)
+		return id + 1;
+	if (id < BEFORE_SERVER_IDS)
+		id = BEFORE_SERVER_IDS;
+	return id - BEFORE_SERVER_IDS < of_server ? id + 1 : 0;
+}
+
 /* ---- what both ends have */
 
 #define CALLS_OF_BOTH(end) \
@@ -215,7 +228,8 @@ static void list_tokens(waywire_report *report, uint32_t tokens[WAYWIRE_MAX_ARGS
 	{ \
 		if (!it || !count) \
 			return WAYWIRE_NULL; \
-		*count = waywire_c_##end##_object_count(&it->handle); \
+		*count = (size_t)waywire_c_##end##_object_count(&it->handle, false) \
+			+ waywire_c_##end##_object_count(&it->handle, true); \
 		return WAYWIRE_OK; \
 	} \
 \
@@ -225,9 +239,10 @@ static void list_tokens(waywire_report *report, uint32_t tokens[WAYWIRE_MAX_ARGS
 		uint64_t birth; \
 		if (!it || !object) \
 			return WAYWIRE_NULL; \
-		uint32_t last = waywire_c_##end##_ids_used(&it->handle); \
-		while (id < last) { \
-			if (waywire_c_##end##_look(&it->handle, ++id, &birth)) \
+		uint32_t of_client = waywire_c_##end##_ids_used(&it->handle, false); \
+		uint32_t of_server = waywire_c_##end##_ids_used(&it->handle, true); \
+		while ((id = id_after(id, of_client, of_server)) != 0) { \
+			if (waywire_c_##end##_look(&it->handle, id, &birth)) \
 				continue; \
 			object->birth = birth; \
 			object->id = id; \
@@ -411,6 +426,14 @@ waywire_status waywire_client_bind(waywire_client *client, waywire_object regist
 		return WAYWIRE_NULL;
 	return waywire_c_client_bind(&client->handle, registry, name, interface, strlen(interface), version,
 		bound ? bound : &no_object);
+}
+
+waywire_status waywire_client_made(const waywire_client *client, waywire_object *made)
+{
+	if (!client || !made)
+		return WAYWIRE_NULL;
+	waywire_c_client_made(&client->handle, made);
+	return WAYWIRE_OK;
 }
 
 waywire_status waywire_server_drop_object(waywire_server *server, waywire_object object)

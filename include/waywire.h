@@ -22,14 +22,18 @@
  * Inspectors.  A tool between two ends has no end of its own. It passes what it sees to an
  * inspector, which writes a line for each message, and says whether the session breaks a rule.
  *
- * Objects.  Births count from 0 at each end. So an object of one connection may equal one of another, and no
- * call can tell them apart: keep an object with its end.
+ * Objects.  The client makes objects with ids from 1 on, and where the tables have events that make some, the
+ * server makes those with ids from 0xff000000 on. Births count from 0 in the client's range and from 1 in the
+ * server's, so it takes the id and the birth to tell an object. An object of one connection may equal one of
+ * another, and no call can tell them apart: keep an object with its end.
  *
  * Memory.  Tables, a client, a server and an inspector belong to the caller, who frees each once. Tables may
  * be freed before the ends and inspectors made with them, which keep them as long as they need them. The
  * library calls `malloc`, `realloc` and `free`, and nothing else of the system. After `new` an end allocates
- * only when it opens an object (`send`, `bind`, `next` of a server), in `set_user` and in `add_global`; an
- * inspector allocates in `pass` and `verdict`. If an allocation fails, nothing is lost.
+ * only when it opens an object (`send`, `bind`, `next`), in `set_user` and in `add_global`; an inspector
+ * allocates in `pass` and `verdict`. A client's `next` does so only at an event that makes an object whose id
+ * the server has never used before, and so never where the tables have no such event. If an allocation fails,
+ * nothing is lost.
  *
  * Threads.  Nothing is bound to the thread that made it. Tables never change: any threads may use them at
  * once, and make and free ends and inspectors over them. Only one call at a time may use an end, on any
@@ -162,7 +166,8 @@ typedef enum waywire_arg_kind {
 	WAYWIRE_DEAD_OBJECT = 11, /* in reports: object, which this end has destroyed already */
 	WAYWIRE_BOUND = 12,      /* in reports of wl_registry.bind: object, bytes and length (its interface),
 	                          * u (its version) */
-	WAYWIRE_NEW_BY_SERVER = 13 /* in what tables say: a new object that the server makes */
+	WAYWIRE_NEW_BY_SERVER = 13 /* in what tables say: a new object that the server makes. The event has a
+	                            * WAYWIRE_NEW there, in a call and in a report */
 } waywire_arg_kind;
 
 /* One argument, of a call or of a report. Fields that its kind does not use are ignored in a call, and
@@ -305,7 +310,8 @@ typedef struct waywire_sizes {
 typedef enum waywire_report_kind {
 	WAYWIRE_NOTHING = 0,   /* no whole message waits */
 	WAYWIRE_MESSAGE = 1,   /* a request or an event: target, opcode, args, tokens, forgotten */
-	WAYWIRE_DISCARDED = 2, /* an event for an object that the client has destroyed: target, opcode, tokens */
+	WAYWIRE_DISCARDED = 2, /* an event for an object that the client has destroyed: target, opcode, tokens.
+	                        * If it makes an object, that is open: waywire_client_made */
 	WAYWIRE_DELETED = 3,   /* wl_display.delete_id of an object: target. Its id is free again */
 	WAYWIRE_STRAY = 4,     /* wl_display.delete_id of an id that names no object: id. Nothing changed */
 	WAYWIRE_ERROR = 5,     /* wl_display.error: id, code, text, and `named`: WAYWIRE_OBJECT or
@@ -404,8 +410,7 @@ typedef struct waywire_message {
 #define WAYWIRE_ANY_INTERFACE 65535
 
 /* What tables say about an argument. `kind` is WAYWIRE_INT, _UINT, _FIXED, _STRING, _OBJECT, _NEW, _ARRAY, _FD
- * or _NEW_BY_SERVER. wl_registry.bind makes the only new object whose interface is in the bytes alone. No end
- * writes or reads an event that makes an object: it is WAYWIRE_WRONG_ARGS and WAYWIRE_FAULT_BAD_NEW_ID. */
+ * or _NEW_BY_SERVER. wl_registry.bind makes the only new object whose interface is in the bytes alone. */
 typedef struct waywire_kind {
 	uint32_t kind; /* a waywire_arg_kind */
 	bool nullable; /* whether the null string or the null object is allowed */
@@ -533,14 +538,15 @@ waywire_status waywire_client_set_user(waywire_client *client, waywire_object ob
 void *waywire_client_user(const waywire_client *client, waywire_object object);
 
 /* How many objects the client has, without going through them: wl_display, those that are live, and those that
- * it destroyed and that WAYWIRE_DELETED has not ended yet. A server has none of the last. */
+ * it destroyed and that have not ended yet. WAYWIRE_DELETED ends one that the client made; one that the server
+ * made ends when its id is used again. A server has none that are destroyed. */
 waywire_status waywire_client_object_count(const waywire_client *client, size_t *count);
 
 /* The object with the least id above `id`, of those that `object_count` counts, also at a failed client. From 0 on
  * this goes through all of them, even if objects are made and destroyed on the way:
  *     for (waywire_object it = { 0, 0 }; !waywire_client_object_after(client, it.id, &it);)
  *             free(waywire_client_user(client, it));
- * All of it takes time linear in the greatest id that was ever used. WAYWIRE_NOT_FOUND if there is none. */
+ * All of it takes time linear in the number of ids that were ever used. WAYWIRE_NOT_FOUND if there is none. */
 waywire_status waywire_client_object_after(const waywire_client *client, uint32_t id,
 	waywire_object *object);
 
@@ -558,7 +564,8 @@ waywire_status waywire_client_is_drained(const waywire_client *client, bool *dra
 
 /* Writes a request. If one of its arguments is WAYWIRE_NEW, the request makes an object, which is
  * written to `made`; else `made` gets id 0. An object that the request destroys is dead afterwards:
- * events for it may still come (WAYWIRE_DISCARDED), until WAYWIRE_DELETED ends it.
+ * events for it may still come (WAYWIRE_DISCARDED), until WAYWIRE_DELETED ends it. No WAYWIRE_DELETED comes for
+ * an object that the server made: it is dead until an event makes one with its id.
  * wl_registry.bind is WAYWIRE_NO_SUCH_MESSAGE: waywire_client_bind writes it.
  * Statuses, in the order in which they are tested: WAYWIRE_BAD_VALUE, WAYWIRE_FAILED, WAYWIRE_STALE,
  * WAYWIRE_NO_SUCH_MESSAGE, WAYWIRE_TOO_OLD, WAYWIRE_WRONG_ARGS, WAYWIRE_BAD_OBJECT, WAYWIRE_TOO_LONG,
@@ -625,12 +632,19 @@ waywire_status waywire_client_take_waiting_tokens(waywire_client *client, uint32
 	size_t token_count, size_t *taken);
 
 /* Reads the next message once it is whole; `report` says WAYWIRE_NOTHING before. The report is valid
- * until the client's next call of any kind. This call allocates nothing.
+ * until the client's next call of any kind. An event by which the server makes an object opens it.
  * With a status of WAYWIRE_FAULT_.. the report is written too (kind WAYWIRE_FAULT) and the client has
  * failed for good, as it has after a report WAYWIRE_ERROR. It writes nothing to the server about that; what
- * waited in the outbox can still be taken. WAYWIRE_FAILED if it had failed before; the report then says
- * WAYWIRE_NOTHING. */
+ * waited in the outbox can still be taken. WAYWIRE_NO_MEMORY if there is no memory for the object that an event
+ * makes: the event stays, and can be read again. That can be only where its id is the next that the server has
+ * never used; nothing else allocates. WAYWIRE_FAILED if it had failed before. With these two statuses the
+ * report says WAYWIRE_NOTHING. */
 waywire_status waywire_client_next(waywire_client *client, waywire_report *report);
+
+/* The object that the message which `next` read last made: one of the server's, also where the report was
+ * WAYWIRE_DISCARDED, so that it can be destroyed. `made` gets id 0 if that message made none, and before the
+ * first. A call that reads no message changes nothing here. */
+waywire_status waywire_client_made(const waywire_client *client, waywire_object *made);
 
 /* ---- a server */
 
@@ -689,7 +703,8 @@ waywire_status waywire_server_withdraw(waywire_server *server, uint32_t name);
  * of the 64. WAYWIRE_FAILED. */
 waywire_status waywire_server_announce(waywire_server *server, size_t *count);
 
-/* Writes an event. One that destroys its object is followed by its delete_id: both are written, or
+/* Writes an event. If one of its arguments is WAYWIRE_NEW, the event makes an object of the server's, which is
+ * written to `made`. One that destroys its object is followed by its delete_id: both are written, or
  * nothing. The events of wl_display and wl_registry are WAYWIRE_NO_SUCH_MESSAGE: other calls write
  * them. Otherwise as waywire_client_send. */
 waywire_status waywire_server_send(waywire_server *server, waywire_object target, uint16_t opcode,
@@ -708,8 +723,8 @@ waywire_status waywire_server_post_error(waywire_server *server, waywire_object 
 	const char *text);
 
 /* Reads the next request once it is whole; `report` says WAYWIRE_NOTHING before. The report is valid
- * until the server's next call of any kind. A request that destroys an object closes it and writes
- * its delete_id at once.
+ * until the server's next call of any kind. A request that destroys an object closes it, and if the client
+ * made that, writes its delete_id at once.
  * WAYWIRE_OUT_FULL if the outbox has no room for that, and WAYWIRE_NO_MEMORY if there is no memory for
  * the object that the request opens: the request stays, and can be read again. With a status of
  * WAYWIRE_FAULT_.. the report is written too (kind WAYWIRE_FAULT), wl_display.error is the last that

@@ -1,5 +1,5 @@
 -- A carry that moves bytes, and a read that finds a message, leave less to be carried or read.
-use Rattle.std.proofs.Common.{◌≡◌, ℕ, Bool, ◌+◌, ◌<◌, ◌≤◌, true, List, [], ◌∷◌, ◌++◌, length}
+use Rattle.std.proofs.Common.{◌≡◌, ℕ, Bool, ◌+◌, ◌<◌, ◌≤◌, true, false, List, [], ◌∷◌, ◌++◌, length}
 use Rattle.std.proofs.Common.{length-append, take, refl, sym, ◌∙◌, ap, arith}
 use Rattle.std.proofs.lemmas.List.{length-take}
 use Rattle.std.proofs.lemmas.Bool.{ltb-true}
@@ -18,7 +18,7 @@ use Rattle.wl_server.proofs.ReadingStays as server
 use Rattle.theory_connection.specs.Pair.{PairState, Move, Reply, ClientSend, ClientBind, ServerSend}
 use Rattle.theory_connection.specs.Pair.{ServerDrop, PostError, AddGlobal, Withdraw, Announce}
 use Rattle.theory_connection.specs.Pair.{CarryToServer, CarryToClient, ClientNext, ServerNext}
-use Rattle.theory_connection.specs.Pair.{CarryOutcome, Does, Carries, moved, no_memory, Nexts, answered}
+use Rattle.theory_connection.specs.Pair.{CarryOutcome, Does, Carries, moved, no_memory, Nexts, answered, no_memory_to_open}
 use Rattle.theory_connection.specs.Pair.{carries, after_carry_to_server, after_carry_to_client}
 use Rattle.theory_connection.specs.Pair.{with_client, with_server}
 use Rattle.theory_connection.proofs.Channels.{gone, goes_there}
@@ -79,12 +79,13 @@ found_some (Ok (Some r)) h = (r, refl)
 found_some (Ok None) h = absurd (cc h)
 found_some (Err e) h = absurd (cc h)
 
-read_less : {R : Type 0} (needs : R → Bool) (answer : Result (Option R) NextError) (left : PairState → ℕ)
+read_less : {R : Type 0} (needs : R → Bool) (opens : Bool) (answer : Result (Option R) NextError) (left : PairState → ℕ)
     (before after : PairState) {reply : Result (Option R) NextError} {last : PairState}
-    → Nexts needs answer before after reply last → ((r : R) → answer ≡ Ok (Some r) → left after < left before)
+    → Nexts needs opens answer before after reply last → ((r : R) → answer ≡ Ok (Some r) → left after < left before)
     → finds reply ≡ true → left last < left before
-read_less needs answer left before after answered less found = let r = found_some answer found in less r.0 r.1
-read_less needs answer left before after (no_memory is has) less found = absurd (cc found)
+read_less needs opens answer left before after answered less found = let r = found_some answer found in less r.0 r.1
+read_less needs opens answer left before after (no_memory is has) less found = absurd (cc found)
+read_less needs opens answer left before after (no_memory_to_open is has) less found = absurd (cc found)
 
 -- it is less where the move did something
 pub less_left : (move : Move) (reply : Reply) (p p' : PairState) → Does p move reply p' → does_something reply ≡ true
@@ -100,11 +101,11 @@ less_left (CarryToClient most) (CarryToClient carried) p p' does busy =
     (fewer_left p.server.core.outbox taken.bytes (goes_there p.server.core.outbox _ _)) busy
 less_left (CarryToClient most) _ p p' does busy = absurd does
 less_left ServerNext (ServerNext answer) p p' does busy =
-    read_less requests.needs_memory (requests.next_answer p.server) (left_for ServerNext) p
+    read_less requests.needs_memory false (requests.next_answer p.server) (left_for ServerNext) p
     (with_server p (requests.after_next p.server)) does (fewer_wait requests.server_role server.is_role p.server) busy
 less_left ServerNext _ p p' does busy = absurd does
 less_left ClientNext (ClientNext answer) p p' does busy =
-    read_less events.needs_memory (events.next_answer p.client) (left_for ClientNext) p
+    read_less events.needs_memory _ (events.next_answer p.client) (left_for ClientNext) p
     (with_client p (events.after_next p.client)) does (fewer_wait events.client_role client.is_role p.client) busy
 less_left ClientNext _ p p' does busy = absurd does
 less_left (ClientSend target opcode given) (ClientSend reply) p p' does busy = absurd (cc busy)

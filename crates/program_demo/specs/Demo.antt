@@ -1,7 +1,7 @@
 -- What a demonstration prints.
-use Rattle.std.specs.Prelude.{◌≡◌, ◌↔◌, ℕ, Bool, IsTrue, List, ◌++◌}
-use Rattle.std.specs.FinMap.{len as row_count}
+use Rattle.std.specs.Prelude.{◌≡◌, ◌↔◌, ℕ, Bool, false, IsTrue, List, ◌++◌}
 use Rattle.wl_sigs.specs.Tables.{Interface}
+use Rattle.wl_sigs.specs.Rules.{has_server_objects}
 use Rattle.wl_message.specs.Cut.{usual_limit}
 use Rattle.wl_check.specs.Session.{session_of}
 use Rattle.wl_check.specs.Trace.{trace_of}
@@ -9,23 +9,26 @@ use Rattle.theory_connection.specs.World.{opening_world}
 use Rattle.theory_connection.specs.Pair.{PairState, new_pair}
 use Rattle.theory_connection.specs.Stands.{Stands}
 use Rattle.theory_connection.specs.Runs.{Agree}
+use Rattle.wl_session.specs.Room.{object_count}
 use Rattle.program_session.specs.Agreement.{agreement_line}
 use Rattle.program_session.specs.Session.{sizes}
 use Rattle.program_demo.specs.Session.{demo_steps}
 use Rattle.program_demo.specs.Playing.{Plays}
 
 -- The text is the trace of what was carried between the two ends of this pair, and a last line:
--- whether both have the same objects, all live, and how many the client has.
+-- whether both have the same objects, and how many these are.
 pub record TellsOfPair (tables : List Interface) (pair : PairState) (text : List ℕ) : Type 0 where
   pub agree : Bool
   pub exact : IsTrue agree ↔ Agree pair.client.core.view pair.server.core.view
   pub whole : text ≡ trace_of tables (session_of usual_limit pair.recording)
-      ++ agreement_line agree (row_count pair.client.core.view.client.rows)
+      ++ agreement_line agree (object_count pair.client.core.view pair.server.core.view)
 
 -- The text tells of two ends that began new, after the session of both, of which each carry moved
--- at most `piece` bytes.
+-- at most `piece` bytes. Where no event of the tables has a new object of the server, those ends
+-- stand for the opening world.
 pub record IsShown (tables : List Interface) (piece : ℕ) (text : List ℕ) : Type 0 where
   pub last : PairState
-  pub begins : Stands (new_pair tables sizes sizes) opening_world
+  pub begins : has_server_objects tables ≡ false
+      → Stands (new_pair tables sizes sizes) opening_world
   pub played : Plays (demo_steps tables piece) (new_pair tables sizes sizes) last
   pub told : TellsOfPair tables last text

@@ -5,7 +5,7 @@ ghost use Rattle.program_session.specs.Agreement.{agreement_line};
 use std::alloc::{AllocError, Allocator};
 use std::io::Write;
 
-/// Appends the last line: how many objects the client has, and whether the server has the same.
+/// Appends the last line: whether both ends have the same objects, and how many these are.
 pub fn write_agreement<A: Allocator>(
     out: &mut Vec<u8, A>,
     agree: bool,

@@ -1,13 +1,13 @@
 -- How a session over two streams ends, and what is shown of it.
 use Rattle.std.specs.Prelude.{◌≡◌, ◌↔◌, ℕ, Bool, true, IsTrue, List, ◌++◌, Option}
 use Rattle.std.specs.Prelude.{codes}
-use Rattle.std.specs.FinMap.{len as row_count}
 use Rattle.wl_sigs.specs.Tables.{Interface}
 use Rattle.wl_recording.specs.Piece.{Piece}
 use Rattle.wl_message.specs.Cut.{usual_limit}
 use Rattle.wl_check.specs.Session.{session_of}
 use Rattle.wl_check.specs.Trace.{trace_of}
 use Rattle.theory_connection.specs.Runs.{Agree}
+use Rattle.wl_session.specs.Room.{object_count}
 use Rattle.program_session.specs.Agreement.{agreement_line}
 use Rattle.program_socket.specs.Streams.{KnownStream, Connected}
 use Rattle.program_socket.specs.Playing.{PlaysOver, socket_steps, begin}
@@ -20,8 +20,7 @@ socket_error_text socket_error.Failed = codes "socket failed"
 socket_error_text socket_error.Memory = codes "out of memory"
 
 -- The session was played over these two streams, from new ends on. These pieces passed; `agree`
--- says whether the two ends that are left have the same objects, all live, and `objects` how many
--- the client has.
+-- says whether the two ends that are left have the same objects, and `objects` how many these are.
 pub record Ends {C S : Type 0} (c : KnownStream C) (s : KnownStream S) (tables : List Interface)
     (client_stream : C) (server_stream : S) (pieces : List Piece) (agree : Bool) (objects : ℕ)
     : Type 0 where
@@ -29,10 +28,10 @@ pub record Ends {C S : Type 0} (c : KnownStream C) (s : KnownStream S) (tables :
   pub played : PlaysOver c s (socket_steps tables) (begin tables client_stream server_stream) last
   pub passed : pieces ≡ last.pair.recording
   pub exact : IsTrue agree ↔ Agree last.pair.client.core.view last.pair.server.core.view
-  pub counted : objects ≡ row_count last.pair.client.core.view.client.rows
+  pub counted : objects ≡ object_count last.pair.client.core.view last.pair.server.core.view
 
 -- The text is the trace of what passed in the session over these two streams, and a last line,
--- which says that both ends have the same objects then, all live, and how many.
+-- which says that both ends have the same objects then, and how many.
 pub record ShowsSession {C S : Type 0} (c : KnownStream C) (s : KnownStream S)
     (tables : List Interface)
     (client_stream : C) (server_stream : S) (text : List ℕ) : Type 0 where

@@ -1,7 +1,7 @@
 //! The session over two streams.
 ghost use Rattle.std.specs.Prelude.{◌≡◌, ◌↔◌, ◌∷◌, [], IfOk, OnOk, IsTrue};
-ghost use Rattle.std.specs.FinMap.{len as row_count};
 ghost use Rattle.theory_connection.specs.Runs.{Agree};
+ghost use Rattle.wl_session.specs.Room.{object_count};
 ghost use Rattle.program_socket.specs.Streams.{known_stream};
 ghost use Rattle.program_socket.specs.Playing.{PlaysOver, ClientTurn, ServerTurn, begin};
 ghost use Rattle.program_socket.specs.Playing.{socket_steps};
@@ -17,7 +17,7 @@ use wl_client::Client;
 use wl_connection::End;
 use wl_objects::{SlotTable, Table};
 use wl_server::Server;
-use wl_session::{Direction, Recording, same_rows};
+use wl_session::{Direction, Recording, object_count, same_rows};
 use wl_sigs::Tables;
 
 /// How a session over streams ended.
@@ -25,9 +25,9 @@ use wl_sigs::Tables;
 pub struct SessionOutcome<A: Allocator> {
     /// What passed, a piece for each turn.
     pub recording: Recording<A>,
-    /// Whether both ends have the same objects, all live.
+    /// Whether both ends have the same objects.
     pub agree: bool,
-    /// How many objects the client has.
+    /// How many objects these are.
     pub objects: usize,
 }
 
@@ -151,12 +151,13 @@ impl<'t, T: Table + Drop, C: Read + Write + Drop, S: Read + Write + Drop> Sessio
     fn ended(self) -> SessionOutcome<T::Alloc>
         ensures agree { IsTrue result.agree
             ↔ Agree self.entry.client.core.view self.entry.server.core.view }
-        ensures objects { result.objects ≡ row_count self.entry.client.core.view.client.rows }
+        ensures objects { result.objects
+            ≡ object_count self.entry.client.core.view self.entry.server.core.view }
         ensures passed { result.recording ≡ self.entry.recording }
     {
         SessionOutcome {
             agree: same_rows(&self.client, &self.server),
-            objects: self.client.table().len() as usize,
+            objects: object_count(&self.client, &self.server),
             recording: self.recording,
         }
     }

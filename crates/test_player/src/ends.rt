@@ -12,7 +12,8 @@ use std::alloc::{AllocError, Global};
 use std::fmt::Write;
 use wl_connection::{End, ReadAll, read_all};
 use wl_message::Piece;
-use wl_objects::{NextError, Object, State, Table};
+use wl_object_map::{DISPLAY_ID, FIRST_SERVER_ID};
+use wl_objects::{Maker, NextError, Object, Objects, State, Table};
 use wl_sigs::Tables;
 use wl_wire::Iface;
 
@@ -41,10 +42,11 @@ impl<'a, E: Playable + Drop> Stage for AtEnd<'a, E> {
     }
 
     fn write_state(&self, text: &mut String) -> Result<(), AllocError> {
-        write_table(text, self.end.table())?;
+        write_objects(text, self.end.objects())?;
+        write_made(text, self.end.made())?;
         let room = self.end.in_room();
         let goes = self.end.goes(usize::MAX, usize::MAX);
-        write!(text, "in {} {}, ", room.bytes, room.tokens)?;
+        write!(text, ", in {} {}, ", room.bytes, room.tokens)?;
         write!(text, "out {} {}", goes.bytes, goes.tokens)
     }
 }
@@ -84,7 +86,8 @@ impl<'a, E: Playable + Drop> AtEnd<'a, E> {
                 write_amount(reply, room.bytes, room.tokens)
             }
             "drained" => reply.push_str(yes_or_no(self.end.is_drained())),
-            "objects" => write!(reply, "{}", self.end.table().len()),
+            "objects" => write!(reply, "{}", count_of(self.end.objects())),
+            "made" => write_made(reply, self.end.made()),
             _ => reply.push_str("unreadable"),
         }
     }
@@ -156,6 +159,11 @@ impl<'a, E: Playable + Drop> AtEnd<'a, E> {
     }
 }
 
+/// How many objects there are in both ranges of ids.
+fn count_of<T: Table>(objects: &Objects<T>) -> u64 {
+    u64::from(objects.len(Maker::Client)) + u64::from(objects.len(Maker::Server))
+}
+
 /// The pieces of these chunks.
 fn pieces_of(alloc: Global, chunks: &[Chunk]) -> Result<Vec<Piece<'_>>, AllocError> {
     let mut pieces = Vec::new(alloc);
@@ -206,12 +214,27 @@ fn write_live(
     write!(reply, " {version}")
 }
 
-/// Appends the objects of a table: of the first 200 ids, and how many there are.
-pub fn write_table<T: Table>(text: &mut String, table: &T) -> Result<(), AllocError> {
-    let (used, births, count) = (table.used(), table.births(), table.len());
+/// Appends the objects of each range of ids: of its first 200 ids, and how many there are.
+fn write_objects<T: Table>(text: &mut String, objects: &Objects<T>) -> Result<(), AllocError> {
+    write_range(text, objects, Maker::Client, DISPLAY_ID)?;
+    write_range(text, objects, Maker::Server, FIRST_SERVER_ID)
+}
+
+/// Appends the objects of a range that begins with this id.
+fn write_range<T: Table>(
+    text: &mut String,
+    objects: &Objects<T>,
+    maker: Maker,
+    first: u32,
+) -> Result<(), AllocError> {
+    let (used, births, count) = (
+        objects.used(maker),
+        objects.births(first),
+        objects.len(maker),
+    );
     write!(text, "used {used}, births {births}, objects {count}: ")?;
-    for id in 1..201u32 {
-        if let Some(entry) = table.look(id) {
+    for id in first..first.saturating_add(200) {
+        if let Some(entry) = objects.look(id) {
             write!(text, "{id}/{} {}, ", entry.birth, entry.iface.0)?;
             if entry.state == State::Zombie {
                 text.push_str("zombie, ")?;
@@ -219,4 +242,12 @@ pub fn write_table<T: Table>(text: &mut String, table: &T) -> Result<(), AllocEr
         }
     }
     Ok(())
+}
+
+/// Appends an object, or that there is none.
+fn write_made(reply: &mut String, made: Option<Object>) -> Result<(), AllocError> {
+    match made {
+        Some(object) => write!(reply, "{}/{}", object.id, object.birth),
+        None => reply.push_str("none"),
+    }
 }

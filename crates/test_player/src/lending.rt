@@ -4,6 +4,7 @@ use crate::acting::Actor;
 use std::alloc::AllocError;
 use wl_client::{Incoming, OwnedIncoming};
 use wl_server::{OwnedRequest, Request};
+use wl_sigs::Side;
 use wl_wire::Bytes;
 
 /// Appends what a client lent.
@@ -44,6 +45,7 @@ pub(crate) fn write_lent_event(
             text: Bytes::copy_of(actor.alloc, text)?,
         },
     };
+    actor.names.add_told(actor.tables, &owned)?;
     actor.teller().write_incoming(reply, &owned)
 }
 
@@ -58,6 +60,9 @@ pub(crate) fn write_lent_request(
         opcode: request.opcode,
         args: request.args.to_owned(&actor.alloc)?,
     };
-    actor.names.add_read(actor.tables, &owned)?;
+    let (target, opcode) = (owned.target, owned.opcode);
+    actor
+        .names
+        .add_read(actor.tables, Side::Request, target, opcode, &owned.args)?;
     actor.teller().write_request(reply, &owned)
 }

@@ -7,10 +7,10 @@ use crate::replies::{Teller, write_stop};
 use std::alloc::AllocError;
 use wl_client::{Client, OwnedIncoming};
 use wl_connection::Receiver;
-use wl_objects::{Arg, Table};
+use wl_objects::{Arg, Object, Table};
 use wl_server::{OwnedRequest, Server};
 use wl_session::{Direction, Move, Reply};
-use wl_sigs::Tables;
+use wl_sigs::{Side, Tables};
 
 /// A client or a server at which moves are made: what the two do each in its own way.
 pub trait Playable: Receiver {
@@ -30,6 +30,9 @@ pub trait Playable: Receiver {
     /// Reads the next message by the call that lends its report, and appends that report in the
     /// words of an owned one.
     fn next_lent(&mut self, actor: &mut Actor<'_>, reply: &mut String) -> Result<(), AllocError>;
+
+    /// The object that the message read last made: of the server's, at a client.
+    fn made(&self) -> Option<Object>;
 
     /// Adds the objects that a report made.
     fn learn(names: &mut Names, tables: &Tables, report: &Self::Report) -> Result<(), AllocError>;
@@ -70,12 +73,16 @@ impl<'t, T: Table> Playable for Client<'t, T> {
         }
     }
 
+    fn made(&self) -> Option<Object> {
+        Client::made(self)
+    }
+
     fn learn(
-        _names: &mut Names,
-        _tables: &Tables,
-        _report: &OwnedIncoming<T::Alloc>,
+        names: &mut Names,
+        tables: &Tables,
+        report: &OwnedIncoming<T::Alloc>,
     ) -> Result<(), AllocError> {
-        Ok(())
+        names.add_told(tables, report)
     }
 
     fn write_report(
@@ -121,12 +128,17 @@ impl<'t, T: Table> Playable for Server<'t, T> {
         }
     }
 
+    fn made(&self) -> Option<Object> {
+        None
+    }
+
     fn learn(
         names: &mut Names,
         tables: &Tables,
         report: &OwnedRequest<T::Alloc>,
     ) -> Result<(), AllocError> {
-        names.add_read(tables, report)
+        let (target, opcode) = (report.target, report.opcode);
+        names.add_read(tables, Side::Request, target, opcode, &report.args)
     }
 
     fn write_report(

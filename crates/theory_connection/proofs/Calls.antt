@@ -6,7 +6,7 @@ use Rattle.std.specs.List.{All, list_any}
 use Rattle.std.specs.declared.option.Option.{Option}
 use Rattle.std.specs.declared.option.Option.TheVariants.{None, Some}
 use Rattle.std.specs.declared.result.Result.TheVariants.{Ok, Err}
-use Rattle.std.proofs.lemmas.Bool.{both_ways, eqb-true, eq-eqb, ltb-false, and_parts, not-true}
+use Rattle.std.proofs.lemmas.Bool.{both_ways, eqb-true, eq-eqb, ltb-false, and_parts, or_parts, not-true}
 use Rattle.std.proofs.lemmas.List.Folds.{list_any_at}
 use Rattle.std.proofs.lemmas.List.Elements.{All-tail}
 use Rattle.wl_wire.specs.declared.kind.Kind.{Kind}
@@ -15,15 +15,15 @@ use Rattle.wl_wire.specs.declared.kind.Iface.{Iface}
 use Rattle.wl_wire.specs.Argument.{reshaped, Int, Uint, Fixed, Str, Obj, New, NewNamed, Array, Fd}
 use Rattle.wl_wire.specs.Spelling.{Suits, spelled_len}
 use Rattle.wl_sigs.specs.declared.signature.Side.{Side}
-use Rattle.wl_sigs.specs.Tables.{Interface, signature_at, new_objects}
+use Rattle.wl_sigs.specs.Tables.{Interface, signature_at, new_objects, is_by_server}
 use Rattle.wl_sigs.specs.Tables as sigs
 use Rattle.wl_object_map.specs.declared.object.Object.{Object}
 use Rattle.wl_object_map.specs.declared.object.Entry.{Entry}
 use Rattle.wl_object_map.specs.declared.object.State.{State}
 use Rattle.wl_object_map.specs.declared.object.State.TheVariants as states
 use Rattle.wl_objects.specs.declared.error.SendError.{SendError}
-use Rattle.wl_object_map.specs.View.{next_id}
-use Rattle.wl_object_map.specs.Objects.{Objects, look}
+use Rattle.wl_object_map.specs.declared.object.Maker.{Maker}
+use Rattle.wl_object_map.specs.Objects.{Objects, look, next_id, next_birth}
 use Rattle.wl_objects.specs.Reading.{is_of}
 use Rattle.wl_message.specs.Cut.{greatest_limit}
 use Rattle.wl_objects.specs.Writing.{Given, suits, has_no_nul, wrong_place, lost_place}
@@ -38,6 +38,7 @@ use Rattle.theory_connection.specs.Answers.{handed}
 use Rattle.theory_connection.specs.Stands.{SuitKinds, NamesRightly}
 use Rattle.theory_connection.specs.Runs.{FitsWords}
 use Rattle.theory_connection.proofs.MadeByClient.{row_low}
+use Rattle.theory_connection.proofs.NoneByServer.{NoneByServer}
 use Rattle.wl_object_map.specs.View.{lives}
 use Rattle.wl_objects.specs.Messages.{or_else}
 
@@ -169,15 +170,15 @@ resolve view (Some object) = Some (record { id = object.id; born = born_at (look
 abbrev pub meant : Objects → Known → Given → Arg Known
 meant view new a = reshaped (resolve view) (λ _. new) (λ t. t) a
 
--- the new object of a call
-abbrev pub new_known : Objects → Option NewObject → Known
-new_known view None = record {
-  id = next_id view.client;
-  born = record { birth = client_birth view.client.births; iface = record { 0 = 0 }; version = 0 };
+-- the new object of a call that makes this maker's objects, which the world has as the client's
+abbrev pub new_known : Maker → Objects → Option NewObject → Known
+new_known maker view None = record {
+  id = next_id maker view;
+  born = record { birth = client_birth (next_birth maker view); iface = record { 0 = 0 }; version = 0 };
 }
-new_known view (Some m) = record {
-  id = next_id view.client;
-  born = record { birth = client_birth view.client.births; iface = m.iface; version = m.version };
+new_known maker view (Some m) = record {
+  id = next_id maker view;
+  born = record { birth = client_birth (next_birth maker view); iface = m.iface; version = m.version };
 }
 
 wire_one : (view : Objects) (new : Known) (a : Given) → wire (meant view new a) ≡ wired new.id a
@@ -290,34 +291,35 @@ unnamed_rest : (k : Kind) (ks : List Kind) → All (λ x. x ≢ kinds.New None) 
 unnamed_rest k ks h = All-tail (λ (x : Kind). x ≢ kinds.New None) k ks h
 
 -- each kind that makes an object makes just the new one
-pub matches : (tables : List Interface) (view : Objects) (version id : ℕ) (ks : List Kind) (given : List Given)
-    → AllRight view ks given → length (new_objects ks) ≤ 1 → All (λ x. x ≢ kinds.New None) ks
-    → Each (Matches (new_known view (made tables version ks (map (wired id) given))) version) ks
-matches tables view version id [] [] r h u = tt
-matches tables view version id [] (a ∷ given) r h u = absurd r
-matches tables view version id (k ∷ ks) [] r h u = absurd r
-matches tables view version id (kinds.Int ∷ ks) (Int z ∷ given) r h u =
-    (tt, matches tables view version id ks given r.1 h (unnamed_rest kinds.Int ks u))
-matches tables view version id (kinds.Uint ∷ ks) (Uint z ∷ given) r h u =
-    (tt, matches tables view version id ks given r.1 h (unnamed_rest kinds.Uint ks u))
-matches tables view version id (kinds.Fixed ∷ ks) (Fixed z ∷ given) r h u =
-    (tt, matches tables view version id ks given r.1 h (unnamed_rest kinds.Fixed ks u))
-matches tables view version id (kinds.Str n ∷ ks) (Str z ∷ given) r h u =
-    (tt, matches tables view version id ks given r.1 h (unnamed_rest (kinds.Str n) ks u))
-matches tables view version id (kinds.Obj n i ∷ ks) (Obj z ∷ given) r h u =
-    (tt, matches tables view version id ks given r.1 h (unnamed_rest (kinds.Obj n i) ks u))
-matches tables view version id (kinds.New (Some iface) ∷ ks) (New x ∷ given) r h u = (
+pub matches : (tables : List Interface) (maker : Maker) (view : Objects) (version id : ℕ) (ks : List Kind) (given : List Given)
+    → NoneByServer ks → AllRight view ks given → length (new_objects ks) ≤ 1 → All (λ x. x ≢ kinds.New None) ks
+    → Each (Matches (new_known maker view (made tables version ks (map (wired id) given))) version) ks
+matches tables maker view version id [] [] n r h u = tt
+matches tables maker view version id [] (a ∷ given) n r h u = absurd r
+matches tables maker view version id (k ∷ ks) [] n r h u = absurd r
+matches tables maker view version id (kinds.Int ∷ ks) (Int z ∷ given) n r h u =
+    (tt, matches tables maker view version id ks given n r.1 h (unnamed_rest kinds.Int ks u))
+matches tables maker view version id (kinds.Uint ∷ ks) (Uint z ∷ given) n r h u =
+    (tt, matches tables maker view version id ks given n r.1 h (unnamed_rest kinds.Uint ks u))
+matches tables maker view version id (kinds.Fixed ∷ ks) (Fixed z ∷ given) n r h u =
+    (tt, matches tables maker view version id ks given n r.1 h (unnamed_rest kinds.Fixed ks u))
+matches tables maker view version id (kinds.Str null ∷ ks) (Str z ∷ given) n r h u =
+    (tt, matches tables maker view version id ks given n r.1 h (unnamed_rest (kinds.Str null) ks u))
+matches tables maker view version id (kinds.Obj null i ∷ ks) (Obj z ∷ given) n r h u =
+    (tt, matches tables maker view version id ks given n r.1 h (unnamed_rest (kinds.Obj null i) ks u))
+matches tables maker view version id (kinds.New (Some iface) ∷ ks) (New x ∷ given) n r h u = (
   (refl, refl),
-  none_new (new_known view (Some (record { id = id; iface = iface; version = version }))) version ks
+  none_new (new_known maker view (Some (record { id = id; iface = iface; version = version }))) version ks
       (omega arith),
 )
-matches tables view version id (kinds.New None ∷ ks) (NewNamed name own x ∷ given) r h u =
+matches tables maker view version id (kinds.New None ∷ ks) (NewNamed name own x ∷ given) n r h u =
     absurd (unnamed_first (kinds.New None) ks u refl)
-matches tables view version id (kinds.Array ∷ ks) (Array z ∷ given) r h u =
-    (tt, matches tables view version id ks given r.1 h (unnamed_rest kinds.Array ks u))
-matches tables view version id (kinds.Fd ∷ ks) (Fd z ∷ given) r h u =
-    (tt, matches tables view version id ks given r.1 h (unnamed_rest kinds.Fd ks u))
-matches tables view version id (_ ∷ ks) (_ ∷ given) r h u = absurd (cc r.0.suit)
+matches tables maker view version id (kinds.Array ∷ ks) (Array z ∷ given) n r h u =
+    (tt, matches tables maker view version id ks given n r.1 h (unnamed_rest kinds.Array ks u))
+matches tables maker view version id (kinds.Fd ∷ ks) (Fd z ∷ given) n r h u =
+    (tt, matches tables maker view version id ks given n r.1 h (unnamed_rest kinds.Fd ks u))
+matches tables maker view version id (kinds.NewByServer iface ∷ ks) (x ∷ given) n r h u = absurd (cc n)
+matches tables maker view version id (_ ∷ ks) (_ ∷ given) n r h u = absurd (cc r.0.suit)
 
 -- ---- it fits its signature
 
@@ -327,16 +329,16 @@ no_nul text e k d h z =
     both_ways _ f (list_any_at (λ (b : ℕ). nat_eq b 0) text k d h (eq-eqb _ 0 z))
 
 fit_one : (tables : List Interface) (view : Objects) (new : Known) (version : ℕ) (k : Kind) (a : Given) → MadeByClient view
-    → new.id < 2 ^ 32 → Right view k a → Matches new version k → FitsWords a → spelled_len (wired 0 a) ≤ greatest_limit
+    → new.id < 2 ^ 32 → is_by_server k ≡ false → Right view k a → Matches new version k → FitsWords a → spelled_len (wired 0 a) ≤ greatest_limit
     → Suits k (wire (meant view new a)) × NamesRightly tables version k (meant view new a)
-fit_one tables view new version kinds.Int (Int z) s n r m g l = (g, tt)
-fit_one tables view new version kinds.Uint (Uint z) s n r m g l = (g, tt)
-fit_one tables view new version kinds.Fixed (Fixed z) s n r m g l = (g, tt)
-fit_one tables view new version (kinds.Str null) (Str None) s n r m g l = (r.suit, tt)
-fit_one tables view new version (kinds.Str null) (Str (Some text)) s n r m g l =
+fit_one tables view new version kinds.Int (Int z) s n c r m g l = (g, tt)
+fit_one tables view new version kinds.Uint (Uint z) s n c r m g l = (g, tt)
+fit_one tables view new version kinds.Fixed (Fixed z) s n c r m g l = (g, tt)
+fit_one tables view new version (kinds.Str null) (Str None) s n c r m g l = (r.suit, tt)
+fit_one tables view new version (kinds.Str null) (Str (Some text)) s n c r m g l =
     (record { no_nul = no_nul text r.suit; len = omega arith }, tt)
-fit_one tables view new version (kinds.Obj null iface) (Obj None) s n r m g l = ((omega arith, λ _. r.suit), tt)
-fit_one tables view new version (kinds.Obj null iface) (Obj (Some x)) s n r m g l =
+fit_one tables view new version (kinds.Obj null iface) (Obj None) s n c r m g l = ((omega arith, λ _. r.suit), tt)
+fit_one tables view new version (kinds.Obj null iface) (Obj (Some x)) s n c r m g l =
     let b = and_parts _ _ r.named in
     let v = live_as x.birth (look view x.id) b.0 in
     let low = row_low view x.id v.entry s v.there in
@@ -348,26 +350,27 @@ fit_one tables view new version (kinds.Obj null iface) (Obj (Some x)) s n r m g 
     same_of : (i : Option Iface) (e : Entry) → is_of i (live_entry (born_of_entry e)) ≡ is_of i e
     same_of None e = refl
     same_of (Some i) e = refl
-fit_one tables view new version (kinds.New (Some iface)) (New x) s n r m g l =
+fit_one tables view new version (kinds.New (Some iface)) (New x) s n c r m g l =
     (n, λ j. Some (record { id = new.id; iface = sym m.0 j; version = sym m.1 j }))
-fit_one tables view new version (kinds.New None) (NewNamed name own x) s n r m g l = absurd m
-fit_one tables view new version kinds.Array (Array z) s n r m g l = (omega arith, tt)
-fit_one tables view new version kinds.Fd (Fd z) s n r m g l = (tt, tt)
-fit_one tables view new version _ _ s n r m g l = absurd (cc r.suit)
+fit_one tables view new version (kinds.New None) (NewNamed name own x) s n c r m g l = absurd m
+fit_one tables view new version kinds.Array (Array z) s n c r m g l = (omega arith, tt)
+fit_one tables view new version kinds.Fd (Fd z) s n c r m g l = (tt, tt)
+fit_one tables view new version (kinds.NewByServer iface) a s n c r m g l = absurd (cc c)
+fit_one tables view new version _ _ s n c r m g l = absurd (cc r.suit)
 
 -- what is meant fits the kinds
 pub fit_all : (tables : List Interface) (view : Objects) (new : Known) (version : ℕ) (ks : List Kind) (given : List Given)
-    → MadeByClient view → new.id < 2 ^ 32 → AllRight view ks given → Each (Matches new version) ks
+    → MadeByClient view → new.id < 2 ^ 32 → NoneByServer ks → AllRight view ks given → Each (Matches new version) ks
     → Each FitsWords given → message_len (map (wired 0) given) ≤ greatest_limit
     → SuitKinds tables version ks (map (meant view new) given)
-fit_all tables view new version [] [] s n r m g l = tt
-fit_all tables view new version [] (a ∷ given) s n r m g l = absurd r
-fit_all tables view new version (k ∷ ks) [] s n r m g l = absurd r
-fit_all tables view new version (k ∷ ks) (a ∷ given) s n r m g l = (
-  fit_one tables view new version k a s n r.0 m.0 g.0
-      (omega (arith, l)),
-  fit_all tables view new version ks given s n r.1 m.1 g.1 (omega (arith, l)),
-)
+fit_all tables view new version [] [] s n c r m g l = tt
+fit_all tables view new version [] (a ∷ given) s n c r m g l = absurd r
+fit_all tables view new version (k ∷ ks) [] s n c r m g l = absurd r
+fit_all tables view new version (k ∷ ks) (a ∷ given) s n c r m g l =
+    let none = or_parts (is_by_server k) (list_any is_by_server ks) c in (
+      fit_one tables view new version k a s n none.0 r.0 m.0 g.0 (omega (arith, l)),
+      fit_all tables view new version ks given s n none.1 r.1 m.1 g.1 (omega (arith, l)),
+    )
 
 -- ---- it makes at most one object
 
@@ -418,40 +421,42 @@ one_new new args h = elim (made_new new args h) [ inl p ↦ none_in args args p 
 
 -- a new object has the version that its kind asks for
 pub version_of : (view : Objects) (new : Known) (version : ℕ) (ks : List Kind) (given : List Given)
-    → AllRight view ks given → Each (Matches new version) ks → (made_in (map (meant view new) given) ≡ None → ⊥)
+    → NoneByServer ks → AllRight view ks given → Each (Matches new version) ks → (made_in (map (meant view new) given) ≡ None → ⊥)
     → new.born.version ≡ version
-version_of view new version [] [] r m h = absurd (h refl)
-version_of view new version [] (a ∷ given) r m h = absurd r
-version_of view new version (k ∷ ks) [] r m h = absurd r
-version_of view new version (kinds.Int ∷ ks) (Int z ∷ given) r m h = version_of view new version ks given r.1 m.1 h
-version_of view new version (kinds.Uint ∷ ks) (Uint z ∷ given) r m h = version_of view new version ks given r.1 m.1 h
-version_of view new version (kinds.Fixed ∷ ks) (Fixed z ∷ given) r m h = version_of view new version ks given r.1 m.1 h
-version_of view new version (kinds.Str n ∷ ks) (Str z ∷ given) r m h = version_of view new version ks given r.1 m.1 h
-version_of view new version (kinds.Obj n i ∷ ks) (Obj z ∷ given) r m h = version_of view new version ks given r.1 m.1 h
-version_of view new version (kinds.New (Some iface) ∷ ks) (New x ∷ given) r m h = m.0.1
-version_of view new version (kinds.New None ∷ ks) (NewNamed name own x ∷ given) r m h = absurd m.0
-version_of view new version (kinds.Array ∷ ks) (Array z ∷ given) r m h = version_of view new version ks given r.1 m.1 h
-version_of view new version (kinds.Fd ∷ ks) (Fd z ∷ given) r m h = version_of view new version ks given r.1 m.1 h
-version_of view new version (_ ∷ ks) (_ ∷ given) r m h = absurd (cc r.0.suit)
+version_of view new version [] [] n r m h = absurd (h refl)
+version_of view new version [] (a ∷ given) n r m h = absurd r
+version_of view new version (k ∷ ks) [] n r m h = absurd r
+version_of view new version (kinds.Int ∷ ks) (Int z ∷ given) n r m h = version_of view new version ks given n r.1 m.1 h
+version_of view new version (kinds.Uint ∷ ks) (Uint z ∷ given) n r m h = version_of view new version ks given n r.1 m.1 h
+version_of view new version (kinds.Fixed ∷ ks) (Fixed z ∷ given) n r m h = version_of view new version ks given n r.1 m.1 h
+version_of view new version (kinds.Str null ∷ ks) (Str z ∷ given) n r m h = version_of view new version ks given n r.1 m.1 h
+version_of view new version (kinds.Obj null i ∷ ks) (Obj z ∷ given) n r m h = version_of view new version ks given n r.1 m.1 h
+version_of view new version (kinds.New (Some iface) ∷ ks) (New x ∷ given) n r m h = m.0.1
+version_of view new version (kinds.New None ∷ ks) (NewNamed name own x ∷ given) n r m h = absurd m.0
+version_of view new version (kinds.Array ∷ ks) (Array z ∷ given) n r m h = version_of view new version ks given n r.1 m.1 h
+version_of view new version (kinds.Fd ∷ ks) (Fd z ∷ given) n r m h = version_of view new version ks given n r.1 m.1 h
+version_of view new version (kinds.NewByServer iface ∷ ks) (x ∷ given) n r m h = absurd (cc n)
+version_of view new version (_ ∷ ks) (_ ∷ given) n r m h = absurd (cc r.0.suit)
 
 -- ---- a call that makes no object
 
 -- kinds that make nothing make no object
-pub no_made : (view : Objects) (new : Known) (ks : List Kind) (given : List Given) → AllRight view ks given
-    → length (new_objects ks) ≤ 0 → made_in (map (meant view new) given) ≡ None
-no_made view new [] [] r h = refl
-no_made view new [] (a ∷ given) r h = absurd r
-no_made view new (k ∷ ks) [] r h = absurd r
-no_made view new (kinds.Int ∷ ks) (Int z ∷ given) r h = no_made view new ks given r.1 h
-no_made view new (kinds.Uint ∷ ks) (Uint z ∷ given) r h = no_made view new ks given r.1 h
-no_made view new (kinds.Fixed ∷ ks) (Fixed z ∷ given) r h = no_made view new ks given r.1 h
-no_made view new (kinds.Str n ∷ ks) (Str z ∷ given) r h = no_made view new ks given r.1 h
-no_made view new (kinds.Obj n i ∷ ks) (Obj z ∷ given) r h = no_made view new ks given r.1 h
-no_made view new (kinds.New (Some iface) ∷ ks) (New x ∷ given) r h = absurd (omega arith)
-no_made view new (kinds.New None ∷ ks) (NewNamed name own x ∷ given) r h = absurd (omega arith)
-no_made view new (kinds.Array ∷ ks) (Array z ∷ given) r h = no_made view new ks given r.1 h
-no_made view new (kinds.Fd ∷ ks) (Fd z ∷ given) r h = no_made view new ks given r.1 h
-no_made view new (_ ∷ ks) (_ ∷ given) r h = absurd (cc r.0.suit)
+pub no_made : (view : Objects) (new : Known) (ks : List Kind) (given : List Given)
+    → NoneByServer ks → AllRight view ks given → length (new_objects ks) ≤ 0 → made_in (map (meant view new) given) ≡ None
+no_made view new [] [] n r h = refl
+no_made view new [] (a ∷ given) n r h = absurd r
+no_made view new (k ∷ ks) [] n r h = absurd r
+no_made view new (kinds.Int ∷ ks) (Int z ∷ given) n r h = no_made view new ks given n r.1 h
+no_made view new (kinds.Uint ∷ ks) (Uint z ∷ given) n r h = no_made view new ks given n r.1 h
+no_made view new (kinds.Fixed ∷ ks) (Fixed z ∷ given) n r h = no_made view new ks given n r.1 h
+no_made view new (kinds.Str null ∷ ks) (Str z ∷ given) n r h = no_made view new ks given n r.1 h
+no_made view new (kinds.Obj null i ∷ ks) (Obj z ∷ given) n r h = no_made view new ks given n r.1 h
+no_made view new (kinds.New (Some iface) ∷ ks) (New x ∷ given) n r h = absurd (omega arith)
+no_made view new (kinds.New None ∷ ks) (NewNamed name own x ∷ given) n r h = absurd (omega arith)
+no_made view new (kinds.Array ∷ ks) (Array z ∷ given) n r h = no_made view new ks given n r.1 h
+no_made view new (kinds.Fd ∷ ks) (Fd z ∷ given) n r h = no_made view new ks given n r.1 h
+no_made view new (kinds.NewByServer iface ∷ ks) (x ∷ given) n r h = absurd (cc n)
+no_made view new (_ ∷ ks) (_ ∷ given) n r h = absurd (cc r.0.suit)
 
 none_rest : (a : Arg Known) (args : List (Arg Known)) → made_in (a ∷ args) ≡ None → made_in args ≡ None
 none_rest a args h = (or_none (new_object_in a) (made_in args) h).1

@@ -25,8 +25,8 @@ use Rattle.wl_object_map.specs.declared.object.Entry.{Entry}
 use Rattle.wl_object_map.specs.declared.object.State.TheVariants as states
 use Rattle.wl_objects.specs.declared.error.SendError.{SendError}
 use Rattle.wl_objects.specs.declared.error.SendError.TheVariants as refusals
-use Rattle.wl_object_map.specs.View.{next_id, can_open}
-use Rattle.wl_object_map.specs.Objects.{Objects, look, opened_at}
+use Rattle.wl_object_map.specs.declared.object.Maker.TheVariants.{Client}
+use Rattle.wl_object_map.specs.Objects.{Objects, look, opened_at, next_id, can_open}
 use Rattle.wl_objects.specs.Writing.{bind_values, is_live_as, message_bytes}
 use Rattle.wl_objects.specs.Messages.{live_row, same_iface}
 use Rattle.wl_connection.specs.Sending.{opening_answer}
@@ -66,7 +66,7 @@ pub record Bound (st : client.State) (target : Object) (name : ℕ) (iface : Lis
   pub live : entry.state ≡ states.Live
   pub registers : same_iface entry.iface registry ≡ true
   pub binds : can_bind st.core.tables iface version (client.global_of st.globals name) ≡ true
-  pub opens_it : opening_answer st.core (Some (bound_object st name version)) ≡ Ok new
+  pub opens_it : opening_answer st.core Client (Some (bound_object st name version)) ≡ Ok new
 
 live_found : (birth : ℕ) (o : Option Entry) (b : Bool) (e : Entry) → is_live_as birth o ≡ b → cond b o None ≡ Some e
     → (o ≡ Some e) × (e.birth ≡ birth) × (e.state ≡ states.Live)
@@ -166,7 +166,7 @@ given_at P given (suc k) g e h = each_get P given k g e h
 
 abbrev pub the_bound : Objects → ℕ → Iface → Known
 the_bound v version place = record {
-  id = next_id v.client;
+  id = next_id Client v;
   born = record { birth = client_birth v.client.births; iface = place; version = version };
 }
 
@@ -188,7 +188,7 @@ open_row v id e h l = ap (option_map row_of_entry) h ∙ ap (λ s. Some (as_row 
 pub bind_can : (p : PairState) (w : World) (asked : List (Message Known)) (told : List (Coming Known))
     (s : StandsBy p w asked told) (target : Object) (name : ℕ) (iface : List ℕ) (version : ℕ) (new : Option Object)
     → (b : Bound p.client target name iface version new)
-    (n : Names p.server.core.tables p.client.globals iface version name) → can_open p.client.core.view.client ≡ true
+    (n : Names p.server.core.tables p.client.globals iface version name) → can_open Client p.client.core.view ≡ true
     → CanAsk p (bind_message p.client.core.view b.entry target name iface version n.global.iface)
 bind_can p w asked told s target name iface version new b n can =
     let v = p.client.core.view in
@@ -207,7 +207,7 @@ bind_can p w asked told s target name iface version new b n can =
     ap (place_of tables) (sym n.named) ∙ place_there tables s.terms.valid n.global.iface n.interface n.place in
     let reg : b.entry.iface ≡ registry = same_is b.entry.iface registry b.registers in
     let x : Known = record {
-      id = next_id v.client;
+      id = next_id Client v;
       born =
           record { birth = client_birth v.client.births; iface = n.global.iface; version = version };
     } in
@@ -231,7 +231,7 @@ bind_can p w asked told s target name iface version new b n can =
               (
                 (text, omega (arith, n.most, g.word, given.version_is), omega (arith, fresh.low)),
                 ap
-                    (option_map (λ (i : Iface). record { id = next_id v.client; iface = i; version = version })) place,
+                    (option_map (λ (i : Iface). record { id = next_id Client v; iface = i; version = version })) place,
               ),
               tt,
             ),
@@ -286,10 +286,10 @@ left_by : (st : client.State) (entry : Entry) (target : Object) (name : ℕ) (if
 left_by st entry target name iface version g e =
     λ i. record st {
       core = record st.core {
-        view = opened_at st.core.view (next_id st.core.view.client) (iface_or (e i)) version;
+        view = opened_at st.core.view (next_id Client st.core.view) (iface_or (e i)) version;
         outbox = record st.core.outbox {
           messages = st.core.outbox.messages
-              ++ queued (message_bytes target.id 0 (bind_values name iface version (next_id st.core.view.client))) [] ∷ [];
+              ++ queued (message_bytes target.id 0 (bind_values name iface version (next_id Client st.core.view))) [] ∷ [];
         };
       };
     }
@@ -303,7 +303,7 @@ pub client_bind_keeps : (p : PairState) (w : World) (asked : List (Message Known
     → Moves p w asked told (ClientBind target name iface version) (ClientBind reply) p'
 client_bind_keeps p w asked told s z target name iface version reply p' (accepted {new = new} h) =
     let b = is_bound p.client target name iface version new s.client.lives h in
-    let o = opens p.client.core (Some (bound_object p.client name version)) new b.opens_it in
+    let o = opens p.client.core Client (Some (bound_object p.client name version)) new b.opens_it in
     let n = names_at p.server.core.tables p.client.globals iface version name
     (client.global_of p.client.globals name) refl
     (subst (λ (t : List Interface). can_bind t iface version (client.global_of p.client.globals name) ≡ true)

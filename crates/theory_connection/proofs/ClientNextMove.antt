@@ -1,5 +1,5 @@
 -- A move of the client's reading.
-use Rattle.std.proofs.Common.{◌≡◌, ℕ, true, false, List, [], ◌∷◌, ◌++◌, map, length, take, refl, sym, ap, subst, ◌∙◌}
+use Rattle.std.proofs.Common.{◌≡◌, ℕ, Bool, true, false, List, [], ◌∷◌, ◌++◌, map, length, take, refl, sym, ap, subst, ◌∙◌}
 use Rattle.std.specs.declared.option.Option.{Option}
 use Rattle.std.specs.declared.option.Option.TheVariants.{None, Some}
 use Rattle.std.specs.declared.result.Result.{Result}
@@ -16,12 +16,14 @@ use Rattle.wl_objects.specs.declared.error.NextError.{NextError}
 use Rattle.wl_objects.specs.Reading.{descriptors}
 use Rattle.wl_connection.specs.Receiving.{Found, found, found_at, reported}
 use Rattle.wl_client.specs.Reports.{Report, report, needs_memory, plain_report, next_answer, after_next, state_past}
+use Rattle.wl_client.specs.Reports.{made_by_event, opens_row, event_opens}
 use Rattle.wl_client.specs.Reports as reports
 use Rattle.theory_connection.specs.Meant.{client_birth, Known, Born, Message, Coming, Event, Delete, renamed}
 use Rattle.theory_connection.specs.Meant.{recoming, rearg, born_of, birth_of, tokens, live_entry}
 use Rattle.theory_connection.specs.World.{World, event_read, delete_read, reads_event, reads_delete}
 use Rattle.theory_connection.specs.World as world
 use Rattle.theory_connection.specs.Pair.{PairState, ClientNext, with_client, Nexts, answered, no_memory}
+use Rattle.theory_connection.specs.Pair.{no_memory_to_open}
 use Rattle.theory_connection.specs.Answers.{NotEnded, before, ReportsArgs, ReportsComing, NeedsMemory}
 use Rattle.theory_connection.specs.Flight.{as_row}
 use Rattle.theory_connection.specs.Stands.{StandsBy}
@@ -45,11 +47,26 @@ answer_is : (p : PairState) (f : Found) → p.client.core.failed ≡ false → f
     → Answered p f
 answer_is p f l r = record { answer = rw (l, r) refl; leaves = rw (l, r) refl }
 
+-- whether what stands in front opens an object at an id without a row
+abbrev opens_in : PairState → Bool
+opens_in p = event_opens p.client.core (found p.client.core event_side)
+
+opens_none : (p : PairState) (f : Found) → found p.client.core event_side ≡ Ok (Some f)
+    → made_by_event p.client.core f.message ≡ None → opens_in p ≡ false
+opens_none p f e none = ap (event_opens p.client.core) e ∙ ap (opens_row p.client.core.view) none
+
+-- where it opens none, no memory is wanted for one
+nexts_none : (p : PairState) (reply : Result (Option Report) NextError) (p' : PairState) → opens_in p ≡ false
+    → Nexts needs_memory (opens_in p) (next_answer p.client) p (with_client p (after_next p.client)) reply p'
+    → Nexts needs_memory false (next_answer p.client) p (with_client p (after_next p.client)) reply p'
+nexts_none p reply p' none d = subst
+    (λ (b : Bool). Nexts needs_memory b (next_answer p.client) p (with_client p (after_next p.client)) reply p') none d
+
 idle : (p : PairState) → p.client.core.failed ≡ false → in_front p.client.core.inbox ≡ More
-    → (next_answer p.client ≡ Ok None) × (after_next p.client ≡ p.client)
+    → (next_answer p.client ≡ Ok None) × (after_next p.client ≡ p.client) × (opens_in p ≡ false)
 idle p l e =
     let r : found p.client.core event_side ≡ Ok None = ap (found_at p.client.core event_side) e in
-    (rw (l, r) refl, rw (l, r) refl)
+    (rw (l, r) refl, rw (l, r) refl, ap (event_opens p.client.core) r)
 
 -- ---- a report that needs memory
 
@@ -69,7 +86,7 @@ reports_as : (p : PairState) (w : World) (m : Message Known) (more : List ℕ) (
     (s : State) → w.client m.target.born.birth ≡ Some (as_row s m.target.born)
     → client_birth entry.birth ≡ m.target.born.birth
     → p.client.core.inbox.tokens ≡ tokens m.args ++ more → descriptors signature.kinds ≡ length (tokens m.args)
-    → ReportsArgs w.client (map (rearg born_of) m.args) (reported p.client.core (the_message m entry signature))
+    → ReportsArgs w.client (map (rearg born_of) m.args) (reported p.client.core event_side (the_message m entry signature))
     → ReportsComing w (Event (renamed born_of m))
     (plain_report p.client.core m.opcode (the_message m entry signature) s)
 reports_as p w m more entry signature states.Live h b t c a = (h, b, refl, a)
@@ -87,7 +104,8 @@ reports_it : (p : PairState) (w : World) (m : Message Known) (cs : List (Coming 
     (report p.client.core (the_found n m i.target.entry s.events.fit.0.fits.signature))
 reports_it p w m cs asked s n i =
     let f = s.events.fit.0.fits in
-    let a = event_answer p m n i.target.entry p.server.core.tables f s.terms.valid s.events.fit.0.no_delete_id
+    let a = event_answer p m n i.target.entry p.server.core.tables f s.terms.valid s.terms.same_tables
+    s.events.fit.0.makes_none s.events.fit.0.no_delete_id
     i.target.same in
     let count : descriptors f.signature.kinds ≡ length (tokens m.args) =
     tokens_taken p.server.core.tables m.target.born.version f.signature.kinds m.args f.args in
@@ -95,14 +113,14 @@ reports_it p w m cs asked s n i =
     subst (ReportsComing w (Event (renamed born_of m))) (sym a.tells_it)
     (reports_as p w m i.more i.target.entry f.signature i.target.entry.state shown
     (ap birth_of i.target.same) i.tokens_are count
-    (rw i.tokens_are (reports_right p.client.core.view w.client m.args i.more i.met)))
+    (rw i.tokens_are (reports_right p.client.core.tables event_side p.client.core.view w.client m.args i.more i.met)))
 
 keeps_event : (p : PairState) (w : World) (m : Message Known) (cs : List (Coming Known)) (asked : List (Message Known))
     (s : StandsBy p w asked (Event m ∷ cs)) (n : ℕ) → NotEnded p w
     → in_front p.client.core.inbox ≡ Whole n → (i : InEvent p w m cs asked s n)
     → (reply : Result (Option Report) NextError) (p' : PairState)
-    → (Nexts needs_memory (next_answer p.client) p (with_client p (after_next p.client)) reply p')
-    → Nexts needs_memory (Ok (Some (report p.client.core (the_found n m i.target.entry s.events.fit.0.fits.signature))))
+    → (Nexts needs_memory (opens_in p) (next_answer p.client) p (with_client p (after_next p.client)) reply p')
+    → Nexts needs_memory false (Ok (Some (report p.client.core (the_found n m i.target.entry s.events.fit.0.fits.signature))))
     p
     (with_client p (after_event p.client m n (teaches m i.target.entry))) reply p'
     → Moves p w asked (Event m ∷ cs) ClientNext (ClientNext reply) p'
@@ -118,6 +136,7 @@ keeps_event p w m cs asked s n z e i reply p' d answered = record {
   outcome = goes_on asked cs z (event_stands p w m cs asked s n i (event_mortal p w m cs asked s n i))
       (reading_event m cs n i.target.entry refl e);
 }
+keeps_event p w m cs asked s n z e i reply p' d (no_memory_to_open q h) = absurd (cc h)
 keeps_event p w m cs asked s n z e i reply p' d (no_memory {report = r} q h) =
     let same : report p.client.core (the_found n m i.target.entry s.events.fit.0.fits.signature) ≡ r = cc q in
     let needs = is_some_event w (renamed born_of m) _ (reports_it p w m cs asked s n i) (ap needs_memory same ∙ h) in
@@ -137,7 +156,7 @@ keeps_event p w m cs asked s n z e i reply p' d (no_memory {report = r} q h) =
 at_event : (p : PairState) (w : World) (m : Message Known) (cs : List (Coming Known)) (asked : List (Message Known))
     (s : StandsBy p w asked (Event m ∷ cs)) (n : ℕ) → NotEnded p w
     → in_front p.client.core.inbox ≡ Whole n → (reply : Result (Option Report) NextError) (p' : PairState)
-    → (Nexts needs_memory (next_answer p.client) p (with_client p (after_next p.client)) reply p')
+    → (Nexts needs_memory (opens_in p) (next_answer p.client) p (with_client p (after_next p.client)) reply p')
     → Moves p w asked (Event m ∷ cs) ClientNext (ClientNext reply) p'
 at_event p w m cs asked s n z e reply p' d =
     let i = in_event p w m cs asked s n e in
@@ -145,11 +164,12 @@ at_event p w m cs asked s n z e reply p' d =
     let f = the_found n m i.target.entry sig in
     let a = answer_is p f s.client.lives i.finds_it in
     let b = event_answer p m n i.target.entry p.server.core.tables s.events.fit.0.fits s.terms.valid
-    s.events.fit.0.no_delete_id i.target.same in
+    s.terms.same_tables s.events.fit.0.makes_none s.events.fit.0.no_delete_id i.target.same in
     keeps_event p w m cs asked s n z e i reply p' d
-    (subst (λ st. Nexts needs_memory (Ok (Some (report p.client.core f))) p (with_client p st) reply p')
+    (subst (λ st. Nexts needs_memory false (Ok (Some (report p.client.core f))) p (with_client p st) reply p')
     (a.leaves ∙ b.leaves)
-    (subst (λ x. Nexts needs_memory x p (with_client p (after_next p.client)) reply p') a.answer d))
+    (subst (λ x. Nexts needs_memory false x p (with_client p (after_next p.client)) reply p') a.answer
+    (nexts_none p reply p' (opens_none p f i.finds_it b.makes_none) d)))
 
 -- ---- a delete
 
@@ -157,8 +177,8 @@ keeps_delete : (p : PairState) (w : World) (x : Known) (cs : List (Coming Known)
     (s : StandsBy p w asked (Delete x ∷ cs)) (n : ℕ) → NotEnded p w
     → in_front p.client.core.inbox ≡ Whole n → (i : InDelete p x cs s.meet.middle n)
     → (reply : Result (Option Report) NextError) (p' : PairState)
-    → (Nexts needs_memory (next_answer p.client) p (with_client p (after_next p.client)) reply p')
-    → Nexts needs_memory (Ok (Some (reports.Deleted (record { id = x.id; birth = i.entry.birth })))) p
+    → (Nexts needs_memory (opens_in p) (next_answer p.client) p (with_client p (after_next p.client)) reply p')
+    → Nexts needs_memory false (Ok (Some (reports.Deleted (record { id = x.id; birth = i.entry.birth })))) p
     (with_client p (after_delete p.client x n)) reply p'
     → Moves p w asked (Delete x ∷ cs) ClientNext (ClientNext reply) p'
 keeps_delete p w x cs asked s n z e i reply p' d answered = record {
@@ -171,6 +191,7 @@ keeps_delete p w x cs asked s n z e i reply p' d answered = record {
   });
   outcome = goes_on asked cs z (delete_stands p w x cs asked s n i) (reading_delete x cs n refl e);
 }
+keeps_delete p w x cs asked s n z e i reply p' d (no_memory_to_open q h) = absurd (cc h)
 keeps_delete p w x cs asked s n z e i reply p' d (no_memory {report = r} q h) =
     let same : reports.Deleted (record { id = x.id; birth = i.entry.birth }) ≡ r = cc q in
     absurd (cc (ap needs_memory same, h))
@@ -178,7 +199,7 @@ keeps_delete p w x cs asked s n z e i reply p' d (no_memory {report = r} q h) =
 at_delete : (p : PairState) (w : World) (x : Known) (cs : List (Coming Known)) (asked : List (Message Known))
     (s : StandsBy p w asked (Delete x ∷ cs)) (n : ℕ) → NotEnded p w
     → in_front p.client.core.inbox ≡ Whole n → (reply : Result (Option Report) NextError) (p' : PairState)
-    → (Nexts needs_memory (next_answer p.client) p (with_client p (after_next p.client)) reply p')
+    → (Nexts needs_memory (opens_in p) (next_answer p.client) p (with_client p (after_next p.client)) reply p')
     → Moves p w asked (Delete x ∷ cs) ClientNext (ClientNext reply) p'
 at_delete p w x cs asked s n z e reply p' d =
     let i = in_delete p w x cs asked s n e in
@@ -186,17 +207,18 @@ at_delete p w x cs asked s n z e reply p' d =
     let a = answer_is p f s.client.lives i.finds_it in
     let b = delete_answer p x n i.entry i.signature s.client.sound i.deletes_it.mortal i.there i.count in
     keeps_delete p w x cs asked s n z e i reply p' d
-    (subst (λ st. Nexts needs_memory (Ok (Some (reports.Deleted (record { id = x.id; birth = i.entry.birth })))) p
+    (subst (λ st. Nexts needs_memory false (Ok (Some (reports.Deleted (record { id = x.id; birth = i.entry.birth })))) p
     (with_client p st) reply p') (a.leaves ∙ b.leaves)
-    (subst (λ y. Nexts needs_memory y p (with_client p (after_next p.client)) reply p')
-    (a.answer ∙ ap (λ (r : Report). Ok (Some r)) b.tells_it) d))
+    (subst (λ y. Nexts needs_memory false y p (with_client p (after_next p.client)) reply p')
+    (a.answer ∙ ap (λ (r : Report). Ok (Some r)) b.tells_it)
+    (nexts_none p reply p' (opens_none p f i.finds_it b.makes_none) d)))
 
 -- ---- all fronts
 
 at_whole : (p : PairState) (w : World) (asked : List (Message Known)) (told : List (Coming Known))
     (s : StandsBy p w asked told) (n : ℕ) → NotEnded p w
     → in_front p.client.core.inbox ≡ Whole n → (reply : Result (Option Report) NextError) (p' : PairState)
-    → (Nexts needs_memory (next_answer p.client) p (with_client p (after_next p.client)) reply p')
+    → (Nexts needs_memory (opens_in p) (next_answer p.client) p (with_client p (after_next p.client)) reply p')
     → Moves p w asked told ClientNext (ClientNext reply) p'
 at_whole p w asked [] s n z e reply p' d = absurd
     (let q = pops p.server.core.outbox p.client.core.inbox [] n s.events.in_boxes e in cc q.is)
@@ -206,22 +228,24 @@ at_whole p w asked (Delete x ∷ cs) s n z e reply p' d = at_delete p w x cs ask
 keeps_idle : (p : PairState) (w : World) (asked : List (Message Known)) (told : List (Coming Known))
     (s : StandsBy p w asked told) → NotEnded p w → in_front p.client.core.inbox ≡ More
     → (reply : Result (Option Report) NextError) (p' : PairState)
-    → (Nexts needs_memory (next_answer p.client) p (with_client p (after_next p.client)) reply p')
-    → Nexts needs_memory (Ok None) p p reply p' → Moves p w asked told ClientNext (ClientNext reply) p'
+    → (Nexts needs_memory (opens_in p) (next_answer p.client) p (with_client p (after_next p.client)) reply p')
+    → Nexts needs_memory false (Ok None) p p reply p' → Moves p w asked told ClientNext (ClientNext reply) p'
 keeps_idle p w asked told s z e reply p' d answered =
     record { world = w; answers = before z d (λ h. subst HasMessage e h, refl); outcome = goes_on asked told z s stays }
 keeps_idle p w asked told s z e reply p' d (no_memory q h) = absurd (cc q)
+keeps_idle p w asked told s z e reply p' d (no_memory_to_open q h) = absurd (cc h)
 
 at_front : (p : PairState) (w : World) (asked : List (Message Known)) (told : List (Coming Known))
     (s : StandsBy p w asked told) → NotEnded p w
     → (reply : Result (Option Report) NextError) (p' : PairState)
-    → (Nexts needs_memory (next_answer p.client) p (with_client p (after_next p.client)) reply p')
+    → (Nexts needs_memory (opens_in p) (next_answer p.client) p (with_client p (after_next p.client)) reply p')
     → (f : Front) → in_front p.client.core.inbox ≡ f → Moves p w asked told ClientNext (ClientNext reply) p'
 at_front p w asked told s z reply p' d More e =
     let i = idle p s.client.lives e in
     keeps_idle p w asked told s z e reply p' d
-    (subst (λ st. Nexts needs_memory (Ok None) p (with_client p st) reply p') i.1
-    (subst (λ x. Nexts needs_memory x p (with_client p (after_next p.client)) reply p') i.0 d))
+    (subst (λ st. Nexts needs_memory false (Ok None) p (with_client p st) reply p') i.1
+    (subst (λ x. Nexts needs_memory false x p (with_client p (after_next p.client)) reply p') i.0
+    (nexts_none p reply p' i.2 d)))
 at_front p w asked told s z reply p' d (Bad n) e =
     absurd (never_bad p.server.core.outbox p.client.core.inbox _ n s.events.in_boxes e)
 at_front p w asked told s z reply p' d (Whole n) e = at_whole p w asked told s n z e reply p' d
@@ -230,6 +254,6 @@ at_front p w asked told s z reply p' d (Whole n) e = at_whole p w asked told s n
 pub client_next_keeps : (p : PairState) (w : World) (asked : List (Message Known)) (told : List (Coming Known))
     → StandsBy p w asked told → NotEnded p w
     → (reply : Result (Option Report) NextError) (p' : PairState)
-    → (Nexts needs_memory (next_answer p.client) p (with_client p (after_next p.client)) reply p')
+    → (Nexts needs_memory (opens_in p) (next_answer p.client) p (with_client p (after_next p.client)) reply p')
     → Moves p w asked told ClientNext (ClientNext reply) p'
 client_next_keeps p w asked told s z reply p' d = at_front p w asked told s z reply p' d _ refl

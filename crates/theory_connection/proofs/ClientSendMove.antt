@@ -13,15 +13,16 @@ use Rattle.wl_sigs.specs.Tables as sigs
 use Rattle.wl_sigs.specs.declared.signature.Destroys.{Destroys}
 use Rattle.wl_sigs.specs.declared.signature.Destroys.TheVariants.{Nothing, Target, Arg as ends_arg}
 use Rattle.wl_wire.specs.Argument.{Obj}
+use Rattle.wl_sigs.specs.Rules.{has_server_objects}
 use Rattle.wl_sigs.specs.Valid.{Valid}
 use Rattle.wl_message.specs.Outgoing.{queued}
 use Rattle.wl_object_map.specs.declared.object.Object.{Object}
 use Rattle.wl_object_map.specs.declared.object.Entry.{Entry}
 use Rattle.wl_objects.specs.declared.error.SendError.{SendError}
-use Rattle.wl_object_map.specs.View.{next_id, can_open}
-use Rattle.wl_object_map.specs.Objects.{Objects, look}
+use Rattle.wl_object_map.specs.declared.object.Maker.TheVariants.{Client}
+use Rattle.wl_object_map.specs.Objects.{Objects, look, next_id, can_open}
 use Rattle.wl_objects.specs.Writing.{Given, wired, message_bytes}
-use Rattle.wl_objects.specs.Messages.{NewObject, made, ended_id, after, checked}
+use Rattle.wl_objects.specs.Messages.{NewObject, made, maker_by, ended_id, after, checked}
 use Rattle.wl_connection.specs.Core.{Core}
 use Rattle.wl_connection.specs.Sending.{send_answer, after_send, after_checked, made_at, version_at, opens_object}
 use Rattle.theory_connection.specs.Stands.{MadeByClient}
@@ -75,14 +76,14 @@ if_map P f None h = tt
 if_map P f (Some x) h = h
 
 -- what the new object is, where there is one
-new_fits : (v : Objects) (new : Known) (o : Option Known) → MadeByClient v → new.id ≡ next_id v.client
+new_fits : (v : Objects) (new : Known) (o : Option Known) → MadeByClient v → new.id ≡ next_id Client v
     → new.born.birth ≡ client_birth v.client.births
-    → (o ≡ None) ⊎ (o ≡ Some new) → IfThere (λ (x : Known). can_open v.client ≡ true) o
-    → IfThere (Fresh (client_rows v)) o × IfThere (λ x. x.id ≡ next_id v.client) o
+    → (o ≡ None) ⊎ (o ≡ Some new) → IfThere (λ (x : Known). can_open Client v ≡ true) o
+    → IfThere (Fresh (client_rows v)) o × IfThere (λ x. x.id ≡ next_id Client v) o
 new_fits v new None s i b h c = (tt, tt)
 new_fits v new (Some x) s i b h c =
     let e : x ≡ new = elim h [ inl p ↦ absurd (cc p) | inr p ↦ cc ] in
-    let id : x.id ≡ next_id v.client = ap (λ (k : Known). k.id) e ∙ i in
+    let id : x.id ≡ next_id Client v = ap (λ (k : Known). k.id) e ∙ i in
     let birth : x.born.birth ≡ client_birth v.client.births = ap (λ (k : Known). k.born.birth) e ∙ b in
     (next_fresh v x s.tables c id birth, id)
 
@@ -104,11 +105,16 @@ pub valid_client : (p : PairState) (w : World) (asked : List (Message Known)) (t
     → StandsBy p w asked told → Valid p.client.core.tables
 valid_client p w asked told s = subst Valid (sym s.terms.same_tables) s.terms.valid
 
+pub none_client : (p : PairState) (w : World) (asked : List (Message Known)) (told : List (Coming Known))
+    → StandsBy p w asked told → has_server_objects p.client.core.tables ≡ false
+none_client p w asked told s = ap has_server_objects s.terms.same_tables ∙ s.terms.none_by_server
+
 -- what a call makes, by the entry of its target
-pub made_same : (core : Core) (target : Object) (given : List Given) (signature : sigs.MessageSignature) (entry : Entry)
-    → look core.view target.id ≡ Some entry → made_at core target signature given ≡ the_made core entry given signature
-made_same core target given signature entry h = ap
-    (λ o. made core.tables (version_at o) signature.kinds (map (wired (next_id core.view.client)) given)) h
+pub made_same : (core : Core) (side : Side) (target : Object) (given : List Given) (signature : sigs.MessageSignature)
+    (entry : Entry) → look core.view target.id ≡ Some entry
+    → made_at core side target signature given ≡ the_made core side entry given signature
+made_same core side target given signature entry h = ap
+    (λ o. made core.tables (version_at o) signature.kinds (map (wired (next_id (maker_by side) core.view)) given)) h
 
 signed_there : (p : PairState) (w : World) (asked : List (Message Known)) (told : List (Coming Known))
     (s : StandsBy p w asked told) (target : Object) (opcode : ℕ) (given : List Given)
@@ -135,11 +141,11 @@ call_mortal : (p : PairState) (w : World) (asked : List (Message Known)) (told :
     → (c : Checked p.client.core.outbox.limit.bytes p.client.core.tables Request p.client.core.view target opcode given
     signature) (k : CallIs p.client.core Request target opcode given signature c.entry)
     → signature_at p.server.core.tables c.entry.iface.0 Request opcode ≡ Some signature
-    → IfThere Mortal (the_call p.client.core c.entry target opcode given signature).ends
+    → IfThere Mortal (the_call p.client.core Request c.entry target opcode given signature).ends
 call_mortal p w asked told s target opcode given signature c k there = by_what signature.destroys refl
   where
     m : Message Known
-    m = the_call p.client.core c.entry target opcode given signature
+    m = the_call p.client.core Request c.entry target opcode given signature
 
     by_what : (what : Destroys) → signature.destroys ≡ what → IfThere Mortal (ended_by what m.target m.args)
     by_what Nothing d = tt
@@ -162,27 +168,27 @@ pub client_can : (p : PairState) (w : World) (asked : List (Message Known)) (tol
     (new : Option Object)
     → (c : Checked p.client.core.outbox.limit.bytes p.client.core.tables Request p.client.core.view target opcode given
     signature) (k : CallIs p.client.core Request target opcode given signature c.entry)
-    → Opens p.client.core (made_at p.client.core target signature given) new
-    → CanAsk p (the_call p.client.core c.entry target opcode given signature)
+    → Opens p.client.core Client (made_at p.client.core Request target signature given) new
+    → CanAsk p (the_call p.client.core Request c.entry target opcode given signature)
 client_can p w asked told s target opcode given signature new c k o =
     let core = p.client.core in
     let v = core.view in
     let tables = p.server.core.tables in
-    let m = the_call core c.entry target opcode given signature in
+    let m = the_call core Request c.entry target opcode given signature in
     let f = moved core.tables tables Request m s.terms.same_tables k.fits_it in
     let there = signed_there p w asked told s target opcode given signature c in
-    let can = if_map (can_open v.client ≡ true) made_of (made_in m.args)
-    (subst (IfThere (λ (x : NewObject). can_open v.client ≡ true))
-    (made_same core target given signature c.entry c.there ∙ k.made_is) o.can) in
-    let n = new_fits v (the_new core c.entry given signature) (made_in m.args) s.client.sound
-    (new_id v (the_made core c.entry given signature))
-    (new_birth v (the_made core c.entry given signature)) k.new can in
+    let can = if_map (can_open Client v ≡ true) made_of (made_in m.args)
+    (subst (IfThere (λ (x : NewObject). can_open Client v ≡ true))
+    (made_same core Request target given signature c.entry c.there ∙ k.made_is) o.can) in
+    let n = new_fits v (the_new core Request c.entry given signature) (made_in m.args) s.client.sound
+    (new_id Client v (the_made core Request c.entry given signature))
+    (new_birth Client v (the_made core Request c.entry given signature)) k.new can in
     record {
       fitly = record { fits = f; binds = λ h. absurd (cc (h, c.hidden)) };
       target = open_live v m.target (record { entry = c.entry; there = c.there; same = refl; live = c.live });
       target_plain = target_plain tables s.terms.valid (born_of_entry c.entry) opcode signature there;
       args = each_by (LiveAt v) (OpenRow (client_rows v)) (open_live v) (objects m.args) k.live;
-      args_plain = objects_plain tables v (the_new core c.entry given signature) signature.kinds given k.right
+      args_plain = objects_plain tables v (the_new core Request c.entry given signature) signature.kinds given k.right
           (s.terms.valid.no_any_in_requests c.entry.iface.0 opcode signature there)
           (s.terms.valid.race_free.no_arguments c.entry.iface.0 opcode signature there);
       new = n.0;
@@ -199,11 +205,11 @@ left_by : (core : Core) (target : Object) (opcode : ℕ) (given : List Given) (s
     → (c : Checked core.outbox.limit.bytes core.tables Request core.view target opcode given signature)
     (k : CallIs core Request target opcode given signature c.entry)
     → after_send core Request target opcode given
-    ≡ asked_core core (the_call core c.entry target opcode given signature)
+    ≡ asked_core core (the_call core Request c.entry target opcode given signature)
 left_by core target opcode given signature v e c k =
-    let m = the_call core c.entry target opcode given signature in
-    let mk = made_same core target given signature c.entry c.there ∙ k.made_is in
-    let t = sym (tokens_all core.view (the_new core c.entry given signature) given) in
+    let m = the_call core Request c.entry target opcode given signature in
+    let mk = made_same core Request target given signature c.entry c.there ∙ k.made_is in
+    let t = sym (tokens_all core.view (the_new core Request c.entry given signature) given) in
     let id = ended_id signature.destroys target.id (map (wired 0) given) in
     ap (after_checked core Request target opcode given) e
     ∙ ((λ i. record core {
@@ -257,26 +263,26 @@ pub sends_that : (p : PairState) (w : World) (asked : List (Message Known)) (tol
     (new : Option Object)
     → (c : Checked p.client.core.outbox.limit.bytes p.client.core.tables Request p.client.core.view target opcode given
     signature) (k : CallIs p.client.core Request target opcode given signature c.entry)
-    → (o : Opens p.client.core (made_at p.client.core target signature given) new)
-    → CanAsk p (the_call p.client.core c.entry target opcode given signature)
+    → (o : Opens p.client.core Client (made_at p.client.core Request target signature given) new)
+    → CanAsk p (the_call p.client.core Request c.entry target opcode given signature)
     → WritesThat p.client.core.tables Request w (birth_at target) opcode (map (handed w.births) given) new
-    (request_written w (renamed born_of (the_call p.client.core c.entry target opcode given signature)))
+    (request_written w (renamed born_of (the_call p.client.core Request c.entry target opcode given signature)))
 sends_that p w asked told s target opcode given signature new c k o can =
     let core = p.client.core in
     let v = core.view in
-    let m = the_call core c.entry target opcode given signature in
+    let m = the_call core Request c.entry target opcode given signature in
     let births = fresh_births v (made_in m.args) can.new in
     record {
       message = renamed born_of m;
       is = record { signature = signature; there = c.signed; ends = born_ends m signature.destroys refl };
       target_is = ap client_birth c.birth;
       opcode_is = refl;
-      args_are = handed_all v (the_new core c.entry given signature) w.births signature.kinds given
-          (new_birth v (the_made core c.entry given signature) ∙ ap client_birth (sym s.client.births)) k.right;
+      args_are = handed_all v (the_new core Request c.entry given signature) w.births signature.kinds given
+          (new_birth Client v (the_made core Request c.entry given signature) ∙ ap client_birth (sym s.client.births)) k.right;
       new_is = ap (option_map birth_of) (made_map born_of m.args)
-          ∙ new_births (made_in m.args) v.client.births (next_id v.client) births
-          ∙ ap (option_map birth_at) (ap (option_map (λ (y : NewObject). record { id = next_id v.client; birth = v.client.births }))
-          (sym (made_same core target given signature c.entry c.there ∙ k.made_is)) ∙ sym o.is);
+          ∙ new_births (made_in m.args) v.client.births (next_id Client v) births
+          ∙ ap (option_map birth_at) (ap (option_map (λ (y : NewObject). record { id = next_id Client v; birth = v.client.births }))
+          (sym (made_same core Request target given signature c.entry c.there ∙ k.made_is)) ∙ sym o.is);
       steps = asks_world p w asked told s m can;
     }
 
@@ -294,10 +300,11 @@ client_send_keeps p w asked told s z target opcode given g reply p' (accepted {n
     let core = p.client.core in
     let a = accepted_call core Request target opcode given new s.client.lives h in
     let c = is_checked core.outbox.limit.bytes core.tables Request core.view target opcode given a.signature a.checks in
-    let k = call_is core Request target opcode given a.signature (valid_client p w asked told s) s.client.sound g c in
-    let o = opens core (made_at core target a.signature given) new a.opens_it in
+    let k = call_is core Request target opcode given a.signature (valid_client p w asked told s)
+    (none_client p w asked told s) s.client.sound g c in
+    let o = opens core Client (made_at core Request target a.signature given) new a.opens_it in
     let can = client_can p w asked told s target opcode given a.signature new c k o in
-    let m = the_call core c.entry target opcode given a.signature in
+    let m = the_call core Request c.entry target opcode given a.signature in
     record {
       world = request_written w (renamed born_of m);
       answers = before z (accepted h) (sends_that p w asked told s target opcode given a.signature new c k o can);

@@ -6,13 +6,15 @@ use Rattle.std.specs.declared.option.Option.{Option}
 use Rattle.std.specs.declared.option.Option.TheVariants.{None, Some}
 use Rattle.std.specs.declared.result.Result.TheVariants.{Ok}
 use Rattle.std.proofs.lemmas.Bool.{ne_eqb, and_parts}
+use Rattle.wl_wire.specs.declared.kind.Kind.{Kind}
+use Rattle.wl_wire.specs.declared.kind.Kind.TheVariants as kinds
 use Rattle.wl_wire.specs.Argument.{Uint}
 use Rattle.wl_sigs.specs.declared.signature.Side.TheVariants.{Request as request_side, Event as event_side}
 use Rattle.wl_sigs.specs.declared.signature.Destroys.TheVariants.{Nothing}
 use Rattle.wl_sigs.specs.Tables.{Interface, signature_at}
 use Rattle.wl_sigs.specs.Valid.{Valid}
 use Rattle.wl_sigs.specs.Tables as sigs
-use Rattle.wl_sigs.specs.Fixed.{display, registry, wl_display}
+use Rattle.wl_sigs.specs.Fixed.{display, registry}
 use Rattle.wl_sigs.specs.Fixed as fixed
 use Rattle.wl_message.specs.Arrived.{without_first, in_front}
 use Rattle.wl_message.specs.Cut.{Whole}
@@ -21,7 +23,7 @@ use Rattle.wl_object_map.specs.declared.object.State.{State}
 use Rattle.wl_object_map.specs.declared.object.State.TheVariants as states
 use Rattle.wl_object_map.specs.Objects.{Objects, look, closed}
 use Rattle.wl_objects.specs.Reading.{descriptors}
-use Rattle.wl_objects.specs.Messages.{is_error, is_delete_id, same_iface}
+use Rattle.wl_objects.specs.Messages.{is_error, is_delete_id, same_iface, made, made_by}
 use Rattle.wl_objects.specs.Messages.{after, ended_id, after_delete_id}
 use Rattle.wl_connection.specs.Core.{Core}
 use Rattle.wl_connection.specs.Receiving.{found, is_none}
@@ -31,20 +33,21 @@ use Rattle.wl_client.specs.Reports.{state_past, globals_told, report}
 use Rattle.wl_client.specs.Reports as reports
 use Rattle.theory_connection.specs.Meant.{Birth, Born, Known, Message, Coming, Event, Delete, renamed, recoming}
 use Rattle.theory_connection.specs.Meant.{rearg, born_of, birth_of, wire, tokens, spelled_meant, spelled_coming}
-use Rattle.theory_connection.specs.Meant.{objects, born_of_entry, live_entry}
+use Rattle.theory_connection.specs.Meant.{objects, made_in, born_of_entry, live_entry}
 use Rattle.theory_connection.specs.World.{World, display_born, Row, event_read, delete_read}
 use Rattle.theory_connection.specs.World.{is_open_row, is_registry, learned, nameless, IfThere}
 use Rattle.theory_connection.specs.Pair.{PairState, with_client}
 use Rattle.theory_connection.specs.Flight.{Rows, IsHeldInRows, ReadsInFlight, all_tells, client_rows, row_of_entry}
 use Rattle.theory_connection.specs.Flight.{as_row}
 use Rattle.theory_connection.proofs.MadeByClient.{row_of_client}
-use Rattle.theory_connection.specs.Stands.{MadeByClient, StandsBy, FitsSignature, WasGiven, InFlight, ShowsBirths, birth_in}
+use Rattle.theory_connection.proofs.NoneByServer.{none_by_server}
+use Rattle.theory_connection.specs.Stands.{MadeByClient, StandsBy, SuitKinds, FitsSignature, WasGiven, InFlight, ShowsBirths, birth_in}
 use Rattle.wl_object_map.specs.View.{lives}
 use Rattle.theory_connection.proofs.WholeInFlight.{client_ends, TellsAt, tells_at, DeletesAt, deletes_at}
 use Rattle.theory_connection.proofs.Bridges.{client_closed}
 use Rattle.theory_connection.proofs.RowsAfterMessage.{held_row, client_after}
 use Rattle.theory_connection.proofs.Stands.{client_message, client_delete, first_read}
-use Rattle.theory_connection.proofs.ReadAsMeant.{HeldAt, AllMet, tokens_taken}
+use Rattle.theory_connection.proofs.ReadAsMeant.{HeldAt, AllMet, tokens_taken, made_of, made_read}
 use Rattle.theory_connection.proofs.FoundInFront.{the_found, the_message, finds, all_met, news_none}
 use Rattle.theory_connection.proofs.ClientGlobals.{told_same, learns}
 use Rattle.theory_connection.proofs.RequestRead.{test_of}
@@ -83,7 +86,7 @@ held_at_client v sets s x some h = let r = seen_at v sets s x h
 pub record InEvent (p : PairState) (w : World) (m : Message Known) (cs : List (Coming Known))
     (asked : List (Message Known)) (s : StandsBy p w asked (Event m ∷ cs)) (n : ℕ) : Type 0 where
   pub target : SeenAt p.client.core.view w.client m.target
-  pub met : AllMet p.client.core.view w.client m.args
+  pub met : AllMet event_side p.client.core.view w.client m.args
   pub finds_it : found p.client.core event_side ≡ Ok (Some (the_found n m target.entry s.events.fit.0.fits.signature))
   pub tells_it : TellsAt (test_of p) (all_tells cs) (client_rows p.client.core.view) s.meet.middle m.target
       (objects m.args) m.ends
@@ -106,9 +109,11 @@ in_event p w m cs asked s n e =
     let t = tells_at m.target (objects m.args) m.ends s.meet.reads in
     let r = seen_at p.client.core.view w.client s.client.sets m.target t.target in
     let f = s.events.fit.0.fits in
-    let met = all_met p.server.core.tables m.target.born.version p.client.core.view w.client
+    let none = none_by_server p.server.core.tables s.terms.valid s.terms.none_by_server m.target.born.iface.0 event_side
+    m.opcode f.signature f.there in
+    let met = all_met p.server.core.tables m.target.born.version event_side p.client.core.view w.client
     (IsHeldInRows (client_rows p.client.core.view)) (held_at_client p.client.core.view w.client s.client.sets)
-    f.signature.kinds m.args f.args t.args (news_none p.client.core.view m.args m.args s.events.fit.0.makes_none
+    f.signature.kinds m.args f.args t.args (news_none event_side p.client.core.view m.args m.args s.events.fit.0.makes_none
     f.new_is) in
     let core' : Core = record p.client.core { tables = p.server.core.tables } in
     let same_core : core' ≡ p.client.core = λ i. record p.client.core { tables = sym s.terms.same_tables i } in
@@ -116,7 +121,7 @@ in_event p w m cs asked s n e =
       target = r;
       met = met;
       finds_it = ap (λ (c : Core). found c event_side) (sym same_core)
-          ∙ finds core' event_side m n w.client r.entry f e q.bytes r.there r.same met q.enough;
+          ∙ finds core' event_side m n w.client r.entry f none e q.bytes r.there r.same met q.enough;
       tells_it = t;
       down = q.stay;
       more = q.more;
@@ -133,6 +138,7 @@ after_event st m n teaches = record {
     failed = false;
   };
   globals = cond teaches (globals_told st.core.tables st.globals m.opcode (map wire m.args)) st.globals;
+  made = None;
 }
 
 -- an event of a live registry teaches the client
@@ -145,14 +151,15 @@ pub record EventAnswer (p : PairState) (m : Message Known) (n : ℕ) (entry : En
   pub tells_it : report p.client.core (the_found n m entry signature)
       ≡ reports.plain_report p.client.core m.opcode (the_message m entry signature) entry.state
   pub leaves : state_past p.client (the_found n m entry signature) ≡ after_event p.client m n (teaches m entry)
+  pub makes_none : reports.made_by_event p.client.core (the_message m entry signature) ≡ None
 
 -- what the client says of an event, and how it leaves the client
 pub event_answer : (p : PairState) (m : Message Known) (n : ℕ) (entry : Entry) (tables : List Interface)
-    (f : FitsSignature tables event_side m) → Valid tables
+    (f : FitsSignature tables event_side m) → Valid tables → p.client.core.tables ≡ tables → made_in m.args ≡ None
     → is_delete_id event_side m.target.born.iface m.opcode ≡ false
     → born_of_entry entry ≡ m.target.born
     → EventAnswer p m n entry f.signature
-event_answer p m n entry tables f valid d s =
+event_answer p m n entry tables f valid same makes d s =
     let error : is_error event_side entry.iface m.opcode ≡ false =
     ap (λ (b : Born). is_error event_side b.iface m.opcode) s ∙ f.no_error in
     let delete : is_delete_id event_side entry.iface m.opcode ≡ false =
@@ -165,19 +172,40 @@ event_answer p m n entry tables f valid d s =
     (ended_id f.signature.destroys m.target.id (map wire m.args)) in
     let left : a ≡ ended_view request_side v m.ends =
     after_is request_side v None f.signature.destroys _ m.ends (ends_as tables event_side m f valid) in
+    let args : SuitKinds p.client.core.tables m.target.born.version f.signature.kinds m.args =
+    subst (λ (t : List Interface). SuitKinds t m.target.born.version f.signature.kinds m.args) (sym same) f.args in
+    let none : reports.made_by_event p.client.core (the_message m entry f.signature) ≡ None =
+    ap (λ (b : Born). made p.client.core.tables b.version f.signature.kinds (map wire m.args)) s
+    ∙ made_read p.client.core.tables m.target.born.version f.signature.kinds m.args args
+    ∙ ap (option_map made_of) makes in
     record {
       tells_it = rw (error, delete) refl;
-      leaves = λ i. record {
+      leaves = (λ i. record {
         core = record p.client.core {
           view = cond (error i) v (cond (delete i)
-              (after_delete_id v (reports.deleted_id (the_found n m entry f.signature))) (left i));
+              (after_delete_id v (reports.deleted_id (the_found n m entry f.signature)))
+              (after request_side v (none i) f.signature.destroys
+              (ended_id f.signature.destroys m.target.id (map wire m.args))));
           inbox = without_first p.client.core.inbox n (count i);
           read = min (p.client.core.read + n) 18446744073709551615;
           failed = error i;
         };
         globals = cond (registers i && lives entry.state)
             (globals_told p.client.core.tables p.client.globals m.opcode (map wire m.args)) p.client.globals;
-      };
+        made = reports.object_made v (none i);
+      })
+          ∙ (λ i. record {
+            core = record p.client.core {
+              view = left i;
+              inbox = without_first p.client.core.inbox n (length (tokens m.args));
+              read = min (p.client.core.read + n) 18446744073709551615;
+              failed = false;
+            };
+            globals = cond (is_registry m.target.born && lives entry.state)
+                (globals_told p.client.core.tables p.client.globals m.opcode (map wire m.args)) p.client.globals;
+            made = None;
+          });
+      makes_none = none;
     }
 
 -- ---- the pair stands again
@@ -327,7 +355,7 @@ in_delete p w x cs asked s n e =
       signature = f.signature;
       some_kinds = refl;
       finds_it = ap (λ (c : Core). found c event_side) (sym same_core)
-          ∙ finds core' event_side (deleting x) n w.client (live_entry display_born) f e q.bytes s.client.display refl
+          ∙ finds core' event_side (deleting x) n w.client (live_entry display_born) f refl e q.bytes s.client.display refl
           (tt, tt) (omega arith);
       keeps_target = refl;
       count = refl;
@@ -344,7 +372,23 @@ after_delete st x n = record st {
     read = min (st.core.read + n) 18446744073709551615;
     failed = false;
   };
+  made = None;
 }
+
+-- an id among the arguments makes no object
+number_makes_none : (tables : List Interface) (version : ℕ) (ks : List Kind) (n : ℕ)
+    → made tables version ks (Uint n ∷ []) ≡ None
+number_makes_none tables version [] n = refl
+number_makes_none tables version (kind ∷ ks) n = rw (one kind, rest ks) refl
+  where
+    one : (k : Kind) → made_by tables version k (Uint n) ≡ None
+    one (kinds.New None) = refl
+    one (kinds.New (Some iface)) = refl
+    one k = refl
+
+    rest : (l : List Kind) → made tables version l [] ≡ None
+    rest [] = refl
+    rest (k ∷ l) = refl
 
 pub record DeleteAnswer (p : PairState) (x : Known) (n : ℕ) (entry : Entry) (signature : sigs.MessageSignature) : Type
     0 where
@@ -352,6 +396,8 @@ pub record DeleteAnswer (p : PairState) (x : Known) (n : ℕ) (entry : Entry) (s
       ≡ reports.Deleted (record { id = x.id; birth = entry.birth })
   pub leaves : state_past p.client (the_found n (deleting x) (live_entry display_born) signature)
       ≡ after_delete p.client x n
+  pub makes_none : reports.made_by_event p.client.core (the_message (deleting x) (live_entry display_born) signature)
+      ≡ None
 
 -- what the client says of a delete, and how it leaves the client
 pub delete_answer : (p : PairState) (x : Known) (n : ℕ) (entry : Entry) (signature : sigs.MessageSignature)
@@ -362,6 +408,7 @@ delete_answer p x n entry signature s y row c =
     let v = p.client.core.view in
     let l = row_of_client v x.id entry s row in
     let gone : after_delete_id v x.id ≡ closed v x.id = rw (l, b) refl in
+    let none = number_makes_none p.client.core.tables 1 signature.kinds x.id in
     record {
       tells_it = rw (b, l) refl;
       leaves = λ i. record p.client {
@@ -371,7 +418,9 @@ delete_answer p x n entry signature s y row c =
           read = min (p.client.core.read + n) 18446744073709551615;
           failed = false;
         };
+        made = reports.object_made v (none i);
       };
+      makes_none = none;
     }
 
 -- a pair stands again after the client has read a delete

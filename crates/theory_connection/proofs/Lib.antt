@@ -5,6 +5,7 @@ pub mod Sets
 pub mod Channels
 pub mod Bridges
 pub mod MadeByClient
+pub mod NoneByServer
 pub mod ReadAsMeant
 pub mod RowsAfterMessage
 pub mod Stands

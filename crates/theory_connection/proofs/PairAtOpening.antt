@@ -2,7 +2,7 @@
 use Rattle.std.proofs.Common.{◌≡◌, ℕ, ◌≤◌, Bool, true, false, cond, List, [], ◌∷◌, ◌++◌, map, refl}
 use Rattle.std.proofs.Common.{sym, ap, subst, ◌∙◌, arith, lit≤}
 use Rattle.std.proofs.lemmas.Bool.{and_parts}
-use Rattle.std.specs.Prelude.{option_map, nat_eq, ◌&&◌}
+use Rattle.std.specs.Prelude.{option_map, nat_eq, ◌&&◌, not, is_some, ltb}
 use Rattle.std.specs.declared.option.Option.{Option}
 use Rattle.std.specs.declared.option.Option.TheVariants.{None, Some}
 use Rattle.wl_sigs.specs.Tables.{Interface}
@@ -14,8 +14,11 @@ use Rattle.wl_message.specs.Arrived.{Arrived}
 use Rattle.wl_object_map.specs.declared.object.Entry.{Entry}
 use Rattle.wl_object_map.specs.declared.object.State.{State}
 use Rattle.wl_object_map.specs.declared.object.State.TheVariants as states
-use Rattle.wl_object_map.specs.Objects.{look, opening as opening_view}
-use Rattle.wl_object_map.specs.ObjectsLaws.{look-opening}
+use Rattle.wl_object_map.specs.Ranges.{is_of_server, table_id}
+use Rattle.wl_object_map.specs.View.{lives_in, times}
+use Rattle.wl_object_map.specs.Views.{place_of_id, in_row, in_list, at_null, unused}
+use Rattle.wl_object_map.specs.Objects.{Objects, look, opening as opening_view}
+use Rattle.wl_object_map.specs.ObjectsLaws.{look-opening, is_from, in_range-server}
 use Rattle.theory_connection.proofs.MadeByClient.{made_opening}
 use Rattle.wl_connection.specs.Core.{Core, is_drained}
 use Rattle.wl_server.proofs.Registries.{has_none}
@@ -28,8 +31,9 @@ use Rattle.theory_connection.specs.Flight.{put_row, client_rows, server_rows, ro
 use Rattle.theory_connection.specs.Flight.{ReadsInFlight, done, Tied, drained as nothing_left, all_asks}
 use Rattle.theory_connection.specs.Flight.{all_tells}
 use Rattle.theory_connection.specs.Stands.{Stands, stands, ended, StandsBy, InFlight, ShowsBirths, birth_in, by_event}
-use Rattle.theory_connection.specs.Runs.{Runs, Agree, Keeps}
-use Rattle.wl_sigs.specs.Rules.{is_empty}
+use Rattle.theory_connection.specs.Stands.{MadeByClient}
+use Rattle.theory_connection.specs.Runs.{Runs, Agree, Keeps, is_freed, is_zombie}
+use Rattle.wl_sigs.specs.Rules.{is_empty, has_server_objects}
 use Rattle.theory_connection.proofs.WholeInFlight.{same_rows}
 use Rattle.theory_connection.proofs.Sets.{shows_make, no_object}
 use Rattle.theory_connection.proofs.Channels.{none_in_flight}
@@ -76,10 +80,17 @@ nothing_flies from to a b c d = record { begun = []; all = sym b; bytes = rw (c,
 
 -- a new pair stands, with nothing in flight
 pub new_stands_by : (tables : List Interface) (client_sizes server_sizes : Sizes)
-    → client_sizes.limit.bytes ≡ server_sizes.limit.bytes → Valid tables
+    → client_sizes.limit.bytes ≡ server_sizes.limit.bytes → Valid tables → has_server_objects tables ≡ false
     → StandsBy (new_pair tables client_sizes server_sizes) opening_world [] []
-new_stands_by tables client_sizes server_sizes one v = record {
-  terms = record { same_tables = refl; valid = v; up_limit = one; down_limit = sym one; one_limit = one };
+new_stands_by tables client_sizes server_sizes one v none = record {
+  terms = record {
+    same_tables = refl;
+    valid = v;
+    up_limit = one;
+    down_limit = sym one;
+    one_limit = one;
+    none_by_server = none;
+  };
   client = record {
     sets = shows_opening birth_in row_of_entry refl;
     births = refl;
@@ -120,10 +131,10 @@ new_stands_by tables client_sizes server_sizes one v = record {
 
 -- a new pair stands for the opening world
 pub new_stands : (tables : List Interface) (client_sizes server_sizes : Sizes)
-    → client_sizes.limit.bytes ≡ server_sizes.limit.bytes → Valid tables
+    → client_sizes.limit.bytes ≡ server_sizes.limit.bytes → Valid tables → has_server_objects tables ≡ false
     → Stands (new_pair tables client_sizes server_sizes) opening_world
-new_stands tables client_sizes server_sizes one v =
-    stands [] [] (refl, refl) (new_stands_by tables client_sizes server_sizes one v)
+new_stands tables client_sizes server_sizes one v none =
+    stands [] [] (refl, refl) (new_stands_by tables client_sizes server_sizes one v none)
 
 -- ---- drained ends
 
@@ -163,6 +174,23 @@ rows_same None (Some e) l h = absurd (cc h)
 rows_same (Some d) None l h = absurd (cc h)
 rows_same (Some d) (Some e) l h = ap Some (entry_of d e (l e refl) (cc h))
 
+-- an id without a row is no zombie's
+no_zombie : (view : Objects) (id : ℕ) → look view id ≡ None → is_zombie view id ≡ false
+no_zombie view id h = ap (λ (o : Option Entry). is_some o && not (lives_in o)) h
+
+-- where no id of the server's range was used, none is freed
+never_freed : (view : Objects) (id : ℕ) → MadeByClient view → is_of_server id ≡ true → is_freed view id ≡ false
+never_freed view id s range =
+    let low = is_from id range in
+    let none = s.unused in
+    in_range-server (λ table place. ltb 0 (times place table.freed)) view id range
+    ∙ (elim (place_of_id view.server s.tables.server (table_id id)) [
+      | in_row e l t a b ↦ absurd (omega (arith, low, none, b))
+      | in_list l t a b ↦ absurd (omega (arith, low, none, b))
+      | at_null l t e ↦ ap (λ (n : ℕ). ltb 0 n) t
+      | unused l t a ↦ ap (λ (n : ℕ). ltb 0 n) t
+    ])
+
 agree_by : (p : PairState) (w : World) (asked : List (Message Known)) (told : List (Coming Known))
     → StandsBy p w asked told → drained p → Agree p.client.core.view p.server.core.view
 agree_by p w asked told s d =
@@ -179,7 +207,22 @@ agree_by p w asked told s d =
     (server_rows p.server.core.view) s.meet.middle) a s.meet.tied) in
     let same : (id : ℕ) → look p.client.core.view id ≡ look p.server.core.view id =
     λ id. rows_same (look p.client.core.view id) (look p.server.core.view id) (s.server.live id) (rows id) in
-    record { same = same; live = λ id e h. s.server.live id e (sym (same id) ∙ h) }
+    let here = s.client.sound in
+    let there = s.server.sound in
+    record {
+      by_client = record {
+        same = λ id range. same id;
+        live = λ id e range h. s.server.live id e (sym (same id) ∙ h);
+      };
+      by_server = record {
+        same = λ id e range.
+            (λ h. absurd (cc (there.none id range, h)), λ h. absurd (cc (here.none id range, h.0)));
+        freed = λ id range. no_zombie p.client.core.view id (here.none id range)
+            ∙ sym (never_freed p.server.core.view id there range);
+        used = here.unused ∙ sym there.unused;
+        births = here.births ∙ sym there.births;
+      };
+    }
 
 -- drained ends that stand have the same objects
 pub agree_drained : (p : PairState) (w : World) → Stands p w → w.ended ≡ false → drained p

@@ -5,7 +5,8 @@ use Rattle.std.specs.Prelude.{nat_eq, nat_lt, option_map, if◌then◌else◌}
 use Rattle.std.specs.declared.option.Option.{Option}
 use Rattle.std.specs.declared.option.Option.TheVariants.{None, Some}
 use Rattle.std.specs.declared.result.Result.TheVariants.{Ok}
-use Rattle.std.proofs.lemmas.Bool.{ne_eqb, le-ltb}
+use Rattle.std.specs.List.{list_any}
+use Rattle.std.proofs.lemmas.Bool.{ne_eqb, le-ltb, or_parts}
 use Rattle.std.proofs.lemmas.List.{append_assoc, drop_at}
 use Rattle.std.proofs.lemmas.List.Sums.{sum_by-cons}
 use Rattle.wl_wire.specs.declared.kind.Kind.{Kind}
@@ -18,21 +19,22 @@ use Rattle.wl_wire.specs.Spelling.{Suits, canonical, spelled_len}
 use Rattle.wl_wire.specs.Reading.{reading}
 use Rattle.wl_wire.proofs.Canonicals.{reading-canonical, canonical-len, header_at-bytes}
 use Rattle.wl_sigs.specs.declared.signature.Side.{Side}
-use Rattle.wl_sigs.specs.Tables.{Interface, signature_at}
+use Rattle.wl_sigs.specs.Tables.{Interface, signature_at, is_by_server}
 use Rattle.wl_message.specs.Cut.{greatest_limit}
 use Rattle.wl_object_map.specs.declared.object.Object.{Object}
 use Rattle.wl_object_map.specs.declared.object.Entry.{Entry}
 use Rattle.wl_object_map.specs.declared.object.State.{State}
 use Rattle.wl_object_map.specs.declared.object.State.TheVariants as states
 use Rattle.wl_object_map.specs.View.{free_or_next, has_room}
-use Rattle.wl_object_map.specs.Objects.{Objects, look}
+use Rattle.wl_object_map.specs.Objects.{Objects, look, next_birth}
 use Rattle.wl_objects.specs.declared.lookup.NewId.{NewId}
 use Rattle.wl_objects.specs.declared.lookup.NewId.TheVariants.{Free}
 use Rattle.wl_objects.specs.Reading.{Reader, value_fault, iface_of, is_of, arguments_at, value_or_fault}
 use Rattle.wl_objects.specs.Reading.{descriptors, is_descriptor_kind, in_state, reported_argument}
 use Rattle.wl_objects.specs.Reading.{reports_of, head_or, tokens_after, by_maker}
 use Rattle.wl_objects.specs.Writing.{spelled as spelled_values, message_len, message_bytes}
-use Rattle.wl_objects.specs.Messages.{reader_of, received, is_error, NewObject, made_by, made, or_else as made_or_else}
+use Rattle.wl_objects.specs.Messages.{reader_of, maker_by, received, is_error, NewObject, made_by, made}
+use Rattle.wl_objects.specs.Messages.{or_else as made_or_else}
 use Rattle.theory_connection.specs.Meant.{Birth, client_birth, Born, Known, Message, Arg, rearg, born_of}
 use Rattle.theory_connection.specs.Meant.{birth_of, wire, tokens, token_in, new_object_in, made_in}
 use Rattle.theory_connection.specs.Meant.{born_of_entry, live_entry}
@@ -40,6 +42,7 @@ use Rattle.theory_connection.specs.World.{Row, Each}
 use Rattle.theory_connection.specs.Flight.{row_of_entry, as_row}
 use Rattle.theory_connection.specs.Answers.{Seen, Live, Dead, seen_named, seen_by, by_row, birth_at}
 use Rattle.theory_connection.specs.Stands.{FitsSignature, SuitKinds, NamesRightly}
+use Rattle.theory_connection.proofs.NoneByServer.{NoneByServer}
 use Rattle.wl_objects.specs.Messages.{or_else}
 
 -- the object of an argument is held where its reader stands, and the rows of the world show it
@@ -50,22 +53,22 @@ pub record HeldAt (view : Objects) (rows : Birth → Option Row) (x : Known) : T
   pub same : born_of_entry entry ≡ x.born
   pub shown : rows x.born.birth ≡ Some (row_of_entry entry)
 
--- a new object fits
-pub record FreeAt (view : Objects) (x : Known) : Type 0 where
+-- a new object of a message of this side fits, as one of the client's
+pub record FreeAt (side : Side) (view : Objects) (x : Known) : Type 0 where
   pub free : free_or_next view.client x.id ≡ true
   pub room : has_room view.client x.id ≡ true
-  pub birth : x.born.birth ≡ client_birth view.client.births
+  pub birth : x.born.birth ≡ client_birth (next_birth (maker_by side) view)
 
-abbrev pub Met : Objects → (Birth → Option Row) → Arg Known → Type 0
-Met view rows (Obj (Some x)) = HeldAt view rows x
-Met view rows (New x) = FreeAt view x
-Met view rows (NewNamed name own x) = FreeAt view x
-Met view rows _ = Unit {0}
+abbrev pub Met : Side → Objects → (Birth → Option Row) → Arg Known → Type 0
+Met side view rows (Obj (Some x)) = HeldAt view rows x
+Met side view rows (New x) = FreeAt side view x
+Met side view rows (NewNamed name own x) = FreeAt side view x
+Met side view rows _ = Unit {0}
 
--- each argument meets its object or a free id
-abbrev pub AllMet : Objects → (Birth → Option Row) → List (Arg Known) → Type 0
-AllMet view rows [] = Unit {0}
-AllMet view rows (a ∷ args) = Met view rows a × AllMet view rows args
+-- each argument of a message of this side meets its object or a free id
+abbrev pub AllMet : Side → Objects → (Birth → Option Row) → List (Arg Known) → Type 0
+AllMet side view rows [] = Unit {0}
+AllMet side view rows (a ∷ args) = Met side view rows a × AllMet side view rows args
 
 -- ---- what a reader finds
 
@@ -92,24 +95,24 @@ abbrev strict : Reader → Reader
 strict r = record r { forgives = false }
 
 -- an object that an argument makes is one of the client
-by_client : (tables : List Interface) (version : ℕ) (kind : Kind) (id : ℕ) (new : NewObject) (of_client of_server : NewId)
-    → made_by tables version kind (New id) ≡ Some new → by_maker kind of_client of_server ≡ of_client
-by_client tables version (kinds.New iface) id new of_client of_server e = refl
-by_client tables version kind id new of_client of_server e = absurd (cc)
+by_client : (kind : Kind) (of_client of_server : NewId) → is_by_server kind ≡ false
+    → by_maker kind of_client of_server ≡ of_client
+by_client (kinds.NewByServer iface) of_client of_server e = absurd (cc e)
+by_client kind of_client of_server e = refl
 
 right : (tables : List Interface) (version place : ℕ) (r : Reader) (kind : Kind) (a : Arg Known)
-    → NamesRightly tables version kind a → Finds r a
+    → is_by_server kind ≡ false → NamesRightly tables version kind a → Finds r a
     → value_fault (strict r) place kind (wire a) ≡ None
-right tables version place r kind (Obj None) n m = refl
-right tables version place r kind (Obj (Some x)) n m =
+right tables version place r kind (Obj None) b n m = refl
+right tables version place r kind (Obj (Some x)) b n m =
     let some : nat_eq x.id 0 ≡ false = ne_eqb x.id 0 (λ h. omega (arith, n.0)) in
     let of : is_of (iface_of kind) m.entry ≡ true =
     is_of_same (iface_of kind) m.entry (live_entry x.born) m.iface n.1 in
     rw (some, m.there, of) refl
-right tables version place r kind (New x) n m =
-    rw (by_client tables version kind x.id _ (r.new_id x.id) (r.new_server_id x.id) n, m) refl
-right tables version place r kind (NewNamed name own x) n m = rw m refl
-right tables version place r kind a n m = refl
+right tables version place r kind (New x) b n m =
+    rw (by_client kind (r.new_id x.id) (r.new_server_id x.id) b, m) refl
+right tables version place r kind (NewNamed name own x) b n m = rw m refl
+right tables version place r kind a b n m = refl
 
 read_one : (r : Reader) (place : ℕ) (kind : Kind) (ks : List Kind) (v : Argument) (rest : List ℕ) (vs : List Argument)
     → Suits kind v → value_fault (strict r) place kind v ≡ None
@@ -123,15 +126,16 @@ read_one r place kind ks v rest vs s g h =
     rw (found, back, h) refl
 
 values_read : (tables : List Interface) (version place : ℕ) (r : Reader) (ks : List Kind) (args : List (Arg Known))
-    → SuitKinds tables version ks args → Each (Finds r) args
+    → NoneByServer ks → SuitKinds tables version ks args → Each (Finds r) args
     → arguments_at (strict r) place ks (spelled_values (map wire args)) ≡ Ok (map wire args, [])
-values_read tables version place r [] [] f m = refl
-values_read tables version place r (kind ∷ ks) [] f m = absurd f
-values_read tables version place r [] (a ∷ args) f m = absurd f
-values_read tables version place r (kind ∷ ks) (a ∷ args) f m =
+values_read tables version place r [] [] n f m = refl
+values_read tables version place r (kind ∷ ks) [] n f m = absurd f
+values_read tables version place r [] (a ∷ args) n f m = absurd f
+values_read tables version place r (kind ∷ ks) (a ∷ args) n f m =
+    let none = or_parts (is_by_server kind) (list_any is_by_server ks) n in
     read_one r place kind ks (wire a) (spelled_values (map wire args)) (map wire args) f.0.0
-    (right tables version place r kind a f.0.1 m.0)
-    (values_read tables version (suc place) r ks args f.1 m.1)
+    (right tables version place r kind a none.0 f.0.1 m.0)
+    (values_read tables version (suc place) r ks args none.1 f.1 m.1)
 
 -- ---- tokens
 
@@ -174,7 +178,7 @@ tokens_taken tables version (kind ∷ ks) (a ∷ args) f =
 
 -- by any reader that knows what it names
 pub received_by_any : (tables : List Interface) (side : Side) (r : Reader) (m : Message Known) (header : Header)
-    (waiting : ℕ) (o : HasObject r m.target) (f : FitsSignature tables side m)
+    (waiting : ℕ) (o : HasObject r m.target) (f : FitsSignature tables side m) → NoneByServer f.signature.kinds
     → header.object ≡ m.target.id → header.opcode ≡ m.opcode → Each (Finds r) m.args → length (tokens m.args) ≤ waiting
     → received tables side r header (spelled_values (map wire m.args)) waiting
     ≡ Ok (record {
@@ -183,7 +187,7 @@ pub received_by_any : (tables : List Interface) (side : Side) (r : Reader) (m : 
       signature = f.signature;
       values = map wire m.args;
     })
-received_by_any tables side r m header waiting o f ho hp k w =
+received_by_any tables side r m header waiting o f none ho hp k w =
     let row_there : r.object header.object ≡ Some o.entry = ap r.object ho ∙ o.there in
     let sig : signature_at tables o.entry.iface.0 side header.opcode ≡ Some f.signature =
     ap (λ (i : Iface). signature_at tables i.0 side header.opcode) o.iface
@@ -201,74 +205,76 @@ received_by_any tables side r m header waiting o f ho hp k w =
       sig,
       old,
       forgives,
-      values_read tables m.target.born.version 0 r f.signature.kinds m.args f.args k,
+      values_read tables m.target.born.version 0 r f.signature.kinds m.args none f.args k,
       enough,
       ho,
     ) refl
 
-object_held : (view : Objects) (rows : Birth → Option Row) (x : Known) → HeldAt view rows x → HasObject (reader_of view) x
-object_held view rows x h = record {
-  entry = h.entry;
-  there = h.there;
-  iface = ap (λ (b : Born). b.iface) h.same;
-  version = ap (λ (b : Born). b.version) h.same;
-}
+module _ (tables : List Interface) (side : Side) (view : Objects) (rows : Birth → Option Row) where
+  object_held : (x : Known) → HeldAt view rows x → HasObject (reader_of tables side view) x
+  object_held x h = record {
+    entry = h.entry;
+    there = h.there;
+    iface = ap (λ (b : Born). b.iface) h.same;
+    version = ap (λ (b : Born). b.version) h.same;
+  }
 
-one_found : (view : Objects) (rows : Birth → Option Row) (a : Arg Known) → Met view rows a → Finds (reader_of view) a
-one_found view rows (Obj None) m = tt
-one_found view rows (Obj (Some x)) m = object_held view rows x m
-one_found view rows (New x) m = rw (m.free, m.room) refl
-one_found view rows (NewNamed name own x) m = rw (m.free, m.room) refl
-one_found view rows a m = tt
+  one_found : (a : Arg Known) → Met side view rows a → Finds (reader_of tables side view) a
+  one_found (Obj None) m = tt
+  one_found (Obj (Some x)) m = object_held x m
+  one_found (New x) m = rw (m.free, m.room) refl
+  one_found (NewNamed name own x) m = rw (m.free, m.room) refl
+  one_found a m = tt
 
-all_found : (view : Objects) (rows : Birth → Option Row) (args : List (Arg Known)) → AllMet view rows args
-    → Each (Finds (reader_of view)) args
-all_found view rows [] m = tt
-all_found view rows (a ∷ args) m = (one_found view rows a m.0, all_found view rows args m.1)
+  all_found : (args : List (Arg Known)) → AllMet side view rows args → Each (Finds (reader_of tables side view)) args
+  all_found [] m = tt
+  all_found (a ∷ args) m = (one_found a m.0, all_found args m.1)
 
 -- by an end
 pub received_right : (tables : List Interface) (side : Side) (view : Objects) (rows : Birth → Option Row)
     (m : Message Known) (header : Header) (waiting : ℕ) (entry : Entry) (f : FitsSignature tables side m)
+    → NoneByServer f.signature.kinds
     → header.object ≡ m.target.id → header.opcode ≡ m.opcode → look view m.target.id ≡ Some entry
-    → born_of_entry entry ≡ m.target.born → AllMet view rows m.args → length (tokens m.args) ≤ waiting
-    → received tables side (reader_of view) header (spelled_values (map wire m.args)) waiting
+    → born_of_entry entry ≡ m.target.born → AllMet side view rows m.args → length (tokens m.args) ≤ waiting
+    → received tables side (reader_of tables side view) header (spelled_values (map wire m.args)) waiting
     ≡ Ok (record {
       target = record { id = m.target.id; birth = entry.birth };
       entry = entry;
       signature = f.signature;
       values = map wire m.args;
     })
-received_right tables side view rows m header waiting entry f ho hp l s k w =
-    let o : HasObject (reader_of view) m.target =
+received_right tables side view rows m header waiting entry f none ho hp l s k w =
+    let o : HasObject (reader_of tables side view) m.target =
     record {
       entry = entry;
       there = l;
       iface = ap (λ (b : Born). b.iface) s;
       version = ap (λ (b : Born). b.version) s;
     } in
-    received_by_any tables side (reader_of view) m header waiting o f ho hp (all_found view rows m.args k) w
+    received_by_any tables side (reader_of tables side view) m header waiting o f none ho hp
+    (all_found tables side view rows m.args k) w
 
 -- ---- the report
 
-pub report_one : (view : Objects) (rows : Birth → Option Row) (a : Arg Known) (args : List (Arg Known)) (more : List ℕ)
-    → Met view rows a
-    → reshaped seen_named birth_at (λ t. t) (reported_argument (reader_of view) (head_or (tokens (a ∷ args) ++ more) 0)
-    (wire a))
-    ≡ reshaped (seen_by rows) birth_of (λ t. t) (rearg born_of a)
-report_one view rows (Obj None) args more m = refl
-report_one view rows (Obj (Some x)) args more m =
-    let some : nat_eq x.id 0 ≡ false = ne_eqb x.id 0 (λ h. omega (arith, m.some)) in
-    rw (some, m.there, m.shown) (ap (λ (s : Seen). Obj s)
-    (by_state m.entry.state (record { id = x.id; birth = m.entry.birth }) (born_of_entry m.entry) x.born.birth
-    (ap (λ (b : Born). b.birth) m.same)))
-  where
-    by_state : (s : State) (object : Object) (b : Born) (birth : Birth) → birth_at object ≡ birth
-        → seen_named (in_state s object) ≡ by_row birth (Some (as_row s b))
-    by_state states.Live object b birth e = ap Live e
-    by_state states.Zombie object b birth e = ap Dead e
-report_one view rows (New x) args more m = ap (λ (b : Birth). New b) (sym m.birth)
-report_one view rows (NewNamed name own x) args more m = ap (λ (b : Birth). NewNamed name own b) (sym m.birth)
-report_one view rows a args more m = refl
+module _ (tables : List Interface) (side : Side) (view : Objects) (rows : Birth → Option Row) where
+  pub report_one : (a : Arg Known) (args : List (Arg Known)) (more : List ℕ) → Met side view rows a
+      → reshaped seen_named birth_at (λ t. t)
+      (reported_argument (reader_of tables side view) (head_or (tokens (a ∷ args) ++ more) 0) (wire a))
+      ≡ reshaped (seen_by rows) birth_of (λ t. t) (rearg born_of a)
+  report_one (Obj None) args more m = refl
+  report_one (Obj (Some x)) args more m =
+      let some : nat_eq x.id 0 ≡ false = ne_eqb x.id 0 (λ h. omega (arith, m.some)) in
+      rw (some, m.there, m.shown) (ap (λ (s : Seen). Obj s)
+      (by_state m.entry.state (record { id = x.id; birth = m.entry.birth }) (born_of_entry m.entry) x.born.birth
+      (ap (λ (b : Born). b.birth) m.same)))
+    where
+      by_state : (s : State) (object : Object) (b : Born) (birth : Birth) → birth_at object ≡ birth
+          → seen_named (in_state s object) ≡ by_row birth (Some (as_row s b))
+      by_state states.Live object b birth e = ap Live e
+      by_state states.Zombie object b birth e = ap Dead e
+  report_one (New x) args more m = ap (λ (b : Birth). New b) (sym m.birth)
+  report_one (NewNamed name own x) args more m = ap (λ (b : Birth). NewNamed name own b) (sym m.birth)
+  report_one a args more m = refl
 
 tokens_left : (a : Arg Known) (args : List (Arg Known)) (more : List ℕ)
     → tokens_after (wire a) (tokens (a ∷ args) ++ more) ≡ tokens args ++ more
@@ -276,13 +282,18 @@ tokens_left (Obj None) args more = refl
 tokens_left a args more = refl
 
 -- the reports of arguments, by births
-pub reports_right : (view : Objects) (rows : Birth → Option Row) (args : List (Arg Known)) (more : List ℕ)
-    → AllMet view rows args
-    → map (reshaped seen_named birth_at (λ t. t)) (reports_of (reader_of view) (tokens args ++ more) (map wire args))
+pub reports_right : (tables : List Interface) (side : Side) (view : Objects) (rows : Birth → Option Row)
+    (args : List (Arg Known)) (more : List ℕ) → AllMet side view rows args
+    → map (reshaped seen_named birth_at (λ t. t))
+    (reports_of (reader_of tables side view) (tokens args ++ more) (map wire args))
     ≡ map (reshaped (seen_by rows) birth_of (λ t. t)) (map (rearg born_of) args)
-reports_right view rows [] more m = refl
-reports_right view rows (a ∷ args) more m =
-    rw (tokens_left a args more, report_one view rows a args more m.0, reports_right view rows args more m.1) refl
+reports_right tables side view rows [] more m = refl
+reports_right tables side view rows (a ∷ args) more m =
+    rw (
+      tokens_left a args more,
+      report_one tables side view rows a args more m.0,
+      reports_right tables side view rows args more m.1,
+    ) refl
 
 -- ---- the object that it makes
 

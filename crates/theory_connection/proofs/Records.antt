@@ -15,7 +15,7 @@ use Rattle.theory_connection.specs.Pair.{ServerDrop, PostError, AddGlobal, Withd
 use Rattle.theory_connection.specs.Pair.{CarryToServer, CarryToClient, ClientNext, ServerNext, Does}
 use Rattle.theory_connection.specs.Pair.{Writes, Calls, Adds, Announces, Nexts, Carries, CarryOutcome}
 use Rattle.theory_connection.specs.Pair.{accepted, refused, no_memory, done, added, announced}
-use Rattle.theory_connection.specs.Pair.{answered, moved, ended_mark}
+use Rattle.theory_connection.specs.Pair.{answered, no_memory_to_open, moved, ended_mark}
 use Rattle.theory_connection.specs.Answers.{KeepsRecord}
 
 pub unchanged : (p : PairState) → KeepsRecord p p
@@ -47,11 +47,12 @@ by_announce : (p : PairState) (reply : Result ℕ SendError) (p' : PairState) �
 by_announce p reply p' (announced l f) = same p p' refl refl
 by_announce p reply p' (refused l) = unchanged p
 
-by_next : {R : Type 0} (needs : R → Bool) (answer : Result (Option R) NextError) (p after : PairState)
-    (reply : Result (Option R) NextError) (p' : PairState) → KeepsRecord p after → Nexts needs answer p after reply p'
-    → KeepsRecord p p'
-by_next needs answer p after reply p' k answered = k
-by_next needs answer p after reply p' k (no_memory h o) = unchanged p
+by_next : {R : Type 0} (needs : R → Bool) (opens : Bool) (answer : Result (Option R) NextError) (p after : PairState)
+    (reply : Result (Option R) NextError) (p' : PairState) → KeepsRecord p after
+    → Nexts needs opens answer p after reply p' → KeepsRecord p p'
+by_next needs opens answer p after reply p' k answered = k
+by_next needs opens answer p after reply p' k (no_memory h o) = unchanged p
+by_next needs opens answer p after reply p' k (no_memory_to_open h o) = unchanged p
 
 by_carry : (taken : Amounts) (p after : PairState) (reply : CarryOutcome) (p' : PairState) → KeepsRecord p after
     → Carries taken p after reply p' → KeepsRecord p p'
@@ -91,6 +92,6 @@ keeps_record p (Withdraw name) (Withdraw reply) p' d = by_call _ p _ reply p' (s
 keeps_record p Announce (Announce reply) p' d = by_announce p reply p' d
 keeps_record p (CarryToServer most) (CarryToServer reply) p' d = by_carry _ p _ reply p' (grown p _ _ refl refl) d
 keeps_record p (CarryToClient most) (CarryToClient reply) p' d = by_carry _ p _ reply p' (grown p _ _ refl refl) d
-keeps_record p ClientNext (ClientNext reply) p' d = by_next _ _ p _ reply p' (same p _ refl refl) d
-keeps_record p ServerNext (ServerNext reply) p' d = by_next _ _ p _ reply p' (same p _ refl refl) d
+keeps_record p ClientNext (ClientNext reply) p' d = by_next _ _ _ p _ reply p' (same p _ refl refl) d
+keeps_record p ServerNext (ServerNext reply) p' d = by_next _ _ _ p _ reply p' (same p _ refl refl) d
 keeps_record p _ _ p' d = absurd d

@@ -15,10 +15,10 @@ use Rattle.wl_sigs.specs.Valid.{Valid}
 use Rattle.wl_message.specs.declared.limit.Limit.{Limit}
 use Rattle.wl_message.specs.Arrived.{without_first, in_front}
 use Rattle.wl_message.specs.Cut.{Whole, IsMessage}
-use Rattle.wl_message.specs.Outgoing.{queued}
 use Rattle.wl_message.specs.Outgoing as boxes
 use Rattle.wl_wire.specs.Argument.{Uint, Obj}
 use Rattle.wl_object_map.specs.declared.object.Entry.{Entry}
+use Rattle.wl_object_map.specs.Ranges.{is_of_server}
 use Rattle.wl_object_map.specs.Objects.{Objects, look}
 use Rattle.wl_objects.specs.Messages.{opens, made as made_message, is_bind, reader_of, after}
 use Rattle.wl_objects.specs.Reading.{descriptors, reports_of}
@@ -28,7 +28,7 @@ use Rattle.wl_connection.specs.Sending.{with_following}
 use Rattle.wl_server.specs.State as server
 use Rattle.wl_server.specs.Requests.{unless_bad_bind, request, is_good_bind, made_by_request as made_by_message}
 use Rattle.wl_server.specs.Requests.{state_past, registries_after, reported_object, ended_object, ended}
-use Rattle.wl_server.specs.Requests.{report}
+use Rattle.wl_server.specs.Requests.{report, owes_delete_id}
 use Rattle.wl_server.specs.Registries.{without_object}
 use Rattle.theory_connection.specs.Stands.{MadeByClient}
 use Rattle.theory_connection.specs.Meant.{client_birth, Event, Delete, Born, Known, Message, Coming, Arg}
@@ -50,7 +50,8 @@ use Rattle.theory_connection.proofs.Registries.{marks_with, marks_left, left_are
 use Rattle.theory_connection.proofs.ReadAsMeant.{HeldAt, AllMet, made_of, made_read, tokens_taken}
 use Rattle.wl_object_map.specs.declared.object.Object.{Object}
 use Rattle.wl_connection.proofs.Messages.{whole_within}
-use Rattle.theory_connection.proofs.MadeByClient.{row_low}
+use Rattle.theory_connection.proofs.MadeByClient.{row_low, range_of_row}
+use Rattle.theory_connection.proofs.NoneByServer.{none_by_server}
 use Rattle.theory_connection.proofs.FoundInFront.{the_found, the_message, finds, all_met, news_free}
 use Rattle.theory_connection.proofs.EndedObject.{EndsAs, ended_view, after_is, argument_is, ends_have, if_by}
 use Rattle.wl_server.proofs.Fronts.{named_object}
@@ -62,7 +63,7 @@ pub record InFront (p : PairState) (w : World) (m : Message Known) (n : ℕ) : T
   pub entry : Entry
   pub there : look p.server.core.view m.target.id ≡ Some entry
   pub same_target : born_of_entry entry ≡ m.target.born
-  pub met : AllMet p.server.core.view (rows_of_server w) m.args
+  pub met : AllMet request_side p.server.core.view (rows_of_server w) m.args
 
 held_at_server : (p : PairState) (w : World) (asked : List (Message Known)) (told : List (Coming Known))
     → StandsBy p w asked told → (x : Known) → 0 < x.id → ThereRow (server_rows p.server.core.view) x
@@ -95,7 +96,7 @@ request_front p w m ms told s n a =
       entry = r.entry;
       there = r.there;
       same_target = r.same;
-      met = all_met p.server.core.tables m.target.born.version p.server.core.view (rows_of_server w)
+      met = all_met p.server.core.tables m.target.born.version request_side p.server.core.view (rows_of_server w)
           (ThereRow (server_rows p.server.core.view)) (held_at_server p w (m ∷ ms) told s)
           f.signature.kinds m.args f.args a.args (news_free p.server.core.view m.args m.args s.server.sound a.new
           f.new_is);
@@ -166,18 +167,18 @@ record EndsRightly (what : Destroys) (object : Object) (o : Option Known) : Type
 
 ends_named : (c : Core) (target : Known) (args : List (Arg Known)) (k : ℕ) (x : Known) (waiting : List ℕ) → k ≡ 0
     → args ≡ Obj (Some x) ∷ [] → 0 < x.id → ThereRow (server_rows c.view) x
-    → EndsRightly (ends_arg k) (reported_object (slice_get (reports_of (reader_of c.view) waiting (map wire args)) k))
+    → EndsRightly (ends_arg k) (reported_object (slice_get (reports_of (reader_of c.tables request_side c.view) waiting (map wire args)) k))
     (ended_by (ends_arg k) target args)
 ends_named c target args k x waiting z e some h =
     let r = there_row c.view x h in
-    let named = named_object (reader_of c.view) waiting x.id r.entry
+    let named = named_object (reader_of c.tables request_side c.view) waiting x.id r.entry
     (ne_eqb x.id 0 (λ n. (omega (arith, n, some)))) r.there in
     subst (λ (l : List (Arg Known)). EndsRightly (ends_arg k)
-    (reported_object (slice_get (reports_of (reader_of c.view) waiting (map wire l)) k))
+    (reported_object (slice_get (reports_of (reader_of c.tables request_side c.view) waiting (map wire l)) k))
     (ended_by (ends_arg k) target l))
     (sym e)
     (subst (λ (n : ℕ). EndsRightly (ends_arg n) (reported_object
-    (slice_get (reports_of (reader_of c.view) waiting (map wire (Obj (Some x) ∷ []))) n))
+    (slice_get (reports_of (reader_of c.tables request_side c.view) waiting (map wire (Obj (Some x) ∷ []))) n))
     (ended_by (ends_arg n) target (Obj (Some x) ∷ []))) (sym z)
     (subst (λ (object : Object). EndsRightly (ends_arg 0) object (Some x)) (sym named)
     (record { ends = record { flag = refl; same = refl }; birth = sym (ap birth_of r.same) })))
@@ -202,13 +203,33 @@ ends_rightly st m n entry f v s h hs = subst (EndsRightly f.signature.destroys
         in
         ends_named st.core m.target m.args k a.1.object st.core.inbox.tokens a.0 a.1.are a.1.some there
 
+owed_by : (b : Bool) (id : ℕ) (o : Option Known) → b ≡ is_some o → IfThere (λ x. x.id ≡ id) o
+    → IfThere (λ x. is_of_server x.id ≡ false) o → (b && not (is_of_server id)) ≡ b
+owed_by b id None f h k = (λ i. f i && not (is_of_server id)) ∙ sym f
+owed_by b id (Some x) f h k = (λ i. f i && not (is_of_server (sym h i))) ∙ ap not k ∙ sym f
+
+-- a request is answered by a delete_id where it destroys an object
+pub owes_is : (st : server.State) (m : Message Known) (n : ℕ) (entry : Entry)
+    (f : FitsSignature st.core.tables request_side m)
+    → Valid st.core.tables → MadeByClient st.core.view → born_of_entry entry ≡ m.target.born
+    → ThereRow (server_rows st.core.view) m.target → Each (ThereRow (server_rows st.core.view)) (objects m.args)
+    → owes_delete_id st.core (the_found n m entry f.signature) ≡ destroys_one f.signature.destroys
+owes_is st m n entry f v made s h hs =
+    let e = (ends_rightly st m n entry f v s h hs).ends in
+    owed_by (destroys_one f.signature.destroys) (ended st.core (the_found n m entry f.signature)).id m.ends e.flag e.same
+    (if_by (of_client st.core.view made) m.ends
+    (ends_have (ThereRow (server_rows st.core.view)) st.core.tables request_side m f h hs))
+  where
+    of_client : (v : Objects) → MadeByClient v → (x : Known) → ThereRow (server_rows v) x → is_of_server x.id ≡ false
+    of_client v s x h = let r = there_row v x h in range_of_row v x.id r.entry s r.there
+
 -- reading a request leaves the server so
 pub left_is : (st : server.State) (m : Message Known) (n : ℕ) (entry : Entry)
     (f : FitsSignature st.core.tables request_side m)
-    → Valid st.core.tables → born_of_entry entry ≡ m.target.born
+    → Valid st.core.tables → MadeByClient st.core.view → born_of_entry entry ≡ m.target.born
     → ThereRow (server_rows st.core.view) m.target → Each (ThereRow (server_rows st.core.view)) (objects m.args)
     → state_past st (the_found n m entry f.signature) ≡ left_state st m n
-left_is st m n entry f v s h hs =
+left_is st m n entry f v by_client s h hs =
     let what = f.signature.destroys in
     let made : made_by_message st.core (the_message m entry f.signature) ≡ option_map made_of (made_in m.args) =
     ap (λ (b : Born). made_message st.core.tables b.version f.signature.kinds (map wire m.args)) s
@@ -219,8 +240,9 @@ left_is st m n entry f v s h hs =
     let e = ends_rightly st m n entry f v s h hs in
     let new = option_map made_of (made_in m.args) in
     let view = after_is event_side st.core.view new what object.id m.ends e.ends in
+    let owes = owes_is st m n entry f v by_client s h hs in
     (λ i. record st {
-      core = with_following (destroys_one what) object.id
+      core = with_following (owes i) object.id
           (with_view (past st.core n (count i)) (after event_side st.core.view (made i) what object.id));
       registries = without_object (destroys_one what) object
           (registries_after st.core st.registries (made i));
@@ -321,7 +343,7 @@ pub record InRequest (p : PairState) (w : World) (m : Message Known) (ms : List 
     (told : List (Coming Known)) (s : StandsBy p w (m ∷ ms) told) (n : ℕ) : Type 0 where
   pub entry : Entry
   pub same_target : born_of_entry entry ≡ m.target.born
-  pub met : AllMet p.server.core.view (rows_of_server w) m.args
+  pub met : AllMet request_side p.server.core.view (rows_of_server w) m.args
   pub finds_it : request p.server ≡ Ok (Some (the_found n m entry s.requests.fit.0.fits.signature))
   pub asks_it : AsksAt (test_of p) (all_asks ms) (server_rows p.server.core.view) s.meet.middle m.target
       (objects m.args) (made_in m.args) m.ends
@@ -345,8 +367,10 @@ in_request p w m ms told s n e =
     let a = asks_at m.target (objects m.args) (made_in m.args) m.ends s.meet.tied in
     let i = request_front p w m ms told s n a in
     let f = s.requests.fit.0.fits in
+    let none = none_by_server p.server.core.tables s.terms.valid s.terms.none_by_server m.target.born.iface.0 request_side
+    m.opcode f.signature f.there in
     let there = finds p.server.core request_side m n
-    (rows_of_server w) i.entry f e q.bytes i.there i.same_target i.met q.enough in
+    (rows_of_server w) i.entry f none e q.bytes i.there i.same_target i.met q.enough in
     let binds : is_bind request_side i.entry.iface m.opcode ≡ true
     → is_good_bind p.server (map wire m.args) ≡ true = λ h. (
     let b = s.requests.fit.0.binds (sym (ap (λ (x : Born). is_bind request_side x.iface m.opcode) i.same_target) ∙ h) in

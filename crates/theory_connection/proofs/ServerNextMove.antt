@@ -8,6 +8,7 @@ use Rattle.std.specs.declared.result.Result.{Result}
 use Rattle.std.specs.declared.result.Result.TheVariants.{Ok, Err}
 use Rattle.std.proofs.lemmas.Bool.{ltb-true, ltb-false, and_parts}
 use Rattle.wl_sigs.specs.declared.signature.Side.TheVariants.{Request as request_side}
+use Rattle.wl_sigs.specs.Tables.{destroys_one}
 use Rattle.wl_message.specs.Arrived.{in_front}
 use Rattle.wl_message.specs.Cut.{Front, More, Bad, Whole, HasMessage}
 use Rattle.wl_objects.specs.declared.error.NextError.{NextError}
@@ -15,10 +16,11 @@ use Rattle.wl_objects.specs.declared.error.NextError.TheVariants as errors
 use Rattle.wl_objects.specs.Reading.{Reported}
 use Rattle.wl_connection.specs.Receiving.{Found, found_at, is_none}
 use Rattle.wl_server.specs.Requests.{Report, unless_bad_bind, request, report, needs_memory, is_out_full}
-use Rattle.wl_server.specs.Requests.{next_answer, after_next, state_past}
+use Rattle.wl_server.specs.Requests.{next_answer, after_next, state_past, owes_delete_id}
 use Rattle.theory_connection.specs.Meant.{Known, Born, Message, Coming, renamed, born_of, birth_of}
 use Rattle.theory_connection.specs.World.{World, IfThere, request_read, reads_request, delete}
 use Rattle.theory_connection.specs.Pair.{PairState, ServerNext, with_server, Nexts, answered, no_memory}
+use Rattle.theory_connection.specs.Pair.{no_memory_to_open}
 use Rattle.theory_connection.specs.Answers.{NotEnded, before, ReportsRequest, rows_of_server, IsOutFull}
 use Rattle.theory_connection.specs.Stands.{StandsBy}
 use Rattle.theory_connection.proofs.Channels.{pops, never_bad}
@@ -27,7 +29,8 @@ use Rattle.theory_connection.proofs.FoundInFront.{the_found}
 use Rattle.theory_connection.proofs.EndedObject.{ends_as, some_map, ends_have, if_by}
 use Rattle.theory_connection.proofs.WholeInFlight.{ThereRow}
 use Rattle.theory_connection.specs.Flight.{server_rows}
-use Rattle.theory_connection.proofs.RequestRead.{InRequest, in_request, left_state, left_is, server_read_stands}
+use Rattle.theory_connection.proofs.RequestRead.{InRequest, in_request, left_state, left_is, owes_is}
+use Rattle.theory_connection.proofs.RequestRead.{server_read_stands}
 use Rattle.theory_connection.proofs.Moves.{Moves, goes_on, stays, reading_request}
 
 -- ---- nothing in front
@@ -68,7 +71,7 @@ reports p w m ms told s n i = record {
   is_open = s.server.sets.shown m.target.id m.target.born i.asks_it.target;
   target = ap birth_of i.same_target;
   opcode = refl;
-  args = rw i.tokens_are (reports_right p.server.core.view (rows_of_server w) m.args i.more i.met);
+  args = rw i.tokens_are (reports_right p.server.core.tables request_side p.server.core.view (rows_of_server w) m.args i.more i.met);
 }
 
 and_not : (a b : Bool) → (a && b) ≡ false → a ≡ true → b ≡ false
@@ -79,9 +82,9 @@ keeps_out_full : (p : PairState) (w : World) (m : Message Known) (ms : List (Mes
     (told : List (Coming Known)) (s : StandsBy p w (m ∷ ms) told) (n : ℕ) → NotEnded p w
     → in_front p.server.core.inbox ≡ Whole n → InRequest p w m ms told s n
     → (reply : Result (Option Report) NextError) (p' : PairState)
-    → (Nexts needs_memory (next_answer p.server) p (with_server p (after_next p.server)) reply p')
+    → (Nexts needs_memory false (next_answer p.server) p (with_server p (after_next p.server)) reply p')
     → IsOutFull p (renamed born_of m)
-    → Nexts needs_memory (Err errors.OutFull) p p reply p' → Moves p w (m ∷ ms) told ServerNext (ServerNext reply) p'
+    → Nexts needs_memory false (Err errors.OutFull) p p reply p' → Moves p w (m ∷ ms) told ServerNext (ServerNext reply) p'
 keeps_out_full p w m ms told s n z e i reply p' d full answered = record {
   world = w;
   answers = before z d (record {
@@ -95,6 +98,7 @@ keeps_out_full p w m ms told s n z e i reply p' d full answered = record {
   outcome = goes_on (m ∷ ms) told z s stays;
 }
 keeps_out_full p w m ms told s n z e i reply p' d full (no_memory q h) = absurd (cc q)
+keeps_out_full p w m ms told s n z e i reply p' d full (no_memory_to_open q h) = absurd (cc h)
 
 request_there : (p : PairState) (w : World) (m : Message Known) (ms : List (Message Known)) (told : List (Coming Known))
     (s : StandsBy p w (m ∷ ms) told) (n : ℕ) → InRequest p w m ms told s n
@@ -108,9 +112,9 @@ keeps_read : (p : PairState) (w : World) (m : Message Known) (ms : List (Message
     (s : StandsBy p w (m ∷ ms) told) (n : ℕ) → NotEnded p w
     → in_front p.server.core.inbox ≡ Whole n → (i : InRequest p w m ms told s n)
     → (reply : Result (Option Report) NextError) (p' : PairState)
-    → (Nexts needs_memory (next_answer p.server) p (with_server p (after_next p.server)) reply p')
+    → (Nexts needs_memory false (next_answer p.server) p (with_server p (after_next p.server)) reply p')
     → (IsOutFull p (renamed born_of m) → ⊥)
-    → Nexts needs_memory (Ok (Some (report p.server.core (the_found n m i.entry s.requests.fit.0.fits.signature)))) p
+    → Nexts needs_memory false (Ok (Some (report p.server.core (the_found n m i.entry s.requests.fit.0.fits.signature)))) p
     (with_server p (left_state p.server m n)) reply p'
     → Moves p w (m ∷ ms) told ServerNext (ServerNext reply) p'
 keeps_read p w m ms told s n z e i reply p' d room answered = record {
@@ -127,6 +131,7 @@ keeps_read p w m ms told s n z e i reply p' d room answered = record {
       (reading_request m ms n refl e (if_by (λ x h. s.server.sets.below x.id x.born h) m.ends
       (request_there p w m ms told s n i)));
 }
+keeps_read p w m ms told s n z e i reply p' d room (no_memory_to_open q h) = absurd (cc h)
 keeps_read p w m ms told s n z e i reply p' d room (no_memory {report = r} q h) =
     let same : report p.server.core (the_found n m i.entry s.requests.fit.0.fits.signature) ≡ r = cc q in
     let needs = is_some_request w (renamed born_of m) _ (reports p w m ms told s n i) (ap needs_memory same ∙ h) in
@@ -143,37 +148,46 @@ keeps_read p w m ms told s n z e i reply p' d room (no_memory {report = r} q h) 
       outcome = goes_on (m ∷ ms) told z s stays;
     }
 
+owes_in : (p : PairState) (w : World) (m : Message Known) (ms : List (Message Known)) (told : List (Coming Known))
+    (s : StandsBy p w (m ∷ ms) told) (n : ℕ) (i : InRequest p w m ms told s n)
+    → owes_delete_id p.server.core (the_found n m i.entry s.requests.fit.0.fits.signature)
+    ≡ destroys_one s.requests.fit.0.fits.signature.destroys
+owes_in p w m ms told s n i = owes_is p.server m n i.entry s.requests.fit.0.fits s.terms.valid s.server.sound
+    i.same_target i.asks_it.target i.asks_it.args
+
 at_request : (p : PairState) (w : World) (m : Message Known) (ms : List (Message Known)) (told : List (Coming Known))
     (s : StandsBy p w (m ∷ ms) told) (n : ℕ) → NotEnded p w
     → in_front p.server.core.inbox ≡ Whole n → (i : InRequest p w m ms told s n)
     → (reply : Result (Option Report) NextError) (p' : PairState)
-    → (Nexts needs_memory (next_answer p.server) p (with_server p (after_next p.server)) reply p')
+    → (Nexts needs_memory false (next_answer p.server) p (with_server p (after_next p.server)) reply p')
     → (b : Bool) → is_out_full p.server.core (the_found n m i.entry s.requests.fit.0.fits.signature) ≡ b
     → Moves p w (m ∷ ms) told ServerNext (ServerNext reply) p'
 at_request p w m ms told s n z e i reply p' d true h =
     let a = answer_is p m (the_found n m i.entry s.requests.fit.0.fits.signature) true s.server.lives i.finds_it h in
     let k = and_parts _ _ h in
+    let owes = owes_in p w m ms told s n i in
     let flag = some_map born_of m.ends ∙ sym (ends_as p.server.core.tables request_side m s.requests.fit.0.fits
     s.terms.valid).flag in
-    keeps_out_full p w m ms told s n z e i reply p' d (flag ∙ k.0, ltb-true _ _ k.1)
-    (subst (λ st. Nexts needs_memory (Err errors.OutFull) p (with_server p st) reply p') a.leaves
-    (subst (λ x. Nexts needs_memory x p (with_server p (after_next p.server)) reply p') a.answer d))
+    keeps_out_full p w m ms told s n z e i reply p' d (flag ∙ sym owes ∙ k.0, ltb-true _ _ k.1)
+    (subst (λ st. Nexts needs_memory false (Err errors.OutFull) p (with_server p st) reply p') a.leaves
+    (subst (λ x. Nexts needs_memory false x p (with_server p (after_next p.server)) reply p') a.answer d))
 at_request p w m ms told s n z e i reply p' d false h =
     let f = the_found n m i.entry s.requests.fit.0.fits.signature in
     let a = answer_is p m f false s.server.lives i.finds_it h in
+    let owes = owes_in p w m ms told s n i in
     let flag = some_map born_of m.ends ∙ sym (ends_as p.server.core.tables request_side m s.requests.fit.0.fits
     s.terms.valid).flag in
     keeps_read p w m ms told s n z e i reply p' d
-    (λ full. (let no = ltb-false _ _ (and_not _ _ h (sym flag ∙ full.0)) in absurd (omega (arith, no, full.1))))
-    (subst (λ st. Nexts needs_memory (Ok (Some (report p.server.core f))) p (with_server p st) reply p')
-    (a.leaves ∙ left_is p.server m n i.entry s.requests.fit.0.fits s.terms.valid i.same_target i.asks_it.target
+    (λ full. (let no = ltb-false _ _ (and_not _ _ h (owes ∙ sym flag ∙ full.0)) in absurd (omega (arith, no, full.1))))
+    (subst (λ st. Nexts needs_memory false (Ok (Some (report p.server.core f))) p (with_server p st) reply p')
+    (a.leaves ∙ left_is p.server m n i.entry s.requests.fit.0.fits s.terms.valid s.server.sound i.same_target i.asks_it.target
     i.asks_it.args)
-    (subst (λ x. Nexts needs_memory x p (with_server p (after_next p.server)) reply p') a.answer d))
+    (subst (λ x. Nexts needs_memory false x p (with_server p (after_next p.server)) reply p') a.answer d))
 
 at_whole : (p : PairState) (w : World) (asked : List (Message Known)) (told : List (Coming Known))
     (s : StandsBy p w asked told) (n : ℕ) → NotEnded p w
     → in_front p.server.core.inbox ≡ Whole n → (reply : Result (Option Report) NextError) (p' : PairState)
-    → (Nexts needs_memory (next_answer p.server) p (with_server p (after_next p.server)) reply p')
+    → (Nexts needs_memory false (next_answer p.server) p (with_server p (after_next p.server)) reply p')
     → Moves p w asked told ServerNext (ServerNext reply) p'
 at_whole p w [] told s n z e reply p' d = absurd (let q = pops p.client.core.outbox p.server.core.inbox [] n
     s.requests.in_boxes e in cc q.is)
@@ -184,22 +198,23 @@ at_whole p w (m ∷ ms) told s n z e reply p' d =
 keeps_idle : (p : PairState) (w : World) (asked : List (Message Known)) (told : List (Coming Known))
     (s : StandsBy p w asked told) → NotEnded p w → in_front p.server.core.inbox ≡ More
     → (reply : Result (Option Report) NextError) (p' : PairState)
-    → (Nexts needs_memory (next_answer p.server) p (with_server p (after_next p.server)) reply p')
-    → Nexts needs_memory (Ok None) p p reply p' → Moves p w asked told ServerNext (ServerNext reply) p'
+    → (Nexts needs_memory false (next_answer p.server) p (with_server p (after_next p.server)) reply p')
+    → Nexts needs_memory false (Ok None) p p reply p' → Moves p w asked told ServerNext (ServerNext reply) p'
 keeps_idle p w asked told s z e reply p' d answered =
     record { world = w; answers = before z d (λ h. subst HasMessage e h, refl); outcome = goes_on asked told z s stays }
 keeps_idle p w asked told s z e reply p' d (no_memory q h) = absurd (cc q)
+keeps_idle p w asked told s z e reply p' d (no_memory_to_open q h) = absurd (cc h)
 
 at_front : (p : PairState) (w : World) (asked : List (Message Known)) (told : List (Coming Known))
     (s : StandsBy p w asked told) → NotEnded p w
     → (reply : Result (Option Report) NextError) (p' : PairState)
-    → (Nexts needs_memory (next_answer p.server) p (with_server p (after_next p.server)) reply p')
+    → (Nexts needs_memory false (next_answer p.server) p (with_server p (after_next p.server)) reply p')
     → (f : Front) → in_front p.server.core.inbox ≡ f → Moves p w asked told ServerNext (ServerNext reply) p'
 at_front p w asked told s z reply p' d More e =
     let i = idle p w asked told s e in
     keeps_idle p w asked told s z e reply p' d
-    (subst (λ st. Nexts needs_memory (Ok None) p (with_server p st) reply p') i.2
-    (subst (λ x. Nexts needs_memory x p (with_server p (after_next p.server)) reply p') i.1 d))
+    (subst (λ st. Nexts needs_memory false (Ok None) p (with_server p st) reply p') i.2
+    (subst (λ x. Nexts needs_memory false x p (with_server p (after_next p.server)) reply p') i.1 d))
 at_front p w asked told s z reply p' d (Bad n) e =
     absurd (never_bad p.client.core.outbox p.server.core.inbox _ n s.requests.in_boxes e)
 at_front p w asked told s z reply p' d (Whole n) e = at_whole p w asked told s n z e reply p' d
@@ -208,6 +223,6 @@ at_front p w asked told s z reply p' d (Whole n) e = at_whole p w asked told s n
 pub server_next_keeps : (p : PairState) (w : World) (asked : List (Message Known)) (told : List (Coming Known))
     → StandsBy p w asked told → NotEnded p w
     → (reply : Result (Option Report) NextError) (p' : PairState)
-    → (Nexts needs_memory (next_answer p.server) p (with_server p (after_next p.server)) reply p')
+    → (Nexts needs_memory false (next_answer p.server) p (with_server p (after_next p.server)) reply p')
     → Moves p w asked told ServerNext (ServerNext reply) p'
 server_next_keeps p w asked told s z reply p' d = at_front p w asked told s z reply p' d _ refl

@@ -19,8 +19,8 @@ use Rattle.wl_object_map.specs.declared.object.Object.{Object}
 use Rattle.wl_object_map.specs.declared.object.Entry.{Entry}
 use Rattle.wl_objects.specs.declared.error.SendError.{SendError}
 use Rattle.wl_objects.specs.declared.error.SendError.TheVariants as refusals
-use Rattle.wl_object_map.specs.View.{next_id}
-use Rattle.wl_object_map.specs.Objects.{Objects, look, closed}
+use Rattle.wl_object_map.specs.declared.object.Maker.TheVariants.{Server}
+use Rattle.wl_object_map.specs.Objects.{Objects, look, closed, next_id, next_birth}
 use Rattle.wl_object_map.specs.ObjectsLaws.{births-closed}
 use Rattle.wl_objects.specs.Writing.{Given, wired, message_bytes, is_live_as}
 use Rattle.wl_objects.specs.Messages.{NewObject, ended_id, after, checked, live_row, same_iface}
@@ -48,6 +48,7 @@ use Rattle.theory_connection.proofs.RequestRead.{followed}
 use Rattle.theory_connection.proofs.Calls.{Checked, is_checked, LiveAt, live_as, handed_none}
 use Rattle.theory_connection.proofs.Calls.{no_made, tokens_all}
 use Rattle.theory_connection.proofs.MadeByClient.{row_low}
+use Rattle.theory_connection.proofs.NoneByServer.{none_by_server}
 use Rattle.theory_connection.proofs.Rules.{ends_so, no_event_new}
 use Rattle.theory_connection.proofs.Written.{the_new, the_args, the_call, CallIs, call_is}
 use Rattle.theory_connection.proofs.Written.{call_ends, accepted_call, opens, no_delete}
@@ -81,11 +82,11 @@ pub server_can : (p : PairState) (w : World) (asked : List (Message Known)) (tol
     (signature : sigs.MessageSignature)
     → (c : Checked p.server.core.outbox.limit.bytes p.server.core.tables Event p.server.core.view target opcode given
     signature) (k : CallIs p.server.core Event target opcode given signature c.entry)
-    → (made_in (the_args p.server.core c.entry given signature) ≡ None)
-    → CanTell p (the_call p.server.core c.entry target opcode given signature)
+    → (made_in (the_args p.server.core Event c.entry given signature) ≡ None)
+    → CanTell p (the_call p.server.core Event c.entry target opcode given signature)
 server_can p w asked told s target opcode given signature c k n =
     let v = p.server.core.view in
-    let m = the_call p.server.core c.entry target opcode given signature in
+    let m = the_call p.server.core Event c.entry target opcode given signature in
     record {
       fitly = record {
         fits = k.fits_it;
@@ -104,13 +105,13 @@ left_by : (core : Core) (target : Object) (opcode : ℕ) (given : List Given) (s
     → Valid core.tables → checked core.outbox.limit.bytes core.tables Event core.view target opcode given ≡ Ok signature
     → (c : Checked core.outbox.limit.bytes core.tables Event core.view target opcode given signature)
     (k : CallIs core Event target opcode given signature c.entry)
-    → made_in (the_args core c.entry given signature) ≡ None
-    → after_send core Event target opcode given ≡ told_core core (the_call core c.entry target opcode given signature)
+    → made_in (the_args core Event c.entry given signature) ≡ None
+    → after_send core Event target opcode given ≡ told_core core (the_call core Event c.entry target opcode given signature)
 left_by core target opcode given signature v e c k n =
-    let m = the_call core c.entry target opcode given signature in
-    let mk : made_at core target signature given ≡ None =
-    made_same core target given signature c.entry c.there ∙ k.made_is ∙ ap (option_map made_of) n in
-    let t = sym (tokens_all core.view (the_new core c.entry given signature) given) in
+    let m = the_call core Event c.entry target opcode given signature in
+    let mk : made_at core Event target signature given ≡ None =
+    made_same core Event target given signature c.entry c.there ∙ k.made_is ∙ ap (option_map made_of) n in
+    let t = sym (tokens_all core.view (the_new core Event c.entry given signature) given) in
     let id = ended_id signature.destroys target.id (map (wired 0) given) in
     let ended = call_ends core Event target opcode given signature v c k in
     ap (after_checked core Event target opcode given) e
@@ -178,17 +179,18 @@ server_send_keeps p w asked told s z target opcode given g reply p' (accepted {n
     let core = p.server.core in
     let a = accepted_call core Event target opcode given new s.server.lives h in
     let c = is_checked core.outbox.limit.bytes core.tables Event core.view target opcode given a.signature a.checks in
-    let k = call_is core Event target opcode given a.signature s.terms.valid s.server.sound g c in
-    let o = opens core (made_at core target a.signature given) new a.opens_it in
-    let args = the_args core c.entry given a.signature in
+    let k = call_is core Event target opcode given a.signature s.terms.valid s.terms.none_by_server s.server.sound g c in
+    let o = opens core Server (made_at core Event target a.signature given) new a.opens_it in
+    let args = the_args core Event c.entry given a.signature in
     let n : made_in args ≡ None = no_made core.view
-    (the_new core c.entry given a.signature) a.signature.kinds given k.right
-    (no_event_new core.tables s.terms.valid c.entry.iface.0 opcode a.signature c.signed) in
+    (the_new core Event c.entry given a.signature) a.signature.kinds given
+    (none_by_server core.tables s.terms.valid s.terms.none_by_server c.entry.iface.0 Event opcode a.signature c.signed)
+    k.right (no_event_new core.tables s.terms.valid c.entry.iface.0 opcode a.signature c.signed) in
     let can = server_can p w asked told s target opcode given a.signature c k n in
-    let m = the_call core c.entry target opcode given a.signature in
+    let m = the_call core Event c.entry target opcode given a.signature in
     let none : new ≡ None = o.is ∙ ap (option_map
-    (λ (y : NewObject). record { id = next_id core.view.client; birth = core.view.client.births }))
-    (made_same core target given a.signature c.entry c.there ∙ k.made_is ∙ ap (option_map made_of) n) in
+    (λ (y : NewObject). record { id = next_id Server core.view; birth = next_birth Server core.view }))
+    (made_same core Event target given a.signature c.entry c.there ∙ k.made_is ∙ ap (option_map made_of) n) in
     record {
       world = event_written w (renamed born_of m);
       answers = before z (accepted h) (record {
@@ -196,7 +198,7 @@ server_send_keeps p w asked told s z target opcode given g reply p' (accepted {n
         is = record { signature = a.signature; there = c.signed; ends = born_ends m a.signature.destroys refl };
         target_is = ap client_birth c.birth;
         opcode_is = refl;
-        args_are = handed_none core.view (the_new core c.entry given a.signature) w.births a.signature.kinds given n
+        args_are = handed_none core.view (the_new core Event c.entry given a.signature) w.births a.signature.kinds given n
             k.right;
         new_is = ap (option_map birth_of) (made_map born_of args ∙ ap (option_map born_of) n)
             ∙ ap (option_map birth_at) (sym none);

@@ -17,18 +17,20 @@ use Rattle.wl_wire.specs.Argument.{Int, Uint, Fixed, Str, Obj, New, NewNamed, Ar
 use Rattle.theory_connection.specs.Stands.{MadeByClient}
 use Rattle.theory_connection.proofs.EndedObject.{EndsAs, ends_as}
 use Rattle.wl_sigs.specs.Tables as sigs
+use Rattle.wl_sigs.specs.Rules.{has_server_objects}
 use Rattle.wl_sigs.specs.Valid.{Valid}
 use Rattle.wl_object_map.specs.declared.object.Object.{Object}
 use Rattle.wl_object_map.specs.declared.object.Entry.{Entry}
 use Rattle.wl_objects.specs.declared.error.SendError.{SendError}
 use Rattle.wl_objects.specs.declared.error.SendError.TheVariants as refusals
 use Rattle.wl_sigs.specs.Fixed.{display, registry}
-use Rattle.wl_object_map.specs.View.{next_id, can_open}
-use Rattle.wl_object_map.specs.Objects.{Objects}
-use Rattle.wl_object_map.specs.Views.{free_or_next-next_id}
-use Rattle.wl_object_map.specs.ObjectsLaws.{free_is}
+use Rattle.wl_object_map.specs.declared.object.Maker.{Maker}
+use Rattle.wl_object_map.specs.declared.object.Maker.TheVariants.{Client, Server}
+use Rattle.wl_object_map.specs.View as table
+use Rattle.wl_object_map.specs.Objects.{Objects, ObjectsAreSound, next_id, next_birth, can_open}
+use Rattle.wl_object_map.specs.Views.{free_is as free_in, free_or_next-next_id}
 use Rattle.wl_objects.specs.Writing.{Given, wired, message_len}
-use Rattle.wl_objects.specs.Messages.{id_named, id_at, ended_id, NewObject, made, checked}
+use Rattle.wl_objects.specs.Messages.{id_named, id_at, ended_id, NewObject, made, maker_by, checked}
 use Rattle.wl_objects.specs.Messages.{is_hidden, is_error, is_delete_id, same_iface}
 use Rattle.wl_objects.proofs.Calls.{len-any}
 use Rattle.wl_connection.specs.Core.{Core}
@@ -42,41 +44,54 @@ use Rattle.theory_connection.proofs.ReadAsMeant.{made_of, made_read}
 use Rattle.theory_connection.proofs.Calls.{Checked, AllRight, all_right, meant, new_known, wire_all}
 use Rattle.theory_connection.proofs.Calls.{LiveAt, all_live, matches, fit_all, new_all}
 use Rattle.theory_connection.proofs.MadeByClient.{row_low}
+use Rattle.theory_connection.proofs.NoneByServer.{none_by_server}
 use Rattle.theory_connection.proofs.Calls.{one_new, made_new, version_of}
 use Rattle.theory_connection.proofs.Rules.{opcode_low, few_new, unnamed_none}
 
--- what a call makes
-abbrev pub the_made : Core → Entry → List Given → sigs.MessageSignature → Option NewObject
-the_made core entry given signature = made core.tables entry.version signature.kinds
-    (map (wired (next_id core.view.client)) given)
+-- what a call of this side makes
+abbrev pub the_made : Core → Side → Entry → List Given → sigs.MessageSignature → Option NewObject
+the_made core side entry given signature = made core.tables entry.version signature.kinds
+    (map (wired (next_id (maker_by side) core.view)) given)
 
 -- the new object of a call
-abbrev pub the_new : Core → Entry → List Given → sigs.MessageSignature → Known
-the_new core entry given signature = new_known core.view (the_made core entry given signature)
+abbrev pub the_new : Core → Side → Entry → List Given → sigs.MessageSignature → Known
+the_new core side entry given signature =
+    new_known (maker_by side) core.view (the_made core side entry given signature)
 
 -- the arguments of a call, as they are meant
-abbrev pub the_args : Core → Entry → List Given → sigs.MessageSignature → List (Arg Known)
-the_args core entry given signature = map (meant core.view (the_new core entry given signature)) given
+abbrev pub the_args : Core → Side → Entry → List Given → sigs.MessageSignature → List (Arg Known)
+the_args core side entry given signature = map (meant core.view (the_new core side entry given signature)) given
 
 -- the message of a call
-abbrev pub the_call : Core → Entry → Object → ℕ → List Given → sigs.MessageSignature → Message Known
-the_call core entry target opcode given signature = record {
+abbrev pub the_call : Core → Side → Entry → Object → ℕ → List Given → sigs.MessageSignature → Message Known
+the_call core side entry target opcode given signature = record {
   target = record { id = target.id; born = born_of_entry entry };
   opcode = opcode;
-  args = the_args core entry given signature;
+  args = the_args core side entry given signature;
   ends = ended_by signature.destroys (record { id = target.id; born = born_of_entry entry })
-      (the_args core entry given signature);
+      (the_args core side entry given signature);
 }
 
 -- a new object gets the next id
-pub new_id : (view : Objects) (o : Option NewObject) → (new_known view o).id ≡ next_id view.client
-new_id view None = refl
-new_id view (Some m) = refl
+pub new_id : (maker : Maker) (view : Objects) (o : Option NewObject)
+    → (new_known maker view o).id ≡ next_id maker view
+new_id maker view None = refl
+new_id maker view (Some m) = refl
 
 -- a new object gets the next birth
-pub new_birth : (view : Objects) (o : Option NewObject) → (new_known view o).born.birth ≡ client_birth view.client.births
-new_birth view None = refl
-new_birth view (Some m) = refl
+pub new_birth : (maker : Maker) (view : Objects) (o : Option NewObject)
+    → (new_known maker view o).born.birth ≡ client_birth (next_birth maker view)
+new_birth maker view None = refl
+new_birth maker view (Some m) = refl
+
+-- the next id is a word
+next_low : (maker : Maker) (view : Objects) → ObjectsAreSound view → next_id maker view < 2 ^ 32
+next_low Client view s =
+    let f = free_in view.client (table.next_id view.client) s.client (free_or_next-next_id view.client) in
+    omega (arith, f.at_most_next, s.client.ids_end)
+next_low Server view s =
+    let f = free_in view.server (table.next_id view.server) s.server (free_or_next-next_id view.server) in
+    omega (arith, f.at_most_next, s.server.ids_end)
 
 no_error : (side : Side) (iface : Iface) (opcode : ℕ) → is_hidden side iface opcode ≡ false
     → is_error side iface opcode ≡ false
@@ -95,13 +110,13 @@ no_delete Event iface opcode h = and_left (same_iface iface display) (nat_eq opc
 pub record CallIs (core : Core) (side : Side) (target : Object) (opcode : ℕ) (given : List Given)
     (signature : sigs.MessageSignature) (entry : Entry) : Type 0 where
   pub right : AllRight core.view signature.kinds given
-  pub fits_it : FitsSignature core.tables side (the_call core entry target opcode given signature)
-  pub made_is : the_made core entry given signature ≡ option_map made_of (made_in (the_args core entry given signature))
-  pub new : (made_in (the_args core entry given signature) ≡ None)
-      ⊎ (made_in (the_args core entry given signature) ≡ Some (the_new core entry given signature))
-  pub wire_is : map (wired (next_id core.view.client)) given ≡ map wire (the_args core entry given signature)
-  pub live : Each (LiveAt core.view) (objects (the_args core entry given signature))
-  pub short : message_len (map wire (the_args core entry given signature)) ≤ core.outbox.limit.bytes
+  pub fits_it : FitsSignature core.tables side (the_call core side entry target opcode given signature)
+  pub made_is : the_made core side entry given signature ≡ option_map made_of (made_in (the_args core side entry given signature))
+  pub new : (made_in (the_args core side entry given signature) ≡ None)
+      ⊎ (made_in (the_args core side entry given signature) ≡ Some (the_new core side entry given signature))
+  pub wire_is : map (wired (next_id (maker_by side) core.view)) given ≡ map wire (the_args core side entry given signature)
+  pub live : Each (LiveAt core.view) (objects (the_args core side entry given signature))
+  pub short : message_len (map wire (the_args core side entry given signature)) ≤ core.outbox.limit.bytes
 
 if_made : (P : Known → Type 0) (o : Option Known) (x : Known) → (o ≡ None) ⊎ (o ≡ Some x) → ((o ≡ None → ⊥) → P x)
     → IfThere P o
@@ -111,23 +126,25 @@ if_made P (Some y) x h f = elim h [ inl p ↦ absurd (cc p) | inr p ↦ subst (I
 -- the message of a call that nothing stands against is so
 pub call_is : (core : Core) (side : Side) (target : Object) (opcode : ℕ) (given : List Given)
     (signature : sigs.MessageSignature)
-    → Valid core.tables → MadeByClient core.view → Each FitsWords given
+    → Valid core.tables → has_server_objects core.tables ≡ false → MadeByClient core.view → Each FitsWords given
     → (c : Checked core.outbox.limit.bytes core.tables side core.view target opcode given signature)
     → CallIs core side target opcode given signature c.entry
-call_is core side target opcode given signature v s g c =
+call_is core side target opcode given signature v z s g c =
+    let none = none_by_server core.tables v z c.entry.iface.0 side opcode signature c.signed in
     let r = all_right core.view 0 signature.kinds given c.suit c.found in
-    let mk = the_made core c.entry given signature in
-    let new = the_new core c.entry given signature in
-    let args = the_args core c.entry given signature in
-    let id = new_id core.view mk in
-    let f = free_is core.view (next_id core.view.client) s.tables (free_or_next-next_id core.view.client) in
-    let low : new.id < 2 ^ 32 = omega (arith, id, f.at_most_next, s.tables.client.ids_end) in
-    let m = matches core.tables core.view c.entry.version (next_id core.view.client) signature.kinds given r
+    let mk = the_made core side c.entry given signature in
+    let new = the_new core side c.entry given signature in
+    let args = the_args core side c.entry given signature in
+    let id = new_id (maker_by side) core.view mk in
+    let below = next_low (maker_by side) core.view s.tables in
+    let low : new.id < 2 ^ 32 = omega (arith, id, below) in
+    let m = matches core.tables (maker_by side) core.view c.entry.version (next_id (maker_by side) core.view) signature.kinds given
+    none r
     (few_new core.tables v c.entry.iface.0 side opcode signature c.signed)
     (unnamed_none core.tables v c.entry.iface side opcode signature c.signed c.hidden) in
-    let a = fit_all core.tables core.view new c.entry.version signature.kinds given s low r m g
+    let a = fit_all core.tables core.view new c.entry.version signature.kinds given s low none r m g
     (omega (arith, c.len, core.outbox.limit.in_range.1)) in
-    let w : map wire args ≡ map (wired (next_id core.view.client)) given =
+    let w : map wire args ≡ map (wired (next_id (maker_by side) core.view)) given =
     wire_all core.view new given ∙ ap (λ (n : ℕ). map (wired n) given) id in
     let n = new_all core.view new given in
     let short : message_len (map wire args) ≤ core.outbox.limit.bytes = let e =
@@ -145,7 +162,7 @@ call_is core side target opcode given signature v s g c =
         low = (row_low core.view target.id c.entry s c.there).1;
         opcode = opcode_low core.tables v c.entry.iface.0 side opcode signature c.signed;
         new_version = if_made (λ x. 1 ≤ x.born.version) (made_in args) new (made_new new args n)
-            (λ h. (let e = version_of core.view new c.entry.version signature.kinds given r m h
+            (λ h. (let e = version_of core.view new c.entry.version signature.kinds given none r m h
             in omega (arith, e, since, c.old_enough)));
         new_is = one_new new args n;
         no_error = no_error side c.entry.iface opcode c.hidden;
@@ -189,12 +206,12 @@ pub call_ends : (core : Core) (side : Side) (target : Object) (opcode : ℕ) (gi
     → (c : Checked core.outbox.limit.bytes core.tables side core.view target opcode given signature)
     (k : CallIs core side target opcode given signature c.entry)
     → EndsAs signature.destroys (ended_id signature.destroys target.id (map (wired 0) given))
-    (the_call core c.entry target opcode given signature).ends
+    (the_call core side c.entry target opcode given signature).ends
 call_ends core side target opcode given signature v c k =
-    let m = the_call core c.entry target opcode given signature in
+    let m = the_call core side c.entry target opcode given signature in
     let there = c.signed in
     let same : k.fits_it.signature ≡ signature = cc (k.fits_it.there, there) in
-    let ids = ids_wired signature.destroys target.id (next_id core.view.client) given
+    let ids = ids_wired signature.destroys target.id (next_id (maker_by side) core.view) given
     ∙ ap (ended_id signature.destroys target.id) k.wire_is in
     subst (λ (n : ℕ). EndsAs signature.destroys n m.ends) (sym ids)
     (subst (λ (x : sigs.MessageSignature). EndsAs x.destroys (ended_id x.destroys target.id (map wire m.args)) m.ends)
@@ -207,7 +224,7 @@ pub record Accepted (core : Core) (side : Side) (target : Object) (opcode : ℕ)
     (new : Option Object) : Type 0 where
   pub signature : sigs.MessageSignature
   pub checks : checked core.outbox.limit.bytes core.tables side core.view target opcode given ≡ Ok signature
-  pub opens_it : opening_answer core (made_at core target signature given) ≡ Ok new
+  pub opens_it : opening_answer core (maker_by side) (made_at core side target signature given) ≡ Ok new
 
 fitting : (b : Bool) (x : Result (Option Object) SendError) (new : Option Object) (why : SendError)
     → cond b x (Err why) ≡ Ok new → x ≡ Ok new
@@ -234,19 +251,21 @@ accepted_call core side target opcode given new l h =
     else answer_of core side target given (checked core.outbox.limit.bytes core.tables side core.view target opcode
     given)) l) ∙ h)
 
--- an opening: it can be opened, and is the next
-pub record Opens (core : Core) (o : Option NewObject) (new : Option Object) : Type 0 where
-  pub can : IfThere (λ (m : NewObject). can_open core.view.client ≡ true) o
-  pub is : new ≡ option_map (λ (m : NewObject). record { id = next_id core.view.client; birth = core.view.client.births }) o
+-- an opening: it can be opened, and is the maker's next
+pub record Opens (core : Core) (maker : Maker) (o : Option NewObject) (new : Option Object) : Type 0 where
+  pub can : IfThere (λ (m : NewObject). can_open maker core.view ≡ true) o
+  pub is : new ≡ option_map
+      (λ (m : NewObject). record { id = next_id maker core.view; birth = next_birth maker core.view }) o
 
-opens_if : (core : Core) (m : NewObject) (new : Option Object) (b : Bool) (why : SendError) → can_open core.view.client ≡ b
-    → cond b (Ok (Some (record { id = next_id core.view.client; birth = core.view.client.births }))) (Err why) ≡ Ok new
-    → Opens core (Some m) new
-opens_if core m new true why e h = record { can = e; is = cc h }
-opens_if core m new false why e h = absurd (cc h)
+opens_if : (core : Core) (maker : Maker) (m : NewObject) (new : Option Object) (b : Bool) (why : SendError)
+    → can_open maker core.view ≡ b
+    → cond b (Ok (Some (record { id = next_id maker core.view; birth = next_birth maker core.view }))) (Err why) ≡ Ok new
+    → Opens core maker (Some m) new
+opens_if core maker m new true why e h = record { can = e; is = cc h }
+opens_if core maker m new false why e h = absurd (cc h)
 
 -- a call that returns this object opens it
-pub opens : (core : Core) (o : Option NewObject) (new : Option Object) → opening_answer core o ≡ Ok new
-    → Opens core o new
-opens core None new h = record { can = tt; is = cc h }
-opens core (Some m) new h = opens_if core m new (can_open core.view.client) _ refl h
+pub opens : (core : Core) (maker : Maker) (o : Option NewObject) (new : Option Object)
+    → opening_answer core maker o ≡ Ok new → Opens core maker o new
+opens core maker None new h = record { can = tt; is = cc h }
+opens core maker (Some m) new h = opens_if core maker m new (can_open maker core.view) _ refl h

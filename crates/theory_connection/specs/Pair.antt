@@ -1,7 +1,7 @@
 -- A client and a server with nothing between them, what can be done with them, and what each call
 -- returns and leaves.
 use Rattle.std.specs.Prelude.{◌≡◌, ℕ, ◌<◌, Bool, true, false, min, List, [], ◌++◌, length, take}
-use Rattle.std.specs.Prelude.{Option, Some, None}
+use Rattle.std.specs.Prelude.{Option, Some, None, IsOk}
 use Rattle.std.specs.declared.result.Result.{Result}
 use Rattle.std.specs.declared.result.Result.TheVariants.{Ok, Err}
 use Rattle.wl_wire.specs.declared.kind.Iface.{Iface}
@@ -18,6 +18,7 @@ use Rattle.wl_objects.specs.declared.error.NextError.TheVariants as errors
 use Rattle.wl_objects.specs.Writing.{Given}
 use Rattle.wl_objects.specs.Messages.{checked}
 use Rattle.wl_connection.specs.Core.{Core, in_room, with_arrived, with_gone, is_drained}
+use Rattle.wl_connection.specs.Receiving.{found}
 use Rattle.wl_connection.specs.Sending.{send_answer, after_send, opens_object}
 use Rattle.wl_client.specs.State as client
 use Rattle.wl_client.specs.Reports as events
@@ -25,14 +26,12 @@ use Rattle.wl_client.specs.Calls.{bind_answer, after_bind}
 use Rattle.wl_server.specs.declared.globals.GlobalError.{GlobalError}
 use Rattle.wl_server.specs.declared.globals.GlobalError.TheVariants as global_errors
 use Rattle.wl_server.specs.State as server
-use Rattle.wl_server.specs.State.{global_of}
 use Rattle.wl_server.specs.Requests as requests
 use Rattle.wl_server.specs.Calls.{drop_refusal, after_drop, error_refusal, after_error, add_refusal}
 use Rattle.wl_server.specs.Calls.{withdraw_refusal, with_global, next_name, after_withdraw}
 use Rattle.wl_server.specs.Announcing.{Fitting, after_announce}
 use Rattle.wl_recording.specs.declared.piece.Direction.TheVariants.{ToServer, ToClient}
 use Rattle.wl_recording.specs.Piece.{Piece, passed}
-use Rattle.wl_connection.specs.Core.{max_globals}
 
 pub record PairState : Type 0 where
   pub client : client.State
@@ -178,14 +177,16 @@ pub data Announces (p : PairState) : Result ℕ SendError → PairState → Type
       → Announces p (Ok count) (with_server p (after_announce p.server count))
   refused : p.server.core.failed ≡ true → Announces p (Err refusals.Failed) p
 
--- A read returns and leaves what it says; or there is no memory for a report that needs some, and
--- nothing changes.
-pub data Nexts {R : Type 0} (needs : R → Bool) (answer : Result (Option R) NextError)
-    (before after : PairState)
+-- A read returns and leaves what it says. Or there is no memory for a report that needs some, or,
+-- at a client, for an object that the message makes at an id without a row; then nothing changes.
+pub data Nexts {R : Type 0} (needs : R → Bool) (opens : Bool)
+    (answer : Result (Option R) NextError) (before after : PairState)
     : Result (Option R) NextError → PairState → Type 0 where
-  answered : Nexts needs answer before after answer after
+  answered : Nexts needs opens answer before after answer after
   no_memory : {report : R} → answer ≡ Ok (Some report) → needs report ≡ true
-      → Nexts needs answer before after (Err errors.Memory) before
+      → Nexts needs opens answer before after (Err errors.Memory) before
+  no_memory_to_open : IsOk answer → opens ≡ true
+      → Nexts needs opens answer before after (Err errors.Memory) before
 
 -- A carry moves so much; or, only where something would move, there is no memory to record it, and
 -- nothing changes.
@@ -227,10 +228,12 @@ Does p (CarryToClient most) (CarryToClient reply) p' =
     Carries (carries p.server.core p.client.core most) p
     (after_carry_to_client p (carries p.server.core p.client.core most)) reply p'
 Does p ClientNext (ClientNext reply) p' =
-    Nexts events.needs_memory (events.next_answer p.client) p
+    Nexts events.needs_memory
+    (events.event_opens p.client.core (found p.client.core Event))
+    (events.next_answer p.client) p
     (with_client p (events.after_next p.client)) reply p'
 Does p ServerNext (ServerNext reply) p' =
-    Nexts requests.needs_memory (requests.next_answer p.server) p
+    Nexts requests.needs_memory false (requests.next_answer p.server) p
     (with_server p (requests.after_next p.server)) reply p'
 Does p _ _ p' = ⊥
 

@@ -1,10 +1,15 @@
 -- Runs of moves.
-use Rattle.std.specs.Prelude.{◌≡◌, ℕ, ◌<◌, ◌^◌, List, [], ◌∷◌, Some, FitsSigned}
+use Rattle.std.specs.Prelude.{◌≡◌, ◌↔◌, ℕ, ◌<◌, ◌^◌, Bool, true, false, not, ◌&&◌, ltb, List, []}
+use Rattle.std.specs.Prelude.{◌∷◌, Some, FitsSigned}
 use Rattle.std.specs.Int.{w32}
 use Rattle.wl_wire.specs.Argument.{Int, Uint, Fixed, NewNamed}
 use Rattle.wl_object_map.specs.declared.object.Entry.{Entry}
 use Rattle.wl_object_map.specs.declared.object.State.TheVariants as states
-use Rattle.wl_object_map.specs.Objects.{Objects, look}
+use Rattle.wl_object_map.specs.declared.object.Maker.TheVariants.{Server}
+use Rattle.wl_object_map.specs.Ranges.{is_of_server}
+use Rattle.wl_object_map.specs.View.{times}
+use Rattle.wl_object_map.specs.Objects.{Objects, look, is_held, is_live, in_range, ids_used}
+use Rattle.wl_object_map.specs.Objects.{next_birth}
 use Rattle.wl_objects.specs.Writing.{Given}
 use Rattle.theory_connection.specs.World.{World, Each}
 use Rattle.theory_connection.specs.Pair.{PairState, Move, Reply, ClientSend, ServerSend, AddGlobal}
@@ -44,10 +49,34 @@ IsMove (ServerSend target opcode given) = Each FitsWords given
 IsMove (AddGlobal iface version) = version < 2 ^ 32
 IsMove _ = Unit {0}
 
--- Both ends have the same rows, all live.
+-- whether an id was used and is freed now
+abbrev pub is_freed : Objects → ℕ → Bool
+is_freed objects id = in_range (λ view place. ltb 0 (times place view.freed)) objects id
+
+-- whether an id has the row of an object that has ended
+abbrev pub is_zombie : Objects → ℕ → Bool
+is_zombie objects id = is_held objects id && not (is_live objects id)
+
+-- Both ends have the same rows in the client's range, all live.
+pub record AgreeByClient (client server : Objects) : Type 0 where
+  pub same : (id : ℕ) → is_of_server id ≡ false → look client id ≡ look server id
+  pub live : (id : ℕ) (e : Entry) → is_of_server id ≡ false → look client id ≡ Some e
+      → e.state ≡ states.Live
+
+-- In the server's range the client's live rows are the server's, and its zombies have exactly the
+-- ids that the server has freed: no delete_id tells the client of those. Both have used as many ids
+-- there and counted as many births.
+pub record AgreeByServer (client server : Objects) : Type 0 where
+  pub same : (id : ℕ) (e : Entry) → is_of_server id ≡ true
+      → (look server id ≡ Some e) ↔ ((look client id ≡ Some e) × (e.state ≡ states.Live))
+  pub freed : (id : ℕ) → is_of_server id ≡ true → is_zombie client id ≡ is_freed server id
+  pub used : ids_used Server client ≡ ids_used Server server
+  pub births : next_birth Server client ≡ next_birth Server server
+
+-- Both ends have the same objects, in either range.
 pub record Agree (client server : Objects) : Type 0 where
-  pub same : (id : ℕ) → look client id ≡ look server id
-  pub live : (id : ℕ) (e : Entry) → look client id ≡ Some e → e.state ≡ states.Live
+  pub by_client : AgreeByClient client server
+  pub by_server : AgreeByServer client server
 
 -- a step of the pair in its world
 pub record Keeps (p : PairState) (w : World) (move : Move) (reply : Reply) (p' : PairState)

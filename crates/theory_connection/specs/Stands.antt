@@ -20,7 +20,8 @@ use Rattle.wl_object_map.specs.declared.object.Entry.{Entry}
 use Rattle.wl_object_map.specs.declared.object.State.TheVariants as states
 use Rattle.wl_object_map.specs.Ranges.{is_of_server}
 use Rattle.wl_object_map.specs.View.{max_ids}
-use Rattle.wl_object_map.specs.Objects.{Objects, ObjectsAreSound, look}
+use Rattle.wl_object_map.specs.declared.object.Maker.TheVariants.{Server}
+use Rattle.wl_object_map.specs.Objects.{Objects, ObjectsAreSound, look, ids_used, next_birth}
 use Rattle.wl_objects.specs.Reading.{iface_of, is_of}
 use Rattle.wl_objects.specs.Writing.{message_len}
 use Rattle.wl_objects.specs.Messages.{made_by, is_error, is_delete_id, is_bind, same_iface}
@@ -30,7 +31,7 @@ use Rattle.wl_server.specs.State as server
 use Rattle.wl_server.specs.State.{global_of}
 use Rattle.wl_server.specs.Registries.{HasRegistries}
 use Rattle.wl_server.specs.Requests.{was_advertised}
-use Rattle.wl_sigs.specs.Rules.{is_ended_by_event}
+use Rattle.wl_sigs.specs.Rules.{is_ended_by_event, has_server_objects}
 use Rattle.wl_server.specs.Calls.{can_be_global}
 use Rattle.wl_server.specs.Announcing.{name_at}
 use Rattle.theory_connection.specs.Meant.{Birth, IsAmongFirst, Born, Known, Message, Coming, Event}
@@ -209,12 +210,16 @@ pub record SameTerms (client server : Terms) : Type 0 where
   pub up_limit : client.out_limit ≡ server.in_limit
   pub down_limit : server.out_limit ≡ client.in_limit
   pub one_limit : client.in_limit ≡ server.in_limit
+  -- no event has a new object of the server: the world has births of the client's alone
+  pub none_by_server : has_server_objects server.tables ≡ false
 
--- All of an end's objects were made by the client: both tables are sound, and no id of the server's
--- range has a row.
+-- All of an end's objects were made by the client: both tables are sound, no id of the server's
+-- range has a row, and none was used, by no birth.
 pub record MadeByClient (view : Objects) : Type 0 where
   pub tables : ObjectsAreSound view
   pub none : (id : ℕ) → is_of_server id ≡ true → look view id ≡ None
+  pub unused : ids_used Server view ≡ 0
+  pub births : next_birth Server view ≡ 1
 
 -- The rows at the client are the births open and ending there.
 pub record ClientStands (view : Objects) (failed : Bool) (counted : ℕ) (held : Birth → Option Row)

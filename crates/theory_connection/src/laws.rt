@@ -2,6 +2,7 @@
 ghost use Rattle.std.specs.Prelude.{◌≡◌, ◌⊎◌, ◌<◌, ℕ, List, ◌++◌, ◌∷◌, [], true, false, None, Err};
 ghost use Rattle.wl_sigs.specs.Tables.{Interface};
 ghost use Rattle.wl_sigs.specs.Fixed.{registry};
+ghost use Rattle.wl_sigs.specs.Rules.{has_server_objects};
 ghost use Rattle.wl_sigs.specs.Valid.{Valid};
 ghost use Rattle.wl_object_map.specs.View.{IdsOfBirths};
 ghost use Rattle.wl_object_map.specs.Objects.{look};
@@ -24,10 +25,12 @@ ghost use Rattle.theory_connection.specs.Plain.{IsHeldAtClient, IsSomewhere, Del
 ghost use Rattle.theory_connection.specs.Plain.{MakeComes, DestroyComes, IsLast, IsToldOfGlobals};
 ghost use Rattle.theory_connection.specs.Plain.{IdsAreOf, BirthsAreOf};
 
-/// A new pair with one limit stands for the opening world.
+/// A new pair with one limit stands for the opening world, where no event of its tables has a new
+/// object of the server.
 pub fn new_stands()
     ensures { (tables : List Interface) (client server : Sizes)
         → client.limit.bytes ≡ server.limit.bytes → Valid tables
+        → has_server_objects tables ≡ false
         → Stands (new_pair tables client server) opening_world }
 {}
 

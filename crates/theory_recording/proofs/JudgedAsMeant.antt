@@ -25,6 +25,7 @@ use Rattle.wl_check.specs.Rules.{reader_by, called, judged, judged_message, is_d
 use Rattle.theory_connection.specs.Meant.{Known, Message, Arg, objects, new_object_in, wire, tokens, spelled_meant}
 use Rattle.theory_connection.specs.World.{Each, IfThere}
 use Rattle.theory_connection.specs.Stands.{FitsSignature}
+use Rattle.theory_connection.proofs.NoneByServer.{NoneByServer}
 use Rattle.theory_connection.proofs.ReadAsMeant.{HasObject, Finds, received_by_any, parted}
 
 -- the checker finds each argument whose object it has and whose new id is free
@@ -70,13 +71,13 @@ body_is m stream more p e =
 -- so far are at least those taken before it and its own.
 pub frame_called : (limit : ℕ) (tables : List Interface) (k : Knows) (d : Direction) (m : Message Known)
     (stream more : List ℕ) (p t : ℕ) (o : HasObject (reader_by tables k d) m.target) (f : FitsSignature tables (side_of d) m)
-    → IsMessage limit (spelled_meant m).bytes → drop p stream ≡ (spelled_meant m).bytes ++ more
+    → NoneByServer f.signature.kinds → IsMessage limit (spelled_meant m).bytes → drop p stream ≡ (spelled_meant m).bytes ++ more
     → Each (Finds (reader_by tables k d)) m.args
     → k.taken d + length (tokens m.args) ≤ t
     → is_disallowed_bind tables k (side_of d) m.opcode (call_as d m o.entry f.signature).received ≡ false
     → judged limit tables k stream (framed d t (mark p (length (spelled_meant m).bytes)))
     ≡ Ok (call_as d m o.entry f.signature)
-frame_called limit tables k d m stream more p t o f whole e args w good =
+frame_called limit tables k d m stream more p t o f none whole e args w good =
     let vs = map wire m.args in
     let n = length (spelled_meant m).bytes in
     let size : is_size limit n ≡ true = is_size-true limit n whole.size in
@@ -84,7 +85,7 @@ frame_called limit tables k d m stream more p t o f whole e args w good =
     let q = parted (drop p stream) more m.target.id m.opcode vs e (omega (arith, f.low)) f.opcode f.len in
     let enough : length (tokens m.args) ≤ t - k.taken d = omega (arith, w) in
     let read = received_by_any tables (side_of d) (reader_by tables k d) m header
-    (t - k.taken d) o f q.object q.opcode_is args enough in
+    (t - k.taken d) o f none q.object q.opcode_is args enough in
     let whole_one = judged_message tables k (framed d t (mark p n)) header (take (n - 8) (drop (p + 8) stream)) in
     ap (λ (b : Bool). cond b whole_one (Err BadSize)) size
     ∙ ap (judged_message tables k (framed d t (mark p n)) header) (body_is m stream more p e)

@@ -28,7 +28,7 @@ use Rattle.theory_connection.specs.Pair.{PairState, Move, Reply, ClientSend, Cli
 use Rattle.theory_connection.specs.Pair.{ServerDrop, PostError, AddGlobal, Withdraw, Announce}
 use Rattle.theory_connection.specs.Pair.{CarryToServer, CarryToClient, ClientNext, ServerNext, Does}
 use Rattle.theory_connection.specs.Pair.{CarryOutcome, Writes, Calls, Adds, Announces, Nexts, Carries}
-use Rattle.theory_connection.specs.Pair.{accepted, refused, no_memory, done, added, announced}
+use Rattle.theory_connection.specs.Pair.{accepted, refused, no_memory, no_memory_to_open, done, added, announced}
 use Rattle.theory_connection.specs.Pair.{answered, moved}
 use Rattle.theory_connection.specs.Answers.{KeepsRecord}
 use Rattle.theory_connection.proofs.Announces.{only_sent}
@@ -67,11 +67,12 @@ by_announce : (p : PairState) (reply : Result ℕ SendError) (p' : PairState) �
 by_announce p reply p' (announced {count = count} l f) = ap fixed (only_sent p.server.core (take count (owed p.server)))
 by_announce p reply p' (refused l) = refl
 
-by_next : {R : Type 0} (needs : R → Bool) (answer : Result (Option R) NextError) (p q : PairState)
-    (reply : Result (Option R) NextError) (p' : PairState) → HasTables p q → Nexts needs answer p q reply p'
+by_next : {R : Type 0} (needs : R → Bool) (opens : Bool) (answer : Result (Option R) NextError) (p q : PairState)
+    (reply : Result (Option R) NextError) (p' : PairState) → HasTables p q → Nexts needs opens answer p q reply p'
     → HasTables p p'
-by_next needs answer p q reply p' k answered = k
-by_next needs answer p q reply p' k (no_memory h o) = refl
+by_next needs opens answer p q reply p' k answered = k
+by_next needs opens answer p q reply p' k (no_memory h o) = refl
+by_next needs opens answer p q reply p' k (no_memory_to_open h o) = refl
 
 by_carry : (taken : Amounts) (p q : PairState) (reply : CarryOutcome) (p' : PairState) → HasTables p q
     → Carries taken p q reply p' → HasTables p p'
@@ -117,9 +118,9 @@ keeps_tables p (Withdraw name) (Withdraw reply) p' d = by_call _ p _ reply p' re
 keeps_tables p Announce (Announce reply) p' d = by_announce p reply p' d
 keeps_tables p (CarryToServer most) (CarryToServer reply) p' d = by_carry _ p _ reply p' refl d
 keeps_tables p (CarryToClient most) (CarryToClient reply) p' d = by_carry _ p _ reply p' refl d
-keeps_tables p ClientNext (ClientNext reply) p' d = by_next _ _ p _ reply p' refl d
+keeps_tables p ClientNext (ClientNext reply) p' d = by_next _ _ _ p _ reply p' refl d
 keeps_tables p ServerNext (ServerNext reply) p' d =
-    by_next _ _ p _ reply p' (next_tables p.server p.server.core.failed) d
+    by_next _ _ _ p _ reply p' (next_tables p.server p.server.core.failed) d
 keeps_tables p _ _ p' d = absurd d
 
 -- what was lawful up to the mark stays so

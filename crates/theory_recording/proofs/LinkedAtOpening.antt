@@ -5,6 +5,7 @@ use Rattle.std.specs.declared.option.Option.{Option}
 use Rattle.std.specs.declared.option.Option.TheVariants.{None, Some}
 use Rattle.wl_sigs.specs.Tables.{Interface}
 use Rattle.wl_sigs.specs.Fixed.{display}
+use Rattle.wl_sigs.specs.Rules.{has_server_objects}
 use Rattle.wl_sigs.specs.Valid.{Valid}
 use Rattle.wl_message.specs.declared.amounts.Sizes.{Sizes}
 use Rattle.wl_message.specs.Arrived.{nothing_arrived}
@@ -121,10 +122,10 @@ none_recorded limit tables d sizes same = record {
 
 -- a new pair is linked with the opening world
 pub new_linked : (tables : List Interface) (client_sizes server_sizes : Sizes)
-    → client_sizes.limit.bytes ≡ server_sizes.limit.bytes → Valid tables
+    → client_sizes.limit.bytes ≡ server_sizes.limit.bytes → Valid tables → has_server_objects tables ≡ false
     → Linked (new_pair tables client_sizes server_sizes) opening_world
-new_linked tables client_sizes server_sizes one v = linked [] [] (refl, refl) (record {
-  stands = new_stands_by tables client_sizes server_sizes one v;
+new_linked tables client_sizes server_sizes one v none = linked [] [] (refl, refl) (record {
+  stands = new_stands_by tables client_sizes server_sizes one v none;
   requests = record {
     seen = [];
     later = [];

@@ -255,6 +255,7 @@ read_client st c n view globals = record {
     failed = false;
   };
   globals = globals;
+  made = None;
 }
 
 -- A pair stays linked when the client reads the first of what comes, where its rows still join and

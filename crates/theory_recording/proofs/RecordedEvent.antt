@@ -7,22 +7,23 @@ use Rattle.std.specs.declared.result.Result.TheVariants.{Ok}
 use Rattle.wl_wire.specs.declared.kind.Iface.{Iface}
 use Rattle.wl_wire.specs.declared.kind.Kind.{Kind}
 use Rattle.wl_wire.specs.declared.kind.Kind.TheVariants as kinds
-use Rattle.wl_wire.specs.Argument.{New}
+use Rattle.wl_wire.specs.Argument.{New, NewNamed}
 use Rattle.wl_sigs.specs.declared.signature.Side.TheVariants.{Event as event_side}
 use Rattle.wl_sigs.specs.declared.signature.Destroys.{Destroys}
 use Rattle.wl_sigs.specs.declared.signature.Destroys.TheVariants.{Nothing}
 use Rattle.wl_sigs.specs.Tables as sigs
-use Rattle.wl_sigs.specs.Tables.{Interface, signature_at, place_of, destroys_one}
+use Rattle.wl_sigs.specs.Tables.{Interface, signature_at, destroys_one}
 use Rattle.wl_sigs.specs.Fixed as fixed
+use Rattle.wl_sigs.specs.Rules.{has_server_objects}
 use Rattle.wl_sigs.specs.Valid.{Valid}
 use Rattle.wl_message.specs.Cut.{IsMessage}
 use Rattle.wl_object_map.specs.declared.object.Entry.{Entry}
 use Rattle.wl_object_map.specs.declared.object.State.TheVariants.{Live}
-use Rattle.wl_objects.specs.Messages.{NewObject, is_delete_id, ended_id, or_else}
+use Rattle.wl_objects.specs.Messages.{NewObject, made, made_by, is_delete_id, ended_id, or_else}
 use Rattle.wl_client.specs.declared.globals.Global.{Global as Remembered}
 use Rattle.wl_server.specs.State.{Global}
 use Rattle.wl_recording.specs.declared.piece.Direction.TheVariants.{ToClient}
-use Rattle.wl_check.specs.Changes.{changes, destroyed_id, is_global, first_number, made_by_server, made_by_event}
+use Rattle.wl_check.specs.Changes.{changes, side_of, destroyed_id, is_global, first_number}
 use Rattle.wl_check.specs.Places.{is_id, is_made, made_entry, new_of, used_by, unless_deleted, frees}
 use Rattle.wl_check.specs.Rules.{reader_by}
 use Rattle.wl_check.specs.Session.{Judged}
@@ -30,6 +31,7 @@ use Rattle.wl_check.proofs.LongerRecording.{behind_one, advertised_own}
 use Rattle.theory_connection.specs.Meant.{IsAmongFirst, Born, Known, Arg, Message, Coming, Event, Delete, objects}
 use Rattle.theory_connection.specs.Meant.{made_in, new_object_in, wire, tokens, spelled_meant, spelled_coming}
 use Rattle.theory_connection.specs.World.{Row, Open, Each, IfThere, display_born}
+use Rattle.theory_connection.proofs.NoneByServer.{none_by_server}
 use Rattle.theory_connection.proofs.EndedObject.{if_by}
 use Rattle.theory_connection.specs.Flight.{IsBelow, Rows, at, Tell, Name, ends, tells, all_tells}
 use Rattle.theory_connection.specs.Flight.{all_asks, IsHeldInRows, ReadsInFlight, MeetInMiddle}
@@ -112,22 +114,24 @@ seen_more seen c = all_tells_more seen (c ∷ []) ∙ ap (λ (es : List Tell). a
 
 -- What an end writes or reads makes an object by a request alone: an event's arguments name none that is new, so
 -- that the checker sees it make none.
-makes_none : (version : ℕ) (kind : Kind) (a : Arg Known) → new_object_in a ≡ None
-    → made_by_server version kind (wire a) ≡ None
-makes_none version (kinds.NewByServer iface) (New x) e = absurd (cc e)
-makes_none version kind a e = refl
+makes_none : (tables : List Interface) (version : ℕ) (kind : Kind) (a : Arg Known) → new_object_in a ≡ None
+    → made_by tables version kind (wire a) ≡ None
+makes_none tables version (kinds.New (Some iface)) (New x) e = absurd (cc e)
+makes_none tables version (kinds.New None) (NewNamed name own x) e = absurd (cc e)
+makes_none tables version (kinds.NewByServer iface) (New x) e = absurd (cc e)
+makes_none tables version kind a e = refl
 
 both_none : (a b : Option Known) → or_else a b ≡ None → (a ≡ None) × (b ≡ None)
 both_none None b e = (refl, e)
 both_none (Some x) b e = absurd (cc e)
 
-makes_nothing : (version : ℕ) (ks : List Kind) (args : List (Arg Known)) → made_in args ≡ None
-    → made_by_event version ks (map wire args) ≡ None
-makes_nothing version [] args e = refl
-makes_nothing version (kind ∷ ks) [] e = refl
-makes_nothing version (kind ∷ ks) (a ∷ args) e =
+makes_nothing : (tables : List Interface) (version : ℕ) (ks : List Kind) (args : List (Arg Known))
+    → made_in args ≡ None → made tables version ks (map wire args) ≡ None
+makes_nothing tables version [] args e = refl
+makes_nothing tables version (kind ∷ ks) [] e = refl
+makes_nothing tables version (kind ∷ ks) (a ∷ args) e =
     let none = both_none (new_object_in a) (made_in args) e in
-    rw (makes_none version kind a none.0, makes_nothing version ks args none.1) refl
+    rw (makes_none tables version kind a none.0, makes_nothing tables version ks args none.1) refl
 
 -- what it advertises
 own_global : (tables : List Interface) (e : List Judged) (m : Message Known) (entry : Entry)
@@ -148,14 +152,15 @@ own_global tables e m entry signature same is name version text iface args place
 event_one : (limit : ℕ) (tables : List Interface) (given : List Global) (asked_seen asked_later : List (Message Known))
     (told : List (Coming Known)) (client : Rows Row) (server : Rows Born) (remembered : List Remembered)
     (stream more : List ℕ) (t p : ℕ) (e : List Judged) (seen later : List (Coming Known)) (m : Message Known)
-    → Valid tables → Whereabouts tables asked_seen asked_later told client server → told ≡ seen ++ Event m ∷ later
+    → Valid tables → has_server_objects tables ≡ false → Whereabouts tables asked_seen asked_later told client server
+    → told ≡ seen ++ Event m ∷ later
     → Follows tables e asked_later seen client remembered → TellsFitly tables given m
     → IsMessage limit (spelled_meant m).bytes → drop p stream ≡ (spelled_meant m).bytes ++ more
     → (knowledge tables e).taken ToClient + length (tokens m.args) ≤ t
     → One limit tables ToClient stream t p (spelled_meant m) e
     (λ e'. Follows tables e' asked_later (seen ++ Event m ∷ []) client remembered)
-event_one limit tables given asked_seen asked_later told client server remembered stream more t p e seen later m valid w
-    is f fit whole bytes enough =
+event_one limit tables given asked_seen asked_later told client server remembered stream more t p e seen later m valid
+    none w is f fit whole bytes enough =
     let k = knowledge tables e in
     let a = f.known_as in
     let ps = birth_places tables e in
@@ -185,14 +190,16 @@ event_one limit tables given asked_seen asked_later told client server remembere
     let grows = call_grows tables e call in
     record {
       call = call;
-      is = frame_called limit tables k ToClient m stream more p t o fit.fits whole bytes args enough refl;
+      is = frame_called limit tables k ToClient m stream more p t o fit.fits
+          (none_by_server tables valid none m.target.born.iface.0 (side_of ToClient) m.opcode fit.fits.signature
+          fit.fits.there) whole bytes args enough refl;
       own = own_taken tables e ToClient m o.entry fit.fits;
       other = λ x apart. other_taken tables e call x apart;
       next = record {
         passed = go_on_more e (Ok call) f.passed (goes_on_as tables ToClient m o.entry fit.fits o.iface);
         here = client_ends m.ends f.here;
         known_as = known_call tables e f.here ToClient m o.entry fit.fits None valid a tt r.target r.args
-            (makes_nothing o.entry.version fit.fits.signature.kinds m.args fit.makes_none) deleted_is;
+            (makes_nothing tables o.entry.version fit.fits.signature.kinds m.args fit.makes_none) deleted_is;
         joins = record {
           common = r.joins.common;
           leads = r.joins.leads;
@@ -236,7 +243,7 @@ known_delete tables e here x entry signature a mortal low iface keeps =
     let p = suc (length e) in
     let b = behind_one tables e call in
     let made_is : (changes tables call).made ≡ None =
-    makes_nothing entry.version signature.kinds (deleting x).args refl in
+    makes_nothing tables entry.version signature.kinds (deleting x).args refl in
     let deleted_is : (changes tables call).deleted ≡ Some x.id =
     ap (λ (i : Iface). cond (is_delete_id event_side i 1) (first_number (map wire (deleting x).args)) None)
     iface in
@@ -253,14 +260,14 @@ known_delete tables e here x entry signature a mortal low iface keeps =
 delete_one : (limit : ℕ) (tables : List Interface) (asked_seen asked_later : List (Message Known))
     (told : List (Coming Known)) (client : Rows Row) (server : Rows Born) (remembered : List Remembered)
     (stream more : List ℕ) (t p : ℕ) (e : List Judged) (seen later : List (Coming Known)) (x : Known) → Valid tables
-    → Whereabouts tables asked_seen asked_later told client server → told ≡ seen ++ Delete x ∷ later
+    → has_server_objects tables ≡ false → Whereabouts tables asked_seen asked_later told client server → told ≡ seen ++ Delete x ∷ later
     → Follows tables e asked_later seen client remembered → x.id ≤ 1048576
     → IsMessage limit (spelled_coming (Delete x)).bytes → drop p stream ≡ (spelled_coming (Delete x)).bytes ++ more
     → (knowledge tables e).taken ToClient + 0 ≤ t
     → One limit tables ToClient stream t p (spelled_coming (Delete x)) e
     (λ e'. Follows tables e' asked_later (seen ++ Delete x ∷ []) client remembered)
-delete_one limit tables asked_seen asked_later told client server remembered stream more t p e seen later x valid w is f
-    low whole bytes enough =
+delete_one limit tables asked_seen asked_later told client server remembered stream more t p e seen later x valid none w
+    is f low whole bytes enough =
     let k = knowledge tables e in
     let a = f.known_as in
     let ps = birth_places tables e in
@@ -287,7 +294,9 @@ delete_one limit tables asked_seen asked_later told client server remembered str
     let grows = call_grows tables e call in
     record {
       call = call;
-      is = frame_called limit tables k ToClient (deleting x) stream more p t o fits whole bytes (tt, tt) enough refl;
+      is = frame_called limit tables k ToClient (deleting x) stream more p t o fits
+          (none_by_server tables valid none 0 (side_of ToClient) 1 fits.signature fits.there) whole bytes (tt, tt) enough
+          refl;
       own = own_taken tables e ToClient (deleting x) o.entry fits;
       other = λ y apart. other_taken tables e call y apart;
       next = record {
@@ -315,17 +324,18 @@ pub tell_one : (limit : ℕ) (tables : List Interface) (given : List Global)
     (asked_seen asked_later : List (Message Known)) (told : List (Coming Known)) (client : Rows Row)
     (server : Rows Born) (remembered : List Remembered)
     (stream more : List ℕ) (t p : ℕ) (e : List Judged) (seen later : List (Coming Known)) (c : Coming Known)
-    → Valid tables → Whereabouts tables asked_seen asked_later told client server → told ≡ seen ++ c ∷ later
+    → Valid tables → has_server_objects tables ≡ false → Whereabouts tables asked_seen asked_later told client server
+    → told ≡ seen ++ c ∷ later
     → Follows tables e asked_later seen client remembered → ComesFitly tables given c
     → IsMessage limit (spelled_coming c).bytes → drop p stream ≡ (spelled_coming c).bytes ++ more
     → (knowledge tables e).taken ToClient + length (spelled_coming c).tokens ≤ t
     → One limit tables ToClient stream t p (spelled_coming c) e
     (λ e'. Follows tables e' asked_later (seen ++ c ∷ []) client remembered)
 tell_one limit tables given asked_seen asked_later told client server remembered stream more t p e seen later
-    (Event m) valid w is f fit whole bytes enough =
+    (Event m) valid none w is f fit whole bytes enough =
     event_one limit tables given asked_seen asked_later told client server remembered stream more t p e seen later m
-    valid w is f fit whole bytes enough
+    valid none w is f fit whole bytes enough
 tell_one limit tables given asked_seen asked_later told client server remembered stream more t p e seen later
-    (Delete x) valid w is f fit whole bytes enough =
-    delete_one limit tables asked_seen asked_later told client server remembered stream more t p e seen later x valid w
-    is f fit whole bytes enough
+    (Delete x) valid none w is f fit whole bytes enough =
+    delete_one limit tables asked_seen asked_later told client server remembered stream more t p e seen later x valid none
+    w is f fit whole bytes enough

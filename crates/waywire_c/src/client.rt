@@ -1,26 +1,30 @@
 //! What C calls of a client.
-ghost use Rattle.std.specs.Prelude.{◌≡◌, ◌≢◌, ◌↔◌, ◌+◌, ◌++◌, length, take, drop, true, Some, Ok};
-ghost use Rattle.std.specs.Prelude.{min, slice_get, IfSome, MatchOption};
-ghost use Rattle.std.specs.FinMap.{len as row_count};
+ghost use Rattle.std.specs.Prelude.{◌≡◌, ◌≢◌, ◌↔◌, ◌+◌, ◌++◌, length, take, drop, true, false};
+ghost use Rattle.std.specs.Prelude.{min, slice_get, cond, IfSome, MatchOption, Some, None, Ok};
 ghost use Rattle.wl_sigs.specs.declared.signature.Side.TheVariants.{Request as request_side};
-ghost use Rattle.wl_object_map.specs.Objects.{look};
+ghost use Rattle.wl_sigs.specs.declared.signature.Side.TheVariants.{Event as event_side};
+ghost use Rattle.wl_sigs.specs.Rules.{has_server_objects};
+ghost use Rattle.wl_object_map.specs.declared.object.Maker.TheVariants.{Client, Server};
+ghost use Rattle.wl_object_map.specs.Objects.{ids_used, look, row_count};
 ghost use Rattle.wl_message.specs.Outgoing.{goes, Peeks, waiting_bytes, waiting_tokens};
 ghost use Rattle.wl_connection.specs.Core.{in_room, is_drained, live, display_object, feeds};
 ghost use Rattle.wl_connection.specs.Core.{feeds_len, with_arrived};
 ghost use Rattle.wl_connection.specs.Core.{with_gone};
+ghost use Rattle.wl_connection.specs.Receiving.{found};
 ghost use Rattle.wl_connection.specs.Sending.{after_send};
 ghost use Rattle.wl_connection.specs.Transport.{EndReceives};
 ghost use Rattle.wl_connection.specs.Waiting.{given_up, waiting, waiting_count};
 ghost use Rattle.wl_client.specs.State.{with_core};
 ghost use Rattle.wl_client.specs.Calls.{after_bind, bind_answer};
-ghost use Rattle.wl_client.specs.Reports.{after_next, next_answer};
+ghost use Rattle.wl_client.specs.Reports.{after_next, event_opens, next_answer};
 ghost use Rattle.waywire_c.specs.Statuses.{find_outcome, made_outcome, read_outcome, OrMemory};
-ghost use Rattle.waywire_c.specs.Values.{amounts_of, given_in, iface_at, object_from_c};
+ghost use Rattle.waywire_c.specs.Values.{amounts_of, given_in, iface_at, made_object};
+ghost use Rattle.waywire_c.specs.Values.{object_from_c};
 ghost use Rattle.waywire_c.specs.Calls.{SendTells};
 ghost use Rattle.waywire_c.specs.Inspecting.{IsTried};
 ghost use Rattle.waywire_c.specs.Sizes.{AreAllowed};
 ghost use Rattle.waywire_c.specs.Reports.{entry_told, entry_told_by, event_args, event_entry};
-ghost use Rattle.waywire_c.specs.Reports.{TellsArgs, told_by, told_event};
+ghost use Rattle.waywire_c.specs.Reports.{of_kind, TellsArgs, told_by, told_event};
 
 use crate::client_handle::ClientHandle;
 use crate::making;
@@ -30,10 +34,9 @@ use crate::reports::Report;
 use crate::sending::{Call, send_request};
 use crate::statuses::{NOT_FOUND, OK, send_status};
 use crate::tables_handle::TablesHandle;
-use crate::values::{CAmounts, CObject, CParts, CSizes, CallArg, ReportArg};
+use crate::values::{CAmounts, CObject, CParts, CSizes, CallArg, ReportArg, maker};
 use std::alloc::Global;
 use wl_connection::End;
-use wl_objects::Table;
 
 /// Makes a client with wl_display alone and empty queues, and writes where it is to `client`.
 #[unsafe(no_mangle)]
@@ -95,23 +98,24 @@ pub extern "C" fn waywire_c_client_live(
     }
 }
 
-/// How many objects the client has, wl_display and those that it destroyed counted.
+/// How many objects the client has in a range of ids, the server's or the client's, with wl_display and those that it
+/// destroyed counted.
 #[unsafe(no_mangle)]
-pub extern "C" fn waywire_c_client_object_count(client: &mut ClientHandle) -> u32
-    ensures answer { result ≡ row_count client.old.held.client.core.view.client.rows }
+pub extern "C" fn waywire_c_client_object_count(client: &mut ClientHandle, by_server: bool) -> u32
+    ensures answer { result ≡ row_count (cond by_server Server Client) client.old.held.client.core.view }
     ensures unchanged { client.new.held ≡ client.old.held }
 {
-    client.get_mut().client.table().len()
+    client.get_mut().client.objects().len(maker(by_server))
 }
 
-/// How many ids of the client's range were ever used. No object that the client made has a greater
-/// one.
+/// How many ids of a range, the server's or the client's, were ever used. No object of the range
+/// has an id that is further from its first.
 #[unsafe(no_mangle)]
-pub extern "C" fn waywire_c_client_ids_used(client: &mut ClientHandle) -> u32
-    ensures answer { result ≡ client.old.held.client.core.view.client.used }
+pub extern "C" fn waywire_c_client_ids_used(client: &mut ClientHandle, by_server: bool) -> u32
+    ensures answer { result ≡ ids_used (cond by_server Server Client) client.old.held.client.core.view }
     ensures unchanged { client.new.held ≡ client.old.held }
 {
-    client.get_mut().client.table().used()
+    client.get_mut().client.objects().used(maker(by_server))
 }
 
 /// Writes the birth of the object that has this id to `birth`, also of one that the client has
@@ -352,14 +356,35 @@ pub extern "C" fn waywire_c_client_next(
     report: &mut Report,
     args: &mut [ReportArg],
 ) -> u32
-    ensures answer { result ≡ read_outcome (next_answer client.old.held.client) }
-    ensures report { told_by report.new ≡ told_event (length args.old) client.old.held.client }
-    ensures entry { entry_told_by report.new ≡ entry_told
+    ensures answer { OrMemory
+        (event_opens client.old.held.client.core (found client.old.held.client.core event_side))
+        (read_outcome (next_answer client.old.held.client)) result }
+    ensures takes_none { has_server_objects client.old.held.client.core.tables ≡ false
+        → result ≡ read_outcome (next_answer client.old.held.client) }
+    ensures report { result ≢ 11
+        → told_by report.new ≡ told_event (length args.old) client.old.held.client }
+    ensures entry { result ≢ 11 → entry_told_by report.new ≡ entry_told
         (event_entry client.old.held.client.core.view (next_answer client.old.held.client)) }
-    ensures args { TellsArgs (event_args (next_answer client.old.held.client)) args.old args.new }
-    ensures state { client.new.held.client ≡ after_next client.old.held.client }
+    ensures args { result ≢ 11
+        → TellsArgs (event_args (next_answer client.old.held.client)) args.old args.new }
+    ensures state { result ≢ 11
+        → client.new.held.client ≡ after_next client.old.held.client }
+    ensures no_report { result ≡ 11 → told_by report.new ≡ of_kind 0 }
+    ensures no_entry { result ≡ 11 → entry_told_by report.new ≡ entry_told None }
+    ensures no_args { result ≡ 11 → args.new ≡ args.old }
+    ensures unchanged { result ≡ 11 → client.new.held ≡ client.old.held }
 {
     read_event(&mut client.get_mut().client, report, args)
+}
+
+/// Writes the object that the message read last made to `made`, or id 0 where it made none.
+#[unsafe(no_mangle)]
+pub extern "C" fn waywire_c_client_made(client: &mut ClientHandle, made: &mut CObject)
+    ensures made { object_from_c made.new ≡ made_object client.old.held.client.made }
+    ensures unchanged { client.new.held ≡ client.old.held }
+{
+    let object = client.get_mut().client.made();
+    *made = object.map_or(CObject::none(), CObject::of);
 }
 
 /// Binds a global, and writes the new object to `bound`.

@@ -1,6 +1,9 @@
 //! An end reads a message, and what it reports is shown to C.
-ghost use Rattle.std.specs.Prelude.{◌≡◌, ◌≢◌, length, None};
-ghost use Rattle.wl_client.specs.Reports.{after_next as after_event, next_answer};
+ghost use Rattle.std.specs.Prelude.{◌≡◌, ◌≢◌, length, None, false};
+ghost use Rattle.wl_sigs.specs.declared.signature.Side.TheVariants.{Event};
+ghost use Rattle.wl_sigs.specs.Rules.{has_server_objects};
+ghost use Rattle.wl_connection.specs.Receiving.{found};
+ghost use Rattle.wl_client.specs.Reports.{after_next as after_event, event_opens, next_answer};
 ghost use Rattle.wl_server.specs.Requests.{after_next as after_request};
 ghost use Rattle.wl_server.specs.Requests.{next_answer as request_answer};
 ghost use Rattle.wl_server.specs.Requests.{request_opens, request as found_request};
@@ -22,12 +25,19 @@ pub fn read_event<'t>(
     report: &mut Report,
     args: &mut [ReportArg],
 ) -> u32
-    ensures answer { result ≡ read_outcome (next_answer client.old) }
-    ensures report { told_by report.new ≡ told_event (length args.old) client.old }
-    ensures entry { entry_told_by report.new
+    ensures answer { OrMemory (event_opens client.old.core (found client.old.core Event))
+        (read_outcome (next_answer client.old)) result }
+    ensures takes_none { has_server_objects client.old.core.tables ≡ false
+        → result ≡ read_outcome (next_answer client.old) }
+    ensures report { result ≢ 11 → told_by report.new ≡ told_event (length args.old) client.old }
+    ensures entry { result ≢ 11 → entry_told_by report.new
         ≡ entry_told (event_entry client.old.core.view (next_answer client.old)) }
-    ensures args { TellsArgs (event_args (next_answer client.old)) args.old args.new }
-    ensures state { client.new ≡ after_event client.old }
+    ensures args { result ≢ 11 → TellsArgs (event_args (next_answer client.old)) args.old args.new }
+    ensures state { result ≢ 11 → client.new ≡ after_event client.old }
+    ensures no_report { result ≡ 11 → told_by report.new ≡ of_kind 0 }
+    ensures no_entry { result ≡ 11 → entry_told_by report.new ≡ entry_told None }
+    ensures no_args { result ≡ 11 → args.new ≡ args.old }
+    ensures unchanged { result ≡ 11 → client.new ≡ client.old }
 {
     match client.next_with_entry() {
         Ok(Some(read)) => {

@@ -1,9 +1,9 @@
 //! What C calls of a server.
 ghost use Rattle.std.specs.Prelude.{◌≡◌, ◌≢◌, ◌↔◌, ◌+◌, ◌++◌, length, take, drop, true, Ok, IfSome};
-ghost use Rattle.std.specs.Prelude.{min, slice_get, MatchOption, None};
-ghost use Rattle.std.specs.FinMap.{len as row_count};
+ghost use Rattle.std.specs.Prelude.{min, slice_get, cond, MatchOption, None};
 ghost use Rattle.wl_sigs.specs.declared.signature.Side.TheVariants.{Event as event_side};
-ghost use Rattle.wl_object_map.specs.Objects.{look};
+ghost use Rattle.wl_object_map.specs.declared.object.Maker.TheVariants.{Client, Server};
+ghost use Rattle.wl_object_map.specs.Objects.{ids_used, look, row_count};
 ghost use Rattle.wl_message.specs.Outgoing.{goes, Peeks, waiting_bytes, waiting_tokens};
 ghost use Rattle.wl_connection.specs.Core.{in_room, is_drained, live, display_object, feeds};
 ghost use Rattle.wl_connection.specs.Core.{feeds_len, with_arrived};
@@ -33,10 +33,9 @@ use crate::sending::{Call, send_event};
 use crate::server_handle::ServerHandle;
 use crate::statuses::{NOT_FOUND, OK, global_status, send_status};
 use crate::tables_handle::TablesHandle;
-use crate::values::{CAmounts, CObject, CParts, CSizes, CallArg, ReportArg};
+use crate::values::{CAmounts, CObject, CParts, CSizes, CallArg, ReportArg, maker};
 use std::alloc::Global;
 use wl_connection::End;
-use wl_objects::Table;
 use wl_wire::Iface;
 
 /// Makes a server with wl_display alone and empty queues, and writes where it is to `server`.
@@ -99,23 +98,24 @@ pub extern "C" fn waywire_c_server_live(
     }
 }
 
-/// How many objects the server has, wl_display counted.
+/// How many objects the server has in a range of ids, the server's or the client's, with wl_display
+/// counted.
 #[unsafe(no_mangle)]
-pub extern "C" fn waywire_c_server_object_count(server: &mut ServerHandle) -> u32
-    ensures answer { result ≡ row_count server.old.held.server.core.view.client.rows }
+pub extern "C" fn waywire_c_server_object_count(server: &mut ServerHandle, by_server: bool) -> u32
+    ensures answer { result ≡ row_count (cond by_server Server Client) server.old.held.server.core.view }
     ensures unchanged { server.new.held ≡ server.old.held }
 {
-    server.get_mut().server.table().len()
+    server.get_mut().server.objects().len(maker(by_server))
 }
 
-/// How many ids of the client's range were ever used. No object that the client made has a greater
-/// one.
+/// How many ids of a range, the server's or the client's, were ever used. No object of the range
+/// has an id that is further from its first.
 #[unsafe(no_mangle)]
-pub extern "C" fn waywire_c_server_ids_used(server: &mut ServerHandle) -> u32
-    ensures answer { result ≡ server.old.held.server.core.view.client.used }
+pub extern "C" fn waywire_c_server_ids_used(server: &mut ServerHandle, by_server: bool) -> u32
+    ensures answer { result ≡ ids_used (cond by_server Server Client) server.old.held.server.core.view }
     ensures unchanged { server.new.held ≡ server.old.held }
 {
-    server.get_mut().server.table().used()
+    server.get_mut().server.objects().used(maker(by_server))
 }
 
 /// Writes the birth of the object that has this id to `birth`.

@@ -1,6 +1,7 @@
 //! Values as C has them: objects, arguments, numbers of bytes and tokens.
 ghost use Rattle.std.specs.Prelude.{◌≡◌, ◌≤◌, length, take, option_map, IfSome, None, Some};
-ghost use Rattle.std.specs.Prelude.{MatchOption};
+ghost use Rattle.std.specs.Prelude.{MatchOption, cond};
+ghost use Rattle.wl_object_map.specs.declared.object.Maker.TheVariants.{Client, Server};
 ghost use Rattle.wl_message.specs.Arrived.{AreSizes};
 ghost use Rattle.wl_objects.specs.Writing.{given, given_of};
 ghost use Rattle.wl_objects.specs.Parsed.{lent_got};
@@ -9,7 +10,7 @@ ghost use Rattle.waywire_c.specs.Reports.{arg_named, arg_of_kind, arg_told, arg_
 
 use std::ptr;
 use wl_message::{Amounts, Limit, Peek, Sizes};
-use wl_objects::{Arg, GotRef, Named, Object};
+use wl_objects::{Arg, GotRef, Maker, Named, Object};
 use wl_wire::Fixed;
 
 /// The most arguments of a call that are looked at: one more than any message has, so that a call
@@ -219,6 +220,17 @@ impl CAmounts {
             bytes: amounts.bytes,
             tokens: amounts.tokens,
         }
+    }
+}
+
+/// Who makes the objects of a range, the server's or the client's.
+pub const fn maker(by_server: bool) -> Maker
+    ensures { result ≡ cond by_server Server Client }
+{
+    if by_server {
+        Maker::Server
+    } else {
+        Maker::Client
     }
 }
 

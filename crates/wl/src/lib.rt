@@ -62,7 +62,10 @@
 //!   vector, or its plain twin [`MapTable`].
 //! - An [`Object`] is a plain value: an id and a birth, which tells it from every other object that
 //!   ever had that id. A call that names an object which is gone is refused; it never reaches a
-//!   later object with the same id.
+//!   later object with the same id. The client makes objects with ids below [`FIRST_SERVER_ID`],
+//!   and where the tables have events that make some, the server makes those with ids from there
+//!   on. A request ends one of these like any other object, but no delete_id comes for it: the
+//!   client has it, destroyed, until an event makes one with its id.
 //! - A report of `next` ([`Incoming`], [`Request`]) borrows its strings, arrays and tokens from the
 //!   end, until the end's next call of any kind: code that keeps it longer does not compile.
 //!   [`Args`] goes through the arguments. A report of `next_owned` ([`OwnedIncoming`],
@@ -80,6 +83,7 @@
 //!
 //! - `Event { target, opcode, args }`: an event for a live object.
 //! - `Discarded { target, opcode, tokens }`: an event for an object that the client has destroyed.
+//!   If it made an object, that is open, and [`Client::made`] returns it.
 //! - `Deleted { object }`: wl_display.delete_id; the object is gone, and its id is free again.
 //! - `Stray { id }`: a delete_id for no object, or for wl_display; nothing changed.
 //! - `Error { id, named, code, text }`: wl_display.error; `named` is the client's object of that
@@ -122,7 +126,8 @@
 //! - [`SendError`] and [`GlobalError`]: nothing was written and nothing has changed. After `Full`,
 //!   take and send again.
 //! - [`NextError::Memory`] and [`NextError::OutFull`]: nothing has changed. The message stays, and
-//!   can be read again. A client's `next` never returns either.
+//!   can be read again. A client's `next` never returns the second. It returns the first only at an
+//!   event that makes an object whose id the server has never used before.
 //! - [`NextError::Fault`]: the other end broke a rule, and this end has failed for good. It reads
 //!   and writes nothing more, but `take` still returns what waits: at a server that ends with the
 //!   wl_display.error that says why. Take it, write it, and close the socket.
@@ -138,7 +143,7 @@
 //! whether it is lawful, and where not. An [`Inspector`] does both while a session goes on, piece
 //! by piece as it passes. [`Twins`] is what a proxy keeps: which objects of its two ends stand for
 //! each other; the crate `proxy` is one. [`same_rows`] says whether a client and a server have the
-//! same objects.
+//! same objects, and [`object_count`] how many.
 //!
 //! # A client and a server
 //!
@@ -376,6 +381,7 @@
 //!         &mut self, pieces: &[Piece<'_>], reports: &mut Vec<OwnedIncoming<T::Alloc>, T::Alloc>,
 //!     ) -> ReadAll
 //!     fn remembers(&self, name: u32) -> bool
+//!     fn made(&self) -> Option<Object>
 //! Server<'t, T: Table>
 //!     fn new(alloc: T::Alloc, tables: &'t Tables, sizes: Sizes) -> Result<Self, AllocError>
 //!     fn send(
@@ -472,6 +478,7 @@
 //!     fn has_room(&self, id: u32) -> bool
 //!     fn can_open(&self, maker: Maker) -> bool
 //!     fn used(&self, maker: Maker) -> u32
+//!     fn len(&self, maker: Maker) -> u32
 //!     fn births(&self, id: u32) -> u64
 //!     fn open_next(
 //!         &mut self, maker: Maker, iface: Iface, version: u32,
@@ -526,6 +533,7 @@
 //!     alloc: A, recording: &Recording<A>, tables: &Tables, limit: Limit,
 //! ) -> Result<(Vec<u8, A>, Verdict), AllocError>
 //! fn same_rows<T: Table>(client: &Client<'_, T>, server: &Server<'_, T>) -> bool
+//! fn object_count<T: Table>(client: &Client<'_, T>, server: &Server<'_, T>) -> usize
 //! ```
 //!
 //! # The types
@@ -535,6 +543,7 @@
 //! Entry { birth: u64, iface: Iface, version: u32, state: State }
 //! State: Live, Zombie
 //! Iface(u16), the place of an interface in the tables
+//! Maker: Client, Server
 //! Arg<'a>: Int(i32), Uint(u32), Fixed(Fixed), Str(Option<&'a [u8]>), Obj(Option<Object>), New,
 //!     Array(&'a [u8]), Fd(u32)
 //! Amounts { bytes: usize, tokens: usize }, which `Fed` and `Taken` are
@@ -579,15 +588,15 @@ pub use wl_client::{
 pub use wl_connection::{End, ReadAll};
 pub use wl_message::{Amounts, Fed, FillError, FlushError, Limit, Peek, Piece, Sizes, Taken};
 pub use wl_objects::{
-    Arg, Args, Entry, Fault, Got, GotRef, Maker, MapTable, Named, NextError, Object, Objects,
-    OwnedArgs, SendError, SlotTable, State, Table, TableError,
+    Arg, Args, Entry, FIRST_SERVER_ID, Fault, Got, GotRef, Maker, MapTable, Named, NextError,
+    Object, Objects, OwnedArgs, SendError, SlotTable, State, Table, TableError,
 };
 pub use wl_server::{
     GlobalError, OwnedRequest, OwnedRequestWithEntry, Request, RequestWithEntry, Server,
 };
 pub use wl_session::{
     Carried, Direction, Move, Pair, Passed, Recording, RecordingError, Reply, SendArg, Tee,
-    Verdict, check, same_rows, trace,
+    Verdict, check, object_count, same_rows, trace,
 };
 pub use wl_sigs::{Destroys, Side, Signature, TableFault, Tables, event, request};
 pub use wl_twins::Twins;

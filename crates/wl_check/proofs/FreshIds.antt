@@ -1,6 +1,6 @@
 -- A message that was read makes no object with an id that is held, and its id was used before or is the next.
 use Rattle.std.proofs.Common.{◌≡◌, ℕ, zero, suc, ◌+◌, ◌<◌, ◌≤◌, Bool, true, false, not, ◌&&◌, cond}
-use Rattle.std.proofs.Common.{Some, None, List, [], ◌∷◌, refl, sym, ap, ◌∙◌, subst, inl, inr, arith}
+use Rattle.std.proofs.Common.{Some, None, List, [], ◌∷◌, refl, sym, ap, ◌∙◌, subst, ◌⊎◌, inl, inr, arith}
 use Rattle.std.proofs.Common.{nat_lt, nat_le, nat_eq, is_none, drop, take, ◌-◌, slice_get, length}
 use Rattle.std.specs.Prelude.{Option, option_map}
 use Rattle.std.specs.declared.result.Result.{Result}
@@ -32,17 +32,17 @@ use Rattle.wl_objects.specs.Messages.{Received, NewObject, made, made_by, or_els
 use Rattle.wl_objects.specs.Messages.{is_error, received_whole, received_as, received_by, received}
 use Rattle.wl_objects.specs.Messages.{new_id_of}
 use Rattle.wl_recording.specs.declared.piece.Direction.{Direction}
-use Rattle.wl_recording.specs.declared.piece.Direction.TheVariants.{ToServer, ToClient}
 use Rattle.wl_check.specs.declared.changes.MessageChanges.{MessageChanges}
 use Rattle.wl_check.specs.declared.frames.FramedMessage.{FramedMessage}
-use Rattle.wl_check.specs.Changes.{Call, changes, beginning, made_by_event, made_by_server, object_made, side_of}
+use Rattle.wl_check.specs.Changes.{Call, changes, beginning, side_of}
 use Rattle.wl_check.specs.Places.{KnownAtPlace, known, holder, is_ending, live_or_zombie, entry_made_at, object_named}
 use Rattle.wl_check.specs.Places.{used, server_used}
 use Rattle.wl_check.specs.Session.{Session, Judged, changes_of, changes_at, messages}
 use Rattle.wl_check.proofs.KnownAtPlace.{IsFresh}
 use Rattle.wl_check.proofs.JudgedByPlaces.{reading, length_messages}
 use Rattle.std.proofs.lemmas.Option.{slice_get_within}
-use Rattle.wl_check.specs.Rules.{reader_by, is_free_id, is_free_server_id, waits_for_request, is_disallowed_bind, called}
+use Rattle.wl_objects.specs.Messages.{waits_for_request}
+use Rattle.wl_check.specs.Rules.{reader_by, is_free_id, is_free_server_id, is_disallowed_bind, called}
 use Rattle.wl_check.specs.Rules.{judged_message, judged}
 use Rattle.wl_sigs.specs.Rules.{is_empty}
 
@@ -56,48 +56,35 @@ named_id : (o : Option Iface) (own id : ℕ) (m : NewObject)
 named_id None own id m e = absurd (cc)
 named_id (Some iface) own id m e = cc
 
--- what is made has an id that is free
-abbrev IsFreeMade : (ℕ → NewId) → Option NewObject → Type 0
-IsFreeMade new_id o = (m : NewObject) → o ≡ Some m → new_id m.id ≡ Free
+-- what is made has an id that is free, for the client or for the server
+abbrev IsFreeMade : Reader → Option NewObject → Type 0
+IsFreeMade r o = (m : NewObject) → o ≡ Some m → (r.new_id m.id ≡ Free) ⊎ (r.new_server_id m.id ≡ Free)
 
 made_by_free : (tables : List Interface) (version : ℕ) (r : Reader) (place : ℕ) (kind : Kind) (v : Argument)
-    → value_fault r place kind v ≡ None → IsFreeMade r.new_id (made_by tables version kind v)
+    → value_fault r place kind v ≡ None → IsFreeMade r (made_by tables version kind v)
 made_by_free tables version r place (kinds.New (Some iface)) (New id) f = λ m e. let same : id ≡ m.id = cc
-    in ap r.new_id (sym same) ∙ new_free place (r.new_id id) f
+    in inl (ap r.new_id (sym same) ∙ new_free place (r.new_id id) f)
+made_by_free tables version r place (kinds.NewByServer iface) (New id) f = λ m e. let same : id ≡ m.id = cc
+    in inr (ap r.new_server_id (sym same) ∙ new_free place (r.new_server_id id) f)
 made_by_free tables version r place (kinds.New None) (NewNamed name own id) f = λ m e. let same =
-    named_id (place_of tables name) own id m e in ap r.new_id (sym same) ∙ new_free place (r.new_id id) f
+    named_id (place_of tables name) own id m e in inl (ap r.new_id (sym same) ∙ new_free place (r.new_id id) f)
 made_by_free tables version r place _ _ f = λ m e. absurd (cc)
-
-made_by_server_free : (version : ℕ) (r : Reader) (place : ℕ) (kind : Kind) (v : Argument)
-    → value_fault r place kind v ≡ None → IsFreeMade r.new_server_id (made_by_server version kind v)
-made_by_server_free version r place (kinds.NewByServer iface) (New id) f = λ m e. let same : id ≡ m.id = cc
-    in ap r.new_server_id (sym same) ∙ new_free place (r.new_server_id id) f
-made_by_server_free version r place _ _ f = λ m e. absurd (cc)
-
--- the objects that a request and an event would make
-record AreFree (tables : List Interface) (version : ℕ) (r : Reader) (ks : List Kind) (vs : List Argument) : Type 0 where
-  of_client : IsFreeMade r.new_id (made tables version ks vs)
-  of_server : IsFreeMade r.new_server_id (made_by_event version ks vs)
 
 abbrev Free_in : List Interface → ℕ → Reader → List Kind → Result (List Argument × List ℕ) Fault → Type 0
 Free_in tables version r ks (Err fault) = Unit {0}
-Free_in tables version r ks (Ok found) = AreFree tables version r ks found.0
+Free_in tables version r ks (Ok found) = IsFreeMade r (made tables version ks found.0)
 
-free_or : (new_id : ℕ → NewId) (o rest : Option NewObject) → IsFreeMade new_id o → IsFreeMade new_id rest
-    → IsFreeMade new_id (or_else o rest)
-free_or new_id None rest f h = h
-free_or new_id (Some x) rest f h = f
+free_or : (r : Reader) (o rest : Option NewObject) → IsFreeMade r o → IsFreeMade r rest → IsFreeMade r (or_else o rest)
+free_or r None rest f h = h
+free_or r (Some x) rest f h = f
 
 free_before : (tables : List Interface) (version : ℕ) (r : Reader) (place : ℕ) (kind : Kind) (ks : List Kind)
     (v : Argument) (x : Result (List Argument × List ℕ) Fault) → value_fault r place kind v ≡ None
     → Free_in tables version r ks x → Free_in tables version r (kind ∷ ks) (before v x)
 free_before tables version r place kind ks v (Err fault) f h = tt
-free_before tables version r place kind ks v (Ok found) f h = record {
-  of_client = free_or r.new_id (made_by tables version kind v) (made tables version ks found.0)
-      (made_by_free tables version r place kind v f) h.of_client;
-  of_server = free_or r.new_server_id (made_by_server version kind v) (made_by_event version ks found.0)
-      (made_by_server_free version r place kind v f) h.of_server;
-}
+free_before tables version r place kind ks v (Ok found) f h =
+    free_or r (made_by tables version kind v) (made tables version ks found.0)
+    (made_by_free tables version r place kind v f) h
 
 free_unless : (tables : List Interface) (version : ℕ) (r : Reader) (place : ℕ) (kind : Kind) (ks : List Kind)
     (bytes : List ℕ) (v : Argument × ℕ) (o : Option Fault) → value_fault r place kind v.0 ≡ o
@@ -119,8 +106,7 @@ free_judged tables version r place kind ks bytes (Ok v) h =
 
 free_at : (tables : List Interface) (version : ℕ) (r : Reader) (place : ℕ) (ks : List Kind) (bytes : List ℕ)
     → Free_in tables version r ks (arguments_at r place ks bytes)
-free_at tables version r place [] bytes =
-    record { of_client = λ m e. absurd (cc); of_server = λ m e. absurd (cc) }
+free_at tables version r place [] bytes = λ m e. absurd (cc)
 free_at tables version r place (kind ∷ ks) bytes =
     free_judged tables version r place kind ks bytes (value_at (forgiving_kind r.forgives kind) bytes)
     (λ b. free_at tables version r (suc place) ks b)
@@ -129,7 +115,7 @@ free_at tables version r place (kind ∷ ks) bytes =
 
 abbrev Free_made : List Interface → Reader → Result Received Fault → Type 0
 Free_made tables r (Err fault) = Unit {0}
-Free_made tables r (Ok got) = AreFree tables got.entry.version r got.signature.kinds got.values
+Free_made tables r (Ok got) = IsFreeMade r (made tables got.entry.version got.signature.kinds got.values)
 
 whole_tests : (tables : List Interface) (r : Reader) (a b : Bool) (e f : Fault) (x : Received)
     → Free_made tables r (Ok x) → Free_made tables r (cond a (Err e) (cond b (Err f) (Ok x)))
@@ -161,10 +147,8 @@ free_same : (tables : List Interface) (version : ℕ) (q r : Reader) (ks : List 
     → ((i : ℕ) → q.new_server_id i ≡ r.new_server_id i) → Free_in tables version q ks x
     → Free_in tables version r ks x
 free_same tables version q r ks (Err fault) e f h = tt
-free_same tables version q r ks (Ok found) e f h = record {
-  of_client = λ m is. sym (e m.id) ∙ h.of_client m is;
-  of_server = λ m is. sym (f m.id) ∙ h.of_server m is;
-}
+free_same tables version q r ks (Ok found) e f h = λ m is.
+    elim (h m is) [ inl a ↦ inl (sym (e m.id) ∙ a) | inr a ↦ inr (sym (f m.id) ∙ a) ]
 
 free_as : (tables : List Interface) (side : Side) (r : Reader) (header : Header) (body : List ℕ) (waiting : ℕ)
     (entry : Entry) (o : Option MessageSignature) → Free_made tables r (received_as side r header body waiting entry o)
@@ -222,10 +206,12 @@ new_of_server tables k id e =
     }
 
 new_made : (tables : List Interface) (k : KnownAtPlace) (d : Direction) (r : Received)
-    → Free_made tables (reader_by tables k d) (Ok r) → (m : NewObject) → object_made tables d r ≡ Some m
-    → IsNewId tables k m.id
-new_made tables k ToServer r h m e = new_of_client tables k m.id (h.of_client m e)
-new_made tables k ToClient r h m e = new_of_server tables k m.id (h.of_server m e)
+    → Free_made tables (reader_by tables k d) (Ok r) → (m : NewObject)
+    → made tables r.entry.version r.signature.kinds r.values ≡ Some m → IsNewId tables k m.id
+new_made tables k d r h m e = elim (h m e) [
+  | inl a ↦ new_of_client tables k m.id a
+  | inr a ↦ new_of_server tables k m.id a
+]
 
 free_called : (tables : List Interface) (k : KnownAtPlace) (d : Direction) (opcode : ℕ) (x : Result Received Fault)
     → Free_made tables (reader_by tables k d) x → Free_changes tables k (called tables k d opcode x)

@@ -20,6 +20,5 @@ pub mod Verdicts
 pub mod Outcomes
 pub mod PrintedSoFar
 pub mod Undone
-pub mod EventMakes
 pub mod Versions
 pub mod ReadyPiece

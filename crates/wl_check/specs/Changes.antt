@@ -2,16 +2,14 @@
 use Rattle.std.specs.Prelude.{ℕ, Bool, true, false, ◌&&◌, List, [], ◌∷◌, nat_eq, if◌then◌else◌}
 use Rattle.std.specs.Prelude.{Option, Some, None, option_map}
 use Rattle.wl_wire.specs.declared.kind.Iface.{Iface}
-use Rattle.wl_wire.specs.declared.kind.Kind.{Kind}
-use Rattle.wl_wire.specs.declared.kind.Kind.TheVariants as kinds
-use Rattle.wl_wire.specs.Argument.{Argument, Uint, Str, New}
+use Rattle.wl_wire.specs.Argument.{Argument, Uint, Str}
 use Rattle.wl_sigs.specs.declared.signature.Side.{Side}
 use Rattle.wl_sigs.specs.declared.signature.Side.TheVariants.{Request, Event}
 use Rattle.wl_sigs.specs.Tables.{Interface, place_of, destroys_one}
 use Rattle.wl_sigs.specs.Fixed.{display, registry}
 use Rattle.wl_objects.specs.Reading.{descriptors}
-use Rattle.wl_objects.specs.Messages.{Received, NewObject, made, is_error, is_delete_id, same_iface}
-use Rattle.wl_objects.specs.Messages.{ended_id, or_else}
+use Rattle.wl_objects.specs.Messages.{Received, made, is_error, is_delete_id, same_iface}
+use Rattle.wl_objects.specs.Messages.{ended_id}
 use Rattle.wl_recording.specs.declared.piece.Direction.{Direction}
 use Rattle.wl_recording.specs.declared.piece.Direction.TheVariants.{ToServer, ToClient}
 use Rattle.wl_check.specs.declared.changes.AdvertisedGlobal.{AdvertisedGlobal}
@@ -45,24 +43,6 @@ advertised tables (Uint name ∷ Str (Some iface) ∷ Uint version ∷ []) =
     (place_of tables iface)
 advertised tables _ = None
 
--- the object that the server makes by one argument: of the signature's interface and its maker's
--- version
-abbrev pub made_by_server : ℕ → Kind → Argument → Option NewObject
-made_by_server version (kinds.NewByServer iface) (New id) =
-    Some (record { id = id; iface = iface; version = version })
-made_by_server version _ _ = None
-
--- the object that an event makes, where its target has this version
-abbrev pub made_by_event : ℕ → List Kind → List Argument → Option NewObject
-made_by_event version (kind ∷ ks) (value ∷ values) =
-    or_else (made_by_server version kind value) (made_by_event version ks values)
-made_by_event version _ _ = None
-
--- The object that a message makes: a request one of the client, an event one of the server.
-abbrev pub object_made : List Interface → Direction → Received → Option NewObject
-object_made tables ToServer r = made tables r.entry.version r.signature.kinds r.values
-object_made tables ToClient r = made_by_event r.entry.version r.signature.kinds r.values
-
 abbrev pub destroyed_id : Bool → ℕ → Option ℕ
 destroyed_id false id = None
 destroyed_id true id = Some id
@@ -73,7 +53,7 @@ destroyed_id true id = Some id
 abbrev pub changes : List Interface → Call → MessageChanges
 changes tables call = let r = call.received in record {
   direction = call.direction;
-  made = object_made tables call.direction r;
+  made = made tables r.entry.version r.signature.kinds r.values;
   deleted = if is_delete_id (side_of call.direction) r.entry.iface call.opcode
       then first_number r.values else None;
   destroyed = destroyed_id (destroys_one r.signature.destroys)

@@ -8,7 +8,6 @@ use Rattle.wl_wire.specs.declared.header.Header.{Header}
 use Rattle.wl_wire.specs.declared.kind.Iface.{Iface}
 use Rattle.wl_wire.specs.Word.{header_at}
 use Rattle.wl_sigs.specs.declared.signature.Side.{Side}
-use Rattle.wl_sigs.specs.Rules.{is_ended_by_request}
 use Rattle.wl_sigs.specs.Tables.{Interface, interface_at}
 use Rattle.wl_message.specs.Cut.{is_size}
 use Rattle.wl_object_map.specs.declared.object.Entry.{Entry}
@@ -18,6 +17,7 @@ use Rattle.wl_object_map.specs.Ranges.{first_server_id, max_server_id, is_of_ser
 use Rattle.wl_object_map.specs.View.{lives, max_ids}
 use Rattle.wl_objects.specs.Reading.{Reader}
 use Rattle.wl_objects.specs.Messages.{Received, NewObject, made, received, is_bind, new_id_of}
+use Rattle.wl_objects.specs.Messages.{waits_for_request}
 use Rattle.wl_recording.specs.declared.piece.Direction.{Direction}
 use Rattle.wl_recording.specs.declared.piece.Direction.TheVariants.{ToServer, ToClient}
 use Rattle.wl_check.specs.declared.frames.FramedMessage.{FramedMessage}
@@ -37,13 +37,6 @@ nameable ToClient entry = entry
 -- An id for a new object of the client: not 0, of no held object, and used before or the next one.
 abbrev pub is_free_id : KnownAtPlace → ℕ → Bool
 is_free_id k id = not (nat_eq id 0) && is_none (k.object id) && nat_le id (k.used + 1)
-
--- whether an object is open, and a request can end it: its interface has a destroying one at the
--- object's version
-abbrev pub waits_for_request : List Interface → Option Entry → Bool
-waits_for_request tables None = false
-waits_for_request tables (Some entry) =
-    lives entry.state && is_ended_by_request entry.version (interface_at tables entry.iface.0)
 
 -- An id for a new object of the server: one of its range, of no open object that a request can
 -- end, and used before or the next one.

@@ -15,12 +15,11 @@ ghost use Rattle.wl_check.specs.Trace.{judged_line, wanted};
 use crate::changes::{AdvertisedGlobal, MessageChanges};
 use crate::frames::FramedMessage;
 use crate::known::{KnownState, ReaderLookup};
-use crate::making::object_made;
 use crate::session_state::{Output, Rules, Sink};
 use std::alloc::{AllocError, Allocator};
 use wl_objects::{
     Fault, Messages, NewObject, ParsedArgs, REGISTRY, Received, Values, is_bind, is_delete_id,
-    receive,
+    made_by_message, receive,
 };
 use wl_recording::Direction;
 use wl_sigs::event::wl_registry::GLOBAL;
@@ -256,7 +255,12 @@ fn changes_of(
     let values = &message.values();
     MessageChanges {
         direction,
-        made: object_made(tables, direction, message),
+        made: made_by_message(
+            tables,
+            message.entry.version,
+            message.signature.kinds(),
+            values,
+        ),
         deleted: if is_delete_id(side, iface, opcode) {
             first_number(values)
         } else {

@@ -5,7 +5,6 @@ ghost use Rattle.wl_check.specs.Held.{HasFewSlots, undone_by};
 ghost use Rattle.wl_check.specs.Places.{server_used_after, used_after};
 ghost use Rattle.wl_check.specs.Places.{IsFirst, IsKnownBehind};
 ghost use Rattle.wl_check.specs.Rules.{is_free_id, is_free_server_id, reader_by};
-ghost use Rattle.wl_check.specs.Rules.{waits_for_request};
 ghost use Rattle.wl_check.specs.Seen.{known_in, taken_of_direction};
 
 use crate::changes::MessageChanges;
@@ -13,7 +12,7 @@ use crate::holdings::Holdings;
 use crate::overwritten::UndoList;
 use std::alloc::{AllocError, Allocator, Global};
 use wl_object_map::{DISPLAY_ID, FIRST_SERVER_ID, MAX_IDS, MAX_SERVER_ID};
-use wl_objects::{DISPLAY, Entry, Lookup, NewId, State};
+use wl_objects::{DISPLAY, Entry, Lookup, NewId, State, waits_for_request};
 use wl_recording::Direction;
 use wl_sigs::Tables;
 use wl_wire::Iface;
@@ -108,19 +107,6 @@ fn server_used_after(used: u32, changes: &MessageChanges) -> u32
     match changes.made {
         Some(new) if new.id >= FIRST_SERVER_ID => (new.id - FIRST_SERVER_ID + 1).max(used),
         Some(_) | None => used,
-    }
-}
-
-/// Whether this is an open object that a request can end.
-fn waits_for_request(tables: &Tables, entry: Option<Entry>) -> bool
-    ensures { result ≡ waits_for_request tables.now entry }
-{
-    let Some(entry) = entry else {
-        return false;
-    };
-    match entry.state {
-        State::Live => tables.ends_by_request(entry.iface, entry.version),
-        State::Zombie => false,
     }
 }
 

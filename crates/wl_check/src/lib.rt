@@ -13,7 +13,6 @@ mod inspector;
 mod judging;
 mod known;
 pub mod laws;
-mod making;
 mod overwritten;
 mod progress;
 pub mod samples;

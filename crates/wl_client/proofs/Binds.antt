@@ -14,7 +14,8 @@ use Rattle.wl_sigs.specs.Fixed.{uint, new, registry}
 use Rattle.wl_sigs.specs.Valid.{Valid}
 use Rattle.wl_object_map.specs.declared.object.Object.{Object}
 use Rattle.wl_object_map.specs.declared.object.Entry.{Entry}
-use Rattle.wl_object_map.specs.View.{next_id}
+use Rattle.wl_object_map.specs.declared.object.Maker.TheVariants.{Client}
+use Rattle.wl_object_map.specs.Objects.{next_id}
 use Rattle.wl_object_map.specs.Views.{free_is, free_or_next-next_id}
 use Rattle.wl_objects.specs.declared.error.SendError.{SendError}
 use Rattle.wl_objects.specs.declared.error.SendError.TheVariants as refusals
@@ -87,7 +88,7 @@ kinds_in o m signature e there = let same = sym e ∙ there in let is : m ≡ si
 pub bind_spells : (state : State) (target : Object) (name version : ℕ) (iface : List ℕ)
     → BindSpells state target name iface version
 bind_spells state target name version iface v s n w made e signature there =
-    let id = next_id state.core.view.client in
+    let id = next_id Client state.core.view in
     let values = bind_values name iface version id in
     let f = free_is state.core.view.client id s.client (free_or_next-next_id state.core.view.client) in
     let low : id < 2 ^ 32 = omega (arith, f.at_most_next, s.client.ids_end) in
@@ -106,6 +107,6 @@ pub bind_opens : (state : State) (target : Object) (name : ℕ) (iface : List �
     → can_bind state.core.tables iface version (Some global) ≡ true
     → fits state.core.outbox (message_len (bind_values name iface version 0)) 0 ≡ true
     → bind_answer state target name iface version
-    ≡ opening_answer state.core (Some (bound_object state name version))
+    ≡ opening_answer state.core Client (Some (bound_object state name version))
 bind_opens state target name iface version entry global lives row registers there can room =
     rw (lives, row, registers, ap (can_bind state.core.tables iface version) there ∙ can, room) refl

@@ -1,25 +1,21 @@
 -- A zombie that is made a zombie stays one.
-use Rattle.std.proofs.Common.{◌≡◌, ℕ, List, Bool, true, false, refl, sym, ap, ◌∙◌, cond, eqb, inl, inr}
+use Rattle.std.proofs.Common.{◌≡◌, ℕ, Bool, true, false, refl, sym, ap, ◌∙◌, cond, eqb, inl, inr}
 use Rattle.std.proofs.lemmas.Bool.{cases_Bool, eqb-true}
 use Rattle.std.specs.Ordering.{nat_cmp}
 use Rattle.std.specs.Cmp.{nat_cmp_total}
 use Rattle.std.specs.FinMap.{FinMap, get, insert, same_map, nat_cmp-IsAntisymmetric}
+use Rattle.std.specs.Prelude.{Option, is_some}
 use Rattle.std.specs.declared.option.Option.TheVariants.{Some, None}
-use Rattle.wl_sigs.specs.declared.signature.Destroys.{Destroys}
-use Rattle.wl_sigs.specs.declared.signature.Destroys.TheVariants.{Nothing, Target, Arg}
-use Rattle.wl_sigs.specs.declared.signature.Side.TheVariants.{Request as request_side}
-use Rattle.wl_sigs.specs.Tables.{destroys_argument}
-use Rattle.wl_wire.specs.Argument.{Argument}
 use Rattle.wl_object_map.specs.declared.object.Entry.{Entry}
-use Rattle.wl_object_map.specs.declared.object.State.TheVariants.{Zombie}
+use Rattle.wl_object_map.specs.declared.object.State.{State}
+use Rattle.wl_object_map.specs.declared.object.State.TheVariants.{Live, Zombie}
 use Rattle.wl_object_map.specs.Ranges.{is_of_server, table_id}
 use Rattle.wl_object_map.specs.View as table
-use Rattle.wl_object_map.specs.View.{View, zombie, with_zombie}
-use Rattle.wl_object_map.specs.Objects.{Objects, look, zombied}
+use Rattle.wl_object_map.specs.View.{View, zombie, with_zombie, lives, lives_in}
+use Rattle.wl_object_map.specs.Objects.{Objects, look, is_held, is_live, zombied}
 use Rattle.wl_object_map.specs.ObjectsLaws.{in_range-server, in_range-client}
 use Rattle.wl_object_map.specs.ObjectsLaws.{changed_server, changed_client}
 use Rattle.wl_object_map.specs.Views.{get_put}
-use Rattle.wl_objects.specs.Messages.{after, ended_id}
 
 at_key : (rows : FinMap nat_cmp Entry) (id q : ℕ) (e : Entry) (b : Bool) → eqb q id ≡ b → get rows id ≡ Some e
     → cond b (Some e) (get rows q) ≡ get rows q
@@ -51,10 +47,15 @@ zombied_same view id e l z = elim (cases_Bool (is_of_server id)) [
       changed_client table.zombied view id h ∙ (λ i. record { client = same i; server = view.server }))
 ]
 
--- an event for a zombie changes no object, since no event destroys an argument
-pub after_zombie : (view : Objects) (what : Destroys) (id : ℕ) (values : List Argument) (e : Entry)
-    → destroys_argument what ≡ false → look view id ≡ Some e → e.state ≡ Zombie
-    → after request_side view None what (ended_id what id values) ≡ view
-after_zombie view Nothing id values e n l z = refl
-after_zombie view Target id values e n l z = zombied_same view id e l z
-after_zombie view (Arg place) id values e n l z = absurd (cc n)
+is_zombie : (s : State) → lives s ≡ false → s ≡ Zombie
+is_zombie Live h = absurd (cc h)
+is_zombie Zombie h = refl
+
+by_row : (view : Objects) (id : ℕ) (o : Option Entry) → look view id ≡ o → is_some o ≡ true → lives_in o ≡ false
+    → zombied view id ≡ view
+by_row view id None l h n = absurd (cc h)
+by_row view id (Some e) l h n = zombied_same view id e l (is_zombie e.state n)
+
+-- what has a row and is not live stays as it is
+pub ended_same : (view : Objects) (id : ℕ) → is_held view id ≡ true → is_live view id ≡ false → zombied view id ≡ view
+ended_same view id h n = by_row view id (look view id) refl h n

@@ -6,8 +6,8 @@ use Rattle.wl_sigs.specs.Tables.{MessageSignature, signature_at}
 use Rattle.wl_sigs.specs.Valid.{Valid}
 use Rattle.wl_message.specs.Cut.{usual_limit}
 use Rattle.wl_object_map.specs.declared.object.Object.{Object}
-use Rattle.wl_object_map.specs.View.{next_id}
-use Rattle.wl_object_map.specs.Objects.{ObjectsAreSound}
+use Rattle.wl_object_map.specs.declared.object.Maker.TheVariants.{Client}
+use Rattle.wl_object_map.specs.Objects.{ObjectsAreSound, next_id}
 use Rattle.wl_objects.specs.Writing.{EachFits, bind_values, message_bytes, message_len}
 use Rattle.wl_connection.specs.Spelled.{MessageSpells}
 use Rattle.wl_client.specs.State.{State}
@@ -26,5 +26,5 @@ BindSpells state target name iface version =
     → (new : Option Object) → bind_answer state target name iface version ≡ Ok new
     → (signature : MessageSignature) → signature_at state.core.tables 1 Request 0 ≡ Some signature
     → MessageSpells usual_limit signature.kinds target.id 0
-    (bind_values name iface version (next_id state.core.view.client))
-    (message_bytes target.id 0 (bind_values name iface version (next_id state.core.view.client)))
+    (bind_values name iface version (next_id Client state.core.view))
+    (message_bytes target.id 0 (bind_values name iface version (next_id Client state.core.view)))

@@ -10,8 +10,8 @@ use Rattle.wl_object_map.specs.declared.object.Object.{Object}
 use Rattle.wl_object_map.specs.declared.object.Entry.{Entry}
 use Rattle.wl_objects.specs.declared.error.SendError.{SendError}
 use Rattle.wl_objects.specs.declared.error.SendError.TheVariants as refusals
-use Rattle.wl_object_map.specs.View.{next_id}
-use Rattle.wl_object_map.specs.Objects.{opened_at}
+use Rattle.wl_object_map.specs.declared.object.Maker.TheVariants.{Client}
+use Rattle.wl_object_map.specs.Objects.{next_id, opened_at}
 use Rattle.wl_objects.specs.Writing.{bind_values, message_len}
 use Rattle.wl_objects.specs.Messages.{NewObject, live_row, same_iface}
 use Rattle.wl_connection.specs.Core.{with_view}
@@ -38,7 +38,7 @@ iface_or (Some global) = global.iface
 -- the object that a bind makes, at the next id
 abbrev pub bound_object : State → ℕ → ℕ → NewObject
 bound_object state name version = record {
-  id = next_id state.core.view.client;
+  id = next_id Client state.core.view;
   iface = iface_or (global_of state.globals name);
   version = version;
 }
@@ -50,7 +50,7 @@ bind_at state name iface version (Some entry) =
     else if not (can_bind state.core.tables iface version (global_of state.globals name))
     then Err refusals.BadBind
     else if fits state.core.outbox (message_len (bind_values name iface version 0)) 0
-    then opening_answer state.core (Some (bound_object state name version))
+    then opening_answer state.core Client (Some (bound_object state name version))
     else Err refusals.Full
 
 -- What `bind` returns, where no memory is needed: S1, S2, S3, S7, S9, S10; else the new object.
@@ -64,7 +64,7 @@ abbrev pub after_bind : State → Object → ℕ → List ℕ → ℕ → State
 after_bind state target name iface version = record state {
   core =
       with_view (with_sent state.core target.id 0
-      (bind_values name iface version (next_id state.core.view.client)) [])
-      (opened_at state.core.view (next_id state.core.view.client)
+      (bind_values name iface version (next_id Client state.core.view)) [])
+      (opened_at state.core.view (next_id Client state.core.view)
       (bound_object state name version).iface version);
 }

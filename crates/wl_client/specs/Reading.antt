@@ -1,34 +1,39 @@
 -- What a client's reading of the message in front comes to.
-use Rattle.std.specs.Prelude.{◌≡◌, ◌≤◌, ℕ, List, length, take, drop, Option, Some, None}
+use Rattle.std.specs.Prelude.{◌≡◌, ◌≤◌, ℕ, false, List, length, take, drop, Option, Some, None}
 use Rattle.std.specs.declared.result.Result.{Result}
 use Rattle.std.specs.declared.result.Result.TheVariants.{Ok, Err}
 use Rattle.wl_wire.specs.declared.header.Header.{Header}
+use Rattle.wl_sigs.specs.declared.signature.Side.TheVariants.{Event as event_side}
 use Rattle.wl_sigs.specs.Tables.{Interface, max_args}
+use Rattle.wl_sigs.specs.Rules.{has_server_objects}
 use Rattle.wl_objects.specs.declared.error.Fault.{Fault}
 use Rattle.wl_objects.specs.declared.error.NextError.{NextError}
 use Rattle.wl_objects.specs.declared.error.NextError.TheVariants as errors
 use Rattle.wl_objects.specs.declared.parsed.ParsedArg.{ParsedArg}
+use Rattle.wl_object_map.specs.declared.object.Object.{Object}
 use Rattle.wl_object_map.specs.Objects.{Objects}
-use Rattle.wl_objects.specs.Messages.{Received}
+use Rattle.wl_objects.specs.Messages.{Received, opens}
 use Rattle.wl_message.specs.Arrived.{in_front}
 use Rattle.wl_message.specs.Cut.{Whole}
 use Rattle.wl_connection.specs.Core.{Core, with_failure}
-use Rattle.wl_connection.specs.Receiving.{Found, takes}
+use Rattle.wl_connection.specs.Receiving.{Found, found, takes}
 use Rattle.wl_client.specs.declared.pending.PendingEvent.{PendingEvent}
 use Rattle.wl_client.specs.State.{State, Global}
-use Rattle.wl_client.specs.Reports.{Report, report, is_error_event}
+use Rattle.wl_client.specs.Reports.{Report, report, is_error_event, object_made, opens_row}
+use Rattle.wl_client.specs.Reports.{event_opens}
 use Rattle.wl_client.specs.Outlines.{outline_entry, outlined}
-use Rattle.wl_client.specs.Steps.{report_by, view_by, globals_by, changed, CanChange, client_state}
-use Rattle.wl_client.specs.Steps.{stepped, with_global_change}
+use Rattle.wl_client.specs.Steps.{report_by, made_by_found, view_by, globals_by, CanOpen, CanChange}
+use Rattle.wl_client.specs.Steps.{client_state, view_stepped, stepped, with_global_change}
 
 -- A pending event is what this message, of this body and these parsed arguments, is and does where
 -- these tables and objects are there.
 pub record IsPending (tables : List Interface) (view : Objects) (body : List ℕ)
     (args : List ParsedArg) (f : Found) (event : PendingEvent) : Type 0 where
   pub report : (tokens : List ℕ)
-      → outlined body args tokens event.outline ≡ report_by view tokens f
-  pub objects : changed view event.change.objects ≡ view_by view f
-  pub can : CanChange view event.change.objects
+      → outlined body args tokens event.outline ≡ report_by tables view tokens f
+  pub made : event.change.made ≡ made_by_found tables f
+  pub objects : view_stepped view event ≡ view_by tables view f
+  pub can : CanChange (opens view event.change.made) event.change.objects
   pub globals : (globals : List Global)
       → with_global_change globals event.change.globals ≡ globals_by tables globals f
   pub bytes : event.size ≡ f.size
@@ -47,14 +52,18 @@ IsPendingOf tables view header body args r (Err fault) = r ≡ Err fault
 IsPendingOf tables view header body args r (Ok event) =
     (m : Received) × (r ≡ Ok m) × IsPending tables view body args (headed header m) event
 
--- An event in front can be taken: its message is whole, its tokens wait, what it changes is there,
--- and so is what it is about.
+-- An event in front can be taken: its message is whole, its tokens wait, what it makes can be
+-- opened, what it changes is there then, and what it is about is there. Only where the tables have
+-- such messages does it make something.
 pub record CanTake (core : Core) (event : PendingEvent) : Type 0 where
   pub message : in_front core.inbox ≡ Whole event.size
   pub few : event.tokens ≤ max_args
   pub waiting : event.tokens ≤ length core.inbox.tokens
-  pub change : CanChange core.view event.change.objects
+  pub made : CanOpen core.tables core.view event.change.made
+  pub change : CanChange (opens core.view event.change.made) event.change.objects
   pub entry : event.entry ≡ outline_entry core.view event.outline
+  pub wants : event_opens core (found core event_side) ≡ opens_row core.view event.change.made
+  pub none : has_server_objects core.tables ≡ false → event.change.made ≡ None
 
 -- the body of a message in front
 abbrev pub body_of : Core → ℕ → List ℕ
@@ -93,10 +102,12 @@ core_unless core (Err (errors.Fault fault offset)) = with_failure core
 core_unless core result = core
 
 -- the client after what was found is taken
-abbrev pub after_front : Core → List Global → Result (Option PendingEvent) NextError → State
-after_front core globals (Ok (Some event)) =
+abbrev pub after_front : Core → List Global → Option Object
+    → Result (Option PendingEvent) NextError → State
+after_front core globals made (Ok (Some event)) =
     client_state (stepped core event) (with_global_change globals event.change.globals)
-after_front core globals result = client_state (core_unless core result) globals
+    (object_made core.view event.change.made)
+after_front core globals made result = client_state (core_unless core result) globals made
 
 -- what is reported of an event whose message an end took last
 abbrev pub taken_in : Core → List ParsedArg → Result (Option PendingEvent) NextError

@@ -1,8 +1,10 @@
 -- What a client reads, and what it makes of it.
-use Rattle.std.specs.Prelude.{ℕ, Bool, true, false, ◌&&◌, not, nat_eq, nat_lt, if◌then◌else◌, List}
+use Rattle.std.specs.Prelude.{ℕ, Bool, true, false, ◌&&◌, ◌||◌, not, nat_eq, nat_lt}
+use Rattle.std.specs.Prelude.{if◌then◌else◌, List}
 use Rattle.std.specs.Prelude.{[], ◌∷◌, ◌++◌, length, map, filter, Option, Some, None, is_some}
-use Rattle.std.specs.Prelude.{unwrap_or, slice_get}
+use Rattle.std.specs.Prelude.{unwrap_or, slice_get, option_map}
 use Rattle.std.specs.declared.result.Result.{Result}
+use Rattle.std.specs.declared.result.Result.TheVariants.{Ok}
 use Rattle.wl_wire.specs.declared.kind.Iface.{Iface}
 use Rattle.wl_wire.specs.Argument.{Argument, Uint, Str, Obj}
 use Rattle.wl_sigs.specs.declared.signature.Side.TheVariants.{Request as request_side}
@@ -18,13 +20,14 @@ use Rattle.wl_objects.specs.declared.error.NextError.{NextError}
 use Rattle.wl_objects.specs.declared.error.NextError.TheVariants as errors
 use Rattle.wl_object_map.specs.declared.object.Entry.{Entry}
 use Rattle.wl_object_map.specs.View as table
-use Rattle.wl_object_map.specs.Objects.{Objects, look}
+use Rattle.wl_object_map.specs.Objects.{Objects, look, is_held, births}
 use Rattle.wl_objects.specs.Reading.{Reported, named_at}
-use Rattle.wl_objects.specs.Messages.{Received, reader_of, is_error, is_delete_id, same_iface}
+use Rattle.wl_objects.specs.Messages.{Received, NewObject, made, is_error, is_delete_id, same_iface}
 use Rattle.wl_objects.specs.Messages.{after, after_delete_id, ended_id}
 use Rattle.wl_connection.specs.Core.{Core, with_view, with_failure}
 use Rattle.wl_connection.specs.Outcomes.{AnswersOrMemory, answers_with}
-use Rattle.wl_connection.specs.Receiving.{Found, found, reported, own_tokens, past_found, is_none}
+use Rattle.wl_connection.specs.Receiving.{Found, found, reader_in, reported, own_tokens}
+use Rattle.wl_connection.specs.Receiving.{past_found, is_none}
 use Rattle.wl_connection.specs.Roles.{Role, role_answer, role_after}
 use Rattle.wl_client.specs.State.{State, Global, is_named, global_of, with_core}
 use Rattle.wl_object_map.specs.View.{lives}
@@ -70,7 +73,8 @@ argument values place = unwrap_or (slice_get values place) (Uint 0)
 -- wl_display.error names its object by an id alone, which may be null or unknown
 abbrev pub error_report : Core → List Argument → Report
 error_report core values =
-    Error (id_in (argument values 0)) (named_at (reader_of core.view) (id_in (argument values 0)))
+    Error (id_in (argument values 0))
+    (named_at (reader_in core event_side) (id_in (argument values 0)))
     (number_in (argument values 1)) (text_in (argument values 2))
 
 abbrev pub deleted : ℕ → Option Entry → Report
@@ -81,7 +85,8 @@ abbrev pub delete_report : Core → ℕ → Report
 delete_report core id = if nat_eq id 1 then Stray 1 else deleted id (table.look core.view.client id)
 
 abbrev pub plain_report : Core → ℕ → Received → ObjectState → Report
-plain_report core opcode message Live = Event message.target opcode (reported core message)
+plain_report core opcode message Live =
+    Event message.target opcode (reported core event_side message)
 plain_report core opcode message Zombie = Discarded message.target opcode (own_tokens core message)
 
 -- whether a message is wl_display.error
@@ -120,11 +125,21 @@ needs_memory _ = false
 
 -- ---- what it leaves
 
+-- whether an object is made at an id that has no row
+abbrev pub opens_row : Objects → Option NewObject → Bool
+opens_row view None = false
+opens_row view (Some m) = not (is_held view m.id)
+
+-- the object that an event makes, if it makes one: also an event for a zombie
+abbrev pub made_by_event : Core → Received → Option NewObject
+made_by_event core message = made core.tables message.entry.version message.signature.kinds
+    message.values
+
 abbrev pub view_after : Core → Found → Objects
 view_after core f =
     if is_error_event f then core.view
     else if is_delete_event f then after_delete_id core.view (deleted_id f)
-    else after request_side core.view None f.message.signature.destroys
+    else after request_side core.view (made_by_event core f.message) f.message.signature.destroys
     (ended_id f.message.signature.destroys f.message.target.id f.message.values)
 
 -- the globals without one of this name
@@ -165,13 +180,22 @@ globals_after state f =
     then globals_told state.core.tables state.globals f.opcode f.message.values
     else state.globals
 
+-- a new object with its birth, where it is opened in these objects
+abbrev pub object_made : Objects → Option NewObject → Option Object
+object_made view made =
+    option_map (λ (m : NewObject). record { id = m.id; birth = births view m.id }) made
+
 abbrev pub core_after : Core → Found → Core
 core_after core f = record (with_view (past_found core f) (view_after core f)) {
   failed = is_error_event f;
 }
 
 abbrev pub state_past : State → Found → State
-state_past state f = record { core = core_after state.core f; globals = globals_after state f }
+state_past state f = record {
+  core = core_after state.core f;
+  globals = globals_after state f;
+  made = object_made state.core.view (made_by_event state.core f.message);
+}
 
 -- ---- reading the next message, where no memory is needed
 
@@ -204,9 +228,31 @@ next_answer state = role_answer client_role state
 abbrev pub after_next : State → State
 after_next state = role_after client_role state
 
+-- Whether what stands in front opens an object at an id that has no row, which may need memory. At
+-- an id that has one, a zombie's say, the object takes its place.
+abbrev pub event_opens : Core → Result (Option Found) Fault → Bool
+event_opens core (Ok (Some f)) = opens_row core.view (made_by_event core f.message)
+event_opens core _ = false
+
 -- What `next_owned` returns where memory can be refused: out of memory stands only in place of a
--- report that needs some.
+-- report that needs some, or of an event that opens an object at an id without a row.
 abbrev pub IsClientNext : State → Result (Option Report) NextError → Type 0
 IsClientNext state result =
+    AnswersOrMemory errors.Memory
+    (answers_with needs_memory (next_answer state)
+    || event_opens state.core (found state.core event_side))
+    (next_answer state) result
+
+-- The same in tables without such events: out of memory stands only in place of a report that needs
+-- some.
+abbrev pub IsReportNext : State → Result (Option Report) NextError → Type 0
+IsReportNext state result =
     AnswersOrMemory errors.Memory (answers_with needs_memory (next_answer state))
+    (next_answer state) result
+
+-- The same for a lent report: no memory stands only in place of an event that opens an object at an
+-- id without a row.
+abbrev pub IsLentNext : State → Result (Option Report) NextError → Type 0
+IsLentNext state result =
+    AnswersOrMemory errors.Memory (event_opens state.core (found state.core event_side))
     (next_answer state) result

@@ -1,16 +1,18 @@
 -- What a client is: an end, and the globals that it was told.
-use Rattle.std.specs.Prelude.{ℕ, Bool, nat_eq, List, [], Option}
+use Rattle.std.specs.Prelude.{ℕ, Bool, nat_eq, List, [], Option, None}
 use Rattle.std.specs.List.{find}
 use Rattle.wl_sigs.specs.Tables.{Interface}
 use Rattle.wl_message.specs.declared.amounts.Sizes.{Sizes}
+use Rattle.wl_object_map.specs.declared.object.Object.{Object}
 use Rattle.wl_connection.specs.Core.{Core, new_core}
 pub use Rattle.wl_client.specs.declared.globals.Global.{Global}
 
 -- The globals that the client remembers, no name twice, in the order in which their names were
--- told.
+-- told; and the object that the message read last made, if it made one.
 pub record State : Type 0 where
   pub core : Core
   pub globals : List Global
+  pub made : Option Object
 
 -- whether a global has this name
 abbrev pub is_named : ℕ → Global → Bool
@@ -21,7 +23,8 @@ abbrev pub global_of : List Global → ℕ → Option Global
 global_of globals name = find (is_named name) globals
 
 abbrev pub new_state : List Interface → Sizes → State
-new_state tables sizes = record { core = new_core tables sizes; globals = [] }
+new_state tables sizes =
+    record { core = new_core tables sizes; globals = []; made = None }
 
 abbrev pub with_core : State → Core → State
 with_core state core = record state { core = core }

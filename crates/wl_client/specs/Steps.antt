@@ -1,10 +1,12 @@
 -- The steps in which a client reads a message.
-use Rattle.std.specs.Prelude.{◌≢◌, ℕ, false, IsTrue, List, []}
+use Rattle.std.specs.Prelude.{◌≢◌, ℕ, false, IsTrue, List, [], Option, Some, None}
 use Rattle.wl_sigs.specs.Tables.{Interface}
 use Rattle.wl_message.specs.Outgoing.{no_messages}
 use Rattle.wl_objects.specs.declared.reading.Received.{Received as Read}
 use Rattle.wl_sigs.specs.Fixed.{display}
-use Rattle.wl_object_map.specs.Objects.{Objects, opening, is_held, is_live, closed, zombied}
+use Rattle.wl_object_map.specs.declared.object.Object.{Object}
+use Rattle.wl_object_map.specs.Objects.{Objects, opening, is_held, has_room, closed, zombied}
+use Rattle.wl_objects.specs.Messages.{NewObject, made, opens, server_may_use}
 use Rattle.wl_objects.specs.Seen.{received_of}
 use Rattle.wl_connection.specs.Core.{Core, past, with_view}
 use Rattle.wl_connection.specs.Receiving.{Found}
@@ -41,21 +43,32 @@ end_with tables view tokens = record {
 abbrev pub found_as : ℕ → Read → Found
 found_as opcode read = record { size = 0; opcode = opcode; message = received_of read }
 
-abbrev pub client_state : Core → List Global → State
-client_state core globals = record { core = core; globals = globals }
+abbrev pub client_state : Core → List Global → Option Object → State
+client_state core globals made = record { core = core; globals = globals; made = made }
 
--- what is reported where these objects and tokens are there
-abbrev pub report_by : Objects → List ℕ → Found → Report
-report_by view tokens f = report (end_with [] view tokens) f
+-- what is reported where these tables, objects and tokens are there
+abbrev pub report_by : List Interface → Objects → List ℕ → Found → Report
+report_by tables view tokens f = report (end_with tables view tokens) f
+
+-- the object that a message makes, if it makes one
+abbrev pub made_by_found : List Interface → Found → Option NewObject
+made_by_found tables f = made tables f.message.entry.version f.message.signature.kinds f.message.values
 
 -- the objects after a message
-abbrev pub view_by : Objects → Found → Objects
-view_by view f = view_after (end_with [] view []) f
+abbrev pub view_by : List Interface → Objects → Found → Objects
+view_by tables view f = view_after (end_with tables view []) f
 
 -- the globals after a message
 abbrev pub globals_by : List Interface → List Global → Found → List Global
 globals_by tables globals f =
-    globals_after (client_state (end_with tables (opening display) []) globals) f
+    globals_after (client_state (end_with tables (opening display) []) globals None) f
+
+-- what a message makes can be opened: at an id that is free for an object of the server, for which
+-- the limits leave room
+abbrev pub CanOpen : List Interface → Objects → Option NewObject → Type 0
+CanOpen tables view None = Unit {0}
+CanOpen tables view (Some m) =
+    IsTrue (server_may_use tables view m.id) × IsTrue (has_room view m.id)
 
 -- the objects after a change
 abbrev pub changed : Objects → ObjectChange → Objects
@@ -63,16 +76,20 @@ changed view object_changes.Nothing = view
 changed view (object_changes.Zombie id) = zombied view id
 changed view (object_changes.Close id) = closed view id
 
+-- the objects after an event: what it makes is opened first
+abbrev pub view_stepped : Objects → PendingEvent → Objects
+view_stepped view event = changed (opens view event.change.made) event.change.objects
+
 -- the end after an event in front was taken, with its bytes and tokens; it fails with the last
 abbrev pub stepped : Core → PendingEvent → Core
 stepped core event =
-    record (with_view (past core event.size event.tokens) (changed core.view event.change.objects))
+    record (with_view (past core event.size event.tokens) (view_stepped core.view event))
     { failed = event.change.last }
 
 -- the change can be made: of an object that is there, and is not wl_display
 abbrev pub CanChange : Objects → ObjectChange → Type 0
 CanChange view object_changes.Nothing = Unit {0}
-CanChange view (object_changes.Zombie id) = IsTrue (is_live view id) × (id ≢ 1)
+CanChange view (object_changes.Zombie id) = IsTrue (is_held view id) × (id ≢ 1)
 CanChange view (object_changes.Close id) = IsTrue (is_held view id) × (id ≢ 1)
 
 -- the globals after a change of them

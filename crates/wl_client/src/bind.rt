@@ -7,7 +7,7 @@ ghost use Rattle.wl_client.specs.Binding.{FitsBind};
 
 use crate::client::Client;
 use crate::globals::Global;
-use wl_objects::{BindMessage, Object, REGISTRY, SendError, Table, live_row};
+use wl_objects::{BindMessage, Maker, Object, REGISTRY, SendError, Table, live_row};
 use wl_sigs::Tables;
 
 impl<'t, T: Table> Client<'t, T> {
@@ -60,7 +60,10 @@ impl<'t, T: Table> Client<'t, T> {
         if !self.end.core.fits(unopened.len(), 0) {
             return Err(SendError::Full);
         }
-        let object = self.end.core.open_next(global.iface, version)?;
+        let object = self
+            .end
+            .core
+            .open_next(Maker::Client, global.iface, version)?;
         self.end
             .core
             .write_bind(registry.id, name, iface, version, object.id);

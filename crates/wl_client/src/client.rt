@@ -8,15 +8,17 @@ use std::alloc::AllocError;
 use std::marker::Model;
 use wl_connection::{Core, Endpoint};
 use wl_message::Sizes;
-use wl_objects::Table;
+use wl_objects::{Object, Table};
 use wl_sigs::Tables;
 
-/// A client's end of a connection: its objects, what came in and what goes out, and the globals
-/// that it was told.
+/// A client's end of a connection: its objects, what came in and what goes out, the globals that it
+/// was told, and the object that the message read last made.
 #[derive(Drop)]
 pub struct Client<'t, T: Table> {
     pub(crate) end: Endpoint<'t, T>,
     pub(crate) globals: Remembered<T::Alloc>,
+    /// What the message read last made.
+    pub(crate) made: Option<Object>,
     /// Allocates owned reports.
     pub(crate) alloc: T::Alloc,
 }
@@ -30,7 +32,11 @@ impl<'t, T: Table> Model for Client<'t, T> {
 
     ghost coded = { Prim.hlevel (codes, objects_code) };
 
-    ghost view = { λ c. record { core = c.end.core; globals = c.globals } };
+    ghost view = { λ c. record {
+      core = c.end.core;
+      globals = c.globals;
+      made = c.made;
+    } };
 }
 
 impl<'t, T: Table> Client<'t, T> {
@@ -45,7 +51,17 @@ impl<'t, T: Table> Client<'t, T> {
         Ok(Client {
             end: Endpoint::new(core),
             globals,
+            made: None,
             alloc: own,
         })
+    }
+
+    /// The object that the message read last made: one of the server's, which an event makes, also
+    /// where it was `Discarded`. None where that message made none, and before the first. A call
+    /// that reads no message leaves it.
+    pub fn made(&self) -> Option<Object>
+        ensures { result ≡ self.now.made }
+    {
+        self.made
     }
 }

@@ -1,7 +1,9 @@
 //! What a message is to a client: what is reported of it, and what it changes.
-ghost use Rattle.std.specs.Prelude.{◌≡◌, ◌≢◌, ℕ, List, [], Some, false};
+ghost use Rattle.std.specs.Prelude.{◌≡◌, ◌≢◌, ℕ, List, Some, None, true, false};
+ghost use Rattle.wl_sigs.specs.declared.signature.Destroys.TheVariants.{Target};
 ghost use Rattle.wl_sigs.specs.declared.signature.Side.TheVariants.{Event};
-ghost use Rattle.wl_sigs.specs.Tables.{destroys_argument};
+ghost use Rattle.wl_sigs.specs.Tables.{Interface, destroys_argument};
+ghost use Rattle.wl_sigs.specs.Fixed.{display};
 ghost use Rattle.wl_object_map.specs.Objects.{Objects as ObjectsView, look};
 ghost use Rattle.wl_connection.specs.Core.{HasDisplay};
 ghost use Rattle.wl_client.specs.Outlines.{outline_entry, outlined};
@@ -9,18 +11,20 @@ ghost use Rattle.wl_client.specs.Reports.{argument, delete_report, error_report,
 ghost use Rattle.wl_client.specs.Reports.{is_error_event};
 ghost use Rattle.wl_client.specs.State.{Global as Told};
 ghost use Rattle.wl_client.specs.Steps.{CanChange, changed, end_with, found_as, globals_by};
-ghost use Rattle.wl_client.specs.Steps.{report_by, view_by, with_global_change};
+ghost use Rattle.wl_client.specs.Steps.{made_by_found, report_by, view_by, with_global_change};
 ghost use Rattle.wl_objects.specs.declared.parsed.ParsedArg.{ParsedArg};
-ghost use Rattle.wl_objects.specs.Messages.{after_delete_id, is_error, reader_of};
+ghost use Rattle.wl_objects.specs.Messages.{after_delete_id, is_error, opens, reader_of};
+ghost use Rattle.wl_objects.specs.Messages.{same_iface};
 ghost use Rattle.wl_objects.specs.Parsed.{AreParsed, spelled_in};
 ghost use Rattle.wl_objects.specs.Reading.{descriptors};
 ghost use Rattle.wl_objects.specs.Seen.{received_of};
 
 use crate::arguments::{id_at, number_at};
-use crate::changes::{Change, GlobalChange, ObjectChange, global_change_of};
+use crate::changes::{Change, GlobalChange, ObjectChange, change_of};
 use crate::outline::Outline;
+use wl_object_map::FIRST_SERVER_ID;
 use wl_objects::{Entry, Object, Objects, ParsedArgs, Received, State, Table, is_delete_id};
-use wl_sigs::{Destroys, Side, Tables};
+use wl_sigs::{Side, Tables};
 
 /// What is reported of a message, what it changes, and the entry of the object that it is about.
 pub(crate) fn meaning_of<T: Table>(
@@ -29,21 +33,24 @@ pub(crate) fn meaning_of<T: Table>(
     opcode: u16,
     message: &Received<'_, '_>,
 ) -> (Outline, Change, Option<Entry>)
-    requires parsed { AreParsed (reader_of objects.now) message.now.body.now
+    requires parsed { AreParsed (reader_of tables.now Event objects.now) message.now.body.now
         message.now.args.now (received_of message.now).values }
     requires tokens { message.now.tokens ≡ descriptors message.now.signature.now.kinds }
     requires error { message.now.is_error ≡ is_error Event message.now.entry.iface opcode }
     requires display { HasDisplay objects.now }
     requires row { look objects.now message.now.target.id ≡ Some message.now.entry }
     requires lasts { message.now.target.id ≡ 1
-        → message.now.signature.now.destroys ≢ Destroys.Target }
+        → message.now.signature.now.destroys ≢ Target }
     requires argument { destroys_argument message.now.signature.now.destroys ≡ false }
+    requires display_makes_none { same_iface message.now.entry.iface display ≡ true
+        → made_by_found tables.now (found_as opcode message.now) ≡ None }
     ensures outline { (tokens : List ℕ)
         → outlined message.now.body.now message.now.args.now tokens result.0
-        ≡ report_by objects.now tokens (found_as opcode message.now) }
-    ensures changed { changed objects.now result.1.objects
-        ≡ view_by objects.now (found_as opcode message.now) }
-    ensures can { CanChange objects.now result.1.objects }
+        ≡ report_by tables.now objects.now tokens (found_as opcode message.now) }
+    ensures made { result.1.made ≡ made_by_found tables.now (found_as opcode message.now) }
+    ensures changed { changed (opens objects.now result.1.made) result.1.objects
+        ≡ view_by tables.now objects.now (found_as opcode message.now) }
+    ensures can { CanChange (opens objects.now result.1.made) result.1.objects }
     ensures globals { (globals : List Told) → with_global_change globals result.1.globals
         ≡ globals_by tables.now globals (found_as opcode message.now) }
     ensures last { result.1.last ≡ is_error_event (found_as opcode message.now) }
@@ -65,25 +72,16 @@ pub(crate) fn meaning_of<T: Table>(
                 opcode,
                 tokens: message.tokens,
             },
-            no_change(false),
+            change_of(tables, opcode, message),
             Some(message.entry),
         ),
         State::Live => (
             Outline::Event {
                 target,
                 opcode,
-                birth: objects.client().births(),
+                birth: objects.births(FIRST_SERVER_ID),
             },
-            Change {
-                objects: match message.signature.destroys() {
-                    Destroys::Nothing => ObjectChange::Nothing,
-                    // No event destroys an argument.
-                    Destroys::Arg(_) => ObjectChange::Nothing,
-                    Destroys::Target => ObjectChange::Zombie(target.id),
-                },
-                globals: global_change_of(tables, opcode, message),
-                last: false,
-            },
+            change_of(tables, opcode, message),
             Some(message.entry),
         ),
     }
@@ -92,12 +90,14 @@ pub(crate) fn meaning_of<T: Table>(
 /// No change of objects and globals.
 fn no_change(last: bool) -> Change
     ensures { result ≡ record {
+      made = None;
       objects = ObjectChange.Nothing;
       globals = GlobalChange.Nothing;
       last = last;
     } }
 {
     Change {
+        made: None,
         objects: ObjectChange::Nothing,
         globals: GlobalChange::Nothing,
         last,
@@ -106,10 +106,10 @@ fn no_change(last: bool) -> Change
 
 /// The outline of wl_display.error.
 fn error_outline(args: &ParsedArgs, body: &[u8]) -> Outline
-    ensures outline { (view : ObjectsView) (tokens : List ℕ)
-        → AreParsed (reader_of view) body.now args.now (spelled_in body.now args.now)
+    ensures outline { (tables : List Interface) (view : ObjectsView) (tokens : List ℕ)
+        → AreParsed (reader_of tables Event view) body.now args.now (spelled_in body.now args.now)
         → outlined body.now args.now tokens result
-        ≡ error_report (end_with [] view tokens) (spelled_in body.now args.now) }
+        ≡ error_report (end_with tables view tokens) (spelled_in body.now args.now) }
     ensures entry { (view : ObjectsView) → outline_entry view result
         ≡ look view (id_in (argument (spelled_in body.now args.now) 0)) }
 {
@@ -122,9 +122,10 @@ fn error_outline(args: &ParsedArgs, body: &[u8]) -> Outline
 
 /// What wl_display.delete_id of an id is: the object of the id, if it has one, is gone.
 fn meaning_of_delete_id<T: Table>(objects: &Objects<T>, id: u32) -> (Outline, Change, Option<Entry>)
-    ensures outline { (body tokens : List ℕ) (args : List ParsedArg)
+    ensures outline { (tables : List Interface) (body tokens : List ℕ) (args : List ParsedArg)
         → outlined body args tokens result.0
-        ≡ delete_report (end_with [] objects.now tokens) id }
+        ≡ delete_report (end_with tables objects.now tokens) id }
+    ensures made { result.1.made ≡ None }
     ensures changed { changed objects.now result.1.objects
         ≡ after_delete_id objects.now id }
     ensures can { CanChange objects.now result.1.objects }
@@ -141,6 +142,7 @@ fn meaning_of_delete_id<T: Table>(objects: &Objects<T>, id: u32) -> (Outline, Ch
                 },
             },
             Change {
+                made: None,
                 objects: ObjectChange::Close(id),
                 globals: GlobalChange::Nothing,
                 last: false,

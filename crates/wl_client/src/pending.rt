@@ -59,15 +59,17 @@ fn pending_of<T: Table>(
     ensures valid { IfOk result (λ _. Valid tables.now) }
     ensures comes { IsPendingOf tables.now objects.now
         frame.entry.header frame.entry.body.now args.new
-        (received tables.now event_side (reader_of objects.now)
+        (received tables.now event_side (reader_of tables.now event_side objects.now)
         frame.entry.header frame.entry.body.now frame.entry.tokens) result }
 {
     let header = frame.header;
-    let lookup = ObjectsLookup { objects };
-    let messages = Messages {
+    let side = Side::Event;
+    let lookup = ObjectsLookup {
         tables,
-        side: Side::Event,
+        side,
+        objects,
     };
+    let messages = Messages { tables, side };
     let received = receive(args, messages, &lookup, header, frame.body, frame.tokens);
     let message = match received {
         Ok(message) => message,

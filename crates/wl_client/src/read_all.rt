@@ -17,10 +17,10 @@ impl<'t, T: Table> Client<'t, T> {
     ///
     /// All that waits is read before each piece and at the end. A piece is taken in as far as it
     /// fits, and the rest of it after what waits was read again. Room for a report is made before
-    /// its message is read. `stop` is `Memory` if that room or the report's own memory is refused,
-    /// and then the message stands in front and can be read again. The reading ends early where no
-    /// message can be read, after wl_display.error, and before a piece whose tokens do not all fit;
-    /// what was read before stays read.
+    /// its message is read. `stop` is `Memory` if that room, the report's own memory or that of the
+    /// object that an event makes is refused, and then the message stands in front and can be read
+    /// again. The reading ends early where no message can be read, after wl_display.error, and
+    /// before a piece whose tokens do not all fit; what was read before stays read.
     pub fn read_all(
         &mut self,
         pieces: &[Piece<'_>],

@@ -25,13 +25,14 @@ use Rattle.wl_object_map.specs.declared.object.State.{State}
 use Rattle.wl_object_map.specs.declared.object.State.TheVariants.{Live, Zombie}
 use Rattle.wl_objects.specs.declared.error.SendError.{SendError}
 use Rattle.wl_objects.specs.declared.error.SendError.TheVariants as refusals
-use Rattle.wl_object_map.specs.View.{lives, lives_in, next_id}
-use Rattle.wl_object_map.specs.Objects.{Objects, look, is_live, births}
+use Rattle.wl_object_map.specs.declared.object.Maker.{Maker}
+use Rattle.wl_object_map.specs.View.{lives, lives_in}
+use Rattle.wl_object_map.specs.Objects.{Objects, look, next_id, is_live, births}
 use Rattle.wl_object_map.specs.ObjectsLaws.{look-opened_at}
 use Rattle.wl_objects.specs.Writing.{Given, given, given_of, wired, on_wire, suits, wrong_place}
 use Rattle.wl_objects.specs.Writing.{lost_place, call_makes, id_of, message_len, message_bytes}
 use Rattle.wl_objects.specs.Writing.{tokens_of}
-use Rattle.wl_objects.specs.Messages.{ended_id, NewObject, opens, checked, destroys}
+use Rattle.wl_objects.specs.Messages.{ended_id, NewObject, opens, checked, destroys, maker_by}
 use Rattle.wl_objects.proofs.Calls.{len-any}
 use Rattle.wl_objects.proofs.WrittenArrives.{if-none}
 use Rattle.wl_objects.proofs.CheckedCalls.{call-makes}
@@ -66,6 +67,7 @@ one-wired n m (kinds.Str null) ks (Str text) e f h = (refl, h)
 one-wired n m (kinds.Obj null iface) ks (Obj object) e f h = (refl, h)
 one-wired n m (kinds.New (Some iface)) ks x e f h = absurd (cc)
 one-wired n m (kinds.New None) ks x e f h = absurd (f refl)
+one-wired n m (kinds.NewByServer iface) ks x e f h = absurd (cc)
 one-wired n m kinds.Array ks (Array bytes) e f h = (refl, h)
 one-wired n m kinds.Fd ks (Fd token) e f h = (refl, h)
 one-wired n m kind ks x e f h = absurd (cc)
@@ -97,12 +99,12 @@ makes-some (kinds.NewByServer iface ∷ ks) h = refl
 makes-some (kinds.Array ∷ ks) h = makes-some ks h
 makes-some (kinds.Fd ∷ ks) h = makes-some ks h
 
-version-at : (core : Core) (target : Object) (signature : MessageSignature) (list : List Arg) (entry : Entry)
+version-at : (core : Core) (side : Side) (target : Object) (signature : MessageSignature) (list : List Arg) (entry : Entry)
     → look core.view target.id ≡ Some entry
     → wrong_place 0 signature.kinds (given list) ≡ None
-    → made_at core target signature (given list) ≡ next_object core.view entry.version (call_makes signature.kinds)
-version-at core target signature list entry row w =
-    rw row (call-makes core.tables entry.version (next_id core.view.client) 0 signature.kinds list w)
+    → made_at core side target signature (given list) ≡ next_object (maker_by side) core.view entry.version (call_makes signature.kinds)
+version-at core side target signature list entry row w =
+    rw row (call-makes core.tables entry.version (next_id (maker_by side) core.view) 0 signature.kinds list w)
 
 -- the object that a call makes is the one that is opened next, if its signature has one
 pub made-next : (core : Core) (side : Side) (target : Object) (opcode : ℕ) (list : List Arg)
@@ -110,9 +112,9 @@ pub made-next : (core : Core) (side : Side) (target : Object) (opcode : ℕ) (li
     (entry : Entry)
     → checked core.outbox.limit.bytes core.tables side core.view target opcode (given list) ≡ Ok signature
     → look core.view target.id ≡ Some entry
-    → made_at core target signature (given list) ≡ next_object core.view entry.version (call_makes signature.kinds)
+    → made_at core side target signature (given list) ≡ next_object (maker_by side) core.view entry.version (call_makes signature.kinds)
 made-next core side target opcode list signature entry e row =
-    version-at core target signature list entry row
+    version-at core side target signature list entry row
     (passes core.outbox.limit.bytes core.tables side core.view target opcode (given list) signature e).suit
 
 -- what is written is the same with the new object's id as with the next one, also where no object is new
@@ -120,22 +122,22 @@ pub wired-next : (core : Core) (side : Side) (target : Object) (opcode : ℕ) (l
     (signature : MessageSignature)
     (id : ℕ) (iface : Option Iface)
     → checked core.outbox.limit.bytes core.tables side core.view target opcode (given list) ≡ Ok signature
-    → iface ≡ call_makes signature.kinds → (is_some iface ≡ true → id ≡ next_id core.view.client)
-    → on_wire id list ≡ on_wire (next_id core.view.client) list
+    → iface ≡ call_makes signature.kinds → (is_some iface ≡ true → id ≡ next_id (maker_by side) core.view)
+    → on_wire id list ≡ on_wire (next_id (maker_by side) core.view) list
 wired-next core side target opcode list signature id None e f h =
-    same-wired id (next_id core.view.client) 0 signature.kinds list
+    same-wired id (next_id (maker_by side) core.view) 0 signature.kinds list
     (passes core.outbox.limit.bytes core.tables side core.view target opcode (given list) signature e).suit (sym f)
 wired-next core side target opcode list signature id (Some iface) e f h = ap (λ n. on_wire n list) (h refl)
 
 -- the target is live still after an object was opened
-live-opened : (view : Objects) (new : Option Iface) (version id : ℕ) → is_live view id ≡ true
-    → is_live (opens view (next_object view version new)) id ≡ true
-live-opened view None version id h = h
-live-opened view (Some iface) version id h =
-    ap lives_in (look-opened_at view (next_id view.client) iface version id) ∙ by_id (eqb id (next_id view.client))
+live-opened : (maker : Maker) (view : Objects) (new : Option Iface) (version id : ℕ) → is_live view id ≡ true
+    → is_live (opens view (next_object maker view version new)) id ≡ true
+live-opened maker view None version id h = h
+live-opened maker view (Some iface) version id h =
+    ap lives_in (look-opened_at view (next_id maker view) iface version id) ∙ by_id (eqb id (next_id maker view))
   where
     by_id : (b : Bool) → lives_in (cond b (Some (record {
-      birth = births view (next_id view.client);
+      birth = births view (next_id maker view);
       iface = iface;
       version = version;
       state = Live;
@@ -151,10 +153,10 @@ pub target-live : (core : Core) (side : Side) (target : Object) (opcode : ℕ) (
     (signature : MessageSignature)
     (new : Option Iface) (version : ℕ)
     → checked core.outbox.limit.bytes core.tables side core.view target opcode (given list) ≡ Ok signature
-    → is_live (opens core.view (next_object core.view version new)) target.id ≡ true
+    → is_live (opens core.view (next_object (maker_by side) core.view version new)) target.id ≡ true
 target-live core side target opcode list signature new version e =
     let p = passes core.outbox.limit.bytes core.tables side core.view target opcode (given list) signature e in
-    live-opened core.view new version target.id (ap lives_in p.row ∙ state-lives p.entry.state p.live)
+    live-opened (maker_by side) core.view new version target.id (ap lives_in p.row ∙ state-lives p.entry.state p.live)
 
 -- what the code counts is the room that a call needs
 pub fits-known : (o : Outgoing) (list : List Arg) (len more other count : ℕ) (b : Bool)
@@ -193,46 +195,46 @@ pub answered : (core : Core) (side : Side) (target : Object) (opcode : ℕ) (lis
     → fits core.outbox (message_len (on_wire 0 list) + following_len side signature.destroys)
     (length (tokens_of (given list))) ≡ true
     → AnswersOrMemory refusals.Memory (is_some (call_makes signature.kinds))
-    (opening_answer core (next_object core.view entry.version (call_makes signature.kinds))) result
+    (opening_answer core (maker_by side) (next_object (maker_by side) core.view entry.version (call_makes signature.kinds))) result
     → AnswersOrMemory refusals.Memory (is_some (makes signature))
     (answer_of core side target (given list) (Ok signature)) result
 answered core side target opcode list signature entry result e row fit g =
     let same : answer_of core side target (given list) (Ok signature)
-    ≡ opening_answer core (next_object core.view entry.version (call_makes signature.kinds)) =
-    ap (λ (b : Bool). if b then opening_answer core (made_at core target signature (given list)) else Err refusals.Full)
+    ≡ opening_answer core (maker_by side) (next_object (maker_by side) core.view entry.version (call_makes signature.kinds)) =
+    ap (λ (b : Bool). if b then opening_answer core (maker_by side) (made_at core side target signature (given list)) else Err refusals.Full)
     fit
-    ∙ ap (opening_answer core) (made-next core side target opcode list signature entry e row) in
+    ∙ ap (opening_answer core (maker_by side)) (made-next core side target opcode list signature entry e row) in
     gives-more refusals.Memory (is_some (call_makes signature.kinds)) (is_some (makes signature))
     (answer_of core side target (given list) (Ok signature)) result (makes-some signature.kinds)
     (subst (λ (a : Result (Option Object) SendError). AnswersOrMemory refusals.Memory
     (is_some (call_makes signature.kinds)) a result) (sym same) g)
 
-id-where : (new : Option Object) (view : Objects) (iface : Option Iface) → IfSome iface (λ _. id_of new ≡ next_id view.client)
-    → is_some iface ≡ true → id_of new ≡ next_id view.client
-id-where new view None h s = absurd (cc)
-id-where new view (Some iface) h s = h
+id-where : (maker : Maker) (new : Option Object) (view : Objects) (iface : Option Iface)
+    → IfSome iface (λ _. id_of new ≡ next_id maker view) → is_some iface ≡ true → id_of new ≡ next_id maker view
+id-where maker new view None h s = absurd (cc)
+id-where maker new view (Some iface) h s = h
 
 -- the message in the outbox and the new object in the table
 pub written-known : (core opened written : Core) (side : Side) (target : Object) (opcode : ℕ) (list : List Arg)
     (signature : MessageSignature) (entry : Entry) (new : Option Object) (iface : Option Iface) (tokens : List ℕ)
     → checked core.outbox.limit.bytes core.tables side core.view target opcode (given list) ≡ Ok signature
     → look core.view target.id ≡ Some entry → iface ≡ call_makes signature.kinds
-    → opened ≡ with_view core (opens core.view (next_object core.view entry.version iface))
-    → IfSome iface (λ _. id_of new ≡ next_id core.view.client)
+    → opened ≡ with_view core (opens core.view (next_object (maker_by side) core.view entry.version iface))
+    → IfSome iface (λ _. id_of new ≡ next_id (maker_by side) core.view)
     → written ≡ with_sent opened target.id opcode (on_wire (id_of new) list) tokens → tokens ≡ tokens_of (given list)
-    → written ≡ with_view (with_sent core target.id opcode (map (wired (next_id core.view.client)) (given list))
-    (tokens_of (given list))) (opens core.view (made_at core target signature (given list)))
+    → written ≡ with_view (with_sent core target.id opcode (map (wired (next_id (maker_by side) core.view)) (given list))
+    (tokens_of (given list))) (opens core.view (made_at core side target signature (given list)))
 written-known core opened written side target opcode list signature entry new iface tokens e row f o i w t =
-    let made : next_object core.view entry.version iface ≡ made_at core target signature (given list) =
-    ap (next_object core.view entry.version) f ∙ sym (made-next core side target opcode list signature entry e row) in
-    let values : on_wire (id_of new) list ≡ on_wire (next_id core.view.client) list =
-    wired-next core side target opcode list signature (id_of new) iface e f (id-where new core.view iface i) in
+    let made : next_object (maker_by side) core.view entry.version iface ≡ made_at core side target signature (given list) =
+    ap (next_object (maker_by side) core.view entry.version) f ∙ sym (made-next core side target opcode list signature entry e row) in
+    let values : on_wire (id_of new) list ≡ on_wire (next_id (maker_by side) core.view) list =
+    wired-next core side target opcode list signature (id_of new) iface e f (id-where (maker_by side) new core.view iface i) in
     w ∙ (ap (λ (c : Core). with_sent c target.id opcode (on_wire (id_of new) list) tokens)
     (o ∙ ap (λ (m : Option NewObject). with_view core (opens core.view m)) made)
     ∙ (ap (λ (vs : List Argument). with_sent (with_view core
-    (opens core.view (made_at core target signature (given list)))) target.id opcode vs tokens) values
-    ∙ ap (with_sent (with_view core (opens core.view (made_at core target signature (given list)))) target.id opcode
-    (on_wire (next_id core.view.client) list)) t))
+    (opens core.view (made_at core side target signature (given list)))) target.id opcode vs tokens) values
+    ∙ ap (with_sent (with_view core (opens core.view (made_at core side target signature (given list)))) target.id opcode
+    (on_wire (next_id (maker_by side) core.view) list)) t))
 
 -- no message ends wl_display
 pub ends-other : (core : Core) (side : Side) (target : Object) (opcode : ℕ) (list : List Arg)
@@ -247,8 +249,8 @@ ends-other core side target opcode list signature v d e t =
 -- and then what the message ends
 pub ended-known : (core written ended : Core) (side : Side) (target : Object) (opcode : ℕ) (list : List Arg)
     (signature : MessageSignature) (what : Destroys) (id : ℕ)
-    → written ≡ with_view (with_sent core target.id opcode (map (wired (next_id core.view.client)) (given list))
-    (tokens_of (given list))) (opens core.view (made_at core target signature (given list)))
+    → written ≡ with_view (with_sent core target.id opcode (map (wired (next_id (maker_by side) core.view)) (given list))
+    (tokens_of (given list))) (opens core.view (made_at core side target signature (given list)))
     → ended ≡ with_following (following side what) id (with_view written (destroys side what id written.view))
     → what ≡ signature.destroys → id ≡ ended_id what target.id (on_wire 0 list)
     → ended ≡ sent core side target opcode (given list) signature
@@ -260,9 +262,9 @@ ended-known core written ended side target opcode list signature what id w e d i
 
 -- ---- what is destroyed is live, and not wl_display
 
-open_row : (view : Objects) (new : Option Iface) (version id : ℕ) → NamesRegistry view id
-    → is_live (opens view (next_object view version new)) id ≡ true
-open_row view new version id n = live-opened view new version id
+open_row : (maker : Maker) (view : Objects) (new : Option Iface) (version id : ℕ) → NamesRegistry view id
+    → is_live (opens view (next_object maker view version new)) id ≡ true
+open_row maker view new version id n = live-opened maker view new version id
     (ap lives_in n.there ∙ state-lives n.entry.state n.live)
 
 argument-named : (core : Core) (side : Side) (target : Object) (opcode : ℕ) (list : List Arg)
@@ -284,16 +286,16 @@ pub ended-live : (core : Core) (side : Side) (target : Object) (opcode : ℕ) (l
     (signature : MessageSignature)
     (new : Option Iface) (version : ℕ) → Valid core.tables
     → checked core.outbox.limit.bytes core.tables side core.view target opcode (given list) ≡ Ok signature
-    → is_live (opens core.view (next_object core.view version new))
+    → is_live (opens core.view (next_object (maker_by side) core.view version new))
     (ended_id signature.destroys target.id (on_wire 0 list)) ≡ true
 ended-live core side target opcode list signature new version v e = by_what signature.destroys refl
   where
     by_what : (what : Destroys) → signature.destroys ≡ what
-        → is_live (opens core.view (next_object core.view version new))
+        → is_live (opens core.view (next_object (maker_by side) core.view version new))
         (ended_id signature.destroys target.id (on_wire 0 list)) ≡ true
     by_what Nothing d = rw d (target-live core side target opcode list signature new version e)
     by_what Target d = rw d (target-live core side target opcode list signature new version e)
-    by_what (ends_arg k) d = open_row core.view new version _
+    by_what (ends_arg k) d = open_row (maker_by side) core.view new version _
         (argument-named core side target opcode list signature k v e d)
 
 registry-other : (view : Objects) (id : ℕ) → HasDisplay view → NamesRegistry view id → id ≢ 1

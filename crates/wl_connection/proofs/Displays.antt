@@ -14,17 +14,16 @@ use Rattle.wl_sigs.specs.Fixed.{wl_display, display}
 use Rattle.wl_sigs.specs.Valid.{Valid}
 use Rattle.wl_object_map.specs.declared.object.Entry.{Entry}
 use Rattle.wl_object_map.specs.declared.object.State.TheVariants.{Live}
-use Rattle.wl_object_map.specs.declared.object.Maker.TheVariants.{Client}
+use Rattle.wl_object_map.specs.declared.object.Maker.{Maker}
 use Rattle.wl_object_map.specs.declared.object.Object.{Object}
 use Rattle.wl_object_map.specs.declared.object.TableError.{TableError}
 use Rattle.wl_object_map.specs.declared.object.TableError.TheVariants as refusals
-use Rattle.wl_object_map.specs.View.{free_or_next, next_id}
 use Rattle.wl_object_map.specs.Objects.{Objects, ObjectsAreSound, look, is_held, births, opening}
 use Rattle.wl_object_map.specs.View.{zombie}
-use Rattle.wl_object_map.specs.Objects.{opened_at, opened, closed, zombied}
+use Rattle.wl_object_map.specs.Objects.{free_or_next, next_id, opened_at, opened, closed, zombied}
 use Rattle.wl_object_map.specs.ObjectsLaws.{look-opening, look-opened_at, look-closed, look-zombied}
-use Rattle.wl_object_map.specs.ObjectsLaws.{free_is}
-use Rattle.wl_object_map.specs.Views.{free_or_next-next_id}
+use Rattle.wl_object_map.specs.Ranges.{is_of_server}
+use Rattle.wl_object_map.specs.ObjectsLaws.{free-next, free-no_row, is_from}
 use Rattle.wl_connection.specs.Core.{HasDisplay}
 
 pub HasDisplay-opening : HasDisplay (opening display)
@@ -40,24 +39,24 @@ not_display view id d n = by_test (eqb 1 id) refl
         subst (λ (i : ℕ). look view i ≡ None) (sym same) n in absurd (cc (row, d))
 
 pub HasDisplay-opened_at : (view : Objects) (id : ℕ) (iface : Iface) (version : ℕ) → ObjectsAreSound view
-    → free_or_next view.client id ≡ true → HasDisplay view → HasDisplay (opened_at view id iface version)
+    → free_or_next view id ≡ true → HasDisplay view → HasDisplay (opened_at view id iface version)
 HasDisplay-opened_at view id iface version s f d =
     look-opened_at view id iface version 1
     ∙ (ap (λ b. cond b (Some (record { birth = births view id; iface = iface; version = version; state = Live }))
-    (look view 1)) (not_display view id d (free_is view id s f).no_row) ∙ d)
+    (look view 1)) (not_display view id d (free-no_row view id s f)) ∙ d)
 
-pub HasDisplay-opened : (view : Objects) (iface : Iface) (version : ℕ) → ObjectsAreSound view → HasDisplay view
-    → HasDisplay (opened Client view iface version)
-HasDisplay-opened view iface version s d = HasDisplay-opened_at view (next_id view.client) iface version s
-    (free_or_next-next_id view.client) d
+pub HasDisplay-opened : (maker : Maker) (view : Objects) (iface : Iface) (version : ℕ) → ObjectsAreSound view
+    → HasDisplay view → HasDisplay (opened maker view iface version)
+HasDisplay-opened maker view iface version s d = HasDisplay-opened_at view (next_id maker view) iface version s
+    (free-next maker view s) d
 
 -- an opening that may be refused
-pub HasDisplay-opening_next : {X E : Type 0} (result : Result X E) (before now : Objects) (iface : Iface) (version : ℕ)
-    → ObjectsAreSound before → HasDisplay before
-    → OnOk result (now ≡ opened Client before iface version) → OnErr result (now ≡ before) → HasDisplay now
-HasDisplay-opening_next (Ok object) before now iface version s d ok err =
-    subst HasDisplay (sym ok) (HasDisplay-opened before iface version s d)
-HasDisplay-opening_next (Err why) before now iface version s d ok err = subst HasDisplay (sym err) d
+pub HasDisplay-opening_next : {X E : Type 0} (maker : Maker) (result : Result X E) (before now : Objects)
+    (iface : Iface) (version : ℕ) → ObjectsAreSound before → HasDisplay before
+    → OnOk result (now ≡ opened maker before iface version) → OnErr result (now ≡ before) → HasDisplay now
+HasDisplay-opening_next maker (Ok object) before now iface version s d ok err =
+    subst HasDisplay (sym ok) (HasDisplay-opened maker before iface version s d)
+HasDisplay-opening_next maker (Err why) before now iface version s d ok err = subst HasDisplay (sym err) d
 
 other : (id : ℕ) → id ≢ 1 → eqb 1 id ≡ false
 other id n = grind (arith, nat_tests, n)
@@ -112,3 +111,11 @@ HasDisplay-open view after id iface version (Ok object) o e u d = by_test (is_he
         subst HasDisplay (sym o) (look-opened_at view id iface version 1
         ∙ (ap (λ b. cond b (Some (record { birth = births view id; iface = iface; version = version; state = Live }))
         (look view 1)) (not_display view id d (is_held-of (look view id) h)) ∙ d))
+
+-- an object that can be opened at an id of the server's range leaves it
+pub HasDisplay-made : (view : Objects) (id : ℕ) (iface : Iface) (version : ℕ) → is_of_server id ≡ true
+    → HasDisplay view → HasDisplay (opened_at view id iface version)
+HasDisplay-made view id iface version range d =
+    let low = is_from id range in
+    let other : eqb 1 id ≡ false = grind (arith, nat_tests, low) in
+    look-opened_at view id iface version 1 ∙ rw other d

@@ -26,10 +26,10 @@ use Rattle.wl_object_map.specs.declared.object.Entry.{Entry}
 use Rattle.wl_objects.specs.declared.error.Fault.{Fault}
 use Rattle.wl_objects.specs.declared.error.Fault.TheVariants as faults
 use Rattle.wl_objects.specs.Reading.{Reader, forgiving, arguments_at, descriptors, reports_of}
-use Rattle.wl_objects.specs.Messages.{Received, reader_of, is_error, received_whole}
+use Rattle.wl_objects.specs.Messages.{Received, is_error, received_whole}
 use Rattle.wl_objects.specs.Messages.{received_as, received_by, received}
 use Rattle.wl_connection.specs.Core.{Core, with_arrived}
-use Rattle.wl_connection.specs.Receiving.{Found, found_in, found_at, found, header_of, takes}
+use Rattle.wl_connection.specs.Receiving.{reader_in, Found, found_in, found_at, found, header_of, takes}
 use Rattle.wl_connection.specs.Receiving.{reported, own_tokens, past_found}
 use Rattle.wl_connection.specs.Streams.{Wants, need_of}
 use Rattle.wl_sigs.specs.Rules.{is_empty}
@@ -135,18 +135,18 @@ pub data Finds (core : Core) (side : Side) : Type 0 where
 whole_found : (core : Core) (side : Side) (n : ℕ) (bytes tokens : List ℕ) → in_front core.inbox ≡ Whole n
     → found (with_arrived core bytes tokens) side
     ≡ found_in n (header_of core.inbox.bytes).opcode
-    (received core.tables side (reader_of core.view) (header_of core.inbox.bytes) (drop 8 (take n core.inbox.bytes))
+    (received core.tables side (reader_in core side) (header_of core.inbox.bytes) (drop 8 (take n core.inbox.bytes))
     (length (core.inbox.tokens ++ tokens)))
 whole_found core side n bytes tokens e =
     let s = front_stands core.inbox.limit.bytes core.inbox.bytes n e in
     let h = header_stays core.inbox.bytes bytes (omega (arith, s.size.header, s.there)) in
     let b = take-append-le n core.inbox.bytes bytes s.there in
     ap (found_at (with_arrived core bytes tokens) side) (whole_stays core.inbox.limit.bytes core.inbox.bytes bytes n e)
-    ∙ λ i. found_in n (h i).opcode (received core.tables side (reader_of core.view) (h i) (drop 8 (b i))
+    ∙ λ i. found_in n (h i).opcode (received core.tables side (reader_in core side) (h i) (drop 8 (b i))
     (length (core.inbox.tokens ++ tokens)))
 
 at_whole : (core : Core) (side : Side) (n : ℕ) → in_front core.inbox ≡ Whole n
-    → Meets (λ w. received core.tables side (reader_of core.view) (header_of core.inbox.bytes)
+    → Meets (λ w. received core.tables side (reader_in core side) (header_of core.inbox.bytes)
     (drop 8 (take n core.inbox.bytes)) w) → Finds core side
 at_whole core side n e (fails what h) =
     fault what (λ bytes tokens. whole_found core side n bytes tokens e
@@ -165,7 +165,7 @@ finds_at core side (Bad n) e = fault faults.BadSize
     (λ bytes tokens. ap (found_at (with_arrived core bytes tokens) side)
     (bad_stays core.inbox.limit.bytes core.inbox.bytes bytes n e))
 finds_at core side (Whole n) e = at_whole core side n e
-    (meets core.tables side (reader_of core.view) (header_of core.inbox.bytes) (drop 8 (take n core.inbox.bytes)))
+    (meets core.tables side (reader_in core side) (header_of core.inbox.bytes) (drop 8 (take n core.inbox.bytes)))
 
 pub finds : (core : Core) (side : Side) → Finds core side
 finds core side = finds_at core side (in_front core.inbox) refl
@@ -250,8 +250,8 @@ is_found core side f e = found_by core side f e (finds core side)
 
 -- the message is reported by the tokens that wait first
 pub reported_stays : (core : Core) (side : Side) (f : Found) (bytes tokens : List ℕ) → IsFound core side f
-    → reported (with_arrived core bytes tokens) f.message ≡ reported core f.message
-reported_stays core side f bytes tokens h = reports_stay (reader_of core.view) core.inbox.tokens tokens f.message.values
+    → reported (with_arrived core bytes tokens) side f.message ≡ reported core side f.message
+reported_stays core side f bytes tokens h = reports_stay (reader_in core side) core.inbox.tokens tokens f.message.values
     (omega (arith, h.enough, h.count))
 
 pub own_stay : (core : Core) (side : Side) (f : Found) (bytes tokens : List ℕ) → IsFound core side f
@@ -260,14 +260,14 @@ own_stay core side f bytes tokens h = take-append-le (takes f.message) core.inbo
 
 -- its own tokens are enough for its report
 pub reported_own : (core : Core) (side : Side) (f : Found) → IsFound core side f
-    → reports_of (reader_of core.view) (own_tokens core f.message) f.message.values ≡ reported core f.message
+    → reports_of (reader_in core side) (own_tokens core f.message) f.message.values ≡ reported core side f.message
 reported_own core side f h =
     let n = takes f.message in
     let own = take n core.inbox.tokens in
     let len : length own ≡ n = length-take-le n core.inbox.tokens h.enough in
     let whole : own ++ drop n core.inbox.tokens ≡ core.inbox.tokens = take-append-drop n core.inbox.tokens in
-    sym (reports_stay (reader_of core.view) own (drop n core.inbox.tokens) f.message.values
-    (omega (arith, len, h.count))) ∙ ap (λ (l : List ℕ). reports_of (reader_of core.view) l f.message.values) whole
+    sym (reports_stay (reader_in core side) own (drop n core.inbox.tokens) f.message.values
+    (omega (arith, len, h.count))) ∙ ap (λ (l : List ℕ). reports_of (reader_in core side) l f.message.values) whole
 
 -- what comes behind it stays behind it
 pub past_stays : (core : Core) (side : Side) (f : Found) (bytes tokens : List ℕ) → IsFound core side f

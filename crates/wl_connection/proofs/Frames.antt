@@ -15,9 +15,9 @@ use Rattle.wl_message.specs.declared.inbox.Frame.{Frame}
 use Rattle.wl_message.specs.Arrived.{TellsFront, in_front}
 use Rattle.wl_message.specs.Cut.{Front, Whole, message_size}
 use Rattle.wl_objects.specs.Reading.{descriptors, is_descriptor_kind}
-use Rattle.wl_objects.specs.Messages.{received, reader_of}
+use Rattle.wl_objects.specs.Messages.{received}
 use Rattle.wl_connection.specs.Core.{Core}
-use Rattle.wl_connection.specs.Receiving.{found, found_at, found_in, header_of}
+use Rattle.wl_connection.specs.Receiving.{reader_in, found, found_at, found_in, header_of}
 use Rattle.wl_connection.proofs.ReceivedMessage.{first-tokens}
 
 -- a frame as it is told
@@ -28,7 +28,7 @@ pub record IsFrame (core : Core) (h : Header) (body : List ℕ) (waiting : ℕ) 
   pub tokens : waiting ≡ length core.inbox.tokens
 
 pub found_frame : (core : Core) (side : Side) (h : Header) (body : List ℕ) (waiting : ℕ) → IsFrame core h body waiting
-    → found core side ≡ found_in h.size h.opcode (received core.tables side (reader_of core.view) h body waiting)
+    → found core side ≡ found_in h.size h.opcode (received core.tables side (reader_in core side) h body waiting)
 found_frame core side h body waiting f =
     let bytes = core.inbox.bytes in
     let rest = drop h.size bytes in
@@ -38,10 +38,10 @@ found_frame core side h body waiting f =
     let head : header_of bytes ≡ h = ap header_at whole ∙ header_at-bytes h (body ++ rest) f.header in
     ap (found_at core side) f.whole
     ∙ ap (λ (k : Header). found_in h.size k.opcode
-    (received core.tables side (reader_of core.view) k (drop 8 (take h.size bytes)) (length core.inbox.tokens))) head
+    (received core.tables side (reader_in core side) k (drop 8 (take h.size bytes)) (length core.inbox.tokens))) head
     ∙ ap (λ (x : List ℕ). found_in h.size h.opcode
-    (received core.tables side (reader_of core.view) h x (length core.inbox.tokens))) (ap (drop 8) f.parts)
-    ∙ ap (λ (n : ℕ). found_in h.size h.opcode (received core.tables side (reader_of core.view) h body n)) (sym f.tokens)
+    (received core.tables side (reader_in core side) h x (length core.inbox.tokens))) (ap (drop 8) f.parts)
+    ∙ ap (λ (n : ℕ). found_in h.size h.opcode (received core.tables side (reader_in core side) h body n)) (sym f.tokens)
 
 pub framed : (core : Core) (o : Option Frame) (f : Frame) → o ≡ Some f → TellsFront core.inbox (Ok o)
     → IsHeader f.header

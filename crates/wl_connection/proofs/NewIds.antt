@@ -13,17 +13,20 @@ use Rattle.wl_wire.specs.declared.kind.Kind.{Kind}
 use Rattle.wl_wire.specs.declared.kind.Kind.TheVariants as kinds
 use Rattle.wl_wire.specs.Argument.{Argument, New, NewNamed}
 use Rattle.wl_wire.specs.Reading.{reading}
-use Rattle.wl_sigs.specs.declared.signature.Side.{Side}
-use Rattle.wl_sigs.specs.Tables.{Interface, place_of}
+use Rattle.wl_sigs.specs.declared.signature.Side.TheVariants.{Request, Event}
+use Rattle.wl_sigs.specs.Tables.{Interface, place_of, new_objects, server_objects}
+use Rattle.wl_sigs.specs.Valid.{Valid}
 use Rattle.wl_object_map.specs.View.{free_or_next, has_room}
+use Rattle.wl_object_map.specs.Objects as objects
 use Rattle.wl_object_map.specs.Objects.{Objects, look}
 use Rattle.wl_objects.specs.declared.error.Fault.{Fault}
 use Rattle.wl_objects.specs.declared.lookup.NewId.{NewId}
 use Rattle.wl_objects.specs.declared.lookup.NewId.TheVariants.{Free, Wrong, TooMany}
-use Rattle.wl_objects.specs.Reading.{Reader, forgiving, forgiving_kind, new_fault, value_fault, unless}
+use Rattle.wl_objects.specs.Reading.{Reader, by_maker, forgiving, forgiving_kind, new_fault, value_fault, unless}
 use Rattle.wl_objects.specs.Reading.{value_or_fault, before, and_those, arguments_at}
 use Rattle.wl_objects.specs.Messages.{NewObject, Received, is_error, made, made_by, new_id_of, or_else}
-use Rattle.wl_objects.specs.Messages.{reader_of, received}
+use Rattle.wl_objects.specs.Messages.{reader_of, received, server_may_use}
+use Rattle.wl_connection.proofs.ReceivedMessage.{is_received}
 use Rattle.wl_connection.proofs.Spelled.{read_row}
 
 -- ---- one argument
@@ -40,11 +43,16 @@ own_id None own id m h = absurd (cc h)
 own_id (Some iface) own id m h =
     let same : record { id = id; iface = iface; version = own } ≡ m = cc h in ap (λ (x : NewObject). x.id) same
 
+-- what one argument makes has an id that is free for the kind's maker
 one_free : (tables : List Interface) (r : Reader) (version place : ℕ) (kind : Kind) (value : Argument) (m : NewObject)
-    → value_fault r place kind value ≡ None → made_by tables version kind value ≡ Some m → r.new_id m.id ≡ Free
+    → value_fault r place kind value ≡ None → made_by tables version kind value ≡ Some m
+    → by_maker kind (r.new_id m.id) (r.new_server_id m.id) ≡ Free
 one_free tables r version place (kinds.New (Some iface)) (New id) m f h =
     let same : record { id = id; iface = iface; version = version } ≡ m = cc h in
     ap (λ (x : NewObject). r.new_id x.id) (sym same) ∙ no_fault place (r.new_id id) f
+one_free tables r version place (kinds.NewByServer iface) (New id) m f h =
+    let same : record { id = id; iface = iface; version = version } ≡ m = cc h in
+    ap (λ (x : NewObject). r.new_server_id x.id) (sym same) ∙ no_fault place (r.new_server_id id) f
 one_free tables r version place (kinds.New None) (NewNamed name own id) m f h =
     ap r.new_id (sym (own_id (place_of tables name) own id m h)) ∙ no_fault place (r.new_id id) f
 one_free tables r version place kind value m f h = absurd (cc h)
@@ -100,29 +108,104 @@ one_of : (o other : Option NewObject) (m : NewObject) → or_else o other ≡ So
 one_of None other m h = inr h
 one_of (Some n) other m h = inl h
 
-made_free : (tables : List Interface) (r : Reader) (version place : ℕ) (ks : List Kind) (bytes : List ℕ)
-    (values : List Argument) (rest : List ℕ) (m : NewObject) → arguments_at r place ks bytes ≡ Ok (values, rest)
-    → made tables version ks values ≡ Some m → r.new_id m.id ≡ Free
-made_free tables r version place [] bytes values rest m e h = absurd (cc h)
-made_free tables r version place (kind ∷ ks) bytes values rest m e h =
-    let f = first_read r place kind ks bytes values rest (reading (forgiving_kind r.forgives kind) bytes) e in
-    elim (one_of (made_by tables version kind f.value) (made tables version ks f.more) m
-    (subst (λ (l : List Argument). made tables version (kind ∷ ks) l ≡ Some m) f.are h)) [
-      | inl a ↦ one_free tables r version place kind f.value m f.right a
-      | inr b ↦ made_free tables r version (suc place) ks f.at f.more rest m f.others b
-    ]
+-- a message of kinds that are so, of which each that makes an object makes one for this maker
+module _ (Only : List Kind → Type 0) (pick : NewId → NewId → NewId) (tables : List Interface) (version : ℕ)
+    (tail : (kind : Kind) (ks : List Kind) → Only (kind ∷ ks) → Only ks)
+    (head : (kind : Kind) (ks : List Kind) (value : Argument) (m : NewObject) (a b : NewId) → Only (kind ∷ ks)
+    → made_by tables version kind value ≡ Some m → by_maker kind a b ≡ pick a b) where
+  made_free : (r : Reader) (place : ℕ) (ks : List Kind) (bytes : List ℕ) (values : List Argument) (rest : List ℕ)
+      (m : NewObject) → Only ks → arguments_at r place ks bytes ≡ Ok (values, rest)
+      → made tables version ks values ≡ Some m → pick (r.new_id m.id) (r.new_server_id m.id) ≡ Free
+  made_free r place [] bytes values rest m o e h = absurd (cc h)
+  made_free r place (kind ∷ ks) bytes values rest m o e h =
+      let f = first_read r place kind ks bytes values rest (reading (forgiving_kind r.forgives kind) bytes) e in
+      elim (one_of (made_by tables version kind f.value) (made tables version ks f.more) m
+      (subst (λ (l : List Argument). made tables version (kind ∷ ks) l ≡ Some m) f.are h)) [
+        | inl a ↦ (let pick_is = head kind ks f.value m (r.new_id m.id) (r.new_server_id m.id) o a in
+            sym pick_is ∙ one_free tables r version place kind f.value m f.right a)
+        | inr b ↦ made_free r (suc place) ks f.at f.more rest m (tail kind ks o) f.others b
+      ]
+
+-- ---- a request makes objects of the client's, an event those of the server's
+
+without_server : (kind : Kind) (ks : List Kind) → server_objects (kind ∷ ks) ≡ [] → server_objects ks ≡ []
+without_server kinds.Int ks h = h
+without_server kinds.Uint ks h = h
+without_server kinds.Fixed ks h = h
+without_server (kinds.Str null) ks h = h
+without_server (kinds.Obj null iface) ks h = h
+without_server (kinds.New iface) ks h = h
+without_server (kinds.NewByServer iface) ks h = absurd (cc h)
+without_server kinds.Array ks h = h
+without_server kinds.Fd ks h = h
+
+of_client : (kind : Kind) (ks : List Kind) (a b : NewId) → server_objects (kind ∷ ks) ≡ [] → by_maker kind a b ≡ a
+of_client kinds.Int ks a b h = refl
+of_client kinds.Uint ks a b h = refl
+of_client kinds.Fixed ks a b h = refl
+of_client (kinds.Str null) ks a b h = refl
+of_client (kinds.Obj null iface) ks a b h = refl
+of_client (kinds.New iface) ks a b h = refl
+of_client (kinds.NewByServer iface) ks a b h = absurd (cc h)
+of_client kinds.Array ks a b h = refl
+of_client kinds.Fd ks a b h = refl
+
+without_client : (kind : Kind) (ks : List Kind) → new_objects (kind ∷ ks) ≡ [] → new_objects ks ≡ []
+without_client kinds.Int ks h = h
+without_client kinds.Uint ks h = h
+without_client kinds.Fixed ks h = h
+without_client (kinds.Str null) ks h = h
+without_client (kinds.Obj null iface) ks h = h
+without_client (kinds.New iface) ks h = absurd (cc h)
+without_client (kinds.NewByServer iface) ks h = h
+without_client kinds.Array ks h = h
+without_client kinds.Fd ks h = h
+
+of_server : (tables : List Interface) (version : ℕ) (kind : Kind) (ks : List Kind) (value : Argument) (m : NewObject)
+    (a b : NewId) → new_objects (kind ∷ ks) ≡ [] → made_by tables version kind value ≡ Some m → by_maker kind a b ≡ b
+of_server tables version kinds.Int ks value m a b h e = absurd (cc e)
+of_server tables version kinds.Uint ks value m a b h e = absurd (cc e)
+of_server tables version kinds.Fixed ks value m a b h e = absurd (cc e)
+of_server tables version (kinds.Str null) ks value m a b h e = absurd (cc e)
+of_server tables version (kinds.Obj null iface) ks value m a b h e = absurd (cc e)
+of_server tables version (kinds.New iface) ks value m a b h e = absurd (cc h)
+of_server tables version (kinds.NewByServer iface) ks value m a b h e = refl
+of_server tables version kinds.Array ks value m a b h e = absurd (cc e)
+of_server tables version kinds.Fd ks value m a b h e = absurd (cc e)
 
 free_by : (free room : Bool) → new_id_of free room ≡ Free → (free ≡ true) × (room ≡ true)
 free_by true true h = (refl, refl)
 free_by true false h = absurd (cc h)
 free_by false room h = absurd (cc h)
 
-pub new_is_free : (tables : List Interface) (side : Side) (view : Objects) (h : Header) (body : List ℕ) (waiting : ℕ)
-    (m : Received) (new : NewObject) → received tables side (reader_of view) h body waiting ≡ Ok m
+-- what a request makes: an id of the client's range that is free there, with room for it
+pub new_free_at_server : (tables : List Interface) (view : Objects) (h : Header) (body : List ℕ) (waiting : ℕ)
+    (m : Received) (new : NewObject) → Valid tables
+    → received tables Request (reader_of tables Request view) h body waiting ≡ Ok m
     → made tables m.entry.version m.signature.kinds m.values ≡ Some new
     → (free_or_next view.client new.id ≡ true) × (has_room view.client new.id ≡ true)
-new_is_free tables side view h body waiting m new e is =
-    let r = forgiving (is_error side m.entry.iface h.opcode) (reader_of view) in
+new_free_at_server tables view h body waiting m new v e is =
+    let reader = reader_of tables Request view in
+    let p = is_received tables Request reader h body waiting m e in
+    let r = forgiving (is_error Request m.entry.iface h.opcode) reader in
     free_by (free_or_next view.client new.id) (has_room view.client new.id)
-    (made_free tables r m.entry.version 0 m.signature.kinds body m.values [] new
-    (read_row tables side (reader_of view) h body waiting m (look view h.object) e) is)
+    (made_free (λ ks. server_objects ks ≡ []) (λ a b. a) tables m.entry.version without_server
+    (λ kind ks value o a b h e. of_client kind ks a b h) r 0 m.signature.kinds body m.values [] new
+    (v.server_makes.requests m.entry.iface.0 h.opcode m.signature p.signature)
+    (read_row tables Request reader h body waiting m (look view h.object) e) is)
+
+-- what an event makes: an id of the server's range that it may take, with room for it
+pub new_free_at_client : (tables : List Interface) (view : Objects) (h : Header) (body : List ℕ) (waiting : ℕ)
+    (m : Received) (new : NewObject) → Valid tables
+    → received tables Event (reader_of tables Event view) h body waiting ≡ Ok m
+    → made tables m.entry.version m.signature.kinds m.values ≡ Some new
+    → (server_may_use tables view new.id ≡ true) × (objects.has_room view new.id ≡ true)
+new_free_at_client tables view h body waiting m new v e is =
+    let reader = reader_of tables Event view in
+    let p = is_received tables Event reader h body waiting m e in
+    let r = forgiving (is_error Event m.entry.iface h.opcode) reader in
+    free_by (server_may_use tables view new.id) (objects.has_room view new.id)
+    (made_free (λ ks. new_objects ks ≡ []) (λ a b. b) tables m.entry.version without_client
+    (of_server tables m.entry.version) r 0 m.signature.kinds body m.values [] new
+    (v.few_objects_made.events m.entry.iface.0 h.opcode m.signature p.signature)
+    (read_row tables Event reader h body waiting m (look view h.object) e) is)

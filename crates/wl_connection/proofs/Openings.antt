@@ -1,5 +1,5 @@
 -- A call that opens no object.
-use Rattle.std.proofs.Common.{◌≡◌, ◌≢◌, inl, inr, ℕ, suc, ◌+◌, Bool, true, false, List, [], ◌∷◌, map}
+use Rattle.std.proofs.Common.{◌≡◌, ◌≢◌, inl, inr, ℕ, ◌+◌, Bool, true, false, List, [], ◌∷◌, map}
 use Rattle.std.proofs.Common.{refl, sym, ap, subst, ◌∙◌}
 use Rattle.std.specs.declared.option.Option.{Option}
 use Rattle.std.specs.declared.option.Option.TheVariants.{None, Some}
@@ -12,18 +12,20 @@ use Rattle.wl_wire.specs.Argument.{Argument}
 use Rattle.wl_sigs.specs.declared.signature.Side.{Side}
 use Rattle.wl_sigs.specs.declared.signature.Side.TheVariants.{Event}
 use Rattle.wl_sigs.specs.Tables.{Interface, MessageSignature, makes, new_objects, made_objects, first, signature_at}
+use Rattle.wl_sigs.specs.Tables.{server_objects}
+use Rattle.wl_sigs.specs.Rules.{has_server_objects}
 use Rattle.wl_sigs.specs.Valid.{Valid}
 use Rattle.wl_object_map.specs.declared.object.Object.{Object}
 use Rattle.wl_object_map.specs.declared.object.Entry.{Entry}
-use Rattle.wl_object_map.specs.View.{next_id}
-use Rattle.wl_object_map.specs.Objects.{Objects, look}
+use Rattle.wl_object_map.specs.declared.object.Maker.{Maker}
+use Rattle.wl_object_map.specs.Objects.{Objects, look, next_id}
 use Rattle.wl_objects.specs.declared.error.SendError.{SendError}
 use Rattle.wl_objects.specs.declared.error.SendError.TheVariants as refusals
-use Rattle.wl_objects.specs.Writing.{Given, wired, suits, wrong_place, lost_place, message_len}
+use Rattle.wl_objects.specs.Writing.{Given, wired, wrong_place, lost_place, message_len}
 use Rattle.wl_objects.specs.Writing.{tokens_of}
-use Rattle.wl_objects.specs.Messages.{made, NewObject, unless_lost, unless_wrong, checked_as}
+use Rattle.wl_objects.specs.Messages.{made, maker_by, NewObject, unless_lost, unless_wrong, checked_as}
 use Rattle.wl_objects.specs.Messages.{unless_hidden, checked_by, checked, live_row, is_hidden}
-use Rattle.wl_objects.proofs.WrittenArrives.{if-none}
+use Rattle.wl_sigs.proofs.ServerObjectsTold.{none_by_server}
 use Rattle.wl_connection.specs.Core.{Core}
 use Rattle.wl_connection.specs.Outcomes.{AnswersOrMemory}
 use Rattle.wl_connection.specs.Sending.{IsSendAnswer, OpensNothing, answer_of, opening_answer}
@@ -87,18 +89,19 @@ makes_none tables version (kinds.NewByServer iface ∷ ks) (v ∷ values) h = ab
 makes_none tables version (kinds.Array ∷ ks) (v ∷ values) h = makes_none tables version ks values h
 makes_none tables version (kinds.Fd ∷ ks) (v ∷ values) h = makes_none tables version ks values h
 
-nothing_room : (core : Core) (b : Bool) (o : Option NewObject) → o ≡ None
-    → OpensNothing (if b then opening_answer core o else Err refusals.Full)
-nothing_room core true o e = rw e refl
-nothing_room core false o e = (λ f. cc f, λ f. cc f)
+nothing_room : (core : Core) (maker : Maker) (b : Bool) (o : Option NewObject) → o ≡ None
+    → OpensNothing (if b then opening_answer core maker o else Err refusals.Full)
+nothing_room core maker true o e = rw e refl
+nothing_room core maker false o e = (λ f. cc f, λ f. cc f)
 
 nothing_of : (core : Core) (side : Side) (target : Object) (given : List Given) (r : Result MessageSignature SendError)
     → IsEarly r → opens_object r ≡ false → OpensNothing (answer_of core side target given r)
 nothing_of core side target given (Err why) early h = early
 nothing_of core side target given (Ok m) early h =
-    nothing_room core (fits core.outbox (message_len (map (wired 0) given) + following_len side m.destroys)
-    (length (tokens_of given))) (made_at core target m given)
-    (makes_none core.tables (version_at (look core.view target.id)) m.kinds (map (wired (next_id core.view.client)) given) h)
+    nothing_room core (maker_by side) (fits core.outbox (message_len (map (wired 0) given) + following_len side m.destroys)
+    (length (tokens_of given))) (made_at core side target m given)
+    (makes_none core.tables (version_at (look core.view target.id)) m.kinds
+    (map (wired (next_id (maker_by side) core.view)) given) h)
 
 nothing_unless : (b : Bool) (r : Result (Option Object) SendError) → OpensNothing r
     → OpensNothing (if b then Err refusals.Failed else r)
@@ -119,87 +122,83 @@ opens_nothing core side target opcode given result (inl e) h =
     given) h))
 opens_nothing core side target opcode given result (inr m) h = absurd (let yes = m.1 in cc (yes, h))
 
--- Arguments that suit kinds without a new object of the client suit none that make an object: nothing
--- suits the kind of one of the server.
-none_made : (ks : List Kind) (list : List Given) (place : ℕ) → new_objects ks ≡ [] → wrong_place place ks list ≡ None
-    → made_objects ks ≡ []
-none_made [] [] place h w = refl
-none_made [] (x ∷ list) place h w = absurd (cc)
-none_made (k ∷ ks) [] place h w = absurd (cc)
-none_made (k ∷ ks) (x ∷ list) place h w =
-    let suit = if-none (suits k x) (wrong_place (suc place) ks list) place w in
-    by_kind k suit.0 h (λ rest. none_made ks list (suc place) rest suit.1)
-  where
-    by_kind : (k : Kind) → suits k x ≡ true → new_objects (k ∷ ks) ≡ [] → (new_objects ks ≡ [] → made_objects ks ≡ [])
-        → made_objects (k ∷ ks) ≡ []
-    by_kind kinds.Int s h more = more h
-    by_kind kinds.Uint s h more = more h
-    by_kind kinds.Fixed s h more = more h
-    by_kind (kinds.Str null) s h more = more h
-    by_kind (kinds.Obj null iface) s h more = more h
-    by_kind (kinds.New iface) s h more = absurd (cc h)
-    by_kind (kinds.NewByServer iface) s h more = absurd (cc s)
-    by_kind kinds.Array s h more = more h
-    by_kind kinds.Fd s h more = more h
+-- kinds without a new object, of either maker
+none_made : (ks : List Kind) → new_objects ks ≡ [] → server_objects ks ≡ [] → made_objects ks ≡ []
+none_made [] h g = refl
+none_made (kinds.Int ∷ ks) h g = none_made ks h g
+none_made (kinds.Uint ∷ ks) h g = none_made ks h g
+none_made (kinds.Fixed ∷ ks) h g = none_made ks h g
+none_made (kinds.Str null ∷ ks) h g = none_made ks h g
+none_made (kinds.Obj null iface ∷ ks) h g = none_made ks h g
+none_made (kinds.New iface ∷ ks) h g = absurd (cc h)
+none_made (kinds.NewByServer iface ∷ ks) h g = absurd (cc g)
+none_made (kinds.Array ∷ ks) h g = none_made ks h g
+none_made (kinds.Fd ∷ ks) h g = none_made ks h g
 
--- no event that is written opens an object
-event_as : (b : Bool) (o : Option MessageSignature) → ((m : MessageSignature) → o ≡ Some m → new_objects m.kinds ≡ [])
+-- a message without a new object opens none
+opens_none_as : (b : Bool) (o : Option MessageSignature)
+    → ((m : MessageSignature) → o ≡ Some m → is_some (makes m) ≡ false)
     → (limit : ℕ) (view : Objects) (given : List Given) (entry : Entry)
     → opens_object (checked_as limit view given entry (unless_hidden b o)) ≡ false
-event_as true o h limit view given entry = refl
-event_as false None h limit view given entry = refl
-event_as false (Some m) h limit view given entry =
-    by_test (nat_lt entry.version m.since) (wrong_place 0 m.kinds given) (lost_place (look view) 0 m.kinds given) refl
+opens_none_as true o h limit view given entry = refl
+opens_none_as false None h limit view given entry = refl
+opens_none_as false (Some m) h limit view given entry =
+    by_test (nat_lt entry.version m.since) (wrong_place 0 m.kinds given) (lost_place (look view) 0 m.kinds given)
   where
-    none : wrong_place 0 m.kinds given ≡ None → is_some (makes m) ≡ false
-    none right = ap (λ l. is_some (first l)) (none_made m.kinds given 0 (h m refl) right)
+    by_len : (b : Bool) → opens_object (if b then Err refusals.TooLong else Ok m) ≡ false
+    by_len true = refl
+    by_len false = h m refl
 
-    by_len : (b : Bool) → wrong_place 0 m.kinds given ≡ None
-        → opens_object (if b then Err refusals.TooLong else Ok m) ≡ false
-    by_len true right = refl
-    by_len false right = none right
+    by_lost : (o : Option ℕ) → opens_object (unless_lost limit o (message_len (map (wired 0) given)) m) ≡ false
+    by_lost None = by_len (nat_lt limit (message_len (map (wired 0) given)))
+    by_lost (Some place) = refl
 
-    by_lost : (o : Option ℕ) → wrong_place 0 m.kinds given ≡ None
-        → opens_object (unless_lost limit o (message_len (map (wired 0) given)) m) ≡ false
-    by_lost None right = by_len (nat_lt limit (message_len (map (wired 0) given))) right
-    by_lost (Some place) right = refl
+    by_wrong : (o lost : Option ℕ) → opens_object (unless_wrong limit o lost (message_len (map (wired 0) given)) m) ≡ false
+    by_wrong None lost = by_lost lost
+    by_wrong (Some place) lost = refl
 
-    by_wrong : (o lost : Option ℕ) → wrong_place 0 m.kinds given ≡ o
-        → opens_object (unless_wrong limit o lost (message_len (map (wired 0) given)) m) ≡ false
-    by_wrong None lost right = by_lost lost right
-    by_wrong (Some place) lost is = refl
-
-    by_test : (b : Bool) (o lost : Option ℕ) → wrong_place 0 m.kinds given ≡ o → opens_object
+    by_test : (b : Bool) (o lost : Option ℕ) → opens_object
         (if b then Err refusals.TooOld else unless_wrong limit o lost (message_len (map (wired 0) given)) m) ≡ false
-    by_test true o lost is = refl
-    by_test false o lost is = by_wrong o lost is
+    by_test true o lost = refl
+    by_test false o lost = by_wrong o lost
 
+-- in tables without new objects of the server an event has no new object
+pub event_makes_none : (tables : List Interface) → Valid tables → has_server_objects tables ≡ false
+    → (place opcode : ℕ) (m : MessageSignature) → signature_at tables place Event opcode ≡ Some m
+    → is_some (makes m) ≡ false
+event_makes_none tables v none place opcode m at = ap (λ l. is_some (first l)) (none_made m.kinds
+    (v.few_objects_made.events place opcode m at) (none_by_server tables none place opcode m at))
+
+-- so no event that is written opens an object there
 event_by : (limit : ℕ) (tables : List Interface) (view : Objects) (opcode : ℕ) (given : List Given) (o : Option Entry)
-    → Valid tables → opens_object (checked_by limit tables Event view opcode given o) ≡ false
-event_by limit tables view opcode given None v = refl
-event_by limit tables view opcode given (Some entry) v =
-    event_as (is_hidden Event entry.iface opcode) (signature_at tables entry.iface.0 Event opcode)
-    (v.few_objects_made.events entry.iface.0 opcode) limit view given entry
+    → Valid tables → has_server_objects tables ≡ false
+    → opens_object (checked_by limit tables Event view opcode given o) ≡ false
+event_by limit tables view opcode given None v none = refl
+event_by limit tables view opcode given (Some entry) v none =
+    opens_none_as (is_hidden Event entry.iface opcode) (signature_at tables entry.iface.0 Event opcode)
+    (event_makes_none tables v none entry.iface.0 opcode) limit view given entry
 
 pub event_opens_none : (limit : ℕ) (tables : List Interface) (view : Objects) (target : Object) (opcode : ℕ)
-    (given : List Given) → Valid tables → opens_object (checked limit tables Event view target opcode given) ≡ false
-event_opens_none limit tables view target opcode given v =
-    event_by limit tables view opcode given (live_row view target) v
+    (given : List Given) → Valid tables → has_server_objects tables ≡ false
+    → opens_object (checked limit tables Event view target opcode given) ≡ false
+event_opens_none limit tables view target opcode given v none =
+    event_by limit tables view opcode given (live_row view target) v none
 
 -- an event that passed its checks opens nothing
 pub event_sent : (core : Core) (side : Side) (target : Object) (opcode : ℕ) (given : List Given) (m : MessageSignature)
-    (result : Result (Option Object) SendError) → side ≡ Event → Valid core.tables
+    (result : Result (Option Object) SendError) → side ≡ Event → has_server_objects core.tables ≡ false
+    → Valid core.tables
     → checked core.outbox.limit.bytes core.tables side core.view target opcode given ≡ Ok m
     → AnswersOrMemory refusals.Memory (is_some (makes m)) (answer_of core side target given (Ok m)) result
     → OpensNothing result
-event_sent core side target opcode given m result s v e answer = by_answer answer
+event_sent core side target opcode given m result s unmade v e answer = by_answer answer
   where
     none : is_some (makes m) ≡ false
     none = ap opens_object (sym e) ∙ (ap (λ (x : Side). opens_object
         (checked core.outbox.limit.bytes core.tables x core.view target opcode given)) s
-        ∙ event_opens_none core.outbox.limit.bytes core.tables core.view target opcode given v)
+        ∙ event_opens_none core.outbox.limit.bytes core.tables core.view target opcode given v unmade)
 
     by_answer : AnswersOrMemory refusals.Memory (is_some (makes m)) (answer_of core side target given (Ok m)) result
         → OpensNothing result
     by_answer (inl is) = subst OpensNothing (sym is) (nothing_of core side target given (Ok m) tt none)
-    by_answer (inr more) = absurd (let yes = more.1 in cc (yes, none))
+    by_answer (inr k) = absurd (let yes = k.1 in cc (yes, none))

@@ -23,9 +23,9 @@ use Rattle.wl_message.proofs.Fronts.{front_stands, parts_of}
 use Rattle.wl_message.proofs.Cuts.{message_there}
 use Rattle.wl_object_map.specs.declared.object.Object.{Object}
 use Rattle.wl_object_map.specs.declared.object.Entry.{Entry}
-use Rattle.wl_object_map.specs.View.{next_id, times}
-use Rattle.wl_object_map.specs.Objects.{Objects, ObjectsAreSound, look}
-use Rattle.wl_object_map.specs.Views.{free_is, free_or_next-next_id}
+use Rattle.wl_object_map.specs.View.{times}
+use Rattle.wl_object_map.specs.Objects.{Objects, ObjectsAreSound, look, next_id}
+use Rattle.wl_object_map.specs.ObjectsLaws.{next-low}
 use Rattle.wl_objects.specs.declared.error.Fault.{Fault}
 use Rattle.wl_objects.specs.declared.error.Fault.TheVariants as faults
 use Rattle.wl_objects.specs.Reading.{Reader, forgiving, arguments_at, descriptors}
@@ -35,13 +35,13 @@ use Rattle.wl_wire.specs.Spelling.{Suits}
 use Rattle.wl_objects.specs.Writing.{Given, wired, spelled, lost_place, wrong_place, can_name}
 use Rattle.wl_objects.specs.Writing.{is_live_as, message_len, message_bytes}
 use Rattle.wl_objects.specs.Messages.{Received, received, received_by, received_as, received_whole}
-use Rattle.wl_objects.specs.Messages.{is_error, reader_of}
+use Rattle.wl_objects.specs.Messages.{is_error, maker_by}
 use Rattle.wl_objects.proofs.WrittenArrives.{if-none}
 use Rattle.wl_objects.proofs.Calls.{len-any, len-least}
 use Rattle.wl_objects.proofs.ArgumentsMeet.{met}
 use Rattle.wl_objects.proofs.Wholes.{length-message, message-words, meets-spelled, written-spelled, passes}
 use Rattle.wl_connection.specs.Core.{Core}
-use Rattle.wl_connection.specs.Receiving.{Found, found, found_at, found_in, header_of}
+use Rattle.wl_connection.specs.Receiving.{reader_in, Found, found, found_at, found_in, header_of}
 use Rattle.wl_connection.specs.Spelled.{MessageSpells, CallsSpell, FoundSpells}
 use Rattle.wl_connection.specs.Streams.{BeginWith}
 use Rattle.wl_sigs.specs.Rules.{is_empty}
@@ -93,11 +93,10 @@ pub calls_spell : (core : Core) (side : Side) (target : Object) (opcode : ℕ) (
     (signature : MessageSignature)
     → CallsSpell core side target opcode list signature
 calls_spell core side target opcode list signature s e r =
-    let n = next_id core.view.client in
+    let n = next_id (maker_by side) core.view in
     let values = map (wired n) list in
     let p = passes core.outbox.limit.bytes core.tables side core.view target opcode list signature e in
-    let f = free_is core.view.client n s.client (free_or_next-next_id core.view.client) in
-    let low : n < 2 ^ 32 = omega (arith, f.at_most_next, s.client.ids_end) in
+    let low : n < 2 ^ 32 = next-low (maker_by side) core.view s in
     let len : length (message_bytes target.id opcode values) ≡ message_len values =
     length-message target.id opcode values in
     let any = len-any n list in
@@ -272,17 +271,17 @@ header_size bytes h i e =
 -- what stands in front, and how it was read
 abbrev IsFront : Core → Side → Front → Found → Type 0
 IsFront core side fr f = (fr ≡ Whole f.size) × (f.opcode ≡ (header_of core.inbox.bytes).opcode)
-    × (received core.tables side (reader_of core.view) (header_of core.inbox.bytes)
+    × (received core.tables side (reader_in core side) (header_of core.inbox.bytes)
     (drop 8 (take f.size core.inbox.bytes)) (length core.inbox.tokens) ≡ Ok f.message)
 
 size_of : (core : Core) (side : Side) (f : Found) (fr : Front) → found_at core side fr ≡ Ok (Some f)
     → IsFront core side fr f
 size_of core side f More h = absurd (cc h)
 size_of core side f (Bad n) h = absurd (cc h)
-size_of core side f (Whole n) h = by_result (received core.tables side (reader_of core.view)
+size_of core side f (Whole n) h = by_result (received core.tables side (reader_in core side)
     (header_of core.inbox.bytes) (drop 8 (take n core.inbox.bytes)) (length core.inbox.tokens)) refl h
   where
-    by_result : (r : Result Received Fault) → received core.tables side (reader_of core.view)
+    by_result : (r : Result Received Fault) → received core.tables side (reader_in core side)
         (header_of core.inbox.bytes) (drop 8 (take n core.inbox.bytes)) (length core.inbox.tokens) ≡ r
         → found_in n (header_of core.inbox.bytes).opcode r ≡ Ok (Some f) → IsFront core side (Whole n) f
     by_result (Err fault) e k = absurd (cc k)
@@ -304,18 +303,18 @@ found_spells core side f w e =
     let body = take (h.size - 8) (drop 8 bytes) in
     let all : take f.size bytes ≡ header_bytes h ++ body = ap (λ (n : ℕ). take n bytes) (sym size) ∙ parts.parts in
     let len : length (take f.size bytes) ≡ f.size = length-take-le f.size bytes fits in
-    let id = (is_received core.tables side (reader_of core.view) h (drop 8 (take f.size bytes))
+    let id = (is_received core.tables side (reader_in core side) h (drop 8 (take f.size bytes))
     (length core.inbox.tokens) f.message z.2).id in
     let behind : drop 8 (take f.size bytes) ≡ body = ap (drop 8) all in
     let opcode = z.1 in
-    let r : IsRead side (reader_of core.view) f.opcode body f.message =
-    subst (λ (l : List ℕ). IsRead side (reader_of core.view) f.opcode l f.message) behind
-    (subst (λ (n : ℕ). IsRead side (reader_of core.view) n (drop 8 (take f.size bytes)) f.message) (sym opcode)
-    (read_row core.tables side (reader_of core.view) h (drop 8 (take f.size bytes)) (length core.inbox.tokens) f.message
+    let r : IsRead side (reader_in core side) f.opcode body f.message =
+    subst (λ (l : List ℕ). IsRead side (reader_in core side) f.opcode l f.message) behind
+    (subst (λ (n : ℕ). IsRead side (reader_in core side) n (drop 8 (take f.size bytes)) f.message) (sym opcode)
+    (read_row core.tables side (reader_in core side) h (drop 8 (take f.size bytes)) (length core.inbox.tokens) f.message
     (look core.view h.object) z.2)) in
     let wide : All (λ b. b < 256) body = All-take (λ b. b < 256) (h.size - 8) (drop 8 bytes)
     (All-drop (λ b. b < 256) 8 bytes w) in
-    let reader = forgiving (is_error side f.message.entry.iface f.opcode) (reader_of core.view) in
+    let reader = forgiving (is_error side f.message.entry.iface f.opcode) (reader_in core side) in
     record {
       arguments = body;
       whole = all ∙ (λ i. header_bytes (record { object = sym id i; size = (size ∙ sym len) i; opcode = sym opcode i })

@@ -10,7 +10,7 @@ use Rattle.wl_message.specs.Arrived.{in_front}
 use Rattle.wl_message.specs.Cut.{Front, More, Bad, Whole}
 use Rattle.wl_objects.specs.declared.error.Fault.{Fault}
 use Rattle.wl_objects.specs.declared.error.Fault.TheVariants as faults
-use Rattle.wl_objects.specs.Reading.{descriptors, Reported, reports_of}
+use Rattle.wl_objects.specs.Reading.{Reader, descriptors, Reported, reports_of}
 use Rattle.wl_objects.specs.Messages.{Received, received, reader_of}
 use Rattle.wl_connection.specs.Core.{Core, past}
 
@@ -28,6 +28,10 @@ pub record Found : Type 0 where
   pub opcode : ℕ
   pub message : Received
 
+-- what an end knows that reads messages of a side
+abbrev pub reader_in : Core → Side → Reader
+reader_in core side = reader_of core.tables side core.view
+
 abbrev pub found_in : ℕ → ℕ → Result Received Fault → Result (Option Found) Fault
 found_in size opcode (Ok message) =
     Ok (Some (record { size = size; opcode = opcode; message = message }))
@@ -38,7 +42,7 @@ found_at core side More = Ok None
 found_at core side (Bad size) = Err faults.BadSize
 found_at core side (Whole size) =
     found_in size (header_of core.inbox.bytes).opcode
-    (received core.tables side (reader_of core.view) (header_of core.inbox.bytes)
+    (received core.tables side (reader_in core side) (header_of core.inbox.bytes)
     (drop 8 (take size core.inbox.bytes)) (length core.inbox.tokens))
 
 -- What stands in front of the waiting bytes: no whole message yet, a message, or a fault; messages
@@ -46,10 +50,10 @@ found_at core side (Whole size) =
 abbrev pub found : Core → Side → Result (Option Found) Fault
 found core side = found_at core side (in_front core.inbox)
 
--- the arguments of a message as they are reported: objects by the rows before the message,
--- descriptors as the first tokens that wait
-abbrev pub reported : Core → Received → List Reported
-reported core message = reports_of (reader_of core.view) core.inbox.tokens message.values
+-- the arguments of a message of this side as they are reported: objects by the rows before the
+-- message, descriptors as the first tokens that wait
+abbrev pub reported : Core → Side → Received → List Reported
+reported core side message = reports_of (reader_in core side) core.inbox.tokens message.values
 
 -- how many tokens a message takes
 abbrev pub takes : Received → ℕ

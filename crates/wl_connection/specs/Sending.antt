@@ -14,10 +14,10 @@ use Rattle.wl_object_map.specs.declared.object.Entry.{Entry}
 use Rattle.wl_objects.specs.declared.error.SendError.{SendError}
 use Rattle.wl_objects.specs.declared.error.SendError.TheVariants as refusals
 use Rattle.wl_wire.specs.declared.kind.Iface.{Iface}
-use Rattle.wl_object_map.specs.View.{next_id, can_open}
-use Rattle.wl_object_map.specs.Objects.{Objects, look}
+use Rattle.wl_object_map.specs.declared.object.Maker.{Maker}
+use Rattle.wl_object_map.specs.Objects.{Objects, look, next_id, next_birth, can_open}
 use Rattle.wl_objects.specs.Writing.{Given, wired, message_len, message_bytes, tokens_of}
-use Rattle.wl_objects.specs.Messages.{NewObject, made, checked, after}
+use Rattle.wl_objects.specs.Messages.{NewObject, made, maker_by, checked, after}
 use Rattle.wl_objects.specs.Messages.{ended_id}
 use Rattle.wl_connection.specs.Core.{Core, with_view}
 use Rattle.wl_connection.specs.Outcomes.{AnswersOrMemory}
@@ -52,22 +52,23 @@ with_error_event core object code text = record core {
   failed = true;
 }
 
--- the object of this interface and version that is opened next, if one is made
-abbrev pub next_object : Objects → ℕ → Option Iface → Option NewObject
-next_object view version iface =
-    option_map (λ i. record { id = next_id view.client; iface = i; version = version }) iface
+-- the object of this interface and version that a maker opens next, if one is made
+abbrev pub next_object : Maker → Objects → ℕ → Option Iface → Option NewObject
+next_object maker view version iface =
+    option_map (λ i. record { id = next_id maker view; iface = i; version = version }) iface
 
--- the object that a call makes, at the next id
-abbrev pub made_by_call : Core → ℕ → MessageSignature → List Given → Option NewObject
-made_by_call core version signature given =
-    made core.tables version signature.kinds (map (wired (next_id core.view.client)) given)
+-- the object that a call makes, at the maker's next id
+abbrev pub made_by_call : Core → Maker → ℕ → MessageSignature → List Given → Option NewObject
+made_by_call core maker version signature given =
+    made core.tables version signature.kinds (map (wired (next_id maker core.view)) given)
 
--- what a call with room returns that makes this: its new object, or S10 where none can be opened
-abbrev pub opening_answer : Core → Option NewObject → Result (Option Object) SendError
-opening_answer core None = Ok None
-opening_answer core (Some m) =
-    if can_open core.view.client
-    then Ok (Some (record { id = next_id core.view.client; birth = core.view.client.births }))
+-- what a call with room returns that makes this: the maker's new object, or S10 where none can be
+-- opened
+abbrev pub opening_answer : Core → Maker → Option NewObject → Result (Option Object) SendError
+opening_answer core maker None = Ok None
+opening_answer core maker (Some m) =
+    if can_open maker core.view
+    then Ok (Some (record { id = next_id maker core.view; birth = next_birth maker core.view }))
     else Err refusals.NoIds
 
 -- the delete_id that directly follows a destroying event
@@ -82,10 +83,10 @@ abbrev pub version_at : Option Entry → ℕ
 version_at None = 0
 version_at (Some entry) = entry.version
 
--- the object that a call at this target makes
-abbrev pub made_at : Core → Object → MessageSignature → List Given → Option NewObject
-made_at core target signature given =
-    made_by_call core (version_at (look core.view target.id)) signature given
+-- the object that a call of this side makes at this target
+abbrev pub made_at : Core → Side → Object → MessageSignature → List Given → Option NewObject
+made_at core side target signature given =
+    made_by_call core (maker_by side) (version_at (look core.view target.id)) signature given
 
 abbrev pub answer_of : Core → Side → Object → List Given → Result MessageSignature SendError
     → Result (Option Object) SendError
@@ -93,7 +94,7 @@ answer_of core side target given (Err refusal) = Err refusal
 answer_of core side target given (Ok signature) =
     if fits core.outbox (message_len (map (wired 0) given) + following_len side signature.destroys)
     (length (tokens_of given))
-    then opening_answer core (made_at core target signature given)
+    then opening_answer core (maker_by side) (made_at core side target signature given)
     else Err refusals.Full
 
 -- What `send` returns at the end that writes this side, where no memory is needed: S1; S2, S3, S4,
@@ -113,9 +114,9 @@ sent core side target opcode given signature =
     let id = ended_id signature.destroys target.id (map (wired 0) given) in
     with_following (following side signature.destroys) id
     (with_view
-    (with_sent core target.id opcode (map (wired (next_id core.view.client)) given)
+    (with_sent core target.id opcode (map (wired (next_id (maker_by side) core.view)) given)
     (tokens_of given))
-    (after side core.view (made_at core target signature given) signature.destroys id))
+    (after side core.view (made_at core side target signature given) signature.destroys id))
 
 abbrev pub after_checked : Core → Side → Object → ℕ → List Given
     → Result MessageSignature SendError → Core

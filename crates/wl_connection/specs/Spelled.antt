@@ -9,13 +9,12 @@ use Rattle.wl_sigs.specs.declared.signature.Side.{Side}
 use Rattle.wl_sigs.specs.Tables.{MessageSignature}
 use Rattle.wl_message.specs.Cut.{IsSize}
 use Rattle.wl_object_map.specs.declared.object.Object.{Object}
-use Rattle.wl_object_map.specs.View.{next_id}
-use Rattle.wl_object_map.specs.Objects.{ObjectsAreSound}
+use Rattle.wl_object_map.specs.Objects.{ObjectsAreSound, next_id}
 use Rattle.wl_objects.specs.Reading.{forgiving_kind}
 use Rattle.wl_objects.specs.Spelling.{SpellsAll}
 use Rattle.wl_objects.specs.Writing.{Given, wired, message_bytes}
 use Rattle.wl_objects.specs.Carried.{InRange}
-use Rattle.wl_objects.specs.Messages.{checked, is_error}
+use Rattle.wl_objects.specs.Messages.{checked, is_error, maker_by}
 use Rattle.wl_connection.specs.Core.{Core}
 use Rattle.wl_connection.specs.Receiving.{Found, found}
 
@@ -39,8 +38,8 @@ CallsSpell core side target opcode given signature =
     ≡ Ok signature
     → All InRange given
     → MessageSpells core.outbox.limit.bytes signature.kinds target.id opcode
-    (map (wired (next_id core.view.client)) given)
-    (message_bytes target.id opcode (map (wired (next_id core.view.client)) given))
+    (map (wired (next_id (maker_by side) core.view)) given)
+    (message_bytes target.id opcode (map (wired (next_id (maker_by side) core.view)) given))
 
 -- The kinds of a message that was found: the object of wl_display.error may be null.
 abbrev pub kinds_of : Side → Found → List Kind

@@ -9,6 +9,7 @@ ghost use Rattle.wl_sigs.specs.declared.signature.Side.TheVariants.{Event as eve
 ghost use Rattle.wl_message.specs.declared.amounts.Amounts.{Amounts};
 ghost use Rattle.wl_message.specs.InStep.{Part, Need, part_bytes, part_tokens, InStep};
 ghost use Rattle.wl_sigs.specs.Tables.{Interface, MessageSignature};
+ghost use Rattle.wl_sigs.specs.Rules.{has_server_objects};
 ghost use Rattle.wl_sigs.specs.Valid.{Valid};
 ghost use Rattle.wl_object_map.specs.declared.object.Object.{Object};
 ghost use Rattle.wl_object_map.specs.Objects.{Objects};
@@ -32,7 +33,8 @@ pub fn found_stays()
         → found (with_arrived core bytes tokens) side ≡ Ok (Some f) }
     ensures report { (core : Core) (side : Side) (f : Found) (bytes tokens : List ℕ)
         → found core side ≡ Ok (Some f)
-        → reported (with_arrived core bytes tokens) f.message ≡ reported core f.message }
+        → reported (with_arrived core bytes tokens) side f.message
+        ≡ reported core side f.message }
     ensures behind { (core : Core) (side : Side) (f : Found) (bytes tokens : List ℕ)
         → found core side ≡ Ok (Some f)
         → past_found (with_arrived core bytes tokens) f
@@ -69,8 +71,8 @@ pub fn messages_are_spelled()
     ensures read { (core : Core) (side : Side) (f : Found) → FoundSpells core side f }
 {}
 
-/// A call that opens no object returns none where it is accepted, and neither S10 nor S11. No event
-/// opens one.
+/// A call that opens no object returns none where it is accepted, and neither S10 nor S11. An event
+/// opens none where the tables have no events by which the server makes objects.
 pub fn openings_alone_need_memory()
     ensures nothing { (core : Core) (side : Side) (target : Object) (opcode : ℕ)
         (given : List Given) (result : Result (Option Object) SendError)
@@ -80,6 +82,6 @@ pub fn openings_alone_need_memory()
         ≡ false → OpensNothing result }
     ensures event { (limit : ℕ) (tables : List Interface) (view : Objects) (target : Object)
         (opcode : ℕ) (given : List Given)
-        → Valid tables
+        → Valid tables → has_server_objects tables ≡ false
         → opens_object (checked limit tables event_side view target opcode given) ≡ false }
 {}

@@ -1,14 +1,17 @@
 //! What an end does with a message in front, and with its objects.
 ghost use Rattle.std.specs.Prelude.{◌≡◌, ◌≢◌, ◌≤◌, ◌<◌, ◌↔◌, ◌&&◌, not, ℕ, Err, IsTrue, IfOk, OnOk};
-ghost use Rattle.std.specs.Prelude.{OnErr, length, take, slice_index_or};
+ghost use Rattle.std.specs.Prelude.{None, OnErr, length, slice_index_or};
 ghost use Rattle.wl_sigs.specs.Tables.{max_args};
 ghost use Rattle.wl_message.specs.Arrived.{in_front};
 ghost use Rattle.wl_message.specs.Cut.{Whole};
 ghost use Rattle.wl_object_map.specs.Objects.{ObjectsAreSound, births, closed, is_held};
-ghost use Rattle.wl_object_map.specs.Objects.{free_or_next, has_room, is_live, opened_at, zombied};
+ghost use Rattle.wl_object_map.specs.Objects.{free_or_next, has_room, is_live, look, opened_at};
+ghost use Rattle.wl_object_map.specs.Objects.{zombied};
+ghost use Rattle.wl_objects.specs.Messages.{server_may_use};
 ghost use Rattle.wl_connection.specs.Core.{past, with_view};
 
 use crate::shared::Core;
+use std::alloc::AllocError;
 use wl_objects::{MAX_ARGS, NewObject, Object, Table, TableError};
 
 /// The most tokens that a message has, one for each argument.
@@ -57,6 +60,31 @@ impl<'t, T: Table> Core<'t, T> {
         ensures sound { ObjectsAreSound self.old.view }
     {
         self.objects.open_at(new.id, new.iface, new.version)
+    }
+
+    /// Opens the object of the server's that an event makes: in place of the one that has its id, a
+    /// zombie or one that no request can end, which takes no memory; else at an id without an entry.
+    /// Where there is no memory nothing changes.
+    pub fn open_made(&mut self, new: NewObject) -> Result<Object, AllocError>
+        requires free { IsTrue (server_may_use self.old.tables self.old.view new.id) }
+        requires room { IsTrue (has_room self.old.view new.id) }
+        ensures ok { OnOk result
+            (self.new ≡ with_view self.old
+            (opened_at self.old.view new.id new.iface new.version)) }
+        ensures object { IfOk result
+            (λ object. object ≡ record { id = new.id; birth = births self.old.view new.id }) }
+        ensures err { OnErr result (self.new ≡ self.old) }
+        ensures wants { OnErr result (look self.old.view new.id ≡ None) }
+        ensures sound { ObjectsAreSound self.old.view }
+    {
+        if self.objects.look(new.id).is_some() {
+            return Ok(self.objects.reopen(new.id, new.iface, new.version));
+        }
+        match self.objects.open_at(new.id, new.iface, new.version) {
+            Ok(object) => Ok(object),
+            Err(TableError::Memory) => Err(AllocError),
+            Err(TableError::InUse | TableError::NotNext | TableError::NoIds) => unreachable!(),
+        }
     }
 
     /// Makes a live object a zombie: it has ended, and its id stays in use.

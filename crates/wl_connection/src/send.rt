@@ -2,13 +2,13 @@
 ghost use Rattle.std.specs.Prelude.{[], ◌≡◌, ◌≢◌, ◌≤◌, ◌+◌, ℕ, false, true, Some, Ok, IfOk, IfSome};
 ghost use Rattle.std.specs.Prelude.{IsTrue, OnErr, OnOk, is_some, length};
 ghost use Rattle.wl_sigs.specs.declared.signature.Side.TheVariants.{Event as event_side};
+ghost use Rattle.wl_sigs.specs.Rules.{has_server_objects};
 ghost use Rattle.wl_sigs.specs.Tables.{destroys_one, makes, max_args};
 ghost use Rattle.wl_sigs.specs.Valid.{Valid};
 ghost use Rattle.wl_message.specs.Cut.{usual_limit};
-ghost use Rattle.wl_objects.specs.Messages.{checked, destroys, ended_id, id_named, opens};
-ghost use Rattle.wl_object_map.specs.View.{next_id};
+ghost use Rattle.wl_objects.specs.Messages.{checked, destroys, ended_id, id_named, maker_by, opens};
 ghost use Rattle.wl_object_map.specs.Objects.{ObjectsAreSound, closed, is_held, is_live, look};
-ghost use Rattle.wl_object_map.specs.Objects.{opened_at};
+ghost use Rattle.wl_object_map.specs.Objects.{next_id, opened_at};
 ghost use Rattle.wl_objects.specs.Writing.{CallFits, EachFits, bind_values, call_makes, given};
 ghost use Rattle.wl_objects.specs.Writing.{given_of, has_no_nul, id_of, message_len, on_wire};
 ghost use Rattle.wl_objects.specs.Writing.{tokens_of, wired};
@@ -26,7 +26,7 @@ use crate::shared::Core;
 use wl_object_map::{DISPLAY_ID, Maker};
 use wl_objects::{
     Arg, BindMessage, CallMessage, CheckedCall, Messages, Object, SendError, Table, TableError,
-    check_call, take_tokens,
+    check_call, maker_by, take_tokens,
 };
 use wl_sigs::event::wl_display::{DELETE_ID, ERROR};
 use wl_sigs::{Destroys, Side};
@@ -147,39 +147,51 @@ impl<'t, T: Table> Core<'t, T> {
         self.outbox.push_encoded(&message, &[], &mut self.store);
     }
 
-    /// Opens an object at the next id. S10 is tested before S11.
-    pub fn open_next(&mut self, iface: Iface, version: u32) -> Result<Object, SendError>
+    /// Opens an object of this maker's at its next id. S10 is tested before S11.
+    pub fn open_next(
+        &mut self,
+        maker: Maker,
+        iface: Iface,
+        version: u32,
+    ) -> Result<Object, SendError>
         requires { ObjectsAreSound self.old.view }
         ensures answer { AnswersOrMemory SendError.Memory true
-            (opening_answer self.old (next_object self.old.view version (Some iface)))
+            (opening_answer self.old maker (next_object maker self.old.view version (Some iface)))
             (some_object result) }
         ensures ok { OnOk result
             (self.new ≡ with_view self.old
-            (opened_at self.old.view (next_id self.old.view.client) iface version)) }
-        ensures id { IfOk result (λ object. object.id ≡ next_id self.old.view.client) }
+            (opened_at self.old.view (next_id maker self.old.view) iface version)) }
+        ensures id { IfOk result (λ object. object.id ≡ next_id maker self.old.view) }
         ensures err { OnErr result (self.new ≡ self.old) }
     {
-        match self.objects.open_next(Maker::Client, iface, version) {
+        match self.objects.open_next(maker, iface, version) {
             Ok(object) => Ok(object),
             Err(TableError::Memory) => Err(SendError::Memory),
             Err(_) => Err(SendError::NoIds),
         }
     }
 
-    /// Opens the object that a message makes, if it makes one: of this interface and version.
-    fn open_new(&mut self, iface: Option<Iface>, version: u32) -> Result<Option<Object>, SendError>
+    /// Opens the object that a message of this side makes, if it makes one: of this interface and
+    /// version.
+    fn open_new(
+        &mut self,
+        side: Side,
+        iface: Option<Iface>,
+        version: u32,
+    ) -> Result<Option<Object>, SendError>
         requires { ObjectsAreSound self.old.view }
         ensures answer { AnswersOrMemory SendError.Memory (is_some iface)
-            (opening_answer self.old (next_object self.old.view version iface)) result }
+            (opening_answer self.old (maker_by side)
+            (next_object (maker_by side) self.old.view version iface)) result }
         ensures ok { OnOk result
             (self.new ≡ with_view self.old
-            (opens self.old.view (next_object self.old.view version iface))) }
-        ensures id { IfOk result (λ new. IfSome iface (λ _. id_of new
-            ≡ next_id self.old.view.client)) }
+            (opens self.old.view (next_object (maker_by side) self.old.view version iface))) }
+        ensures id { IfOk result
+            (λ new. IfSome iface (λ _. id_of new ≡ next_id (maker_by side) self.old.view)) }
         ensures err { OnErr result (self.new ≡ self.old) }
     {
         match iface {
-            Some(iface) => Ok(Some(self.open_next(iface, version)?)),
+            Some(iface) => Ok(Some(self.open_next(maker_by(side), iface, version)?)),
             None => Ok(None),
         }
     }
@@ -255,7 +267,7 @@ impl<'t, T: Table> Core<'t, T> {
         if !self.fits(call.len + following_len(side, what), call.tokens) {
             return Err(SendError::Full);
         }
-        let new = self.open_new(call.makes, call.entry.version)?;
+        let new = self.open_new(side, call.makes, call.entry.version)?;
         let message = CallMessage {
             object: target.id,
             opcode,
@@ -282,13 +294,15 @@ impl<'t, T: Table> Core<'t, T> {
         args: &[Arg<'_>],
     ) -> Result<Option<Object>, SendError>
         ensures answer { IsSendAnswer self.old side target opcode (given args.now) result }
-        // No event that is written makes an object.
-        ensures event { side ≡ event_side → OpensNothing result }
+        // An event makes an object only where the tables have such events.
+        ensures event { side ≡ event_side → has_server_objects self.old.tables ≡ false
+            → OpensNothing result }
         ensures ok { OnOk result
             (self.new ≡ after_send self.old side target opcode (given args.now)) }
         ensures err { OnErr result (self.new ≡ self.old) }
         // Tables are always valid; a proof learns it from a call that looked into them.
         ensures valid { IfOk result (λ _. Valid self.old.tables) }
+        ensures sound { IfOk result (λ _. ObjectsAreSound self.old.view) }
     {
         if self.failed {
             return Err(SendError::Failed);

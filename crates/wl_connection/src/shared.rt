@@ -1,6 +1,8 @@
 //! What both ends of a connection have: tables, objects and two queues.
 ghost use Rattle.std.specs.Prelude.{◌≡◌, ◌≤◌, IfOk, take};
+ghost use Rattle.wl_sigs.specs.Fixed.{display};
 ghost use Rattle.wl_message.specs.Arrived.{AreSizes};
+ghost use Rattle.wl_object_map.specs.Objects.{opening};
 ghost use Rattle.wl_connection.specs.Core.{new_core, live, feeds, with_arrived};
 
 use std::alloc::AllocError;
@@ -61,7 +63,8 @@ impl<'t, T: Table> Model for Core<'t, T> {
 }
 
 impl<'t, T: Table> Core<'t, T> {
-    /// An end with wl_display alone and empty queues of these sizes.
+    /// An end with wl_display alone and empty queues of these sizes. It has the server's range of ids
+    /// where the tables have events by which the server makes objects.
     pub fn new(alloc: T::Alloc, tables: &'t Tables, sizes: Sizes) -> Result<Self, AllocError>
         requires { AreSizes sizes }
         ensures { IfOk result (λ core. core ≡ new_core tables.now sizes) }
@@ -70,7 +73,7 @@ impl<'t, T: Table> Core<'t, T> {
         let inbox = Inbox::new(alloc.clone()?, sizes.in_bytes, sizes.in_tokens, limit)?;
         let outbox = Outbox::new(alloc.clone()?, sizes.out_bytes, sizes.out_tokens, limit)?;
         let store = Vec::from_elem(alloc.clone()?, 0, limit.bytes as usize)?;
-        let objects = Objects::new(alloc, DISPLAY)?;
+        let objects = new_objects(alloc, tables)?;
         Ok(Core {
             tables,
             objects,
@@ -104,5 +107,16 @@ impl<'t, T: Table> Core<'t, T> {
             };
         }
         self.inbox.feed(bytes, tokens)
+    }
+}
+
+/// The objects of a new end that has these tables.
+fn new_objects<T: Table>(alloc: T::Alloc, tables: &Tables) -> Result<Objects<T>, AllocError>
+    ensures { IfOk result (λ objects. objects ≡ opening display) }
+{
+    if tables.has_server_objects() {
+        Objects::with_server_range(alloc, DISPLAY)
+    } else {
+        Objects::new(alloc, DISPLAY)
     }
 }

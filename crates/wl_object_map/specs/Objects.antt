@@ -2,6 +2,7 @@
 -- make of them. Each definition has the name of that of `View` for one table, and goes by the id on
 -- the wire.
 use Rattle.std.specs.Prelude.{ℕ, ◌-◌, Bool, cond, refl, Option, Some, None, is_some}
+use Rattle.std.specs.FinMap.{len}
 use Rattle.std.specs.Coded.{Coded, code_by, coded×}
 use Rattle.wl_wire.specs.declared.kind.Iface.{Iface}
 use Rattle.wl_object_map.specs.declared.object.Entry.{Entry}
@@ -48,10 +49,20 @@ is_live objects id = table.lives_in (look objects id)
 abbrev pub births : Objects → ℕ → ℕ
 births objects id = in_range (λ view place. view.births) objects id
 
+-- the birth that a maker's next object gets
+abbrev pub next_birth : Maker → Objects → ℕ
+next_birth Client objects = objects.client.births
+next_birth Server objects = objects.server.births
+
 -- how many ids of a maker's range were used
 abbrev pub ids_used : Maker → Objects → ℕ
 ids_used Client objects = objects.client.used
 ids_used Server objects = objects.server.used - 1
+
+-- how many ids of a maker's range have a row
+abbrev pub row_count : Maker → Objects → ℕ
+row_count Client objects = len objects.client.rows
+row_count Server objects = len objects.server.rows - 1
 
 -- whether an id is freed, or the next new one of its range
 abbrev pub free_or_next : Objects → ℕ → Bool

@@ -21,7 +21,8 @@ use Rattle.wl_object_map.specs.Views.{in_row, in_list, at_null, unused}
 use Rattle.wl_object_map.specs.Sounds as sounds
 use Rattle.wl_object_map.specs.Objects.{Objects, ObjectsAreSound, in_range, changed_at, look}
 use Rattle.wl_object_map.specs.Objects.{is_held, births}
-use Rattle.wl_object_map.specs.Objects.{free_or_next, has_room, next_id, can_open, no_interface}
+use Rattle.wl_object_map.specs.Objects.{free_or_next, has_room, next_id, next_birth, can_open}
+use Rattle.wl_object_map.specs.Objects.{no_interface}
 use Rattle.wl_object_map.specs.Objects.{opening, opened_at, opened, closed, zombied}
 
 -- Ids and ranges.
@@ -281,6 +282,48 @@ next_of_server o s =
 -- and the table of the range has it for its next
 pub table_id-wire_id : (place : ℕ) → table_id (wire_id place) ≡ place
 table_id-wire_id place = omega arith
+
+-- and the next birth is that of the next id
+pub births-next : (maker : Maker) (o : Objects) → ObjectsAreSound o
+    → births o (next_id maker o) ≡ next_birth maker o
+births-next Client o s =
+    in_range-client (λ view place. view.births) o (next_id Client o) (next_of_client o s)
+births-next Server o s =
+    in_range-server (λ view place. view.births) o (next_id Server o) (next_of_server o s)
+
+-- the next id is free, in its range
+pub free-next : (maker : Maker) (o : Objects) → ObjectsAreSound o
+    → free_or_next o (next_id maker o) ≡ true
+free-next Client o s =
+    in_range-client table.free_or_next o (next_id Client o) (next_of_client o s)
+    ∙ rows.free_or_next-next_id o.client
+free-next Server o s =
+    in_range-server table.free_or_next o (next_id Server o) (next_of_server o s)
+    ∙ ap (table.free_or_next o.server) (table_id-wire_id (table.next_id o.server))
+    ∙ rows.free_or_next-next_id o.server
+
+-- and it fits into a word
+pub next-low : (maker : Maker) (o : Objects) → ObjectsAreSound o → next_id maker o < 4294967296
+next-low Client o s =
+    let f = rows.free_is o.client (table.next_id o.client) s.client
+    (rows.free_or_next-next_id o.client) in
+    let top = f.at_most_next in let e = s.client.ids_end in omega (arith, top, e)
+next-low Server o s =
+    let f = rows.free_is o.server (table.next_id o.server) s.server
+    (rows.free_or_next-next_id o.server) in
+    let top = f.at_most_next in let e = s.server.ids_end in omega (arith, top, e)
+
+-- a free id has no row
+pub free-no_row : (o : Objects) (id : ℕ) → ObjectsAreSound o → free_or_next o id ≡ true
+    → look o id ≡ None
+free-no_row o id s h = elim (cases_Bool (is_of_server id)) [
+  | inl t ↦ in_range-server table.look o id t
+      ∙ (rows.free_is o.server (table_id id) s.server
+      (sym (in_range-server table.free_or_next o id t) ∙ h)).no_row
+  | inr t ↦ in_range-client table.look o id t
+      ∙ (rows.free_is o.client id s.client
+      (sym (in_range-client table.free_or_next o id t) ∙ h)).no_row
+]
 
 -- so an opening at the next id is one of the maker's table
 pub opened-client : (o : Objects) (iface : Iface) (version : ℕ) → ObjectsAreSound o

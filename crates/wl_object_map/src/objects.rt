@@ -3,7 +3,7 @@ ghost use Rattle.std.specs.Prelude.{◌≡◌, ◌≢◌, ◌≤◌, ◌↔◌, 
 ghost use Rattle.wl_object_map.specs.Ranges.{is_of_server, table_id, wire_id};
 ghost use Rattle.wl_object_map.specs.View.{max_ids};
 ghost use Rattle.wl_object_map.specs.Objects.{Objects, ObjectsAreSound, look, is_held, is_live};
-ghost use Rattle.wl_object_map.specs.Objects.{births};
+ghost use Rattle.wl_object_map.specs.Objects.{births, row_count};
 ghost use Rattle.wl_object_map.specs.Objects.{ids_used, free_or_next, has_room, can_open, next_id};
 ghost use Rattle.wl_object_map.specs.Objects.{opening, opened, opened_at, closed, zombied};
 
@@ -89,6 +89,16 @@ impl<T: Table> Objects<T> {
         })
     }
 
+    /// The objects of an end whose server makes some too: wl_display alone, as `new` has it, and an
+    /// empty range of the server's, for which memory is taken at once.
+    pub fn with_server_range(alloc: T::Alloc, display: Iface) -> Result<Self, AllocError>
+        ensures { IfOk result (λ objects. objects ≡ opening display) }
+    {
+        let client = T::new(alloc.clone()?, display)?;
+        let server = Some(T::new(alloc, NO_INTERFACE)?);
+        Ok(Objects { client, server })
+    }
+
     /// The table of the client's range.
     pub fn client(&self) -> &T
         ensures { T.view result.now ≡ self.now.client }
@@ -101,8 +111,12 @@ impl<T: Table> Objects<T> {
         ensures entry { result ≡ look self.now id }
         ensures sound { ObjectsAreSound self.now }
     {
+        // Most ids are the client's, and its table has none of the other range.
+        if let Some(entry) = self.client.look(id) {
+            return Some(entry);
+        }
         if id < FIRST_SERVER_ID {
-            return self.client.look(id);
+            return None;
         }
         let Some(table) = &self.server else {
             return None;
@@ -159,6 +173,19 @@ impl<T: Table> Objects<T> {
             Maker::Client => self.client.used(),
             Maker::Server => match &self.server {
                 Some(table) => table.used() - 1,
+                None => 0,
+            },
+        }
+    }
+
+    /// How many entries this maker's range has, live and zombie.
+    pub fn len(&self, maker: Maker) -> u32
+        ensures { result ≡ row_count maker self.now }
+    {
+        match maker {
+            Maker::Client => self.client.len(),
+            Maker::Server => match &self.server {
+                Some(table) => table.len() - 1,
                 None => 0,
             },
         }
@@ -313,17 +340,5 @@ impl<T: Table> Objects<T> {
             return;
         };
         table.close(table_id(id));
-    }
-}
-
-impl<T: Table + Drop> Objects<T> {
-    /// The objects of an end whose server makes some too: wl_display alone, as `new` has it, and an
-    /// empty range of the server's, for which memory is taken at once.
-    pub fn with_server_range(alloc: T::Alloc, display: Iface) -> Result<Self, AllocError>
-        ensures { IfOk result (λ objects. objects ≡ opening display) }
-    {
-        let client = T::new(alloc.clone()?, display)?;
-        let server = Some(T::new(alloc, NO_INTERFACE)?);
-        Ok(Objects { client, server })
     }
 }

@@ -26,7 +26,7 @@ pub const MAX_SERVER_ID: u32 = 0xff0f_fffe;
 /// number of ids ever used, and the number of births.
 ///
 /// Id 1 is wl_display for good. Every call that is refused leaves the table as it was.
-pub trait Table {
+pub trait Table: Drop {
     /// The allocator of the table's memory.
     type Alloc: Allocator + Clone + Drop;
 

@@ -1,5 +1,5 @@
 -- What a call that passed its checks gives the writer of its message.
-use Rattle.std.proofs.Common.{◌≡◌, ℕ, suc, ◌<◌, ◌≤◌, Bool, true, false, List, [], ◌∷◌, length, map}
+use Rattle.std.proofs.Common.{◌≡◌, ℕ, suc, ◌<◌, ◌≤◌, true, List, [], ◌∷◌, length, map}
 use Rattle.std.proofs.Common.{Some, None, refl, sym, ◌∙◌, subst, arith}
 use Rattle.std.specs.Prelude.{option_map}
 use Rattle.std.proofs.lemmas.List.{length-map}
@@ -26,6 +26,7 @@ fits-one n (kinds.Str null) (Str None) e h = tt
 fits-one n (kinds.Str null) (Str (Some text)) e h = text_is text e (omega arith)
 fits-one n (kinds.Obj null iface) (Obj object) e h = tt
 fits-one n (kinds.New (Some iface)) (New x) e h = tt
+fits-one n (kinds.NewByServer iface) (New x) e h = tt
 fits-one n (kinds.New None) (NewNamed iface version x) e h = text_is iface e (omega arith)
 fits-one n kinds.Array (Array bytes) e h = omega arith
 fits-one n kinds.Fd (Fd token) e h = tt
@@ -75,6 +76,7 @@ call-one tables version id (kinds.Str null) ks (Str text) values e n h = h
 call-one tables version id (kinds.Obj null iface) ks (Obj object) values e n h = h
 call-one tables version id (kinds.New (Some iface)) ks (New x) values e n h = refl
 call-one tables version id (kinds.New None) ks x values e n h = absurd (n refl)
+call-one tables version id (kinds.NewByServer iface) ks (New x) values e n h = refl
 call-one tables version id kinds.Array ks (Array bytes) values e n h = h
 call-one tables version id kinds.Fd ks (Fd token) values e n h = h
 call-one tables version id kind ks x values e n h = absurd (cc)

@@ -40,7 +40,7 @@ made_by-other tables version kinds.Fixed value e = refl
 made_by-other tables version (kinds.Str null) value e = refl
 made_by-other tables version (kinds.Obj null iface) value e = refl
 made_by-other tables version (kinds.New iface) value e = absurd (cc)
-made_by-other tables version (kinds.NewByServer iface) value e = refl
+made_by-other tables version (kinds.NewByServer iface) value e = absurd (cc)
 made_by-other tables version kinds.Array value e = refl
 made_by-other tables version kinds.Fd value e = refl
 

@@ -31,7 +31,7 @@ use Rattle.wl_objects.specs.Writing.{is_live_as, message_len, message_bytes, tok
 use Rattle.wl_objects.specs.Messages.{received, is_error, is_hidden, same_iface, checked}
 use Rattle.wl_objects.specs.Messages.{checked_as, checked_by, live_row, unless_hidden, unless_wrong}
 use Rattle.wl_objects.specs.Messages.{of_length}
-use Rattle.wl_objects.specs.Carried.{InRange, IsExpected, IsTarget, CallPasses, received_as_meant}
+use Rattle.wl_objects.specs.Carried.{InRange, AreExpected, IsTarget, CallPasses, received_as_meant}
 use Rattle.wl_object_map.specs.View.{lives}
 use Rattle.wl_objects.proofs.WrittenArrives.{if-none, suits-wired, All-first, arrive-read, arrive-taken}
 
@@ -237,7 +237,7 @@ forgiving-not r f = let g : false ≡ r.forgives = sym f in λ i. record r { for
 pub message-arrives : (limit : ℕ) (tables : List Interface) (side : Side) (view : Objects) (r : Reader) (target : Object)
     (opcode size n waiting : ℕ) (list : List Given) (signature : MessageSignature)
     (p : CallPasses limit tables side view target opcode list signature) (t : IsTarget p.entry r target)
-    → r.forgives ≡ false → n < 2 ^ 32 → All InRange list → All (IsExpected (look view) r n) list
+    → r.forgives ≡ false → n < 2 ^ 32 → All InRange list → AreExpected (look view) r n signature.kinds list
     → length (tokens_of list) ≤ waiting
     → received tables side r (record { object = target.id; size = size; opcode = opcode })
     (spelled (map (wired n) list)) waiting ≡ Ok (received_as_meant target t.row signature (map (wired n) list))

@@ -20,11 +20,10 @@ use Rattle.wl_object_map.specs.declared.object.Object.{Object}
 use Rattle.wl_object_map.specs.declared.object.Entry.{Entry}
 use Rattle.wl_objects.specs.Reading.{Reader, forgiving_kind, is_of, iface_of, value_fault, arguments_at}
 use Rattle.wl_objects.specs.Reading.{reported_argument, reports_of, head_or, tokens_after, descriptors}
-use Rattle.wl_objects.specs.declared.lookup.NewId.{NewId}
-use Rattle.wl_objects.specs.Reading.{is_descriptor_kind, by_maker}
+use Rattle.wl_objects.specs.Reading.{is_descriptor_kind}
 use Rattle.wl_objects.specs.Writing.{Given, wired, spelled, suits, has_no_nul, can_name, names_one}
 use Rattle.wl_objects.specs.Writing.{wrong_place, lost_place, tokens_of}
-use Rattle.wl_objects.specs.Carried.{InRange, ReaderHolds, IsExpected, arrived_value, Arrive}
+use Rattle.wl_objects.specs.Carried.{InRange, ReaderHolds, IsExpected, AreExpected, arrived_value, Arrive}
 
 no_nul : (text : List ℕ) → has_no_nul text ≡ true → All (λ b. b ≢ 0) text
 no_nul text e k d h z =
@@ -50,6 +49,7 @@ suits-wired n (kinds.Obj null iface) (Obj None) e h b o = (omega arith, λ _. e)
 suits-wired n (kinds.Obj null iface) (Obj (Some object)) e h b o = (h, λ z. absurd (o object refl z))
 suits-wired n (kinds.New (Some iface)) (New x) e h b o = b
 suits-wired n (kinds.New None) (NewNamed iface version x) e h b o = (text_is iface e h.0, h.1, b)
+suits-wired n (kinds.NewByServer iface) (New x) e h b o = b
 suits-wired n kinds.Array (Array bytes) e h b o = h
 suits-wired n kinds.Fd (Fd token) e h b o = tt
 suits-wired n kind x e h b o = absurd (cc)
@@ -79,31 +79,25 @@ object-right writer r place kind object f held e =
     let some : nat_eq object.id 0 ≡ false = ne_eqb object.id 0 held.not_null in
     rw (f, some, held.held, same) refl
 
--- a call makes objects of the client alone
-client-made : (kind : Kind) (x : Unit {0}) (of_client of_server : NewId) → suits kind (New x) ≡ true
-    → by_maker kind of_client of_server ≡ of_client
-client-made (kinds.New iface) x of_client of_server s = refl
-client-made kind x of_client of_server s = absurd (cc)
-
 -- nothing is wrong with an argument that the reader expects
 pub value-right : (writer : ℕ → Option Entry) (r : Reader) (n place : ℕ) (kind : Kind) (x : Given) → r.forgives ≡ false
-    → suits kind x ≡ true → can_name writer kind x ≡ true → IsExpected writer r n x → value_fault r place kind (wired n x) ≡ None
+    → suits kind x ≡ true → can_name writer kind x ≡ true → IsExpected writer r n kind x
+    → value_fault r place kind (wired n x) ≡ None
 value-right writer r n place kind (Int z) f s c h = refl
 value-right writer r n place kind (Uint m) f s c h = refl
 value-right writer r n place kind (Fixed z) f s c h = refl
 value-right writer r n place kind (Str text) f s c h = refl
 value-right writer r n place kind (Obj None) f s c h = rw f refl
 value-right writer r n place kind (Obj (Some object)) f s c h = object-right writer r place kind object f h c
-value-right writer r n place kind (New x) f s c h =
-    rw (client-made kind x (r.new_id n) (r.new_server_id n) s, h) refl
+value-right writer r n place kind (New x) f s c h = rw h refl
 value-right writer r n place kind (NewNamed iface version x) f s c h = rw h refl
 value-right writer r n place kind (Array bytes) f s c h = refl
 value-right writer r n place kind (Fd token) f s c h = refl
 
-pub not_null : (writer : ℕ → Option Entry) (r : Reader) (n : ℕ) (x : Given) → IsExpected writer r n x
-    → (object : Object) → x ≡ Obj (Some object) → object.id ≢ 0
-not_null writer r n x h object e = let held : ReaderHolds writer r object =
-    subst (λ (y : Given). IsExpected writer r n y) e h in held.not_null
+pub not_null : (writer : ℕ → Option Entry) (r : Reader) (n : ℕ) (kind : Kind) (x : Given)
+    → IsExpected writer r n kind x → (object : Object) → x ≡ Obj (Some object) → object.id ≢ 0
+not_null writer r n kind x h object e = let held : ReaderHolds writer r object =
+    subst (λ (y : Given). IsExpected writer r n kind y) e h in held.not_null
 
 kind-same : (r : Reader) (kind : Kind) → r.forgives ≡ false → forgiving_kind r.forgives kind ≡ kind
 kind-same r kind f = rw f refl
@@ -115,7 +109,7 @@ All-first P x xs h = h 0 x (omega arith)
 pub arrive-read : (writer : ℕ → Option Entry) (r : Reader) (n place : ℕ) (ks : List Kind) (list : List Given)
     (rest : List ℕ) → n < 2 ^ 32 → r.forgives ≡ false
     → wrong_place place ks list ≡ None → lost_place writer place ks list ≡ None → All InRange list
-    → All (IsExpected writer r n) list
+    → AreExpected writer r n ks list
     → arguments_at r place ks (spelled (map (wired n) list) ++ rest) ≡ Ok (map (wired n) list, rest)
 arrive-read writer r n place [] [] rest b f w l i h = refl
 arrive-read writer r n place [] (x ∷ list) rest b f w l i h = absurd (cc)
@@ -123,9 +117,9 @@ arrive-read writer r n place (kind ∷ ks) [] rest b f w l i h = absurd (cc)
 arrive-read writer r n place (kind ∷ ks) (x ∷ list) rest b f w l i h =
     let suit = if-none (suits kind x) (wrong_place (suc place) ks list) place w in
     let name = if-none (can_name writer kind x) (lost_place writer (suc place) ks list) place l in
-    let expected : IsExpected writer r n x = All-first (IsExpected writer r n) x list h in
+    let expected : IsExpected writer r n kind x = h.0 in
     let value : Suits kind (wired n x) = suits-wired n kind x suit.0 (All-first InRange x list i) b
-    (not_null writer r n x expected) in
+    (not_null writer r n kind x expected) in
     let later : List ℕ = spelled (map (wired n) list) ++ rest in
     let one = reading-canonical kind (wired n x) later value in
     let right : value_fault r place kind (wired n x) ≡ None = value-right writer r n place kind x f suit.0 name.0 expected
@@ -135,7 +129,7 @@ arrive-read writer r n place (kind ∷ ks) (x ∷ list) rest b f w l i h =
     let front : drop (spelled_len (wired n x)) (canonical (wired n x) ++ later) ≡ later =
     drop_at (canonical (wired n x)) later (spelled_len (wired n x)) len in
     let more = arrive-read writer r n (suc place) ks list rest b f suit.1 name.1 (All-tail InRange x list i)
-    (All-tail (IsExpected writer r n) x list h) in
+    h.1 in
     rw (append_assoc, kind-same r kind f, one, right, front, more) refl
 
 object-reported : (writer : ℕ → Option Entry) (r : Reader) (n token : ℕ) (object : Object) → ReaderHolds writer r object
@@ -145,20 +139,20 @@ object-reported writer r n token object held =
     rw (some, held.held, held.birth) refl
 
 -- one argument is reported as the writer meant it, where the token is its own
-report-one : (writer : ℕ → Option Entry) (r : Reader) (n : ℕ) (x : Given) (list : List Given) (more : List ℕ)
-    → IsExpected writer r n x
+report-one : (writer : ℕ → Option Entry) (r : Reader) (n : ℕ) (kind : Kind) (x : Given) (list : List Given)
+    (more : List ℕ) → IsExpected writer r n kind x
     → reported_argument r (head_or (tokens_of (x ∷ list) ++ more) 0) (wired n x) ≡ arrived_value r n x
-report-one writer r n (Int z) list more h = refl
-report-one writer r n (Uint m) list more h = refl
-report-one writer r n (Fixed z) list more h = refl
-report-one writer r n (Str text) list more h = refl
-report-one writer r n (Obj None) list more h = refl
-report-one writer r n (Obj (Some object)) list more h =
+report-one writer r n kind (Int z) list more h = refl
+report-one writer r n kind (Uint m) list more h = refl
+report-one writer r n kind (Fixed z) list more h = refl
+report-one writer r n kind (Str text) list more h = refl
+report-one writer r n kind (Obj None) list more h = refl
+report-one writer r n kind (Obj (Some object)) list more h =
     object-reported writer r n (head_or (tokens_of list ++ more) 0) object h
-report-one writer r n (New x) list more h = refl
-report-one writer r n (NewNamed iface version x) list more h = refl
-report-one writer r n (Array bytes) list more h = refl
-report-one writer r n (Fd token) list more h = refl
+report-one writer r n kind (New x) list more h = refl
+report-one writer r n kind (NewNamed iface version x) list more h = refl
+report-one writer r n kind (Array bytes) list more h = refl
+report-one writer r n kind (Fd token) list more h = refl
 
 tokens-left : (n : ℕ) (x : Given) (list : List Given) (more : List ℕ)
     → tokens_after (wired n x) (tokens_of (x ∷ list) ++ more) ≡ tokens_of list ++ more
@@ -172,17 +166,18 @@ tokens-left n (NewNamed iface version x) list more = refl
 tokens-left n (Array bytes) list more = refl
 tokens-left n (Fd token) list more = refl
 
-pub arrive-reported : (writer : ℕ → Option Entry) (r : Reader) (n : ℕ) (list : List Given) (more : List ℕ)
-    → All (IsExpected writer r n) list
+pub arrive-reported : (writer : ℕ → Option Entry) (r : Reader) (n place : ℕ) (ks : List Kind) (list : List Given)
+    (more : List ℕ) → wrong_place place ks list ≡ None → AreExpected writer r n ks list
     → reports_of r (tokens_of list ++ more) (map (wired n) list) ≡ map (arrived_value r n) list
-arrive-reported writer r n [] more h = refl
-arrive-reported writer r n (x ∷ list) more h =
+arrive-reported writer r n place [] [] more w h = refl
+arrive-reported writer r n place [] (x ∷ list) more w h = absurd (cc)
+arrive-reported writer r n place (kind ∷ ks) [] more w h = absurd (cc)
+arrive-reported writer r n place (kind ∷ ks) (x ∷ list) more w h =
+    let suit = if-none (suits kind x) (wrong_place (suc place) ks list) place w in
     rw (
       tokens-left n x list more,
-      report-one writer r n x list more
-          (All-first (IsExpected writer r n) x list h),
-      arrive-reported writer r n list more
-          (All-tail (IsExpected writer r n) x list h),
+      report-one writer r n kind x list more h.0,
+      arrive-reported writer r n (suc place) ks list more suit.1 h.1,
     ) refl
 
 -- an argument of the kind takes a token exactly where the kind does
@@ -195,6 +190,7 @@ taken-one (kinds.Str null) (Str text) ks list e h = h
 taken-one (kinds.Obj null iface) (Obj object) ks list e h = h
 taken-one (kinds.New (Some iface)) (New x) ks list e h = h
 taken-one (kinds.New None) (NewNamed iface version x) ks list e h = h
+taken-one (kinds.NewByServer iface) (New x) ks list e h = h
 taken-one kinds.Array (Array bytes) ks list e h = h
 taken-one kinds.Fd (Fd token) ks list e h =
     let count : descriptors (kinds.Fd ∷ ks) ≡ 1 + descriptors ks =
@@ -214,9 +210,9 @@ arrive-taken place (kind ∷ ks) (x ∷ list) w =
 pub arrive : (writer : ℕ → Option Entry) (r : Reader) (n : ℕ) (ks : List Kind) (list : List Given) → n < 2 ^ 32
     → r.forgives ≡ false
     → wrong_place 0 ks list ≡ None → lost_place writer 0 ks list ≡ None → All InRange list
-    → All (IsExpected writer r n) list → Arrive r ks n list
+    → AreExpected writer r n ks list → Arrive r ks n list
 arrive writer r n ks list b f w l i h = record {
   read = λ rest. arrive-read writer r n 0 ks list rest b f w l i h;
-  reported = λ more. arrive-reported writer r n list more h;
+  reported = λ more. arrive-reported writer r n 0 ks list more w h;
   taken = arrive-taken 0 ks list w;
 }

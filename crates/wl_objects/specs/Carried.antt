@@ -1,5 +1,5 @@
 -- What an argument that one end writes is to the end that reads it.
-use Rattle.std.specs.Prelude.{◌≡◌, ◌≢◌, ℕ, ◌+◌, ◌<◌, ◌≤◌, ◌^◌, true, false, List, ◌++◌, length, map}
+use Rattle.std.specs.Prelude.{◌≡◌, ◌≢◌, ℕ, ◌+◌, ◌<◌, ◌≤◌, ◌^◌, true, false, List, ◌∷◌, ◌++◌, length, map}
 use Rattle.std.specs.Prelude.{Option, Some, None, FitsSigned}
 use Rattle.std.specs.List.{All}
 use Rattle.std.specs.Int.{w32}
@@ -14,7 +14,7 @@ use Rattle.wl_object_map.specs.declared.object.Entry.{Entry}
 use Rattle.wl_objects.specs.declared.argument.Named.{Named}
 use Rattle.wl_objects.specs.declared.argument.Named.TheVariants as named_as
 use Rattle.wl_objects.specs.declared.lookup.NewId.TheVariants.{Free}
-use Rattle.wl_objects.specs.Reading.{Reader, Reported, in_state, arguments_at, reports_of}
+use Rattle.wl_objects.specs.Reading.{Reader, Reported, by_maker, in_state, arguments_at, reports_of}
 use Rattle.wl_objects.specs.Reading.{descriptors}
 use Rattle.wl_object_map.specs.Objects.{Objects, look}
 use Rattle.wl_objects.specs.Writing.{Given, wired, spelled, message_len, tokens_of, wrong_place}
@@ -46,13 +46,20 @@ pub record ReaderHolds (writer : ℕ → Option Entry) (reader : Reader) (object
     pub iface : (entry : Entry) → writer object.id ≡ Some entry → row.iface ≡ entry.iface
     pub not_null : object.id ≢ 0
 
--- The reader expects an argument, where a new object gets the id n: it holds an object that is
--- named, and the new id is free.
-abbrev pub IsExpected : (ℕ → Option Entry) → Reader → ℕ → Given → Type 0
-IsExpected writer reader n (Obj (Some object)) = ReaderHolds writer reader object
-IsExpected writer reader n (New x) = reader.new_id n ≡ Free
-IsExpected writer reader n (NewNamed iface version x) = reader.new_id n ≡ Free
-IsExpected writer reader n _ = Unit {0}
+-- The reader expects an argument of a kind, where a new object gets the id n: it holds an object
+-- that is named, and the new id is free for the kind's maker.
+abbrev pub IsExpected : (ℕ → Option Entry) → Reader → ℕ → Kind → Given → Type 0
+IsExpected writer reader n kind (Obj (Some object)) = ReaderHolds writer reader object
+IsExpected writer reader n kind (New x) =
+    by_maker kind (reader.new_id n) (reader.new_server_id n) ≡ Free
+IsExpected writer reader n kind (NewNamed iface version x) = reader.new_id n ≡ Free
+IsExpected writer reader n kind _ = Unit {0}
+
+-- the same of each of a message's arguments
+abbrev pub AreExpected : (ℕ → Option Entry) → Reader → ℕ → List Kind → List Given → Type 0
+AreExpected writer reader n (kind ∷ ks) (x ∷ list) =
+    IsExpected writer reader n kind x × AreExpected writer reader n ks list
+AreExpected writer reader n _ _ = Unit {0}
 
 -- an object as the writer meant it, live or dead as the reader's row is
 abbrev pub named_by_row : Object → Option Entry → Named

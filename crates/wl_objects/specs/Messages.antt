@@ -1,7 +1,7 @@
 -- A whole message at an end: what it means to its reader, what a writer must meet, and what it
 -- makes of the end's objects.
-use Rattle.std.specs.Prelude.{ℕ, slice_get, Bool, true, false, ◌&&◌, ◌||◌, not, List, ◌∷◌, map}
-use Rattle.std.specs.Prelude.{nat_eq, nat_lt, if◌then◌else◌, Option, Some, None, option_map}
+use Rattle.std.specs.Prelude.{ℕ, ◌+◌, slice_get, Bool, true, false, ◌&&◌, ◌||◌, not, List, ◌∷◌, map}
+use Rattle.std.specs.Prelude.{nat_eq, nat_le, nat_lt, if◌then◌else◌, Option, Some, None, option_map}
 use Rattle.std.specs.declared.result.Result.{Result}
 use Rattle.std.specs.declared.result.Result.TheVariants.{Ok, Err}
 use Rattle.wl_wire.specs.declared.kind.Kind.{Kind}
@@ -13,7 +13,7 @@ use Rattle.wl_sigs.specs.declared.signature.Side.{Side}
 use Rattle.wl_sigs.specs.declared.signature.Side.TheVariants.{Request, Event}
 use Rattle.wl_sigs.specs.declared.signature.Destroys.{Destroys}
 use Rattle.wl_sigs.specs.declared.signature.Destroys.TheVariants.{Nothing, Target, Arg}
-use Rattle.wl_sigs.specs.Tables.{MessageSignature, Interface, signature_at, place_of}
+use Rattle.wl_sigs.specs.Tables.{MessageSignature, Interface, signature_at, interface_at, place_of}
 use Rattle.wl_sigs.specs.Fixed.{display, registry}
 use Rattle.wl_object_map.specs.declared.object.Object.{Object}
 use Rattle.wl_object_map.specs.declared.object.Entry.{Entry}
@@ -23,13 +23,18 @@ use Rattle.wl_objects.specs.declared.error.SendError.{SendError}
 use Rattle.wl_objects.specs.declared.error.SendError.TheVariants as refusals
 use Rattle.wl_object_map.specs.View as table
 use Rattle.wl_object_map.specs.View.{free_or_next, has_room}
-use Rattle.wl_object_map.specs.Objects.{Objects, look, opened_at, closed, zombied}
+use Rattle.wl_object_map.specs.Objects as objects
+use Rattle.wl_object_map.specs.Objects.{Objects, look, next_birth, opened_at, closed, zombied}
+use Rattle.wl_object_map.specs.Ranges.{is_of_server, table_id}
+use Rattle.wl_object_map.specs.declared.object.Maker.{Maker}
+use Rattle.wl_object_map.specs.declared.object.Maker.TheVariants.{Client, Server}
+use Rattle.wl_object_map.specs.View.{lives}
 use Rattle.wl_objects.specs.declared.lookup.NewId.{NewId}
 use Rattle.wl_objects.specs.declared.lookup.NewId.TheVariants.{Free, Wrong, TooMany}
 use Rattle.wl_objects.specs.Reading.{Reader, forgiving, arguments_at, descriptors}
 use Rattle.wl_objects.specs.Writing.{Given, wrong_place, lost_place, is_live_as, wired, message_len}
 use Rattle.wl_objects.specs.declared.new_object.NewObject.{NewObject as Declared}
-use Rattle.wl_sigs.specs.Rules.{is_empty}
+use Rattle.wl_sigs.specs.Rules.{is_empty, is_ended_by_request}
 
 -- ---- reading
 
@@ -37,14 +42,32 @@ use Rattle.wl_sigs.specs.Rules.{is_empty}
 abbrev pub new_id_of : Bool → Bool → NewId
 new_id_of free room = if free then (if room then Free else TooMany) else Wrong
 
--- What an end knows that has these objects. It speaks no messages by which the server makes an
--- object: no id is free for such a one.
-abbrev pub reader_of : Objects → Reader
-reader_of view = record {
+-- who makes the objects that messages of a side make
+abbrev pub maker_by : Side → Maker
+maker_by Request = Client
+maker_by Event = Server
+
+-- whether an object is live, and a request can end it: its interface has a destroying one at the
+-- object's version
+abbrev pub waits_for_request : List Interface → Option Entry → Bool
+waits_for_request tables None = false
+waits_for_request tables (Some entry) =
+    lives entry.state && is_ended_by_request entry.version (interface_at tables entry.iface.0)
+
+-- An id for a new object of the server: one of its range, of no live object that a request can end,
+-- and used before or the next one.
+abbrev pub server_may_use : List Interface → Objects → ℕ → Bool
+server_may_use tables view id =
+    is_of_server id && not (waits_for_request tables (look view id))
+    && nat_le (table_id id) (view.server.used + 1)
+
+-- What an end knows that has these objects and reads messages of a side.
+abbrev pub reader_of : List Interface → Side → Objects → Reader
+reader_of tables side view = record {
   object = look view;
   new_id = λ id. new_id_of (free_or_next view.client id) (has_room view.client id);
-  new_server_id = λ id. Wrong;
-  birth = view.client.births;
+  new_server_id = λ id. new_id_of (server_may_use tables view id) (objects.has_room view id);
+  birth = next_birth (maker_by side) view;
   forgives = false;
 }
 
@@ -117,9 +140,11 @@ abbrev pub NewObject : Type 0
 NewObject = Declared
 
 -- The new object of one argument: of the signature's interface and its maker's version, or of those
--- that it names. One of the server is neither written nor read.
+-- that it names.
 abbrev pub made_by : List Interface → ℕ → Kind → Argument → Option NewObject
 made_by tables version (kinds.New (Some iface)) (New id) =
+    Some (record { id = id; iface = iface; version = version })
+made_by tables version (kinds.NewByServer iface) (New id) =
     Some (record { id = id; iface = iface; version = version })
 made_by tables version (kinds.New None) (NewNamed name own id) =
     option_map (λ iface. record { id = id; iface = iface; version = own }) (place_of tables name)
@@ -128,6 +153,7 @@ made_by tables version _ _ = None
 -- whether an argument of this kind is a new object
 abbrev pub is_new_id_kind : Kind → Bool
 is_new_id_kind (kinds.New iface) = true
+is_new_id_kind (kinds.NewByServer iface) = true
 is_new_id_kind _ = false
 
 abbrev pub or_else : {X : Type 0} → Option X → Option X → Option X

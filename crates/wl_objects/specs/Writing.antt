@@ -1,6 +1,6 @@
 -- What a call's arguments must be, and the message that they become.
 use Rattle.std.specs.Prelude.{ℕ, ℤ, suc, ◌+◌, Bool, true, false, ◌&&◌, not, List, [], ◌∷◌, ◌++◌, map}
-use Rattle.std.specs.Prelude.{◌≡◌, ◌≤◌, ◌<◌, length, nat_eq, nat_lt, if◌then◌else◌, Option, Some, None}
+use Rattle.std.specs.Prelude.{◌≡◌, ◌≤◌, ◌<◌, length, nat_eq, if◌then◌else◌, Option, Some, None}
 use Rattle.wl_wire.specs.declared.kind.Kind.{Kind}
 use Rattle.wl_wire.specs.declared.kind.Kind.TheVariants as kinds
 use Rattle.wl_wire.specs.declared.kind.Iface.{Iface}
@@ -15,8 +15,6 @@ use Rattle.wl_objects.specs.declared.writing.BindMessage.{BindMessage}
 use Rattle.wl_objects.specs.declared.argument.Arg.TheVariants as args
 use Rattle.wl_object_map.specs.declared.object.Object.{Object}
 use Rattle.wl_object_map.specs.declared.object.Entry.{Entry}
-use Rattle.wl_object_map.specs.declared.object.State.{State}
-use Rattle.wl_object_map.specs.declared.object.State.TheVariants as states
 use Rattle.wl_objects.specs.Reading.{is_of, iface_of}
 use Rattle.wl_object_map.specs.View.{lives}
 
@@ -37,7 +35,6 @@ object_suits null None = null
 object_suits null (Some object) = true
 
 -- Whether an argument is of the kind: null only where that is allowed, and no string has a byte 0.
--- Nothing suits the kind of a new object of the server.
 abbrev pub suits : Kind → Given → Bool
 suits kinds.Int (Int z) = true
 suits kinds.Uint (Uint n) = true
@@ -46,7 +43,7 @@ suits (kinds.Str null) (Str text) = text_suits null text
 suits (kinds.Obj null iface) (Obj object) = object_suits null object
 suits (kinds.New (Some iface)) (New x) = true
 suits (kinds.New None) (NewNamed iface version x) = has_no_nul iface
-suits (kinds.NewByServer iface) x = false
+suits (kinds.NewByServer iface) (New x) = true
 suits kinds.Array (Array bytes) = true
 suits kinds.Fd (Fd token) = true
 suits _ _ = false
@@ -184,6 +181,7 @@ pub record BindFits (bind : BindMessage) : Type 0 where
 abbrev pub call_makes : List Kind → Option Iface
 call_makes [] = None
 call_makes (kinds.New (Some iface) ∷ ks) = Some iface
+call_makes (kinds.NewByServer iface ∷ ks) = Some iface
 call_makes (_ ∷ ks) = call_makes ks
 
 -- What the arguments of a call come to that is not refused for them: how many bytes its message

@@ -6,7 +6,6 @@ ghost use Rattle.wl_wire.specs.Spelling.{padded, spelled_len};
 ghost use Rattle.wl_sigs.specs.Tables.{MessageSignature, max_args};
 ghost use Rattle.wl_sigs.specs.Valid.{Valid};
 ghost use Rattle.wl_object_map.specs.Objects.{look, ObjectsAreSound};
-ghost use Rattle.wl_objects.specs.Reading.{is_of, iface_of};
 ghost use Rattle.wl_objects.specs.Messages.{checked, live_row, unless_wrong};
 ghost use Rattle.wl_objects.specs.Carried.{InRange};
 ghost use Rattle.wl_objects.specs.Seen.{signature_in, signature_of};
@@ -57,8 +56,8 @@ pub fn check_call<'t, T: Table>(
 ) -> Result<CheckedCall<'t>, SendError>
     requires { 8 ≤ limit }
     ensures answer { signature_in result ≡ checked limit messages.entry.tables.now
-        messages.entry.side (objects.now) target opcode (given args.now) }
-    ensures entry { IfOk result (λ call. look (objects.now) target.id ≡ Some call.entry) }
+        messages.entry.side objects.now target opcode (given args.now) }
+    ensures entry { IfOk result (λ call. look objects.now target.id ≡ Some call.entry) }
     ensures len { IfOk result
         (λ call. (id : ℕ) → call.len ≡ message_len (on_wire id args.now)) }
     ensures tokens { IfOk result (λ call. call.tokens ≡ length (tokens_of (given args.now))) }
@@ -70,7 +69,7 @@ pub fn check_call<'t, T: Table>(
     ensures in_range { IfOk result (λ _. All InRange (given args.now)) }
     ensures few { IfOk result (λ _. length args.now ≤ max_args) }
     // Always so, and known because the objects and the tables were asked.
-    ensures sound { ObjectsAreSound (objects.now) }
+    ensures sound { ObjectsAreSound objects.now }
     ensures valid { IfOk result (λ _. Valid messages.entry.tables.now) }
 {
     let Messages { tables, side } = messages;
@@ -109,7 +108,7 @@ fn measure<T: Table>(
     requires few { length kinds.now ≤ max_args }
     ensures answer { (signature : MessageSignature) → signature_of signature result
         ≡ unless_wrong limit (wrong_place 0 kinds.now (given args.now))
-        (lost_place (look (objects.now)) 0 kinds.now (given args.now))
+        (lost_place (look objects.now) 0 kinds.now (given args.now))
         (message_len (on_wire 0 args.now)) signature }
     ensures measured { IfOk result (IsMeasured kinds.now args.now limit) }
     ensures in_range { IfOk result (λ _. All InRange (given args.now)) }
@@ -210,15 +209,16 @@ fn new_iface(kind: Kind) -> Option<Iface>
 {
     match kind {
         Kind::New(iface) => iface,
+        Kind::NewByServer(iface) => Some(iface),
         _ => None,
     }
 }
 
 /// The entry of an object that is live with this birth.
 pub fn live_row<T: Table>(objects: &Objects<T>, object: Object) -> Option<Entry>
-    ensures row { result ≡ live_row (objects.now) object }
-    ensures sound { ObjectsAreSound (objects.now) }
-    ensures held { IfSome result (λ entry. look (objects.now) object.id ≡ Some entry) }
+    ensures row { result ≡ live_row objects.now object }
+    ensures sound { ObjectsAreSound objects.now }
+    ensures held { IfSome result (λ entry. look objects.now object.id ≡ Some entry) }
 {
     match objects.look(object.id) {
         Some(entry) if entry.birth == object.birth && entry.state == State::Live => Some(entry),
@@ -226,7 +226,7 @@ pub fn live_row<T: Table>(objects: &Objects<T>, object: Object) -> Option<Entry>
     }
 }
 
-/// Whether an argument is of the kind. None is of that of a new object of the server.
+/// Whether an argument is of the kind.
 fn suits(kind: Kind, arg: &Arg<'_>) -> bool
     ensures { result ≡ suits kind (given_of arg.now) }
 {
@@ -234,7 +234,7 @@ fn suits(kind: Kind, arg: &Arg<'_>) -> bool
         (Kind::Int, Arg::Int(_))
         | (Kind::Uint, Arg::Uint(_))
         | (Kind::Fixed, Arg::Fixed(_))
-        | (Kind::New(Some(_)), Arg::New)
+        | (Kind::New(Some(_)) | Kind::NewByServer(_), Arg::New)
         | (Kind::Array, Arg::Array(_))
         | (Kind::Fd, Arg::Fd(_)) => true,
         (Kind::Str { null }, Arg::Str(None)) | (Kind::Obj { null, .. }, Arg::Obj(None)) => null,
@@ -246,7 +246,7 @@ fn suits(kind: Kind, arg: &Arg<'_>) -> bool
 
 /// Whether an object is live with this birth, and of the interface, if one is asked for.
 fn names_one<T: Table>(objects: &Objects<T>, iface: Option<Iface>, object: Object) -> bool
-    ensures { result ≡ names_one iface object (look (objects.now) object.id) }
+    ensures { result ≡ names_one iface object (look objects.now object.id) }
 {
     match live_row(objects, object) {
         Some(entry) => iface.is_none_or(|iface| iface == entry.iface),
@@ -256,7 +256,7 @@ fn names_one<T: Table>(objects: &Objects<T>, iface: Option<Iface>, object: Objec
 
 /// Whether an argument of this kind names no object, or one that can be named.
 fn can_name<T: Table>(objects: &Objects<T>, kind: Kind, arg: &Arg<'_>) -> bool
-    ensures { result ≡ can_name (look (objects.now)) kind (given_of arg.now) }
+    ensures { result ≡ can_name (look objects.now) kind (given_of arg.now) }
 {
     match (kind, arg) {
         (Kind::Obj { iface, .. }, Arg::Obj(Some(object))) => names_one(objects, iface, *object),
@@ -268,7 +268,7 @@ fn can_name<T: Table>(objects: &Objects<T>, kind: Kind, arg: &Arg<'_>) -> bool
 /// The place of an argument of this kind, if the object that it names is not live or of another
 /// interface.
 fn lost_at<T: Table>(objects: &Objects<T>, place: usize, kind: Kind, arg: &Arg<'_>) -> Option<usize>
-    ensures { result ≡ lost_place (look (objects.now)) place (kind ∷ [])
+    ensures { result ≡ lost_place (look objects.now) place (kind ∷ [])
         (given_of arg.now ∷ []) }
 {
     if can_name(objects, kind, arg) {

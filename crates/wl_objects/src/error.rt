@@ -19,8 +19,8 @@ pub enum SendError {
     /// S4: the message is newer than the target's version.
     TooOld,
     /// S5: the argument at this place is of the wrong kind, is null where that is not allowed, or
-    /// is a string with a byte 0; no argument is of the kind of an object that the server makes.
-    /// Where the numbers of arguments differ and all before fit, the smaller number.
+    /// is a string with a byte 0. Where the numbers of arguments differ and all before fit, the
+    /// smaller number.
     WrongArgs(usize),
     /// S6: the object at this place is not live, or of another interface.
     BadObject(usize),
@@ -31,7 +31,7 @@ pub enum SendError {
     TooLong,
     /// S9: the outbox has too few free bytes or tokens.
     Full,
-    /// S10: no more objects can be opened.
+    /// S10: no more objects can be opened in the range of ids of the message's writer.
     NoIds,
     /// S11: there is no memory for the new object.
     Memory,
@@ -52,8 +52,9 @@ pub enum Fault {
     BadArgument(usize, ArgFault),
     /// F5: the object at this place is unknown, or of another interface.
     BadObject(usize),
-    /// F6: the new id at this place is 0, in use, or neither freed nor the next; at an end it may
-    /// also be that of any object that the server makes.
+    /// F6: the new id at this place is not of the range of the message's writer, is in use, or is
+    /// neither freed nor the next. At a client an id is in use only where a request can end its
+    /// object: any other object of the server's gives way to the new one.
     BadNewId(usize),
     /// F7: bytes are left behind the last argument.
     TrailingBytes,
@@ -74,10 +75,11 @@ pub enum NextError {
     Fault { fault: Fault, offset: u64 },
     /// The end had failed before.
     Failed,
-    /// There is no memory for the report. The message stays and can be read again.
+    /// There is no memory for the report, or for the object that an event makes. The message stays
+    /// and can be read again.
     Memory,
-    /// The outbox has no room for the delete_id that follows a request that destroys an object. The
-    /// message stays and can be read again.
+    /// The outbox has no room for the delete_id that follows a request that destroys an object
+    /// which the client made. The message stays and can be read again.
     OutFull,
 }
 

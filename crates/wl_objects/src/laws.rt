@@ -18,7 +18,7 @@ ghost use Rattle.wl_objects.specs.Writing.{Given, call_makes, given, message_byt
 ghost use Rattle.wl_objects.specs.Writing.{lost_place, on_wire, spelled, tokens_of, wired};
 ghost use Rattle.wl_objects.specs.Writing.{wrong_place};
 ghost use Rattle.wl_objects.specs.Messages.{checked, made, received};
-ghost use Rattle.wl_objects.specs.Carried.{AreWritten, Arrive, InRange, IsExpected, IsTarget};
+ghost use Rattle.wl_objects.specs.Carried.{AreExpected, AreWritten, Arrive, InRange, IsTarget};
 ghost use Rattle.wl_objects.specs.Carried.{CallPasses, received_as_meant};
 ghost use Rattle.wl_objects.specs.Places.{IsFirstLost, IsFirstWrong, ReachesArguments, SuitsAt};
 
@@ -29,7 +29,7 @@ pub fn what_is_written_arrives()
     ensures { (writer : ℕ → Option SpecEntry) (reader : Reader) (kinds : List SpecKind) (n : ℕ)
         (list : List Given)
         → n < 2 ^ 32 → reader.forgives ≡ false → AreWritten writer kinds list
-        → All (IsExpected writer reader n) list
+        → AreExpected writer reader n kinds list
         → Arrive reader kinds n list }
 {}
 
@@ -116,7 +116,8 @@ pub fn a_message_arrives()
         list signature)
         → (held : IsTarget passes.entry reader target)
         → reader.forgives ≡ false → n < 2 ^ 32 → All InRange list
-        → All (IsExpected (look view) reader n) list → length (tokens_of list) ≤ waiting
+        → AreExpected (look view) reader n signature.kinds list
+        → length (tokens_of list) ≤ waiting
         → received tables side reader (record { object = target.id; size = size; opcode = opcode })
         (spelled (map (wired n) list)) waiting
         ≡ Ok (received_as_meant target held.row signature (map (wired n) list)) }

@@ -24,15 +24,17 @@ pub use args::Args;
 pub use argument::{Arg, Got, GotRef, Named};
 pub use calling::{CheckedCall, check_call, live_row};
 pub use error::{Fault, NextError, SendError};
-pub use lookup::{Lookup, NewId, ObjectsLookup};
-pub use messages::{DISPLAY, Messages, REGISTRY, is_bind, is_delete_id, is_error, is_hidden};
+pub use lookup::{Lookup, NewId, ObjectsLookup, waits_for_request};
+pub use messages::{
+    DISPLAY, Messages, REGISTRY, is_bind, is_delete_id, is_error, is_hidden, maker_by,
+};
 pub use new_object::{NewObject, made_by_message};
 pub use parsed::{ParsedArg, ParsedArgs};
 pub use reading::{Received, descriptors, receive};
 pub use reporting::{OwnedArgs, named};
 pub use values::Values;
 pub use wl_object_map::{
-    Entry, Maker, MapTable, Object, Objects, SlotTable, State, Table, TableError,
+    Entry, FIRST_SERVER_ID, Maker, MapTable, Object, Objects, SlotTable, State, Table, TableError,
 };
 pub use wl_sigs::MAX_ARGS;
 pub use writing::{BindMessage, CallMessage, take_tokens};

@@ -1,7 +1,8 @@
 //! The messages of a side, and those that have a meaning of their own.
 ghost use Rattle.std.specs.Prelude.{◌≡◌};
-ghost use Rattle.wl_objects.specs.Messages.{is_error, is_delete_id, is_bind, is_hidden};
+ghost use Rattle.wl_objects.specs.Messages.{is_error, is_delete_id, is_bind, is_hidden, maker_by};
 
+use wl_object_map::Maker;
 use wl_sigs::{Side, Tables, event, request};
 use wl_wire::Iface;
 
@@ -10,6 +11,16 @@ use wl_wire::Iface;
 pub struct Messages<'t> {
     pub tables: &'t Tables,
     pub side: Side,
+}
+
+/// Who makes the objects that messages of a side make.
+pub fn maker_by(side: Side) -> Maker
+    ensures { result ≡ maker_by side }
+{
+    match side {
+        Side::Request => Maker::Client,
+        Side::Event => Maker::Server,
+    }
 }
 
 /// The place of wl_display in all tables.

@@ -45,14 +45,16 @@ pub fn made_by_message(
 fn is_new(kind: Kind) -> bool
     ensures { result ≡ is_new_id_kind kind }
 {
-    matches!(&kind, Kind::New(_))
+    matches!(&kind, Kind::New(_) | Kind::NewByServer(_))
 }
 
 fn made_by(tables: &Tables, version: u32, kind: Kind, value: ValueRef<'_>) -> Option<NewObject>
     ensures { result ≡ made_by tables.now version kind (lent value.entry) }
 {
     match (kind, value) {
-        (Kind::New(Some(iface)), ValueRef::New(id)) => Some(NewObject { id, iface, version }),
+        (Kind::New(Some(iface)) | Kind::NewByServer(iface), ValueRef::New(id)) => {
+            Some(NewObject { id, iface, version })
+        }
         (Kind::New(None), ValueRef::NewNamed { iface, version, id }) => {
             let iface = tables.interface(iface)?;
             Some(NewObject { id, iface, version })

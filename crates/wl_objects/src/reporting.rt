@@ -1,6 +1,8 @@
 //! The arguments of a message as its reader reports them.
-ghost use Rattle.std.specs.Prelude.{◌≡◌, []};
+ghost use Rattle.std.specs.Prelude.{◌≡◌, List, []};
 ghost use Rattle.std.specs.Option.{option_map_or};
+ghost use Rattle.wl_sigs.specs.Tables.{Interface};
+ghost use Rattle.wl_sigs.specs.declared.signature.Side.{Side};
 ghost use Rattle.wl_objects.specs.Reading.{named_at};
 ghost use Rattle.wl_objects.specs.Messages.{reader_of};
 ghost use Rattle.wl_objects.specs.Seen.{got_values};
@@ -64,7 +66,8 @@ impl<A: Allocator> OwnedArgs<A> {
 
 /// The object that an id names, live or dead as its entry is. Null where the id is 0 or unknown.
 pub fn named<T: Table>(objects: &Objects<T>, id: u32) -> Named
-    ensures { result ≡ named_at (reader_of objects.now) id }
+    ensures { (tables : List Interface) (side : Side)
+        → result ≡ named_at (reader_of tables side objects.now) id }
 {
     if id == 0 {
         return Named::Null;

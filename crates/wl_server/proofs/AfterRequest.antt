@@ -7,6 +7,7 @@ use Rattle.std.specs.declared.result.Result.{Result}
 use Rattle.std.specs.declared.result.Result.TheVariants.{Ok, Err}
 use Rattle.wl_sigs.specs.declared.signature.Destroys.{Destroys}
 use Rattle.wl_sigs.specs.declared.signature.Destroys.TheVariants.{Nothing, Target, Arg}
+use Rattle.wl_sigs.specs.declared.signature.Side.TheVariants.{Request as request_side}
 use Rattle.wl_sigs.specs.Tables.{Interface}
 use Rattle.wl_wire.specs.declared.kind.Kind.{Kind}
 use Rattle.wl_object_map.specs.declared.object.Entry.{Entry}
@@ -14,15 +15,16 @@ use Rattle.wl_objects.specs.declared.error.Fault.{Fault}
 use Rattle.wl_objects.specs.declared.error.NextError.{NextError}
 use Rattle.wl_objects.specs.declared.error.NextError.TheVariants as errors
 use Rattle.wl_object_map.specs.declared.object.Object.{Object}
-use Rattle.wl_object_map.specs.Objects.{Objects, is_held, look}
+use Rattle.wl_object_map.specs.Objects.{Objects, closed, is_held, look}
+use Rattle.wl_object_map.specs.Ranges.{is_of_server}
 use Rattle.wl_object_map.specs.ObjectsLaws.{look-opened_at, opened_at-client}
 use Rattle.wl_objects.specs.declared.parsed.ParsedArg.{ParsedArg}
-use Rattle.wl_objects.specs.Messages.{NewObject, made, opens, same_iface, reader_of}
+use Rattle.wl_objects.specs.Messages.{NewObject, made, opens, same_iface}
 use Rattle.wl_sigs.specs.Fixed.{registry}
 use Rattle.wl_message.specs.Arrived.{Arrived, in_front, without_first}
 use Rattle.wl_message.specs.Cut.{message_size}
 use Rattle.wl_connection.specs.Core.{Core, past, with_view}
-use Rattle.wl_connection.specs.Receiving.{Found, is_none}
+use Rattle.wl_connection.specs.Receiving.{Found, is_none, reader_in}
 use Rattle.wl_connection.specs.Outcomes.{answers_with, unless_memory}
 use Rattle.wl_connection.specs.Roles.{front_answer, front_left}
 use Rattle.wl_connection.proofs.Frames.{same-body, same-tokens}
@@ -39,6 +41,7 @@ use Rattle.wl_server.specs.Steps.{after_step, report_of_step, core_by, core_told
 use Rattle.wl_server.specs.Steps.{registries_by, server_state, whole_state}
 use Rattle.wl_server.specs.Registries.{IsFreshId}
 use Rattle.wl_server.proofs.RisingBirths.{rise-below, rise-new}
+use Rattle.wl_server.proofs.ReadingStays.{inbox_kept}
 
 -- ---- the registries
 
@@ -225,7 +228,7 @@ memory-wanted state step e m =
     let f = found-by state step e in
     let some : f.0.message.values ≢ [] = made-some state.core f.0 (λ none. m (ap (λ (s : Step). s.made) f.2 ∙ none)) in
     needs-some state step e (ap (λ (s : Step). needs_memory s.report) f.2
-    ∙ some_reported (reader_of state.core.view) state.core.inbox.tokens f.0.message.values some)
+    ∙ some_reported (reader_in state.core request_side) state.core.inbox.tokens f.0.message.values some)
 
 pub some-args : {X Y : Type 0} (f : X → Y) (xs : List X) → xs ≢ [] → not (is_none (map f xs)) ≡ true
 some-args f [] h = absurd (h refl)
@@ -235,7 +238,8 @@ some-args f (x ∷ xs) h = refl
 
 inbox-without : (ended : Option Object) (core : Core) → (core_without ended core).inbox ≡ core.inbox
 inbox-without None core = refl
-inbox-without (Some object) core = refl
+inbox-without (Some object) core = inbox_kept (not (is_of_server object.id)) object.id
+    (with_view core (closed core.view object.id))
 
 pub inbox-taken : (core : Core) (step : Step) → (core_by core step).inbox
     ≡ without_first core.inbox step.size step.tokens

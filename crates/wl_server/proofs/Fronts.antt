@@ -1,7 +1,7 @@
 -- What stands in front of a server's waiting bytes, and that it can be taken.
 use Rattle.std.proofs.Common.{◌≡◌, ◌≢◌, ℕ, zero, suc, ◌≤◌, Bool, true, false, List, [], ◌∷◌, length}
 use Rattle.std.proofs.Common.{take, drop, Some, None, refl, sym, ap, subst, ◌∙◌, inl, inr, arith}
-use Rattle.std.specs.Prelude.{Option, ◌&&◌, nat_lt, nat_eq, slice_get, IsTrue, is_some}
+use Rattle.std.specs.Prelude.{Option, ◌&&◌, not, nat_lt, nat_eq, slice_get, IsTrue}
 use Rattle.std.specs.Option.{option_and_then}
 use Rattle.std.specs.declared.result.Result.{Result}
 use Rattle.std.specs.declared.result.Result.TheVariants.{Ok, Err}
@@ -32,27 +32,29 @@ use Rattle.wl_object_map.specs.declared.object.State.TheVariants.{Live, Zombie}
 use Rattle.wl_wire.specs.Argument.{Obj}
 use Rattle.wl_object_map.specs.View.{free_or_next, has_room}
 use Rattle.wl_object_map.specs.Objects.{Objects, look}
+use Rattle.wl_object_map.specs.Ranges.{is_of_server}
 use Rattle.wl_objects.specs.declared.parsed.ParsedArg.{ParsedArg}
 use Rattle.wl_objects.specs.Parsed.{AreParsed, reported_in}
 use Rattle.wl_objects.specs.Reading.{Reader, in_state, reports_of, Reported}
-use Rattle.wl_objects.specs.Messages.{NewObject, Received, received, reader_of}
+use Rattle.wl_objects.specs.Messages.{NewObject, Received, received}
 use Rattle.wl_connection.specs.Core.{Core, HasDisplay}
-use Rattle.wl_connection.specs.Receiving.{Found, found, reported, found_in, takes}
+use Rattle.wl_connection.specs.Receiving.{Found, found, reported, found_in, takes, reader_in}
 use Rattle.wl_connection.specs.Sending.{delete_id_len, fits}
 use Rattle.wl_connection.proofs.ReceivedMessage.{is_received}
 use Rattle.wl_connection.proofs.FoundStays.{is_found}
 use Rattle.wl_connection.proofs.Frames.{IsFrame, descriptors-le, found_frame, framed}
 use Rattle.wl_connection.proofs.Ends.{argument_received}
-use Rattle.wl_connection.proofs.NewIds.{new_is_free}
+use Rattle.wl_connection.proofs.NewIds.{new_free_at_server}
 use Rattle.wl_connection.proofs.Descriptors.{fds, reports_stay}
 use Rattle.wl_server.specs.State.{Global}
 use Rattle.wl_server.specs.Requests.{Report, made_by_request, report, request, unless_bad_bind, reported_object}
+use Rattle.wl_server.specs.Requests.{ended_object, is_out_full, owes_delete_id}
 use Rattle.wl_server.specs.Steps.{Step, step_of, step_found, front_step, server_state, pending_in}
 use Rattle.wl_server.specs.Steps.{pending_of, ended_by_request, report_with, HasFreeId, HasRow, CanTake, IsEndedBy}
-use Rattle.wl_server.specs.Steps.{IsPendingOf, is_bad_bind}
+use Rattle.wl_server.specs.Steps.{IsPendingOf, is_bad_bind, needs_delete_id}
 
 abbrev pub read_by : Core → Header → List ℕ → ℕ → Result Received Fault
-read_by core h body waiting = received core.tables request_side (reader_of core.view) h body waiting
+read_by core h body waiting = received core.tables request_side (reader_in core request_side) h body waiting
 
 pub found_is : (core : Core) (h : Header) (body : List ℕ) (waiting : ℕ) → IsFrame core h body waiting
     → (r : Result Received Fault) → r ≡ read_by core h body waiting
@@ -99,7 +101,7 @@ request_some core globals h body waiting m s e b = request_is core globals h bod
 pub answers_full : (core : Core) (globals : List Global) (h : Header) (body : List ℕ) (waiting : ℕ) (m : Received)
     → IsFrame core h body waiting → Ok m ≡ read_by core h body waiting
     → is_bad_bind core.tables globals h.opcode m ≡ false
-    → (destroys_one m.signature.destroys && nat_lt (room_of core.outbox) delete_id_len) ≡ true
+    → is_out_full core (the_found h m) ≡ true
     → Answers core globals (Err errors.OutFull)
 answers_full core globals h body waiting m s e b f =
     answers_as core globals (Ok (Some (the_found h m))) _ (request_some core globals h body waiting m s e b) (rw f refl)
@@ -107,7 +109,7 @@ answers_full core globals h body waiting m s e b f =
 front_ok : (core : Core) (globals : List Global) (h : Header) (body : List ℕ) (waiting : ℕ) (m : Received)
     → IsFrame core h body waiting → Ok m ≡ read_by core h body waiting
     → is_bad_bind core.tables globals h.opcode m ≡ false
-    → (destroys_one m.signature.destroys && nat_lt (room_of core.outbox) delete_id_len) ≡ false
+    → is_out_full core (the_found h m) ≡ false
     → front_step (server_state core globals) ≡ Ok (Some (step_of core (the_found h m)))
 front_ok core globals h body waiting m s e b f = ap (step_found core) (request_some core globals h body waiting m s e b)
     ∙ rw f refl
@@ -135,11 +137,10 @@ display_lasts tables v view d id opcode entry m r s t e =
     nothing_of opcode m (sym first ∙ (ap (λ (i : Iface). signature_at tables i.0 request_side opcode) (sym iface) ∙ s))
     t
 
-room_for : (core : Core) (d : Destroys) → (destroys_one d && nat_lt (room_of core.outbox) delete_id_len) ≡ false
-    → destroys_one d ≡ true → IsTrue (fits core.outbox delete_id_len 0)
-room_for core Nothing f t = absurd (cc t)
-room_for core Target f t = grind (arith, common_steps, nat_tests, f)
-room_for core (Arg place) f t = grind (arith, common_steps, nat_tests, f)
+room_for : (core : Core) (owes : Bool) → (owes && nat_lt (room_of core.outbox) delete_id_len) ≡ false
+    → owes ≡ true → IsTrue (fits core.outbox delete_id_len 0)
+room_for core false f t = absurd (cc t)
+room_for core true f t = grind (arith, common_steps, nat_tests, f)
 
 -- the reported object of a row that is there
 in_either : (s : State) (object : Object) → reported_object (Some (Obj (in_state s object))) ≡ object
@@ -160,7 +161,7 @@ record IsEnded (core : Core) (object : Object) : Type 0 where
 ended_target : (core : Core) (h : Header) (body : List ℕ) (waiting : ℕ) (m : Received) → Valid core.tables
     → HasDisplay core.view → Ok m ≡ read_by core h body waiting → m.signature.destroys ≡ Target → IsEnded core m.target
 ended_target core h body waiting m v d e t =
-    let r = is_received core.tables request_side (reader_of core.view) h body waiting m (sym e) in
+    let r = is_received core.tables request_side (reader_in core request_side) h body waiting m (sym e) in
     let row : look core.view m.target.id ≡ Some m.entry = ap (look core.view) r.id ∙ r.row in
     record {
       row = record { entry = m.entry; row = row; birth = sym r.birth };
@@ -178,14 +179,14 @@ registry_lasts view id entry d row is e =
 
 ended_argument : (core : Core) (h : Header) (body : List ℕ) (waiting : ℕ) (m : Received) (k : ℕ) → Valid core.tables
     → HasDisplay core.view → Ok m ≡ read_by core h body waiting → m.signature.destroys ≡ Arg k
-    → IsEnded core (reported_object (slice_get (reports_of (reader_of core.view) core.inbox.tokens m.values) k))
+    → IsEnded core (reported_object (slice_get (reports_of (reader_in core request_side) core.inbox.tokens m.values) k))
 ended_argument core h body waiting m k v d e t =
-    let a = argument_received core.tables (reader_of core.view) h body waiting m k v (sym e) t in
+    let a = argument_received core.tables (reader_in core request_side) h body waiting m k v (sym e) t in
     let n = a.1 in
     let object : Object = record { id = n.id; birth = n.entry.birth } in
-    let same : reported_object (slice_get (reports_of (reader_of core.view) core.inbox.tokens m.values) k) ≡ object =
-    (λ i. reported_object (slice_get (reports_of (reader_of core.view) core.inbox.tokens (n.are i)) (a.0 i)))
-    ∙ named_object (reader_of core.view) core.inbox.tokens n.id n.entry n.some n.there in
+    let same : reported_object (slice_get (reports_of (reader_in core request_side) core.inbox.tokens m.values) k) ≡ object =
+    (λ i. reported_object (slice_get (reports_of (reader_in core request_side) core.inbox.tokens (n.are i)) (a.0 i)))
+    ∙ named_object (reader_in core request_side) core.inbox.tokens n.id n.entry n.some n.there in
     subst (IsEnded core) (sym same) (record {
       row = record { entry = n.entry; row = n.there; birth = refl };
       other = registry_lasts core.view n.id n.entry d n.there n.registers;
@@ -206,18 +207,22 @@ ended_there core h body waiting m v d e object is = by_what m.signature.destroys
     by_what Target t k = subst (IsEnded core) (inside k) (ended_target core h body waiting m v d e t)
     by_what (Arg place) t k = subst (IsEnded core) (inside k) (ended_argument core h body waiting m place v d e t)
 
--- whether a request destroys anything
-is_some_ended : (what : Destroys) (report : Report) → is_some (ended_by_request what report) ≡ destroys_one what
-is_some_ended Nothing report = refl
-is_some_ended Target report = refl
-is_some_ended (Arg place) report = refl
+-- whether what a request destroys is answered by a delete_id
+owes_is : (what : Destroys) (report : Report) → needs_delete_id (ended_by_request what report)
+    ≡ (destroys_one what && not (is_of_server (ended_object what report).id))
+owes_is Nothing report = refl
+owes_is Target report = refl
+owes_is (Arg place) report = refl
 
-destroys_some : (what : Destroys) (report : Report) (object : Object) → ended_by_request what report ≡ Some object
-    → destroys_one what ≡ true
-destroys_some what report object is = sym (is_some_ended what report) ∙ ap is_some is
+-- it is where the client made it
+owes_one : (core : Core) (f : Found) (object : Object)
+    → ended_by_request f.message.signature.destroys (report core f) ≡ Some object
+    → is_of_server object.id ≡ false → owes_delete_id core f ≡ true
+owes_one core f object is client =
+    sym (owes_is f.message.signature.destroys (report core f)) ∙ (ap needs_delete_id is ∙ ap not client)
 
 ended_is : (core : Core) (h : Header) (body : List ℕ) (m : Received) (args : List ParsedArg) (ended : Option Object)
-    → AreParsed (reader_of core.view) body args m.values → IsEndedBy m args ended
+    → AreParsed (reader_in core request_side) body args m.values → IsEndedBy m args ended
     → ended ≡ ended_by_request m.signature.destroys (report core (the_found h m))
 ended_is core h body m args ended a k =
     k h.opcode core.view.client.births body core.inbox.tokens
@@ -225,13 +230,14 @@ ended_is core h body m args ended a k =
     (a.reported core.inbox.tokens)
 
 -- whether there is room for its delete_id
-pub full_by : (core : Core) (m : Received) (args : List ParsedArg) (ended : Option Object) (b : Bool)
-    → IsEndedBy m args ended → (is_some ended && nat_lt (room_of core.outbox) delete_id_len) ≡ b
-    → (destroys_one m.signature.destroys && nat_lt (room_of core.outbox) delete_id_len) ≡ b
-full_by core m args ended b k e =
+pub full_by : (core : Core) (h : Header) (body : List ℕ) (m : Received) (args : List ParsedArg) (ended : Option Object)
+    (b : Bool) → AreParsed (reader_in core request_side) body args m.values → IsEndedBy m args ended
+    → (needs_delete_id ended && nat_lt (room_of core.outbox) delete_id_len) ≡ b
+    → is_out_full core (the_found h m) ≡ b
+full_by core h body m args ended b a k e =
     ap (λ (x : Bool). x && nat_lt (room_of core.outbox) delete_id_len)
-    (sym (ap is_some (k 0 0 [] []) ∙ is_some_ended m.signature.destroys
-    (report_with m.target 0 (reported_in [] 0 [] args)))) ∙ e
+    (sym (ap needs_delete_id (ended_is core h body m args ended a k)
+    ∙ owes_is m.signature.destroys (report core (the_found h m)))) ∙ e
 
 -- what a request makes can be opened
 has_free : (view : Objects) (o : Option NewObject)
@@ -242,10 +248,10 @@ has_free view (Some new) h = h new refl
 
 can_take_found : (core : Core) (h : Header) (body : List ℕ) (waiting : ℕ) (m : Received) → Valid core.tables
     → HasDisplay core.view → IsFrame core h body waiting → Ok m ≡ read_by core h body waiting
-    → (destroys_one m.signature.destroys && nat_lt (room_of core.outbox) delete_id_len) ≡ false
+    → is_out_full core (the_found h m) ≡ false
     → CanTake core (step_of core (the_found h m))
 can_take_found core h body waiting m v d s e f =
-    let r = is_received core.tables request_side (reader_of core.view) h body waiting m (sym e) in
+    let r = is_received core.tables request_side (reader_in core request_side) h body waiting m (sym e) in
     record {
       whole = s.whole;
       tokens = omega (arith, r.tokens, s.tokens);
@@ -257,14 +263,14 @@ can_take_found core h body waiting m v d s e f =
       );
       birth = refl;
       made = has_free core.view (made_by_request core m)
-          (λ new is. new_is_free core.tables request_side core.view h body waiting m new (sym e) is);
+          (λ new is. new_free_at_server core.tables core.view h body waiting m new v (sym e) is);
       ended = λ object is.
           let there = ended_there core h body waiting m v d e object is in
           record {
             row = there.row;
             not_display = there.other;
-            room = room_for core m.signature.destroys f
-                (destroys_some m.signature.destroys (report core (the_found h m)) object is);
+            room = λ client. room_for core (owes_delete_id core (the_found h m)) f
+                (owes_one core (the_found h m) object is client);
           };
     }
 
@@ -272,26 +278,26 @@ can_take_found core h body waiting m v d s e f =
 
 -- its own tokens are enough for its report
 tokens_enough : (core : Core) (f : Found) → found core request_side ≡ Ok (Some f)
-    → reports_of (reader_of core.view) (take (takes f.message) core.inbox.tokens) f.message.values
-    ≡ reports_of (reader_of core.view) core.inbox.tokens f.message.values
+    → reports_of (reader_in core request_side) (take (takes f.message) core.inbox.tokens) f.message.values
+    ≡ reports_of (reader_in core request_side) core.inbox.tokens f.message.values
 tokens_enough core f e =
     let n = takes f.message in
     let tokens = core.inbox.tokens in
     let is = is_found core request_side f e in
     let enough : fds f.message.values ≤ length (take n tokens) = let l = length-take-le n tokens is.enough
     in omega (arith, l, is.count) in
-    sym (reports_stay (reader_of core.view) (take n tokens) (drop n tokens) f.message.values enough)
-    ∙ ap (λ (l : List ℕ). reports_of (reader_of core.view) l f.message.values) (take-append-drop n tokens)
+    sym (reports_stay (reader_in core request_side) (take n tokens) (drop n tokens) f.message.values enough)
+    ∙ ap (λ (l : List ℕ). reports_of (reader_in core request_side) l f.message.values) (take-append-drop n tokens)
 
 same_step : (core : Core) (h : Header) (body : List ℕ) (waiting : ℕ) (m : Received) (args : List ParsedArg)
     (ended : Option Object) → IsFrame core h body waiting → Ok m ≡ read_by core h body waiting
-    → AreParsed (reader_of core.view) body args m.values → IsEndedBy m args ended
+    → AreParsed (reader_in core request_side) body args m.values → IsEndedBy m args ended
     → pending_in core args (pending_of core.tables core.view.client.births ended h m) ≡ step_of core (the_found h m)
 same_step core h body waiting m args ended s e a k =
     let rest : drop 8 (take h.size core.inbox.bytes) ≡ body = ap (drop 8) s.parts in
     let tokens = take (takes m) core.inbox.tokens in
     let f = the_found h m in
-    let same : reported_in (drop 8 (take h.size core.inbox.bytes)) core.view.client.births tokens args ≡ reported core m =
+    let same : reported_in (drop 8 (take h.size core.inbox.bytes)) core.view.client.births tokens args ≡ reported core request_side m =
     ap (λ (b : List ℕ). reported_in b core.view.client.births tokens args) rest
     ∙ (a.reported tokens ∙ tokens_enough core f (found_is core h body waiting s (Ok m) e)) in
     let ends = ended_is core h body m args ended a k in
@@ -301,23 +307,23 @@ same_step core h body waiting m args ended s e a k =
 pub can_take : (core : Core) (h : Header) (body : List ℕ) (waiting : ℕ) (m : Received) (args : List ParsedArg)
     (ended : Option Object) → Valid core.tables → HasDisplay core.view → IsFrame core h body waiting
     → Ok m ≡ read_by core h body waiting
-    → AreParsed (reader_of core.view) body args m.values → IsEndedBy m args ended
-    → (is_some ended && nat_lt (room_of core.outbox) delete_id_len) ≡ false
+    → AreParsed (reader_in core request_side) body args m.values → IsEndedBy m args ended
+    → (needs_delete_id ended && nat_lt (room_of core.outbox) delete_id_len) ≡ false
     → CanTake core (pending_in core args (pending_of core.tables core.view.client.births ended h m))
 can_take core h body waiting m args ended v d s e a k f =
     subst (CanTake core) (sym (same_step core h body waiting m args ended s e a k))
-    (can_take_found core h body waiting m v d s e (full_by core m args ended false k f))
+    (can_take_found core h body waiting m v d s e (full_by core h body m args ended false a k f))
 
 pub answers_ok : (core : Core) (globals : List Global) (h : Header) (body : List ℕ) (waiting : ℕ) (m : Received)
     (args : List ParsedArg) (ended : Option Object) → IsFrame core h body waiting → Ok m ≡ read_by core h body waiting
     → is_bad_bind core.tables globals h.opcode m ≡ false
-    → (is_some ended && nat_lt (room_of core.outbox) delete_id_len) ≡ false
-    → AreParsed (reader_of core.view) body args m.values → IsEndedBy m args ended
+    → (needs_delete_id ended && nat_lt (room_of core.outbox) delete_id_len) ≡ false
+    → AreParsed (reader_in core request_side) body args m.values → IsEndedBy m args ended
     → Answers core globals (Ok (Some (pending_in core args (pending_of core.tables core.view.client.births ended h m))))
 answers_ok core globals h body waiting m args ended s e b f a k =
     ap (λ (x : Step). let answer : Result (Option Step) NextError = Ok (Some x) in answer)
     (same_step core h body waiting m args ended s e a k)
-    ∙ sym (front_ok core globals h body waiting m s e b (full_by core m args ended false k f))
+    ∙ sym (front_ok core globals h body waiting m s e b (full_by core h body m args ended false a k f))
 
 -- ---- as the code has it
 
@@ -340,19 +346,19 @@ pub full_told : (core before : Core) (globals : List Global) (args : List Parsed
     (p : PendingRequest) → core ≡ before → o ≡ Some f → TellsFront core.inbox (Ok o) → IsHeader f.header
     → IsPendingOf core.tables core.view globals f.header f.body.now args (read_by core f.header f.body.now f.tokens)
     (Ok p)
-    → (is_some p.change.ended && nat_lt (room_of core.outbox) delete_id_len) ≡ true
+    → (needs_delete_id p.change.ended && nat_lt (room_of core.outbox) delete_id_len) ≡ true
     → Answers before globals (Err errors.OutFull)
 full_told core before globals args o f p same e t h s full =
     subst (λ (k : Core). Answers k globals (Err errors.OutFull)) same
     (answers_full core globals f.header f.body.now f.tokens s.0 (framed core o f e t h) (sym s.1) s.2
-    (full_by core s.0 args p.change.ended true s.3.ended full))
+    (full_by core f.header f.body.now s.0 args p.change.ended true s.3.parsed s.3.ended full))
 
 -- a request that can be taken
 pub request_told : (core before : Core) (globals : List Global) (args : List ParsedArg) (o : Option Frame) (f : Frame)
     (p : PendingRequest) → core ≡ before → o ≡ Some f → TellsFront core.inbox (Ok o) → IsHeader f.header
     → IsPendingOf core.tables core.view globals f.header f.body.now args (read_by core f.header f.body.now f.tokens)
     (Ok p)
-    → (is_some p.change.ended && nat_lt (room_of core.outbox) delete_id_len) ≡ false
+    → (needs_delete_id p.change.ended && nat_lt (room_of core.outbox) delete_id_len) ≡ false
     → Answers before globals (Ok (Some (pending_in before args p)))
 request_told core before globals args o f p same e t h s fits =
     subst (λ (k : Core). Answers k globals (Ok (Some (pending_in k args p)))) same
@@ -366,7 +372,7 @@ pub can_take_told : (core before : Core) (globals : List Global) (args : List Pa
     → HasDisplay core.view
     → IsPendingOf core.tables core.view globals f.header f.body.now args (read_by core f.header f.body.now f.tokens)
     (Ok p)
-    → (is_some p.change.ended && nat_lt (room_of core.outbox) delete_id_len) ≡ false
+    → (needs_delete_id p.change.ended && nat_lt (room_of core.outbox) delete_id_len) ≡ false
     → CanTake before (pending_in before args p)
 can_take_told core before globals args o f p same e t h v d s fits =
     subst (λ (k : Core). CanTake k (pending_in k args p)) same

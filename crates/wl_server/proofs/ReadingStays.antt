@@ -1,27 +1,35 @@
 -- What a server reads of what waits stays the same when more comes behind it.
-use Rattle.std.proofs.Common.{◌≡◌, ◌≢◌, ℕ, Bool, true, false, cond, List, refl, sym, ap, ◌∙◌}
+use Rattle.std.proofs.Common.{◌≡◌, ◌≢◌, ℕ, zero, suc, Bool, true, false, cond, List, [], ◌∷◌, ◌++◌, refl, sym, ap}
+use Rattle.std.proofs.Common.{◌∙◌}
+use Rattle.std.specs.Prelude.{◌&&◌, not, nat_lt, slice_get}
 use Rattle.std.specs.declared.option.Option.{Option}
 use Rattle.std.specs.declared.option.Option.TheVariants.{None, Some}
 use Rattle.std.specs.declared.result.Result.{Result}
 use Rattle.std.specs.declared.result.Result.TheVariants.{Ok, Err}
 use Rattle.wl_sigs.specs.declared.signature.Side.TheVariants.{Request as request_side, Event as event_side}
+use Rattle.wl_sigs.specs.declared.signature.Destroys.{Destroys}
+use Rattle.wl_sigs.specs.declared.signature.Destroys.TheVariants.{Nothing, Target, Arg}
 use Rattle.wl_message.specs.Arrived.{Arrived}
+use Rattle.wl_message.specs.Outgoing.{room_of}
+use Rattle.wl_wire.specs.Argument.{Argument, Int, Uint, Fixed, Str, Obj, New, NewNamed, Array, Fd}
+use Rattle.wl_objects.specs.Reading.{Reader, head_or, reported_argument, reports_of, tokens_after}
 use Rattle.wl_objects.specs.declared.error.Fault.{Fault}
 use Rattle.wl_objects.specs.declared.error.Fault.TheVariants as faults
 use Rattle.wl_objects.specs.declared.error.NextError.{NextError}
 use Rattle.wl_object_map.specs.declared.object.Object.{Object}
 use Rattle.wl_object_map.specs.Objects.{Objects}
+use Rattle.wl_object_map.specs.Ranges.{is_of_server}
 use Rattle.wl_objects.specs.Messages.{after}
 use Rattle.wl_connection.specs.Core.{Core, with_arrived, with_view}
-use Rattle.wl_connection.specs.Receiving.{Found, found, past_found}
+use Rattle.wl_connection.specs.Receiving.{Found, found, past_found, reader_in}
 use Rattle.wl_connection.specs.Sending.{with_following}
 use Rattle.wl_connection.specs.Reads.{with_arrivals, Reads, none, fault, full, last, next, ReadsUntil}
 use Rattle.wl_connection.proofs.FoundStays.{IsFound, is_found, reported_stays, past_stays}
 use Rattle.wl_connection.proofs.Roles.{IsRole, FrontFault, own, of_found, sound_none}
 use Rattle.wl_server.specs.State.{State}
 use Rattle.wl_server.specs.Requests.{Report, report, unless_bad_bind, request, made_by_request}
-use Rattle.wl_server.specs.Requests.{destroys_it, ended, ended_object, registries_after, core_after}
-use Rattle.wl_server.specs.Requests.{state_past, server_role}
+use Rattle.wl_server.specs.Requests.{destroys_it, ended, ended_object, owes_delete_id, registries_after, core_after}
+use Rattle.wl_server.specs.Requests.{state_past, server_role, reported_object}
 use Rattle.wl_server.specs.Streams.{server_reading}
 use Rattle.wl_server.specs.Registries.{without_object}
 
@@ -37,27 +45,53 @@ following_arrived : (b : Bool) (id : ℕ) (core : Core) (bytes tokens : List ℕ
 following_arrived true id core bytes tokens = refl
 following_arrived false id core bytes tokens = refl
 
-ended_stays : (core : Core) (f : Found) (bytes tokens : List ℕ) → IsFound core request_side f
-    → ended (with_arrived core bytes tokens) f ≡ ended core f
-ended_stays core f bytes tokens h = ap (ended_object f.message.signature.destroys) (report_stays core f bytes tokens h)
+-- the object that an argument names is reported without its tokens
+named_stays : (r : Reader) (a b : List ℕ) (values : List Argument) (place : ℕ)
+    → reported_object (slice_get (reports_of r a values) place) ≡ reported_object (slice_get (reports_of r b values) place)
+named_stays r a b [] place = refl
+named_stays r a b (value ∷ values) zero = by_value value
+  where
+    by_value : (x : Argument) → reported_object (Some (reported_argument r (head_or a 0) x))
+        ≡ reported_object (Some (reported_argument r (head_or b 0) x))
+    by_value (Int z) = refl
+    by_value (Uint n) = refl
+    by_value (Fixed z) = refl
+    by_value (Str text) = refl
+    by_value (Obj id) = refl
+    by_value (New id) = refl
+    by_value (NewNamed name version id) = refl
+    by_value (Array bytes) = refl
+    by_value (Fd token) = refl
+named_stays r a b (value ∷ values) (suc place) =
+    named_stays r (tokens_after value a) (tokens_after value b) values place
+
+ended_stays : (core : Core) (f : Found) (bytes tokens : List ℕ) → ended (with_arrived core bytes tokens) f ≡ ended core f
+ended_stays core f bytes tokens = by_what f.message.signature.destroys
+  where
+    by_what : (what : Destroys) → ended_object what (report (with_arrived core bytes tokens) f)
+        ≡ ended_object what (report core f)
+    by_what Nothing = refl
+    by_what Target = refl
+    by_what (Arg place) = named_stays (reader_in core request_side) (core.inbox.tokens ++ tokens) core.inbox.tokens
+        f.message.values place
 
 core_arrived : (core : Core) (f : Found) (bytes tokens : List ℕ) → IsFound core request_side f
     → core_after (with_arrived core bytes tokens) f ≡ with_arrived (core_after core f) bytes tokens
 core_arrived core f bytes tokens h =
     let id = (ended core f).id in
     let view : ℕ → Objects = λ n. after event_side core.view (made_by_request core f.message) f.message.signature.destroys n in
-    ap (λ (o : Object). with_following (destroys_it f.message) o.id
-    (with_view (past_found (with_arrived core bytes tokens) f) (view o.id))) (ended_stays core f bytes tokens h)
-    ∙ (ap (λ (c : Core). with_following (destroys_it f.message) id (with_view c (view id)))
+    ap (λ (o : Object). with_following (destroys_it f.message && not (is_of_server o.id)) o.id
+    (with_view (past_found (with_arrived core bytes tokens) f) (view o.id))) (ended_stays core f bytes tokens)
+    ∙ (ap (λ (c : Core). with_following (owes_delete_id core f) id (with_view c (view id)))
     (past_stays core request_side f bytes tokens h)
-    ∙ following_arrived (destroys_it f.message) id (with_view (past_found core f) (view id)) bytes tokens)
+    ∙ following_arrived (owes_delete_id core f) id (with_view (past_found core f) (view id)) bytes tokens)
 
 past_arrived : (state : State) (f : Found) (bytes tokens : List ℕ) → IsFound state.core request_side f
     → state_past (with_arrivals server_reading state bytes tokens) f
     ≡ with_arrivals server_reading (state_past state f) bytes tokens
 past_arrived state f bytes tokens h = λ i. record (state_past state f) {
   core = core_arrived state.core f bytes tokens h i;
-  registries = without_object (destroys_it f.message) (ended_stays state.core f bytes tokens h i)
+  registries = without_object (destroys_it f.message) (ended_stays state.core f bytes tokens i)
       (registries_after state.core state.registries (made_by_request state.core f.message));
 }
 
@@ -107,9 +141,13 @@ fault_stays state what (Ok (Some f)) e j =
 -- ---- what is left
 
 -- what is written behind a request changes nothing of what comes in
-inbox_kept : (b : Bool) (id : ℕ) (core : Core) → (with_following b id core).inbox ≡ core.inbox
+pub inbox_kept : (b : Bool) (id : ℕ) (core : Core) → (with_following b id core).inbox ≡ core.inbox
 inbox_kept true id core = refl
 inbox_kept false id core = refl
+
+pub view_kept : (b : Bool) (id : ℕ) (core : Core) → (with_following b id core).view ≡ core.view
+view_kept true id core = refl
+view_kept false id core = refl
 
 failed_kept : (b : Bool) (id : ℕ) (core : Core) → (with_following b id core).failed ≡ core.failed
 failed_kept true id core = refl
@@ -121,10 +159,10 @@ viewed state f = with_view (past_found state.core f) (after event_side state.cor
     (made_by_request state.core f.message) f.message.signature.destroys (ended state.core f).id)
 
 inbox_past : (state : State) (f : Found) → (state_past state f).core.inbox ≡ (past_found state.core f).inbox
-inbox_past state f = inbox_kept (destroys_it f.message) (ended state.core f).id (viewed state f)
+inbox_past state f = inbox_kept (owes_delete_id state.core f) (ended state.core f).id (viewed state f)
 
 failed_past : (state : State) (f : Found) → (state_past state f).core.failed ≡ state.core.failed
-failed_past state f = failed_kept (destroys_it f.message) (ended state.core f).id (viewed state f)
+failed_past state f = failed_kept (owes_delete_id state.core f) (ended state.core f).id (viewed state f)
 
 -- ---- so a server reads as an end does
 
@@ -135,7 +173,9 @@ is_role = record {
   is_there = there;
   front_stays = front_stays;
   fault_stays = λ state what e. fault_stays state what (found state.core request_side) refl e;
-  room_stays = λ state f bytes tokens. refl;
+  room_stays = λ state f bytes tokens.
+      ap (λ (o : Object). (destroys_it f.message && not (is_of_server o.id)) && nat_lt (room_of state.core.outbox) 12)
+      (ended_stays state.core f bytes tokens);
   report_stays = λ state f bytes tokens h. report_stays state.core f bytes tokens h;
   past_stays = past_arrived;
   failing_stays = λ state what bytes tokens. refl;

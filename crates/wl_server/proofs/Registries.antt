@@ -1,32 +1,38 @@
 -- Each open registry goes on standing in its server's list.
 use Rattle.std.proofs.Common.{◌≡◌, ◌≢◌, ◌≤◌, ◌⊎◌, ℕ, Bool, true, false, cond, eqb, List, [], ◌∷◌, ◌++◌}
 use Rattle.std.proofs.Common.{Some, None, refl, sym, ap, subst, ◌∙◌, inl, inr, arith, ⊎_elim}
-use Rattle.std.specs.Prelude.{Option, nat_eq, not, if◌then◌else◌}
-use Rattle.std.proofs.lemmas.Bool.{eqb-true, eqb-false, eq-eqb, ne_eqb}
+use Rattle.std.specs.Prelude.{Option, map, nat_eq, not, if◌then◌else◌}
+use Rattle.std.specs.List.{All}
+use Rattle.std.proofs.lemmas.List.Elements.{All-tail}
+use Rattle.wl_objects.proofs.WrittenArrives.{All-first}
+use Rattle.std.proofs.lemmas.Bool.{eqb-true, eq-eqb, ne_eqb}
 use Rattle.std.specs.declared.result.Result.{Result}
 use Rattle.std.specs.declared.result.Result.TheVariants.{Ok, Err}
 use Rattle.wl_wire.specs.declared.kind.Iface.{Iface}
 use Rattle.wl_wire.specs.declared.kind.Kind.{Kind}
 use Rattle.wl_wire.specs.declared.kind.Kind.TheVariants as kinds
-use Rattle.wl_wire.specs.Argument.{Argument}
+use Rattle.wl_wire.specs.Argument.{New}
 use Rattle.wl_sigs.specs.declared.signature.Side.TheVariants.{Event}
 use Rattle.wl_sigs.specs.declared.signature.Destroys.{Destroys}
 use Rattle.wl_sigs.specs.declared.signature.Destroys.TheVariants.{Nothing, Target, Arg}
-use Rattle.wl_sigs.specs.Tables.{Interface, MessageSignature, interface_at, new_objects}
-use Rattle.wl_sigs.specs.Fixed.{display, registry}
+use Rattle.wl_sigs.specs.Tables.{Interface, MessageSignature, interface_at, new_objects, signature_at}
+use Rattle.wl_sigs.specs.Fixed.{display, registry, wl_registry}
 use Rattle.wl_sigs.specs.Valid.{Valid}
 use Rattle.wl_object_map.specs.declared.object.Object.{Object}
 use Rattle.wl_object_map.specs.declared.object.Entry.{Entry}
 use Rattle.wl_object_map.specs.declared.object.State.TheVariants.{Live}
-use Rattle.wl_object_map.specs.Objects.{Objects, look, opening, closed}
+use Rattle.wl_object_map.specs.declared.object.Maker.TheVariants.{Server}
+use Rattle.wl_object_map.specs.Objects.{Objects, ObjectsAreSound, look, next_id, opening, closed}
+use Rattle.wl_object_map.specs.View as table
 use Rattle.wl_object_map.specs.Ranges.{is_of_server}
 use Rattle.wl_object_map.specs.ObjectsLaws.{look-opening, look-opened_at, look-closed, look-opened_by_client}
-use Rattle.wl_object_map.specs.ObjectsLaws.{row-opened_by_client, row-closed, births-closed}
-use Rattle.wl_object_map.specs.Views.{eqb_is, cases_row, some_is}
+use Rattle.wl_object_map.specs.ObjectsLaws.{row-opened_by_client, row-opened_at, row-closed, births-closed}
+use Rattle.wl_object_map.specs.ObjectsLaws.{births-rise, changed_server, in_range-server, next_of_server, table_id-wire_id}
+use Rattle.wl_object_map.specs.Views.{eqb_is, cases_row, some_is, free_is, free_or_next-next_id}
 use Rattle.wl_objects.specs.declared.error.SendError.{SendError}
 use Rattle.wl_objects.specs.declared.error.SendError.TheVariants as refusals
-use Rattle.wl_objects.specs.Writing.{Given}
-use Rattle.wl_objects.specs.Messages.{NewObject, made, opens, same_iface, checked, is_hidden, live_row, after}
+use Rattle.wl_objects.specs.Writing.{Given, wired}
+use Rattle.wl_objects.specs.Messages.{NewObject, made, made_by, or_else, opens, same_iface, checked, is_hidden, live_row}
 use Rattle.wl_objects.specs.Writing.{is_live_as}
 use Rattle.wl_objects.proofs.Wholes.{passes}
 use Rattle.wl_connection.specs.Core.{Core, past, with_view}
@@ -43,6 +49,7 @@ use Rattle.wl_server.specs.Steps.{Step, CanEnd, core_without, core_by, registrie
 use Rattle.wl_server.specs.Tellings.{IsAnnounced}
 use Rattle.wl_server.specs.declared.announce.Announced.{Announced}
 use Rattle.wl_server.proofs.OneObject.{one-same, not-one}
+use Rattle.wl_server.proofs.ReadingStays.{view_kept}
 use Rattle.wl_server.proofs.RisingBirths.{rise-without}
 use Rattle.wl_server.proofs.AfterRequest.{rise-opened}
 use Rattle.wl_server.proofs.OwedEvents.{either-object, rising-marked, view-dues}
@@ -155,12 +162,16 @@ old_there rs r true o h = among_more o rs r h
 old_there rs r false o h = h
 
 -- the rows that were there stay
+row_beside : (v : Objects) (m : NewObject) (id : ℕ) (d : Entry) → look v m.id ≡ None → look v id ≡ Some d
+    → look (opens v (Some m)) id ≡ Some d
+row_beside v m id d free row =
+    let other : eqb id m.id ≡ false = ne_eqb id m.id (λ e. (let no = sym row ∙ (ap (look v) e ∙ free) in cc no)) in
+    look-opened_at v m.id m.iface m.version id ∙ rw other row
+
 pub row_kept : (v : Objects) (m : Option NewObject) (id : ℕ) (d : Entry) → IsFreshId v m → look v id ≡ Some d
     → look (opens v m) id ≡ Some d
 row_kept v None id d f row = row
-row_kept v (Some m) id d f row =
-    let other : eqb id m.id ≡ false = ne_eqb id m.id (λ e. (let no = sym row ∙ (ap (look v) e ∙ f.0) in cc no)) in
-    look-opened_at v m.id m.iface m.version id ∙ rw other row
+row_kept v (Some m) id d f row = row_beside v m id d f.0 row
 
 registry_kept : (v : Objects) (m : Option NewObject) (o : Object) → IsFreshId v m → IsRegistry v o
     → IsRegistry (opens v m) o
@@ -251,6 +262,16 @@ has_fewer v rs id f h = record {
 
 -- ---- a request is read
 
+-- whether or not a delete_id is written
+view_without : (core : Core) (object : Object) → (core_without (Some object) core).view ≡ closed core.view object.id
+view_without core object = view_kept (not (is_of_server object.id)) object.id
+    (with_view core (closed core.view object.id))
+
+pub births_left : (core : Core) (object : Object)
+    → (core_without (Some object) core).view.client.births ≡ core.view.client.births
+births_left core object =
+    ap (λ (v : Objects). v.client.births) (view_without core object) ∙ births-closed core.view object.id
+
 has_step : (core : Core) (rs : List Registry) (step : Step) → CanTake core step → IsFreshId core.view step.made
     → HasRegistries core.view rs → HasRegistries (core_by core step).view (registries_by core rs step)
 has_step core rs step can f h = by_ended step.ended can.ended
@@ -262,8 +283,10 @@ has_step core rs step can f h = by_ended step.ended can.ended
     by_ended None r = has_opened core rs step.made f h
     by_ended (Some object) r =
         let is = (r object refl).row in
-        has_closed (opens core.view step.made) (registries_after core rs step.made) object is.entry
-        (row_kept core.view step.made object.id is.entry f is.row) is.birth (has_opened core rs step.made f h)
+        subst (λ (v : Objects). HasRegistries v (without_object true object (registries_after core rs step.made)))
+        (sym (view_without (past (with_view core (opens core.view step.made)) step.size step.tokens) object))
+        (has_closed (opens core.view step.made) (registries_after core rs step.made) object is.entry
+        (row_kept core.view step.made object.id is.entry f is.row) is.birth (has_opened core rs step.made f h))
 
 -- the same of an end and a list that are these
 pub has_now : (core now : Core) (rs ms : List Registry) (step : Step) → CanTake core step → now ≡ core_by core step
@@ -275,30 +298,95 @@ has_now core now rs ms step can c m f h =
 
 -- ---- an event is written
 
-makes_none : (tables : List Interface) (version : ℕ) (ks : List Kind) (values : List Argument) → new_objects ks ≡ []
-    → made tables version ks values ≡ None
-makes_none tables version [] values h = refl
-makes_none tables version (k ∷ ks) [] h = no_values k
-  where
-    no_values : (x : Kind) → made tables version (x ∷ ks) [] ≡ None
-    no_values x = refl
-makes_none tables version (kinds.Int ∷ ks) (v ∷ values) h = makes_none tables version ks values h
-makes_none tables version (kinds.Uint ∷ ks) (v ∷ values) h = makes_none tables version ks values h
-makes_none tables version (kinds.Fixed ∷ ks) (v ∷ values) h = makes_none tables version ks values h
-makes_none tables version (kinds.Str null ∷ ks) (v ∷ values) h = makes_none tables version ks values h
-makes_none tables version (kinds.Obj null iface ∷ ks) (v ∷ values) h = makes_none tables version ks values h
-makes_none tables version (kinds.New iface ∷ ks) (v ∷ values) h = absurd (cc h)
-makes_none tables version (kinds.NewByServer iface ∷ ks) (v ∷ values) h = makes_none tables version ks values h
-makes_none tables version (kinds.Array ∷ ks) (v ∷ values) h = makes_none tables version ks values h
-makes_none tables version (kinds.Fd ∷ ks) (v ∷ values) h = makes_none tables version ks values h
+-- of what it makes: the server's next id, and no registry
+record IsMade (n : ℕ) (m : NewObject) : Type 0 where
+  id : m.id ≡ n
+  iface : m.iface ≢ registry
 
-none_made : (core : Core) (target : Object) (opcode : ℕ) (list : List Given) (m : MessageSignature) → Valid core.tables
+-- no new object of the server is a registry
+abbrev MakesNoRegistry : Kind → Type 0
+MakesNoRegistry kind = (iface : Iface) → kind ≡ kinds.NewByServer iface → iface ≢ registry
+
+one_made : (tables : List Interface) (version n : ℕ) (kind : Kind) (x : Given) (ks : List Kind) (m : NewObject)
+    → new_objects (kind ∷ ks) ≡ [] → MakesNoRegistry kind → made_by tables version kind (wired n x) ≡ Some m → IsMade n m
+one_made tables version n (kinds.New iface) x ks m none other is = absurd (cc none)
+one_made tables version n (kinds.NewByServer iface) (New u) ks m none other is =
+    let same : record { id = n; iface = iface; version = version } ≡ m = cc is in
+    subst (IsMade n) same (record { id = refl; iface = other iface refl })
+one_made tables version n kind x ks m none other is = absurd (cc is)
+
+none_behind : (kind : Kind) (ks : List Kind) → new_objects (kind ∷ ks) ≡ [] → new_objects ks ≡ []
+none_behind (kinds.New iface) ks none = absurd (cc none)
+none_behind kinds.Int ks none = none
+none_behind kinds.Uint ks none = none
+none_behind kinds.Fixed ks none = none
+none_behind (kinds.Str null) ks none = none
+none_behind (kinds.Obj null iface) ks none = none
+none_behind (kinds.NewByServer iface) ks none = none
+none_behind kinds.Array ks none = none
+none_behind kinds.Fd ks none = none
+
+one_of : (o other : Option NewObject) (m : NewObject) → or_else o other ≡ Some m → (o ≡ Some m) ⊎ (other ≡ Some m)
+one_of None other m h = inr h
+one_of (Some n) other m h = inl h
+
+made_is : (tables : List Interface) (version n : ℕ) (ks : List Kind) (list : List Given) (m : NewObject)
+    → new_objects ks ≡ [] → All MakesNoRegistry ks → made tables version ks (map (wired n) list) ≡ Some m → IsMade n m
+made_is tables version n [] list m h a e = absurd (cc e)
+made_is tables version n (k ∷ ks) [] m h a e = absurd (cc e)
+made_is tables version n (k ∷ ks) (x ∷ list) m h a e =
+    elim (one_of (made_by tables version k (wired n x)) (made tables version ks (map (wired n) list)) m e) [
+      | inl p ↦ one_made tables version n k x ks m h (All-first MakesNoRegistry k ks a) p
+      | inr p ↦ made_is tables version n ks list m (none_behind k ks h) (All-tail MakesNoRegistry k ks a) p
+    ]
+
+-- the server makes no registry
+makes_no_registry : (tables : List Interface) (place opcode : ℕ) (m : MessageSignature) → Valid tables
+    → signature_at tables place Event opcode ≡ Some m → All MakesNoRegistry m.kinds
+makes_no_registry tables place opcode m v s k d there iface is reg =
+    let at : interface_at tables iface.0 ≡ Some wl_registry =
+    ap (λ (i : Iface). interface_at tables i.0) reg ∙ v.fixed_four.registry in
+    (v.server_makes.interfaces Event place opcode m s k d there iface wl_registry is at).1
+    (inr (inl (ap (λ (i : Iface). i.0) reg)))
+
+made_by_event : (core : Core) (target : Object) (opcode : ℕ) (list : List Given) (m : MessageSignature)
+    (new : NewObject) → Valid core.tables
     → checked core.outbox.limit.bytes core.tables Event core.view target opcode list ≡ Ok m
-    → made_at core target m list ≡ None
-none_made core target opcode list m v e =
+    → made_at core Event target m list ≡ Some new → IsMade (next_id Server core.view) new
+made_by_event core target opcode list m new v e is =
     let p = passes core.outbox.limit.bytes core.tables Event core.view target opcode list m e in
-    makes_none core.tables (version_at (look core.view target.id)) m.kinds _
+    made_is core.tables (version_at (look core.view target.id)) (next_id Server core.view) m.kinds list new
     (v.few_objects_made.events p.entry.iface.0 opcode m p.exists)
+    (makes_no_registry core.tables p.entry.iface.0 opcode m v p.exists) is
+
+-- the server's next id has no row
+next_free : (v : Objects) → ObjectsAreSound v → look v (next_id Server v) ≡ None
+next_free v s =
+    in_range-server table.look v (next_id Server v) (next_of_server v s)
+    ∙ (ap (table.look v.server) (table_id-wire_id (table.next_id v.server))
+    ∙ (free_is v.server (table.next_id v.server) s.server (free_or_next-next_id v.server)).no_row)
+
+-- an object that is no registry is opened in the server's range
+births_beside : (v : Objects) (m : NewObject) → is_of_server m.id ≡ true
+    → (opens v (Some m)).client.births ≡ v.client.births
+births_beside v m range = ap (λ (x : Objects). x.client.births)
+    (changed_server (λ view place. table.opened_at view place m.iface m.version) v m.id range)
+
+has_beside : (v : Objects) (rs : List Registry) (m : NewObject) → look v m.id ≡ None → is_of_server m.id ≡ true
+    → m.iface ≢ registry → HasRegistries v rs → HasRegistries (opens v (Some m)) rs
+has_beside v rs m free range other h = record {
+  rising = subst (λ (n : ℕ). RiseFrom 0 n rs) (sym (births_beside v m range)) h.rising;
+  all = λ id e there is. ⊎_elim
+      (λ p. absurd (other (sym (ap (λ (x : Entry). x.iface) p.1) ∙ is)))
+      (λ p. h.all id e p.1 is)
+      (row-opened_at v m.id m.iface m.version id e there);
+  only = λ o a. (let r = h.only o a in record {
+    entry = r.entry;
+    row = row_beside v m o.id r.entry free r.row;
+    birth = r.birth;
+    iface = r.iface;
+  });
+}
 
 -- what is sent to is no registry
 not_sent_to : (iface : Iface) (opcode : ℕ) → is_hidden Event iface opcode ≡ false → iface ≢ registry
@@ -314,50 +402,102 @@ not_target core target opcode list m e d row is =
     let one : p.entry ≡ d = cc same in
     not_sent_to p.entry.iface opcode p.shown (ap (λ (x : Entry). x.iface) one ∙ is)
 
--- what the objects are after an event, which makes none and ends no registry
-abbrev After : Core → Object → Core → Type 0
-After core target now = (now.view ≡ core.view) ⊎ ((now.view ≡ closed core.view target.id)
-    × ((d : Entry) → look core.view target.id ≡ Some d → d.iface ≢ registry))
+-- what is known of what an event makes, and of its target
+record IsEvent (core : Core) (target : Object) (new : Option NewObject) : Type 0 where
+  made : (m : NewObject) → new ≡ Some m → IsMade (next_id Server core.view) m
+  others : (d : Entry) → look core.view target.id ≡ Some d → d.iface ≢ registry
+
+-- the registries stay, once its object is opened
+has_new : (core : Core) (target : Object) (rs : List Registry) (new : Option NewObject) → ObjectsAreSound core.view
+    → IsEvent core target new → HasRegistries core.view rs → HasRegistries (opens core.view new) rs
+has_new core target rs None s f h = h
+has_new core target rs (Some m) s f h =
+    let k = f.made m refl in
+    has_beside core.view rs m (ap (look core.view) k.id ∙ next_free core.view s)
+    (ap is_of_server k.id ∙ next_of_server core.view s) k.iface h
+
+-- and its target is no registry then either
+target_new : (core : Core) (target : Object) (new : Option NewObject) → IsEvent core target new
+    → (d : Entry) → look (opens core.view new) target.id ≡ Some d → d.iface ≢ registry
+target_new core target None f d row = f.others d row
+target_new core target (Some m) f d row = ⊎_elim
+    (λ p is. (f.made m refl).iface (sym (ap (λ (x : Entry). x.iface) p.1) ∙ is))
+    (λ p. f.others d p.1)
+    (row-opened_at core.view m.id m.iface m.version target.id d row)
+
+-- What the objects are after an event: what it makes is opened, and where it destroys its target,
+-- that is closed.
+data After (core : Core) (target : Object) (view : Objects) : Type 0 where
+  refused : view ≡ core.view → After core target view
+  stays : (new : Option NewObject) → IsEvent core target new → view ≡ opens core.view new → After core target view
+  ends : (new : Option NewObject) → IsEvent core target new → view ≡ closed (opens core.view new) target.id
+      → After core target view
 
 after_event : (core : Core) (target : Object) (opcode : ℕ) (list : List Given) → Valid core.tables
-    → After core target (after_send core Event target opcode list)
+    → After core target (after_send core Event target opcode list).view
 after_event core target opcode list v = by_result
     (checked core.outbox.limit.bytes core.tables Event core.view target opcode list) refl
   where
     by_what : (m : MessageSignature) (what : Destroys) → ((k : ℕ) → what ≡ Arg k → ⊥)
-        → made_at core target m list ≡ None
-        → ((d : Entry) → look core.view target.id ≡ Some d → d.iface ≢ registry)
-        → After core target (after_checked core Event target opcode list (Ok (record m { destroys = what })))
-    by_what m Nothing n e f = inl (ap (λ (o : Option NewObject). after Event core.view o Nothing target.id) e)
-    by_what m Target n e f = inr (ap (λ (o : Option NewObject). after Event core.view o Target target.id) e, f)
-    by_what m (Arg k) n e f = absurd (n k refl)
+        → IsEvent core target (made_at core Event target m list)
+        → After core target (after_checked core Event target opcode list (Ok (record m { destroys = what }))).view
+    by_what m Nothing n f = stays (made_at core Event target m list) f refl
+    by_what m Target n f = ends (made_at core Event target m list) f refl
+    by_what m (Arg k) n f = absurd (n k refl)
 
     by_result : (x : Result MessageSignature SendError)
         → checked core.outbox.limit.bytes core.tables Event core.view target
-        opcode list ≡ x → After core target (after_checked core Event target opcode list x)
-    by_result (Err why) e = inl refl
+        opcode list ≡ x → After core target (after_checked core Event target opcode list x).view
+    by_result (Err why) e = refused refl
     by_result (Ok m) e = by_what m m.destroys (λ k d.
         (let p = passes core.outbox.limit.bytes core.tables Event core.view target opcode list m e
-        in no_event core.tables p.entry.iface.0 opcode m k v p.exists d)) (none_made core target opcode list m v e)
-        (not_target core target opcode list m e)
+        in no_event core.tables p.entry.iface.0 opcode m k v p.exists d)) (record {
+          made = λ new is. made_by_event core target opcode list m new v e is;
+          others = not_target core target opcode list m e;
+        })
+
+has_after : (core : Core) (target : Object) (rs : List Registry) (view : Objects) → ObjectsAreSound core.view
+    → HasRegistries core.view rs → After core target view → HasRegistries view rs
+has_after core target rs view s h (refused e) = subst (λ (w : Objects). HasRegistries w rs) (sym e) h
+has_after core target rs view s h (stays new f e) =
+    subst (λ (w : Objects). HasRegistries w rs) (sym e) (has_new core target rs new s f h)
+has_after core target rs view s h (ends new f e) =
+    subst (λ (w : Objects). HasRegistries w rs) (sym e)
+    (has_fewer (opens core.view new) rs target.id (target_new core target new f) (has_new core target rs new s f h))
 
 pub has_sent : (core now : Core) (rs : List Registry) (target : Object) (opcode : ℕ) (list : List Given)
-    → Valid core.tables → now ≡ after_send core Event target opcode list → HasRegistries core.view rs
-    → HasRegistries now.view rs
-has_sent core now rs target opcode list v e h =
-    subst (λ (k : Core). HasRegistries k.view rs) (sym e) (elim (after_event core target opcode list v) [
-      | inl p ↦ subst (λ (w : Objects). HasRegistries w rs) (sym p) h
-      | inr p ↦ subst (λ (w : Objects). HasRegistries w rs) (sym p.0) (has_fewer core.view rs target.id p.1 h)
-    ])
+    → Valid core.tables → ObjectsAreSound core.view → now ≡ after_send core Event target opcode list
+    → HasRegistries core.view rs → HasRegistries now.view rs
+has_sent core now rs target opcode list v s e h =
+    subst (λ (k : Core). HasRegistries k.view rs) (sym e)
+    (has_after core target rs (after_send core Event target opcode list).view s h
+    (after_event core target opcode list v))
+
+-- no fewer births are counted
+births_opened : (v : Objects) (new : Option NewObject) → v.client.births ≤ (opens v new).client.births
+births_opened v None = omega arith
+births_opened v (Some m) = births-rise v m.id m.iface m.version
+
+past_after : (core : Core) (target : Object) (past : ℕ) (view : Objects) → past ≤ core.view.client.births
+    → After core target view → past ≤ view.client.births
+past_after core target past view h (refused e) =
+    omega (arith, h, ap (λ (w : Objects). w.client.births) e)
+past_after core target past view h (stays new f e) =
+    omega (arith, h, births_opened core.view new, ap (λ (w : Objects). w.client.births) e)
+past_after core target past view h (ends new f e) = omega (
+  arith,
+  h,
+  births_opened core.view new,
+  births-closed (opens core.view new) target.id,
+  ap (λ (w : Objects). w.client.births) e,
+)
 
 pub past_sent : (core now : Core) (past : ℕ) (target : Object) (opcode : ℕ) (list : List Given) → Valid core.tables
     → now ≡ after_send core Event target opcode list → past ≤ core.view.client.births → past ≤ now.view.client.births
 past_sent core now past target opcode list v e h =
-    subst (λ (k : Core). past ≤ k.view.client.births) (sym e) (elim (after_event core target opcode list v) [
-      | inl p ↦ subst (λ (w : Objects). past ≤ w.client.births) (sym p) h
-      | inr p ↦ subst (λ (w : Objects). past ≤ w.client.births) (sym p.0)
-          (subst (λ (n : ℕ). past ≤ n) (sym (births-closed core.view target.id)) h)
-    ])
+    subst (λ (k : Core). past ≤ k.view.client.births) (sym e)
+    (past_after core target past (after_send core Event target opcode list).view h
+    (after_event core target opcode list v))
 
 -- ---- an object is dropped
 

@@ -11,6 +11,7 @@ use Rattle.wl_sigs.specs.declared.signature.Side.TheVariants.{Event as event_sid
 use Rattle.wl_sigs.specs.Tables.{Interface, interface_at, destroys_one}
 use Rattle.wl_message.specs.Outgoing.{room_of}
 use Rattle.wl_object_map.specs.declared.object.Object.{Object}
+use Rattle.wl_object_map.specs.Ranges.{is_of_server}
 use Rattle.wl_objects.specs.declared.error.Fault.{Fault}
 use Rattle.wl_objects.specs.declared.error.Fault.TheVariants as faults
 use Rattle.wl_objects.specs.declared.error.NextError.{NextError}
@@ -118,17 +119,21 @@ abbrev pub report : Core → Found → Report
 report core f = record {
   target = f.message.target;
   opcode = f.opcode;
-  args = reported core f.message;
+  args = reported core request_side f.message;
 }
 
 abbrev pub ended : Core → Found → Object
 ended core f = ended_object f.message.signature.destroys (report core f)
 
+-- whether a request is answered by a delete_id: it destroys an object that the client made
+abbrev pub owes_delete_id : Core → Found → Bool
+owes_delete_id core f = destroys_it f.message && not (is_of_server (ended core f).id)
+
 -- the end after a request: its message is taken, the object that it makes is opened, and the one
--- that it destroys is closed and its delete_id written
+-- that it destroys is closed, with its delete_id written where the client made it
 abbrev pub core_after : Core → Found → Core
 core_after core f =
-    with_following (destroys_it f.message) (ended core f).id
+    with_following (owes_delete_id core f) (ended core f).id
     (with_view (past_found core f) (after event_side core.view (made_by_request core f.message)
     f.message.signature.destroys (ended core f).id))
 
@@ -152,9 +157,9 @@ state_past state f = record state {
 abbrev pub needs_memory : Report → Bool
 needs_memory report = not (is_none report.args)
 
--- a destroying request needs room for its delete_id
+-- a request that is answered by a delete_id needs room for it
 abbrev pub is_out_full : Core → Found → Bool
-is_out_full core f = destroys_it f.message && nat_lt (room_of core.outbox) delete_id_len
+is_out_full core f = owes_delete_id core f && nat_lt (room_of core.outbox) delete_id_len
 
 -- After each request more can be read.
 abbrev pub is_last : Report → Bool

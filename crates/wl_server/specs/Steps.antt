@@ -18,6 +18,7 @@ use Rattle.wl_objects.specs.declared.error.NextError.TheVariants as errors
 use Rattle.wl_object_map.specs.declared.object.Object.{Object}
 use Rattle.wl_object_map.specs.View.{free_or_next, has_room}
 use Rattle.wl_object_map.specs.Objects.{Objects, look, closed}
+use Rattle.wl_object_map.specs.Ranges.{is_of_server}
 use Rattle.wl_wire.specs.declared.header.Header.{Header}
 use Rattle.wl_objects.specs.Reading.{Reported, descriptors}
 use Rattle.wl_objects.specs.declared.parsed.ParsedArg.{ParsedArg}
@@ -25,7 +26,7 @@ use Rattle.wl_objects.specs.Parsed.{AreParsed, reported_in}
 use Rattle.wl_objects.specs.Messages.{NewObject, Received, is_bind, made, opens, reader_of}
 use Rattle.wl_connection.specs.Core.{Core, past, with_view}
 use Rattle.wl_connection.specs.Receiving.{Found, takes}
-use Rattle.wl_connection.specs.Sending.{with_delete_id, with_error_event, fits, delete_id_len}
+use Rattle.wl_connection.specs.Sending.{with_following, with_error_event, fits, delete_id_len}
 use Rattle.wl_server.specs.declared.outline.Outline.{Outline}
 use Rattle.wl_server.specs.declared.pending.PendingRequest.{PendingRequest}
 use Rattle.wl_server.specs.State.{State, Global, Registry, with_core}
@@ -52,6 +53,11 @@ abbrev pub ended_by_request : Destroys → Report → Option Object
 ended_by_request Nothing report = None
 ended_by_request Target report = Some (ended_object Target report)
 ended_by_request (Arg place) report = Some (ended_object (Arg place) report)
+
+-- whether a request that destroys this object is answered by a delete_id: the client made it
+abbrev pub needs_delete_id : Option Object → Bool
+needs_delete_id None = false
+needs_delete_id (Some object) = not (is_of_server object.id)
 
 abbrev pub step_of : Core → Found → Step
 step_of core f = record {
@@ -108,7 +114,7 @@ pending_of tables birth ended header message = record {
 -- where these tables and objects are there.
 pub record IsPending (tables : List Interface) (view : Objects) (header : Header) (body : List ℕ)
     (args : List ParsedArg) (message : Received) (p : PendingRequest) : Type 0 where
-  pub parsed : AreParsed (reader_of view) body args message.values
+  pub parsed : AreParsed (reader_of tables request_side view) body args message.values
   pub ended : IsEndedBy message args p.change.ended
   pub same : p ≡ pending_of tables view.client.births p.change.ended header message
 
@@ -168,12 +174,12 @@ pub record HasRow (view : Objects) (object : Object) : Type 0 where
   pub row : look view object.id ≡ Some entry
   pub birth : entry.birth ≡ object.birth
 
--- An object can be closed: it has the row of its birth and is not wl_display, and there is room
--- for its delete_id.
+-- An object can be closed: it has the row of its birth and is not wl_display, and where the client
+-- made it there is room for its delete_id.
 pub record CanEnd (core : Core) (object : Object) : Type 0 where
   pub row : HasRow core.view object
   pub not_display : object.id ≢ 1
-  pub room : IsTrue (fits core.outbox delete_id_len 0)
+  pub room : is_of_server object.id ≡ false → IsTrue (fits core.outbox delete_id_len 0)
 
 -- what is made can be opened: its id is free, and the limits leave room for it
 abbrev pub HasFreeId : Objects → Option NewObject → Type 0
@@ -201,7 +207,8 @@ checked_front state = if state.core.failed then Err errors.Failed else front_ste
 abbrev pub core_without : Option Object → Core → Core
 core_without None core = core
 core_without (Some object) core =
-    with_delete_id (with_view core (closed core.view object.id)) object.id
+    with_following (not (is_of_server object.id)) object.id
+    (with_view core (closed core.view object.id))
 
 -- the registries without it
 abbrev pub registries_without : Option Object → List Registry → List Registry

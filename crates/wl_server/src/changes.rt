@@ -3,6 +3,7 @@ ghost use Rattle.std.specs.Prelude.{◌≡◌, ◌≢◌, ◌≤◌, Some, None,
 ghost use Rattle.std.specs.Option.{option_map_or};
 ghost use Rattle.wl_sigs.specs.Fixed.{registry};
 ghost use Rattle.wl_object_map.specs.Objects.{look};
+ghost use Rattle.wl_object_map.specs.Ranges.{is_of_server};
 ghost use Rattle.wl_objects.specs.Messages.{opens, same_iface};
 ghost use Rattle.wl_connection.specs.Core.{with_view};
 ghost use Rattle.wl_connection.specs.Sending.{delete_id_len, fits};
@@ -14,6 +15,7 @@ ghost use Rattle.wl_server.specs.Steps.{HasFreeId, HasRow, core_without, registr
 use crate::open_registries::OpenRegistries;
 use std::alloc::AllocError;
 use wl_connection::Core;
+use wl_object_map::FIRST_SERVER_ID;
 use wl_objects::{NewObject, Object, REGISTRY, Table, TableError};
 
 /// What a request changes at a server.
@@ -96,7 +98,7 @@ fn open_free<T: Table>(core: &mut Core<'_, T>, made: NewObject) -> Result<(), Al
     }
 }
 
-/// Closes an object that a request destroys, and writes its delete_id.
+/// Closes an object that a request destroys, and writes the delete_id of one that the client made.
 pub(crate) fn close_object<T: Table>(
     core: &mut Core<'_, T>,
     registries: &mut OpenRegistries<T::Alloc>,
@@ -104,7 +106,7 @@ pub(crate) fn close_object<T: Table>(
 )
     requires row { HasRow core.old.view object }
     requires not_display { object.id ≢ 1 }
-    requires room { IsTrue (fits core.old.outbox delete_id_len 0) }
+    requires room { is_of_server object.id ≡ false → IsTrue (fits core.old.outbox delete_id_len 0) }
     requires sound { HasRegistries core.old.view registries.old.list }
     ensures core { core.new ≡ core_without (Some object) core.old }
     ensures registries { registries.new.list
@@ -113,7 +115,11 @@ pub(crate) fn close_object<T: Table>(
     ensures past { registries.new.past ≤ registries.old.past }
 {
     let is_registry = is_registry(core, object.id);
-    core.delete_object(object.id);
+    if object.id < FIRST_SERVER_ID {
+        core.delete_object(object.id);
+    } else {
+        core.close(object.id);
+    }
     if is_registry {
         registries.remove(object);
     }

@@ -1,5 +1,5 @@
 //! What stands in front of a server's inbox: a request that was read and not yet taken.
-ghost use Rattle.std.specs.Prelude.{◌≡◌, ◌&&◌, ℕ, List, Some, IfOk, IfSome, is_some, nat_lt};
+ghost use Rattle.std.specs.Prelude.{◌≡◌, ◌&&◌, ℕ, List, Some, IfOk, IfSome, nat_lt};
 ghost use Rattle.wl_wire.specs.Word.{IsHeader};
 ghost use Rattle.wl_sigs.specs.declared.signature.Side.TheVariants.{Request as request_side};
 ghost use Rattle.wl_sigs.specs.Valid.{Valid};
@@ -9,8 +9,8 @@ ghost use Rattle.wl_objects.specs.Parsed.{reported_in};
 ghost use Rattle.wl_objects.specs.Seen.{received_of};
 ghost use Rattle.wl_connection.specs.Sending.{delete_id_len};
 ghost use Rattle.wl_server.specs.Steps.{CanTake, IsEndedBy, IsPendingOf, ended_by_request};
-ghost use Rattle.wl_server.specs.Steps.{front_step, pending_in, pendings_in, report_with};
-ghost use Rattle.wl_server.specs.Steps.{server_state};
+ghost use Rattle.wl_server.specs.Steps.{front_step, needs_delete_id, pending_in, pendings_in};
+ghost use Rattle.wl_server.specs.Steps.{report_with, server_state};
 
 use crate::bind::is_bad_bind;
 use crate::changes::Change;
@@ -18,6 +18,7 @@ use crate::globals::Advertised;
 use crate::outline::Outline;
 use wl_connection::{DELETE_ID_LEN, Endpoint};
 use wl_message::Frame;
+use wl_object_map::FIRST_SERVER_ID;
 use wl_objects::{
     Entry, Fault, Messages, NextError, Object, Objects, ObjectsLookup, ParsedArg, ParsedArgs,
     Received, Table, made_by_message, receive,
@@ -105,17 +106,19 @@ fn pending_of<T: Table>(
     ensures valid { IfOk result (λ _. Valid tables.now) }
     ensures comes { IsPendingOf tables.now objects.now globals.now
         frame.entry.header frame.entry.body.now args.new
-        (received tables.now request_side (reader_of objects.now)
+        (received tables.now request_side (reader_of tables.now request_side objects.now)
         frame.entry.header frame.entry.body.now frame.entry.tokens) result }
     ensures entry { IfOk result (λ request.
         look objects.now request.outline.target.id ≡ Some request.entry) }
 {
     let header = frame.header;
-    let lookup = ObjectsLookup { objects };
-    let messages = Messages {
+    let side = Side::Request;
+    let lookup = ObjectsLookup {
         tables,
-        side: Side::Request,
+        side,
+        objects,
     };
+    let messages = Messages { tables, side };
     let received = receive(args, messages, &lookup, header, frame.body, frame.tokens);
     let message = match received {
         Ok(message) => message,
@@ -155,9 +158,13 @@ fn change_of(tables: &Tables, message: &Received<'_, '_>) -> Change
     }
 }
 
-/// Whether an object is destroyed whose delete_id needs more room than there is.
+/// Whether an object is destroyed whose delete_id needs more room than there is. One that the
+/// server made needs none.
 fn lacks_room(room: usize, ended: Option<Object>) -> bool
-    ensures { result ≡ (is_some ended && nat_lt room delete_id_len) }
+    ensures { result ≡ (needs_delete_id ended && nat_lt room delete_id_len) }
 {
-    ended.is_some() && room < DELETE_ID_LEN
+    match ended {
+        Some(object) => object.id < FIRST_SERVER_ID && room < DELETE_ID_LEN,
+        None => false,
+    }
 }

@@ -30,10 +30,12 @@ impl<'t, T: Table> Server<'t, T> {
     /// are slices of the server's own until its next call. Returns `None` if no whole request
     /// waits.
     ///
-    /// A request that destroys an object closes it and writes its delete_id at once. After a fault
-    /// the server has failed for good, and the error event is the last that it writes. If there is
-    /// no room for the delete_id, or no memory for the object that the request opens, the request
-    /// stays and can be read again. A request that opens no object never returns out of memory.
+    /// A request that destroys an object closes it. If the client made the object, its delete_id is
+    /// written at once; if the server made it, nothing is written, and the server can use the id
+    /// again. After a fault the server has failed for good, and the error event is the last that it
+    /// writes. If there is no room for the delete_id, or no memory for the object that the request
+    /// opens, the request stays and can be read again. A request that opens no object never returns
+    /// out of memory.
     pub fn next(&mut self) -> Result<Option<Request<'_>>, NextError>
         ensures* after { sem 𝓛 (Rests
             (server_row T.row T.Alloc.row T.Table T.Alloc.Allocator T.Alloc.Clone) self.entry

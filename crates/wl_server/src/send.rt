@@ -1,5 +1,6 @@
 //! What a server writes to its client.
-ghost use Rattle.std.specs.Prelude.{◌≡◌, IfOk, OnOk, OnErr};
+ghost use Rattle.std.specs.Prelude.{◌≡◌, false, IfOk, OnOk, OnErr};
+ghost use Rattle.wl_sigs.specs.Rules.{has_server_objects};
 ghost use Rattle.wl_sigs.specs.declared.signature.Side.TheVariants.{Event as event_side};
 ghost use Rattle.wl_sigs.specs.Valid.{Valid};
 ghost use Rattle.wl_objects.specs.Writing.{given};
@@ -18,11 +19,15 @@ use wl_sigs::Side;
 const MAX_ERROR_TEXT: usize = 40;
 
 impl<'t, T: Table> Server<'t, T> {
-    /// Writes an event with these arguments. An object that it destroys is closed, and its
-    /// delete_id follows directly: both are written, or neither. An event by which the server makes
-    /// an object is not spoken yet: it is S5 at that argument. So `Ok` has `None`.
+    /// Writes an event with these arguments, `New` standing for the object that it makes, and
+    /// returns that object: an event makes one exactly where the tables give it such an argument.
+    /// The object has the id of the server's range that was freed last, or the next new one, and
+    /// the version of the event's target. An object that the event destroys is closed, and its
+    /// delete_id follows directly: both are written, or neither.
     ///
-    /// The refusals are tested in the order of their numbers: S1, S2, S3, S4, S5, S6, S8, S9. The
+    /// The refusals are tested in the order of their numbers: S1, S2, S3, S4, S5, S6, S8, S9, S10,
+    /// S11. Only an event that makes an object returns the last two: S10 where all 1,048,575 ids of
+    /// the server's range are in use or no birth is left there, S11 where there is no memory. The
     /// events of wl_display and wl_registry, which other calls write, are S3.
     pub fn send(
         &mut self,
@@ -32,9 +37,9 @@ impl<'t, T: Table> Server<'t, T> {
     ) -> Result<Option<Object>, SendError>
         ensures answer { IsSendAnswer self.old.core event_side target opcode (given args.now)
             result }
-        // No event that is written makes an object: Ok has none, and neither S10 nor S11 is
+        // Where no event of the tables makes an object, Ok has none, and neither S10 nor S11 is
         // returned.
-        ensures nothing { OpensNothing result }
+        ensures nothing { has_server_objects self.old.core.tables ≡ false → OpensNothing result }
         ensures ok { OnOk result
             (self.new ≡ with_core self.old
             (after_send self.old.core event_side target opcode (given args.now))) }
@@ -44,7 +49,8 @@ impl<'t, T: Table> Server<'t, T> {
     }
 
     /// Ends an object without its event, as a callback that nobody waits for, and writes its
-    /// delete_id. The refusals are tested in this order: S1, S2, S12, S9. Allocates nothing.
+    /// delete_id. An object that the server made is S12, since no event ends one. The refusals are
+    /// tested in this order: S1, S2, S12, S9. Allocates nothing.
     pub fn drop_object(&mut self, object: Object) -> Result<(), SendError>
         ensures answer { refusal_in result ≡ drop_refusal self.old.core object }
         ensures ok { OnOk result (self.new ≡ with_core self.old (after_drop self.old.core object)) }

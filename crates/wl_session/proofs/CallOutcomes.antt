@@ -26,7 +26,9 @@ use Rattle.wl_server.specs.Calls.{ok_unless, error_refusal, after_error}
 use Rattle.wl_server.specs.Announcing.{Fitting, after_announce}
 use Rattle.wl_connection.proofs.ReceivedMessage.{some_report}
 use Rattle.theory_connection.specs.Pair.{PairState, with_server, ended_mark, after_post, Writes, Calls}
-use Rattle.theory_connection.specs.Pair.{Adds, Announces, Nexts, accepted, refused, no_memory, done}
+use Rattle.std.specs.Prelude.{◌||◌}
+use Rattle.std.proofs.lemmas.Bool.{or_left}
+use Rattle.theory_connection.specs.Pair.{Adds, Announces, Nexts, accepted, refused, no_memory, no_memory_to_open, done}
 use Rattle.theory_connection.specs.Pair.{added, announced, answered}
 
 -- ---- a write
@@ -174,20 +176,36 @@ left_is before after (Err errors.Failed) h = refl
 left_is before after (Err errors.Memory) h = absurd (h refl)
 left_is before after (Err errors.OutFull) h = refl
 
-pub nexts : {S R : Type 0} (f : S → PairState) (needs : R → Bool) (answer : Result (Option R) NextError)
+-- memory was wanted: for the report, or to open an object
+wanted : {R : Type 0} (needs : R → Bool) (reports opens : Bool) (answer : Result (Option R) NextError)
+    (before after : PairState) → answers_with needs answer ≡ reports → IsOk answer → (reports || opens) ≡ true
+    → Nexts needs opens answer before after (Err errors.Memory) before
+wanted needs true opens answer before after e ok w =
+    let some = some_report needs answer e in no_memory some.1 some.2
+wanted needs false opens answer before after e ok w = no_memory_to_open ok w
+
+pub nexts : {S R : Type 0} (f : S → PairState) (needs : R → Bool) (opens : Bool) (answer : Result (Option R) NextError)
     (before after now : S) (result : Result (Option R) NextError)
-    → (answer ≡ Err errors.Memory → ⊥) → AnswersOrMemory errors.Memory (answers_with needs answer) answer result
-    → now ≡ unless_memory before after result → Nexts needs answer (f before) (f after) result (f now)
-nexts {S = S} {R = R} f needs answer before after now result never (inl e) h =
+    → (answer ≡ Err errors.Memory → ⊥)
+    → AnswersOrMemory errors.Memory (answers_with needs answer || opens) answer result
+    → now ≡ unless_memory before after result → Nexts needs opens answer (f before) (f after) result (f now)
+nexts {S = S} {R = R} f needs opens answer before after now result never (inl e) h =
     let l : now ≡ after = h ∙ ap (unless_memory before after) e ∙ left_is before after answer never in
-    subst (λ (s : S). Nexts needs answer (f before) (f after) result (f s)) (sym l)
-    (subst (λ (r : Result (Option R) NextError). Nexts needs answer (f before) (f after) r (f after)) (sym e) answered)
-nexts {S = S} {R = R} f needs answer before after now result never (inr k) h =
+    subst (λ (s : S). Nexts needs opens answer (f before) (f after) result (f s)) (sym l)
+    (subst (λ (r : Result (Option R) NextError). Nexts needs opens answer (f before) (f after) r (f after)) (sym e)
+    answered)
+nexts {S = S} {R = R} f needs opens answer before after now result never (inr k) h =
     let l : now ≡ before = h ∙ ap (unless_memory before after) k.0 in
-    let some = some_report needs answer k.1 in
-    subst (λ (s : S). Nexts needs answer (f before) (f after) result (f s)) (sym l)
-    (subst (λ (r : Result (Option R) NextError). Nexts needs answer (f before) (f after) r (f before)) (sym k.0)
-    (no_memory some.1 some.2))
+    subst (λ (s : S). Nexts needs opens answer (f before) (f after) result (f s)) (sym l)
+    (subst (λ (r : Result (Option R) NextError). Nexts needs opens answer (f before) (f after) r (f before)) (sym k.0)
+    (wanted needs (answers_with needs answer) opens answer (f before) (f after) refl k.2 k.1))
+
+-- where nothing is opened, memory was wanted for the report
+pub reports_alone : {R : Type 0} (needs : R → Bool) (answer result : Result (Option R) NextError)
+    → AnswersOrMemory errors.Memory (answers_with needs answer) answer result
+    → AnswersOrMemory errors.Memory (answers_with needs answer || false) answer result
+reports_alone needs answer result (inl e) = inl e
+reports_alone needs answer result (inr k) = inr (k.0, or_left (answers_with needs answer) false k.1, k.2)
 
 -- ---- what a client's and a server's read answers
 

@@ -77,7 +77,7 @@ client_next_box state = next_client state state.core.failed
 request_box : (state : server.State) (b : Bool) (f : Found)
     → AsLarge (cond b state (requests.state_past state f)).core.inbox state.core.inbox
 request_box state true f = same_size state.core.inbox
-request_box state false f = let k = following_box (requests.destroys_it f.message) (requests.ended state.core f).id _
+request_box state false f = let k = following_box (requests.owes_delete_id state.core f) (requests.ended state.core f).id _
     in record { bytes = k.bytes; tokens = k.tokens }
 
 read_box : (state : server.State) (r : Result (Option Found) Fault)

@@ -1,102 +1,231 @@
 -- The same objects at both ends.
-use Rattle.std.proofs.Common.{◌≡◌, ℕ, ◌<◌, ◌≤◌, ◌+◌, Bool, true, false, cond, refl, sym, ap, ◌∙◌, inl, inr, arith}
-use Rattle.std.proofs.lemmas.Bool.{cases_Bool, cases_lt}
+use Rattle.std.proofs.Common.{◌≡◌, ℕ, ◌<◌, ◌≤◌, ◌+◌, Bool, true, false, refl, sym, ap, subst, ◌∙◌, inl, inr, arith}
+use Rattle.std.proofs.lemmas.Bool.{cases_lt}
+use Rattle.std.specs.Prelude.{◌↔◌, IsTrue, ltb, not, ◌&&◌, is_some}
 use Rattle.std.specs.declared.option.Option.{Option}
-use Rattle.std.specs.declared.option.Option.TheVariants.{None}
+use Rattle.std.specs.declared.option.Option.TheVariants.{None, Some}
 use Rattle.wl_object_map.specs.declared.object.Entry.{Entry}
-use Rattle.wl_object_map.specs.declared.object.Maker.{Maker}
+use Rattle.wl_object_map.specs.declared.object.State.{State}
+use Rattle.wl_object_map.specs.declared.object.State.TheVariants as states
 use Rattle.wl_object_map.specs.declared.object.Maker.TheVariants.{Client, Server}
-use Rattle.wl_object_map.specs.Ranges.{is_of_server, table_id}
+use Rattle.wl_object_map.specs.Ranges.{first_server_id, is_of_server, table_id}
 use Rattle.wl_object_map.specs.View as table
-use Rattle.wl_object_map.specs.View.{View, Sound}
-use Rattle.wl_object_map.specs.Views.{place_of_id, in_row, in_list, at_null, unused}
-use Rattle.wl_object_map.specs.Objects.{Objects, ObjectsAreSound, look, maker_of, ids_used}
-use Rattle.wl_object_map.specs.ObjectsLaws.{in_range-client, in_range-server, is_from}
-use Rattle.wl_object_map.specs.ObjectsLaws.{of_client as below_server, of_server as from_server}
-use Rattle.theory_connection.specs.Runs.{Agree}
-use Rattle.wl_session.specs.Room.{AreSame, AreSameInRange, first_id_of}
+use Rattle.wl_object_map.specs.View.{View, Sound, lives_in, lives, times}
+use Rattle.wl_object_map.specs.Views.{Place, place_of_id, in_row, in_list, at_null, unused}
+use Rattle.wl_object_map.specs.Objects.{Objects, ObjectsAreSound, look, ids_used, next_birth}
+use Rattle.wl_object_map.specs.ObjectsLaws.{in_range-client, in_range-server, is_from, of_client, of_server}
+use Rattle.theory_connection.specs.Runs.{AgreeByClient, AgreeByServer, is_freed, is_zombie}
+use Rattle.wl_session.specs.Room.{AreSame, AreSameByServer, SameByServer, both_live, was_freed}
+
+-- ---- the client's range
 
 -- an id that was not used has no row
 no_row : (view : View) (id : ℕ) → Sound view → view.used < id → table.look view id ≡ None
 no_row view id s h = elim (place_of_id view s id) [
-  | in_row e l t a b ↦ absurd (omega arith)
+  | in_row e l t a b ↦ absurd (omega (arith, h, b))
   | in_list l t a b ↦ l
   | at_null l t e ↦ l
   | unused l t a ↦ l
 ]
 
-null_row : (view : View) (id : ℕ) → Sound view → id ≡ 0 → table.look view id ≡ None
+null_row : (view : View) (id : ℕ) → Sound view → id < 1 → table.look view id ≡ None
 null_row view id s h = elim (place_of_id view s id) [
-  | in_row e l t a b ↦ absurd (omega arith)
+  | in_row e l t a b ↦ absurd (omega (arith, h, a))
   | in_list l t a b ↦ l
   | at_null l t e ↦ l
   | unused l t a ↦ l
 ]
-
-of_client : (b : Bool) → cond b Server Client ≡ Client → b ≡ false
-of_client true e = absurd (cc e)
-of_client false e = refl
-
-of_server : (b : Bool) → cond b Server Client ≡ Server → b ≡ true
-of_server true e = refl
-of_server false e = absurd (cc e)
-
--- an id outside the range's first, so many as were used, has no row
-pub not_used : (maker : Maker) (objects : Objects) (used id : ℕ) → ObjectsAreSound objects
-    → ids_used maker objects ≤ used → maker_of id ≡ maker → (first_id_of maker + used ≤ id) → look objects id ≡ None
-not_used Client objects used id s u m h =
-    let range = of_client (is_of_server id) m in
-    in_range-client table.look objects id range ∙ no_row objects.client id s.client (omega (arith, u, h))
-not_used Server objects used id s u m h =
-    let range = of_server (is_of_server id) m in
-    let low = is_from id range in
-    in_range-server table.look objects id range
-    ∙ no_row objects.server (table_id id) s.server (omega (arith, u, h, low))
-
--- nor has one below it
-pub not_first : (maker : Maker) (objects : Objects) (id : ℕ) → ObjectsAreSound objects
-    → maker_of id ≡ maker → id < first_id_of maker → look objects id ≡ None
-not_first Client objects id s m h =
-    let range = of_client (is_of_server id) m in
-    in_range-client table.look objects id range ∙ null_row objects.client id s.client (omega (arith, h))
-not_first Server objects id s m h =
-    let low = is_from id (of_server (is_of_server id) m) in absurd (omega (arith, h, low))
 
 neither : (c s : Option Entry) → c ≡ None → s ≡ None → AreSame c s
 neither c s e f = record { same = e ∙ sym f; live = λ x h. absurd (cc (e, h)) }
 
--- where those that were used are the same, all of the range are
-pub same_in_range : (maker : Maker) (client server : Objects) (used : ℕ)
-    → ObjectsAreSound client → ObjectsAreSound server → ids_used maker client ≤ used → ids_used maker server ≤ used
-    → ((q : ℕ) → first_id_of maker ≤ q → q < first_id_of maker + used → AreSame (look client q) (look server q))
-    → AreSameInRange maker client server
-same_in_range maker client server used c s l n h = λ id m. elim (cases_lt id (first_id_of maker)) [
-  | inl below ↦ neither (look client id) (look server id) (not_first maker client id c m below)
-      (not_first maker server id s m below)
-  | inr from ↦ (elim (cases_lt id (first_id_of maker + used)) [
-    | inl within ↦ h id from within
-    | inr past ↦ neither (look client id) (look server id) (not_used maker client used id c l m past)
-        (not_used maker server used id s n m past)
-  ])
-]
-
--- the maker of an id that was used
-pub maker_within : (maker : Maker) (used id : ℕ) → first_id_of maker ≤ id
-    → id < first_id_of maker + used → used ≤ 1048576 → maker_of id ≡ maker
-maker_within Client used id low high most =
-    ap (λ (b : Bool). cond b Server Client) (below_server id (omega (arith, high, most)))
-maker_within Server used id low high most = ap (λ (b : Bool). cond b Server Client) (from_server id low)
-
--- both ranges are all ids
-pub agree : (client server : Objects) → AreSameInRange Client client server → AreSameInRange Server client server
-    → Agree client server
-agree client server c s = record { same = λ id. (all id).same; live = λ id e h. (all id).live e h }
+-- where the ids that were used have the same, all of the range have
+pub same_of_client : (client server : Objects) (most : ℕ) → ObjectsAreSound client → ObjectsAreSound server
+    → ids_used Client client ≤ most → ids_used Client server ≤ most
+    → ((q : ℕ) → 1 ≤ q → q < 1 + most → AreSame (look client q) (look server q))
+    → AgreeByClient client server
+same_of_client client server most c s l n h = record {
+  same = λ id range. (all id range).same;
+  live = λ id e range row. (all id range).live e row;
+}
   where
-    all : (id : ℕ) → AreSame (look client id) (look server id)
-    all id = elim (cases_Bool (is_of_server id)) [
-      | inl h ↦ s id (ap (λ (b : Bool). cond b Server Client) h)
-      | inr h ↦ c id (ap (λ (b : Bool). cond b Server Client) h)
+    without : (objects : Objects) (id : ℕ) → is_of_server id ≡ false → table.look objects.client id ≡ None
+        → look objects id ≡ None
+    without objects id range none = in_range-client table.look objects id range ∙ none
+
+    all : (id : ℕ) → is_of_server id ≡ false → AreSame (look client id) (look server id)
+    all id range = elim (cases_lt id 1) [
+      | inl below ↦ neither (look client id) (look server id)
+          (without client id range (null_row client.client id c.client below))
+          (without server id range (null_row server.client id s.client below))
+      | inr from ↦ (elim (cases_lt id (1 + most)) [
+        | inl within ↦ h id from within
+        | inr past ↦ neither (look client id) (look server id)
+            (without client id range (no_row client.client id c.client (omega (arith, l, past))))
+            (without server id range (no_row server.client id s.client (omega (arith, n, past))))
+      ])
     ]
 
-pub same_of : (maker : Maker) (client server : Objects) → Agree client server → AreSameInRange maker client server
-same_of maker client server a = λ id m. record { same = a.same id; live = a.live id }
+pub same_at : (client server : Objects) (id most : ℕ) → AgreeByClient client server → id < 1 + most
+    → most ≤ 1048576 → AreSame (look client id) (look server id)
+same_at client server id most a high limit =
+    let range = of_client id (omega (arith, high, limit)) in
+    record { same = a.same id range; live = λ e h. a.live id e range h }
+
+-- ---- the server's range
+
+-- two rows are the same where a test of each case says so
+
+pub both_are_live : (b : Bool) (c s : Option Entry) (d e : Entry) → c ≡ Some d → s ≡ Some e
+    → IsTrue b ↔ ((d ≡ e) × (d.state ≡ states.Live)) → IsTrue b ↔ AreSameByServer c s
+both_are_live b c s d e p q h = (
+  λ t. (let r = h.0 t in both_live d p (q ∙ ap Some (sym r.0)) r.1),
+  λ a. elim a [
+    | both_live x k l live ↦
+        (let one : d ≡ x = cc (p, k) in let other : e ≡ x = cc (q, l) in
+        h.1 (one ∙ sym other, ap (λ (it : Entry). it.state) one ∙ live))
+    | was_freed x k l z ↦ absurd (cc (q, l))
+  ],
+)
+
+pub one_is_freed : (b : Bool) (c s : Option Entry) (d : Entry) → c ≡ Some d → s ≡ None
+    → IsTrue b ↔ (d.state ≡ states.Zombie) → IsTrue b ↔ AreSameByServer c s
+one_is_freed b c s d p q h = (
+  λ t. was_freed d p q (h.0 t),
+  λ a. elim a [
+    | both_live x k l live ↦ absurd (cc (q, l))
+    | was_freed x k l z ↦ (let one : d ≡ x = cc (p, k) in h.1 (ap (λ (it : Entry). it.state) one ∙ z))
+  ],
+)
+
+-- what two rows tell, where they are the same
+
+same_row : (c s : Option Entry) → AreSameByServer c s
+    → (e : Entry) → (s ≡ Some e) ↔ ((c ≡ Some e) × (e.state ≡ states.Live))
+same_row c s h e = elim h [
+  | both_live d a b l ↦ (
+    λ k. (let q : d ≡ e = cc (b, k) in (a ∙ ap Some q, subst (λ (x : Entry). x.state ≡ states.Live) q l)),
+    λ k. (let q : d ≡ e = cc (a, k.0) in b ∙ ap Some q),
+  )
+  | was_freed d a b z ↦ (
+    λ k. absurd (cc (b, k)),
+    λ k. (let q : d ≡ e = cc (a, k.0) in
+        let no : states.Zombie ≡ states.Live = sym z ∙ ap (λ (x : Entry). x.state) q ∙ k.1 in absurd (cc no)),
+  )
+]
+
+abbrev zombie_in : Option Entry → Bool
+zombie_in o = is_some o && not (lives_in o)
+
+zombie_of : (e : Entry) (s : State) → e.state ≡ s → zombie_in (Some e) ≡ not (lives s)
+zombie_of e s h = ap (λ (x : State). not (lives x)) h
+
+freed_row : (c s : Option Entry) (listed : ℕ) → AreSameByServer c s → (s ≡ None → listed ≡ 1)
+    → ((e : Entry) → s ≡ Some e → listed ≡ 0) → zombie_in c ≡ ltb 0 listed
+freed_row c s listed h none some = elim h [
+  | both_live d a b l ↦ ap zombie_in a ∙ zombie_of d states.Live l ∙ sym (ap (λ (n : ℕ). ltb 0 n) (some d b))
+  | was_freed d a b z ↦ ap zombie_in a ∙ zombie_of d states.Zombie z ∙ sym (ap (λ (n : ℕ). ltb 0 n) (none b))
+]
+
+zombie_state : (s : State) → not (lives s) ≡ true → s ≡ states.Zombie
+zombie_state states.Live h = absurd (cc h)
+zombie_state states.Zombie h = refl
+
+zombie_is : (o : Option Entry) → zombie_in o ≡ true → (e : Entry) × ((o ≡ Some e) × (e.state ≡ states.Zombie))
+zombie_is None h = absurd (cc h)
+zombie_is (Some e) h = (e, (refl, zombie_state e.state h))
+
+-- an id that was used is among the freed ids exactly where it has no row
+listed_once : (view : View) (id : ℕ) → Sound view → 0 < id → id ≤ view.used → table.look view id ≡ None
+    → times id view.freed ≡ 1
+listed_once view id s low high h = elim (place_of_id view s id) [
+  | in_row e l t a b ↦ absurd (cc (l, h))
+  | in_list l t a b ↦ t
+  | at_null l t e ↦ absurd (omega (arith, low, e))
+  | unused l t a ↦ absurd (omega (arith, high, a))
+]
+
+not_listed : (view : View) (id : ℕ) (e : Entry) → Sound view → table.look view id ≡ Some e → times id view.freed ≡ 0
+not_listed view id e s h = elim (place_of_id view s id) [
+  | in_row d l t a b ↦ t
+  | in_list l t a b ↦ absurd (cc (l, h))
+  | at_null l t z ↦ t
+  | unused l t a ↦ t
+]
+
+further : (view : View) (id : ℕ) → Sound view → view.used < id → times id view.freed ≡ 0
+further view id s h = elim (place_of_id view s id) [
+  | in_row d l t a b ↦ t
+  | in_list l t a b ↦ absurd (omega (arith, h, b))
+  | at_null l t z ↦ t
+  | unused l t a ↦ t
+]
+
+row_in_server : (o : Objects) (id : ℕ) → is_of_server id ≡ true → look o id ≡ table.look o.server (table_id id)
+row_in_server o id range = in_range-server table.look o id range
+
+freed_in_server : (o : Objects) (id : ℕ) → is_of_server id ≡ true
+    → is_freed o id ≡ ltb 0 (times (table_id id) o.server.freed)
+freed_in_server o id range = in_range-server (λ view place. ltb 0 (times place view.freed)) o id range
+
+-- where the ids that were used have the same, all of the range have
+pub same_of_server : (client server : Objects) (used : ℕ) → ObjectsAreSound client → ObjectsAreSound server
+    → used ≡ ids_used Server client → used ≡ ids_used Server server
+    → next_birth Server client ≡ next_birth Server server
+    → SameByServer used client server → AgreeByServer client server
+same_of_server client server used c s u v births h = record {
+  same = λ id e range. same id e range;
+  freed = λ id range. freed id range;
+  used = sym u ∙ v;
+  births = births;
+}
+  where
+    none_at : (o : Objects) (id : ℕ) → ObjectsAreSound o → used ≡ ids_used Server o → is_of_server id ≡ true
+        → first_server_id + used ≤ id → look o id ≡ None
+    none_at o id sound is range past =
+        let low = is_from id range in
+        row_in_server o id range ∙ no_row o.server (table_id id) sound.server (omega (arith, is, past, low))
+
+    same : (id : ℕ) (e : Entry) → is_of_server id ≡ true
+        → (look server id ≡ Some e) ↔ ((look client id ≡ Some e) × (e.state ≡ states.Live))
+    same id e range = elim (cases_lt id (first_server_id + used)) [
+      | inl within ↦ same_row (look client id) (look server id) (h id (is_from id range) within) e
+      | inr past ↦ (
+        λ k. absurd (cc (none_at server id s v range past, k)),
+        λ k. absurd (cc (none_at client id c u range past, k.0)),
+      )
+    ]
+
+    freed : (id : ℕ) → is_of_server id ≡ true → is_zombie client id ≡ is_freed server id
+    freed id range = elim (cases_lt id (first_server_id + used)) [
+      | inl within ↦
+          (let low = is_from id range in
+          let row = row_in_server server id range in
+          freed_row (look client id) (look server id) (times (table_id id) server.server.freed) (h id low within)
+          (λ none. listed_once server.server (table_id id) s.server (omega (arith, low)) (omega (arith, low, within, v))
+          (sym row ∙ none))
+          (λ e some. not_listed server.server (table_id id) e s.server (sym row ∙ some))
+          ∙ sym (freed_in_server server id range))
+      | inr past ↦
+          (let low = is_from id range in
+          ap zombie_in (none_at client id c u range past)
+          ∙ sym (ap (λ (n : ℕ). ltb 0 n) (further server.server (table_id id) s.server (omega (arith, v, past, low))))
+          ∙ sym (freed_in_server server id range))
+    ]
+
+pub rows_of_server : (client server : Objects) (most : ℕ) → ObjectsAreSound server → most ≡ ids_used Server client
+    → AgreeByServer client server → SameByServer most client server
+rows_of_server client server most s counted a id low high =
+    let range = of_server id low in
+    let row = row_in_server server id range in
+    let used = a.used in
+    elim (place_of_id server.server s.server (table_id id)) [
+      | in_row e l t b d ↦
+          (let here = (a.same id e range).0 (row ∙ l) in both_live e here.0 (row ∙ l) here.1)
+      | in_list l t b d ↦
+          (let ended = zombie_is (look client id) (a.freed id range ∙ freed_in_server server id range
+          ∙ ap (λ (n : ℕ). ltb 0 n) t) in
+          was_freed ended.0 ended.1.0 (row ∙ l) ended.1.1)
+      | at_null l t e ↦ absurd (omega (arith, low, e))
+      | unused l t d ↦ absurd (omega (arith, low, high, counted, used, d))
+    ]

@@ -1,11 +1,10 @@
 -- How much a pair can carry at once.
-use Rattle.std.specs.Prelude.{◌≡◌, ℕ, ◌≤◌, List, [], ◌∷◌, Option, Some}
+use Rattle.std.specs.Prelude.{◌≡◌, ℕ, ◌+◌, ◌<◌, ◌≤◌, List, [], ◌∷◌, Option, Some, None}
 use Rattle.wl_object_map.specs.declared.object.Entry.{Entry}
 use Rattle.wl_object_map.specs.declared.object.State.TheVariants as states
-use Rattle.wl_object_map.specs.declared.object.Maker.{Maker}
 use Rattle.wl_object_map.specs.declared.object.Maker.TheVariants.{Client, Server}
 use Rattle.wl_object_map.specs.Ranges.{first_server_id}
-use Rattle.wl_object_map.specs.Objects.{Objects, look, maker_of}
+use Rattle.wl_object_map.specs.Objects.{Objects, look, row_count}
 use Rattle.wl_recording.specs.Piece.{Piece, with_last_bytes}
 use Rattle.wl_message.specs.Arrived.{Arrived}
 
@@ -24,12 +23,21 @@ pub record AreSame (client server : Option Entry) : Type 0 where
   pub same : client ≡ server
   pub live : (e : Entry) → client ≡ Some e → e.state ≡ states.Live
 
--- the first id of a maker's range
-abbrev pub first_id_of : Maker → ℕ
-first_id_of Client = 1
-first_id_of Server = first_server_id
+-- of an id of the server's range that was used: these are the same live object, or the server has
+-- freed the id and the client's object there has ended
+pub data AreSameByServer (client server : Option Entry) : Type 0 where
+  both_live : (e : Entry) → client ≡ Some e → server ≡ Some e → e.state ≡ states.Live
+      → AreSameByServer client server
+  was_freed : (e : Entry) → client ≡ Some e → server ≡ None → e.state ≡ states.Zombie
+      → AreSameByServer client server
 
--- these objects are so at each id of a maker's range
-abbrev pub AreSameInRange : Maker → Objects → Objects → Type 0
-AreSameInRange maker client server =
-    (id : ℕ) → maker_of id ≡ maker → AreSame (look client id) (look server id)
+-- the two have the same at each of the first ids of the server's range, of which so many were used
+abbrev pub SameByServer : ℕ → Objects → Objects → Type 0
+SameByServer used client server =
+    (id : ℕ) → first_server_id ≤ id → id < first_server_id + used
+    → AreSameByServer (look client id) (look server id)
+
+-- How many objects two ends have: in the client's range those that the client has, also those that
+-- it has destroyed and whose delete_id has not come, and in the server's those that the server has.
+abbrev pub object_count : Objects → Objects → ℕ
+object_count client server = row_count Client client + row_count Server server

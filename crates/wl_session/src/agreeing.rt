@@ -1,11 +1,13 @@
 //! Whether both ends have the same objects.
-ghost use Rattle.std.specs.Prelude.{◌≡◌, ◌↔◌, false, IsTrue};
+ghost use Rattle.std.specs.Prelude.{◌≡◌, ◌≤◌, ◌↔◌, false, IsTrue};
+ghost use Rattle.wl_object_map.specs.declared.object.State.TheVariants.{Live, Zombie};
+ghost use Rattle.wl_object_map.specs.View.{max_ids};
 ghost use Rattle.wl_object_map.specs.Objects.{ObjectsAreSound, ids_used};
 ghost use Rattle.theory_connection.specs.World.{World};
 ghost use Rattle.theory_connection.specs.Pair.{drained};
 ghost use Rattle.theory_connection.specs.Stands.{Stands};
-ghost use Rattle.theory_connection.specs.Runs.{Agree};
-ghost use Rattle.wl_session.specs.Room.{AreSame, AreSameInRange, first_id_of};
+ghost use Rattle.theory_connection.specs.Runs.{Agree, AgreeByClient, AgreeByServer};
+ghost use Rattle.wl_session.specs.Room.{AreSame, AreSameByServer, SameByServer, object_count};
 
 use crate::pair::Pair;
 use wl_client::Client;
@@ -16,7 +18,8 @@ use wl_server::Server;
 
 impl<'t, T: Table> Pair<'t, T> {
     /// Whether both ends have the same objects under the same ids, and the client has destroyed
-    /// none of them. Where both are drained and no error was posted, they have.
+    /// none of those that it made. One of the server's that it has destroyed stays at the client
+    /// until its id is used again. Where both are drained and no error was posted, they have.
     pub fn agree(&self) -> bool
         ensures exact { IsTrue result ↔ Agree self.now.client.core.view self.now.server.core.view }
         ensures drained { (world : World) → Stands self.now world → world.ended ≡ false
@@ -27,22 +30,32 @@ impl<'t, T: Table> Pair<'t, T> {
 }
 
 /// Whether a client and a server have the same objects under the same ids, and the client has
-/// destroyed none of them.
+/// destroyed none of those that it made, as `Pair::agree` has it.
 pub fn same_rows<T: Table>(client: &Client<'_, T>, server: &Server<'_, T>) -> bool
     ensures { IsTrue result ↔ Agree client.now.core.view server.now.core.view }
 {
     let client = client.objects();
     let server = server.objects();
-    same_in_range(client, server, Maker::Client) && same_in_range(client, server, Maker::Server)
+    same_of_client(client, server) && same_of_server(client, server)
 }
 
-/// Whether the two have the same live object, or none, at each id of a maker's range.
-fn same_in_range<T: Table>(client: &Objects<T>, server: &Objects<T>, maker: Maker) -> bool
-    ensures { IsTrue result ↔ AreSameInRange maker client.now server.now }
+/// How many objects a client and a server have: in the client's range those that the client has,
+/// counting those that it has destroyed and whose delete_id has not come, and in the server's range
+/// those that the server has.
+pub fn object_count<T: Table>(client: &Client<'_, T>, server: &Server<'_, T>) -> usize
+    ensures { result ≡ object_count client.now.core.view server.now.core.view }
 {
-    let used = used_ids(client, maker).max(used_ids(server, maker));
-    let first = first_id_of(maker);
-    for id in first..first + used {
+    let of_client = client.objects().len(Maker::Client);
+    let of_server = server.objects().len(Maker::Server);
+    of_client as usize + of_server as usize
+}
+
+/// Whether the two have the same live object, or none, at each id of the client's range.
+fn same_of_client<T: Table>(client: &Objects<T>, server: &Objects<T>) -> bool
+    ensures { IsTrue result ↔ AgreeByClient client.now server.now }
+{
+    let most = used_ids(client, Maker::Client).max(used_ids(server, Maker::Client));
+    for id in 1..1 + most {
         if !are_same(client.look(id), server.look(id)) {
             return false;
         }
@@ -50,14 +63,32 @@ fn same_in_range<T: Table>(client: &Objects<T>, server: &Objects<T>, maker: Make
     true
 }
 
-/// The first id of a maker's range.
-fn first_id_of(maker: Maker) -> u32
-    ensures { result ≡ first_id_of maker }
+/// Whether the client's live objects of the server's range are the server's, its zombies there have
+/// the ids that the server has freed, and both have counted alike.
+fn same_of_server<T: Table>(client: &Objects<T>, server: &Objects<T>) -> bool
+    ensures { IsTrue result ↔ AgreeByServer client.now server.now }
 {
-    match maker {
-        Maker::Client => 1,
-        Maker::Server => FIRST_SERVER_ID,
+    let used = used_ids(client, Maker::Server);
+    if used != used_ids(server, Maker::Server) {
+        return false;
     }
+    if client.births(FIRST_SERVER_ID) != server.births(FIRST_SERVER_ID) {
+        return false;
+    }
+    same_by_server(client, server, used)
+}
+
+/// Whether the two have the same at each of the first `used` ids of the server's range.
+fn same_by_server<T: Table>(client: &Objects<T>, server: &Objects<T>, used: u32) -> bool
+    requires { used ≤ max_ids }
+    ensures { IsTrue result ↔ SameByServer used client.now server.now }
+{
+    for id in FIRST_SERVER_ID..FIRST_SERVER_ID + used {
+        if !are_same_by_server(client.look(id), server.look(id)) {
+            return false;
+        }
+    }
+    true
 }
 
 /// How many ids of a maker's range were used.
@@ -75,13 +106,37 @@ fn are_same(client: Option<Entry>, server: Option<Entry>) -> bool
 {
     match (client, server) {
         (None, None) => true,
-        (Some(client), Some(server)) => {
-            client.birth == server.birth
-                && client.iface == server.iface
-                && client.version == server.version
-                && client.state == State::Live
-                && server.state == State::Live
-        }
+        (Some(client), Some(server)) => is_same_live(client, server),
         _ => false,
     }
+}
+
+/// Whether these are what both ends have at an id of the server's range that was used: the same
+/// live object, or one that the client has destroyed and none at the server.
+fn are_same_by_server(client: Option<Entry>, server: Option<Entry>) -> bool
+    ensures { IsTrue result ↔ AreSameByServer client server }
+{
+    match (client, server) {
+        (Some(client), Some(server)) => is_same_live(client, server),
+        (Some(client), None) => is_zombie(client),
+        _ => false,
+    }
+}
+
+/// Whether the object has ended.
+fn is_zombie(entry: Entry) -> bool
+    ensures { IsTrue result ↔ (entry.state ≡ Zombie) }
+{
+    entry.state == State::Zombie
+}
+
+/// Whether these are the same live object.
+fn is_same_live(client: Entry, server: Entry) -> bool
+    ensures { IsTrue result ↔ ((client ≡ server) × (client.state ≡ Live)) }
+{
+    client.birth == server.birth
+        && client.iface == server.iface
+        && client.version == server.version
+        && client.state == State::Live
+        && server.state == State::Live
 }

@@ -11,7 +11,7 @@ mod pair;
 mod running;
 mod tee;
 
-pub use agreeing::same_rows;
+pub use agreeing::{object_count, same_rows};
 pub use moves::{Carried, Move, Reply, SendArg};
 pub use pair::Pair;
 pub use tee::Tee;

@@ -1,6 +1,6 @@
 //! A client and a server.
-ghost use Rattle.std.specs.Prelude.{◌≡◌, ◌↔◌, ◌≤◌, IfOk, IsTrue, length};
-ghost use Rattle.std.specs.FinMap.{len as row_count};
+ghost use Rattle.std.specs.Prelude.{◌≡◌, ◌↔◌, ◌≤◌, false, IfOk, IsTrue, length};
+ghost use Rattle.wl_sigs.specs.Rules.{has_server_objects};
 ghost use Rattle.wl_sigs.specs.Valid.{Valid};
 ghost use Rattle.wl_message.specs.Arrived.{AreSizes};
 ghost use Rattle.wl_client.specs.State.{new_state as new_client};
@@ -10,7 +10,9 @@ ghost use Rattle.theory_connection.specs.World.{World, opening_world};
 ghost use Rattle.theory_connection.specs.Pair.{new_pair, drained};
 ghost use Rattle.theory_connection.specs.Stands.{Stands};
 ghost use Rattle.theory_recording.specs.Linked.{Linked, pair_limit, up_to};
+ghost use Rattle.wl_session.specs.Room.{object_count};
 
+use crate::agreeing::object_count;
 use std::alloc::{AllocError, Allocator};
 use std::marker::Model;
 use wl_client::Client;
@@ -66,6 +68,9 @@ impl<'t, T: Table> Model for Pair<'t, T> {
 impl<'t, T: Table + Drop> Pair<'t, T> {
     /// Both ends as they begin: wl_display at each, empty queues of these sizes, no globals. Both
     /// go by one limit. What a carry needs beside the recording is made here.
+    ///
+    /// Where no event of the tables has a new object of the server, the pair stands for the opening
+    /// world.
     pub fn new(
         alloc: T::Alloc,
         tables: &'t Tables,
@@ -76,8 +81,10 @@ impl<'t, T: Table + Drop> Pair<'t, T> {
         requires server { AreSizes server }
         requires one_limit { client.limit.bytes ≡ server.limit.bytes }
         ensures begins { IfOk result (λ pair. pair ≡ new_pair tables.now client server) }
-        ensures stands { IfOk result (λ pair. Stands pair opening_world) }
-        ensures linked { IfOk result (λ pair. Linked pair opening_world) }
+        ensures stands { IfOk result (λ pair. has_server_objects tables.now ≡ false
+            → Stands pair opening_world) }
+        ensures linked { IfOk result (λ pair. has_server_objects tables.now ≡ false
+            → Linked pair opening_world) }
     {
         know_valid(tables);
         let (bytes, tokens) = buffers(&alloc, client.in_bytes.max(server.in_bytes))?;
@@ -103,12 +110,13 @@ impl<'t, T: Table> Pair<'t, T> {
         self.client.is_drained() && self.server.is_drained()
     }
 
-    /// The number of objects that the client has, counting those that it has destroyed and whose
-    /// delete_id has not come.
+    /// The number of objects: in the client's range those that the client has, counting those that
+    /// it has destroyed and whose delete_id has not come, and in the server's range those that the
+    /// server has.
     pub fn len(&self) -> usize
-        ensures { result ≡ row_count self.now.client.core.view.client.rows }
+        ensures { result ≡ object_count self.now.client.core.view self.now.server.core.view }
     {
-        self.client.table().len() as usize
+        object_count(&self.client, &self.server)
     }
 
     /// What was carried, piece by piece.

@@ -31,7 +31,7 @@ mod TestsDecide
 mod Distinct
 mod ByPlace
 mod ServerObjects
-mod ServerObjectsTold
+pub mod ServerObjectsTold
 mod RulesDecide
 mod CoreValid
 mod TextOutcome

@@ -1,5 +1,6 @@
 -- Whether tables have new objects of the server.
-use Rattle.std.proofs.Common.{◌≡◌, List, Bool, true, refl, sym, ap, subst, ◌∙◌, Some}
+use Rattle.std.proofs.Common.{◌≡◌, ℕ, List, [], ◌∷◌, Bool, true, false, inl, inr, refl, sym, ap, subst, ◌∙◌, Some}
+use Rattle.std.proofs.lemmas.Bool.{cases_Bool}
 use Rattle.std.specs.Prelude.{◌↔◌}
 use Rattle.std.specs.List.{list_any}
 use Rattle.std.proofs.lemmas.List.Folds.{list_any_at}
@@ -7,7 +8,8 @@ use Rattle.wl_wire.specs.declared.kind.Kind.{Kind}
 use Rattle.wl_wire.specs.declared.kind.Kind.TheVariants as kinds
 use Rattle.wl_wire.specs.declared.kind.Iface.{Iface}
 use Rattle.wl_sigs.specs.declared.signature.Side.TheVariants.{Event}
-use Rattle.wl_sigs.specs.Tables.{Interface, is_by_server, has_server_object, HasServerObjects}
+use Rattle.wl_sigs.specs.Tables.{Interface, MessageSignature, is_by_server, has_server_object, HasServerObjects}
+use Rattle.wl_sigs.specs.Tables.{server_objects, signature_at}
 use Rattle.wl_sigs.specs.Rules.{has_server_objects}
 use Rattle.wl_sigs.proofs.JoinedValid.{any_at}
 use Rattle.wl_sigs.proofs.LineRules.{contains}
@@ -56,3 +58,30 @@ server_objects_told tables = (some_told tables, told_some tables)
 pub told_by : (tables : List Interface) (b : Bool) → b ≡ has_server_objects tables
     → (b ≡ true) ↔ HasServerObjects tables
 told_by tables b is = subst (λ (x : Bool). (x ≡ true) ↔ HasServerObjects tables) (sym is) (server_objects_told tables)
+
+kinds_without : (ks : List Kind) → list_any is_by_server ks ≡ false → server_objects ks ≡ []
+kinds_without [] e = refl
+kinds_without (kinds.Int ∷ ks) e = kinds_without ks e
+kinds_without (kinds.Uint ∷ ks) e = kinds_without ks e
+kinds_without (kinds.Fixed ∷ ks) e = kinds_without ks e
+kinds_without (kinds.Str null ∷ ks) e = kinds_without ks e
+kinds_without (kinds.Obj null iface ∷ ks) e = kinds_without ks e
+kinds_without (kinds.New iface ∷ ks) e = kinds_without ks e
+kinds_without (kinds.NewByServer iface ∷ ks) e = absurd (cc e)
+kinds_without (kinds.Array ∷ ks) e = kinds_without ks e
+kinds_without (kinds.Fd ∷ ks) e = kinds_without ks e
+
+-- in tables without new objects of the server no event has one
+pub none_by_server : (tables : List Interface) → has_server_objects tables ≡ false
+    → (place opcode : ℕ) (m : MessageSignature) → signature_at tables place Event opcode ≡ Some m
+    → server_objects m.kinds ≡ []
+none_by_server tables none place opcode m at = elim (cases_Bool (has_server_object m)) [
+  | inl some ↦
+      (let witness = found tables place Event opcode m at in
+      let event : list_any has_server_object witness.interface.events ≡ true =
+      any_true has_server_object witness.interface.events opcode m witness.of some in
+      let any : has_server_objects tables ≡ true =
+      any_true (λ (i : Interface). list_any has_server_object i.events) tables place witness.interface witness.at event in
+      absurd (cc (any, none)))
+  | inr without ↦ kinds_without m.kinds without
+]

@@ -1,10 +1,23 @@
-use Rattle.std.proofs.Common.{◌≡◌, Some, inl, ap, ◌∙◌, rules}
+use Rattle.std.proofs.Common.{◌≡◌, Some, None, inl, ap, ◌∙◌, rules}
 use Rattle.std.specs.declared.result.Result.TheVariants.{Ok as ok, Err as err}
 use Rattle.wl_connection.specs.Core.{Core}
 use Rattle.wl_server.specs.State.{State}
 use Rattle.wl_server.specs.Steps.{checked_front, core_by, pending_in, registries_by, taken_report, whole_state}
-use Rattle.wl_server.proofs.AfterRequest.{err-left, opens-one, step-answer, taken-is, taken-left}
+use Rattle.wl_server.proofs.AfterRequest.{answer-is, err-left, none-left, opens-one, step-answer, taken-is, taken-left}
 use Rattle.wl_server.proofs.receive.read.Goals as goal
+
+pub returns-in_err-request-clause-answer : goal.returns-in_err-request-clause-answer
+returns-in_err-request-clause-answer g c =
+    let state : State = whole_state c.args.end.now.core c.args.globals.now c.args.registries.now.list in
+    let same : c.from_residual.result ≡ err c.in_err-request.field-0.0 = search rules in
+    rw same (inl (answer-is state (err c.in_err-request.field-0.0) c.in_err-request.ensures.answer))
+
+pub returns-in-None-clause-state : goal.returns-in-None-clause-state
+returns-in-None-clause-state g c =
+    let state : State = whole_state c.args.end.now.core c.args.globals.now c.args.registries.now.list in
+    let answer : ok None ≡ checked_front state = rw c.in-None.is at c.in_ok-request.ensures.answer in
+    none-left c.args.end.now.core c.find_or_fail.new.end.core c.args.globals.now c.args.registries.now.list answer
+    c.in_ok-request.ensures.core
 
 pub returns-in_err-request-clause-state : goal.returns-in_err-request-clause-state
 returns-in_err-request-clause-state g c =

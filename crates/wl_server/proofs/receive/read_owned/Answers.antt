@@ -1,12 +1,27 @@
-use Rattle.std.proofs.Common.{◌≡◌, List, Some, sym, subst, ◌∙◌, rules}
+use Rattle.std.proofs.Common.{◌≡◌, List, Some, None, inl, sym, ap, subst, ◌∙◌, rules}
 use Rattle.std.specs.declared.result.Result.TheVariants.{Ok as ok, Err as err}
 use Rattle.wl_objects.specs.declared.parsed.ParsedArg.{ParsedArg}
 use Rattle.wl_objects.specs.Parsed.{reported_of}
 use Rattle.wl_connection.specs.Core.{Core}
 use Rattle.wl_server.specs.State.{State}
 use Rattle.wl_server.specs.Steps.{CanTake, checked_front, core_by, pending_in, registries_by, whole_state}
-use Rattle.wl_server.proofs.AfterRequest.{err-left, memory-wanted, needs-some, some-args, taken-left}
+use Rattle.wl_server.specs.Seen.{report_of}
+use Rattle.wl_server.proofs.AfterRequest.{answer-is, err-left, memory-wanted, needs-some, none-left, some-args}
+use Rattle.wl_server.proofs.AfterRequest.{step-answer, taken-left}
 use Rattle.wl_server.proofs.receive.read_owned.Goals as goal
+
+pub returns-in_err-request-clause-answer : goal.returns-in_err-request-clause-answer
+returns-in_err-request-clause-answer g c =
+    let state : State = whole_state c.args.end.now.core c.args.globals.now c.args.registries.now.list in
+    let same : c.from_residual.result ≡ err c.in_err-request.field-0.0 = search rules in
+    rw same (inl (answer-is state (err c.in_err-request.field-0.0) c.in_err-request.ensures.answer))
+
+pub returns-in-None-clause-state : goal.returns-in-None-clause-state
+returns-in-None-clause-state g c =
+    let state : State = whole_state c.args.end.now.core c.args.globals.now c.args.registries.now.list in
+    let answer : ok None ≡ checked_front state = rw c.in-None.is at c.in_ok-request.ensures.answer in
+    none-left c.args.end.now.core c.find_or_fail.new.end.core c.args.globals.now c.args.registries.now.list answer
+    c.in_ok-request.ensures.core
 
 pub returns-in_err-request-clause-state : goal.returns-in_err-request-clause-state
 returns-in_err-request-clause-state g c =
@@ -33,6 +48,17 @@ take_request-requires-clause-can g c =
     let core : c.copy.new.end.core ≡ old = c.in-Ok.ensures.core ∙ c.in_ok-request.ensures.core in
     subst (λ (k : Core). CanTake k (pending_in k c.copy.new.end.args p)) (sym core)
     (subst (λ (a : List ParsedArg). CanTake old (pending_in old a p)) (sym c.in-Ok.ensures.args) can)
+
+pub returns-in-Ok-take_request-clause-answer : goal.returns-in-Ok-take_request-clause-answer
+returns-in-Ok-take_request-clause-answer g c =
+    let core = c.args.end.now.core in
+    let args = c.find_or_fail.new.end.args in
+    let step = pending_in core args c.in-Some.request in
+    let state : State = whole_state core c.args.globals.now c.args.registries.now.list in
+    let answer : ok (Some step) ≡ checked_front state = rw c.in-Some.is at c.in_ok-request.ensures.answer in
+    inl (step-answer state step (report_of c.in-Ok.report) answer
+    (c.in-Ok.ensures.ok
+    ∙ ap (λ (k : Core). (pending_in k args c.in-Some.request).report) c.in_ok-request.ensures.core))
 
 pub returns-in-Ok-take_request-clause-state : goal.returns-in-Ok-take_request-clause-state
 returns-in-Ok-take_request-clause-state g c =

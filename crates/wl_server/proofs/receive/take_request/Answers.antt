@@ -1,13 +1,12 @@
 use Rattle.std.proofs.Common.{◌≡◌, sym, ap, subst, ◌∙◌, arith, rules}
 use Rattle.std.specs.Prelude.{IsTrue}
-use Rattle.wl_object_map.specs.ObjectsLaws.{births-closed}
 use Rattle.wl_objects.specs.Messages.{opens}
 use Rattle.wl_message.specs.Outgoing.{Outgoing}
 use Rattle.wl_connection.specs.Core.{Core, past, with_view}
 use Rattle.wl_connection.specs.Sending.{delete_id_len, fits}
 use Rattle.wl_server.specs.Steps.{core_by, core_without, pending_in, registries_by, registries_without}
 use Rattle.wl_server.proofs.Closings.{registries_opened, row_opened}
-use Rattle.wl_server.proofs.Registries.{has_now}
+use Rattle.wl_server.proofs.Registries.{births_left, has_now}
 use Rattle.wl_server.proofs.receive.take_request.Goals as goal
 
 pub open_new_object-requires-clause-free : goal.open_new_object-requires-clause-free
@@ -37,11 +36,11 @@ pub close_object-requires-clause-not_display : goal.close_object-requires-clause
 close_object-requires-clause-not_display g c = (c.requires.can.ended c.in-Some.object c.in-Some.is).not_display
 
 pub close_object-requires-clause-room : goal.close_object-requires-clause-room
-close_object-requires-clause-room g c =
+close_object-requires-clause-room g c client =
     let outbox : c.pass.new.self.outbox ≡ c.args.end.now.core.outbox =
     ap (λ (k : Core). k.outbox) c.pass.ensures ∙ ap (λ (k : Core). k.outbox) c.in_ok-open_new_object.ensures.core in
     subst (λ (o : Outgoing). IsTrue (fits o delete_id_len 0)) (sym outbox)
-    (c.requires.can.ended c.in-Some.object c.in-Some.is).room
+    ((c.requires.can.ended c.in-Some.object c.in-Some.is).room client)
 
 pub returns-in-Some-clause-sound : goal.returns-in-Some-clause-sound
 returns-in-Some-clause-sound g c =
@@ -84,6 +83,6 @@ returns-in-Some-clause-past g c = omega (
   c.close_object.ensures.past,
   c.in_ok-open_new_object.ensures.past,
   ap (λ (k : Core). k.view.client.births) c.pass.ensures,
+  births_left c.pass.new.self c.in-Some.object,
   ap (λ (k : Core). k.view.client.births) c.close_object.ensures.core,
-  births-closed c.pass.new.self.view c.in-Some.object.id,
 )

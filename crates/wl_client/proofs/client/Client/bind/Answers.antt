@@ -4,8 +4,8 @@ use Rattle.wl_objects.specs.declared.error.SendError.{SendError}
 use Rattle.wl_client.proofs.Binds.{bind_opens}
 use Rattle.wl_objects.specs.declared.error.SendError.TheVariants as refusals
 use Rattle.wl_wire.specs.declared.kind.Iface.{Iface}
-use Rattle.wl_object_map.specs.View.{next_id}
-use Rattle.wl_object_map.specs.Objects.{opened_at}
+use Rattle.wl_object_map.specs.declared.object.Maker.TheVariants.{Client}
+use Rattle.wl_object_map.specs.Objects.{next_id, opened_at}
 use Rattle.wl_objects.specs.Writing.{bind_values}
 use Rattle.wl_connection.specs.Core.{Core, with_view}
 use Rattle.wl_connection.specs.Outcomes.{AnswersOrMemory}
@@ -32,7 +32,11 @@ write_bind-requires-clause-len g c = let f : FitsBind c.args.iface.now = c.if-ca
 
 pub returns-clause-ok : goal.returns-clause-ok
 returns-clause-ok g c =
-    let state : State = record { core = c.self.inside.end.core; globals = c.self.inside.globals } in
+    let state : State = record {
+      core = c.self.inside.end.core;
+      globals = c.self.inside.globals;
+      made = c.self.inside.made;
+    } in
     let target = c.args.registry in
     let iface = c.args.iface.now in
     let made : c.in-Some-get.global.iface ≡ iface_or (global_of state.globals c.args.name) =
@@ -44,15 +48,20 @@ returns-clause-ok g c =
     ∙ (λ i. with_sent (c.in_ok-object.ensures.ok i) target.id 0
     (bind_values c.args.name iface c.args.version (c.in_ok-object.ensures.id i)) [])
     ∙ ap (λ (f : Iface). with_view (with_sent state.core target.id 0
-    (bind_values c.args.name iface c.args.version (next_id state.core.view.client)) [])
-    (opened_at state.core.view (next_id state.core.view.client) f c.args.version)) made)
+    (bind_values c.args.name iface c.args.version (next_id Client state.core.view)) [])
+    (opened_at state.core.view (next_id Client state.core.view) f c.args.version)) made)
     ∙ ap (λ (s : State). after_bind s target c.args.name iface c.args.version) c.self.view_is
 
 pub returns-clause-answer : goal.returns-clause-answer
 returns-clause-answer g c =
-    let state : State = record { core = c.self.inside.end.core; globals = c.self.inside.globals } in
+    let state : State = record {
+      core = c.self.inside.end.core;
+      globals = c.self.inside.globals;
+      made = c.self.inside.made;
+    } in
     let opens = bind_opens state c.args.registry c.args.name c.args.iface.now c.args.version c.in-Some.entry
-    c.in-Some-get.global (search rules) (search rules) (sym c.if-ne.ensures) (search rules) (search rules) (search rules) in
+    c.in-Some-get.global (search rules) (search rules) (sym c.if-ne.ensures) (search rules) (search rules)
+    (search rules) in
     subst (λ (s : State). AnswersOrMemory refusals.Memory true
     (bind_answer s c.args.registry c.args.name c.args.iface.now c.args.version) (Ok (Some c.in_ok-object.object)))
     c.self.view_is

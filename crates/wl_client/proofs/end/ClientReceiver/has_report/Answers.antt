@@ -8,7 +8,11 @@ use Rattle.wl_client.proofs.end.ClientReceiver.has_report.Goals as goal
 
 pub returns-clause-yes : goal.returns-clause-yes
 returns-clause-yes g c t =
-    let state : State = record { core = c.self.inside.end.core; globals = c.self.inside.globals } in
+    let state : State = record {
+      core = c.self.inside.end.core;
+      globals = c.self.inside.globals;
+      made = c.self.inside.made;
+    } in
     elim c.match-find.branch [
       | in-Ok-Some w ↦
           let front = rw w.in-Ok-Some.field-0-is at w.in-Ok-Some.ensures.comes in

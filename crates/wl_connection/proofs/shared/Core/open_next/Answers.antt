@@ -8,7 +8,7 @@ pub invariant_of-self : goal.invariant_of-self
 invariant_of-self g c = record {
   store = c.self.invariant.store;
   room = c.self.invariant.room;
-  display = HasDisplay-opening_next c.open_next.result c.self.inside.objects
+  display = HasDisplay-opening_next c.args.maker c.open_next.result c.self.inside.objects
       c.open_next.new.self c.args.iface c.args.version
       (subst (λ (core : Core). ObjectsAreSound core.view) (sym c.self.view_is) c.requires) c.self.invariant.display
       c.open_next.ensures.ok c.open_next.ensures.err;

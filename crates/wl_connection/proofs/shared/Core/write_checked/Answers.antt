@@ -7,7 +7,7 @@ use Rattle.wl_sigs.specs.declared.signature.Destroys.{Destroys}
 use Rattle.wl_sigs.specs.Tables.{destroys_one}
 use Rattle.wl_objects.specs.declared.error.SendError.TheVariants as refusals
 use Rattle.wl_object_map.specs.Objects.{is_live}
-use Rattle.wl_objects.specs.Messages.{opens, ended_id}
+use Rattle.wl_objects.specs.Messages.{opens, ended_id, maker_by}
 use Rattle.wl_objects.specs.Writing.{on_wire, tokens_of, given}
 use Rattle.wl_connection.specs.Core.{Core}
 use Rattle.wl_connection.specs.Outcomes.{AnswersOrMemory}
@@ -28,7 +28,7 @@ returns-in_err-new-clause-answer g c =
     (answered c.args.self.now c.args.side c.args.target c.args.opcode c.args.args.now c.args.call.signature.now
     c.args.call.entry (Err c.in_err-new.field-0.0) c.requires.passes c.requires.entry (sym fit)
     (subst (λ (i : Option Iface). AnswersOrMemory refusals.Memory (is_some i)
-    (opening_answer c.args.self.now (next_object c.args.self.now.view c.args.call.entry.version i))
+    (opening_answer c.args.self.now (maker_by c.args.side) (next_object (maker_by c.args.side) c.args.self.now.view c.args.call.entry.version i))
     (Err c.in_err-new.field-0.0)) c.requires.makes c.in_err-new.ensures.answer))
 
 pub write_call-requires-clause-fits : goal.write_call-requires-clause-fits
@@ -53,7 +53,7 @@ end_object-requires-clause-live g c =
     c.destroys-what.ensures in
     ap (λ (core : Core). is_live core.view c.ended_id.result) c.write_call.ensures
     ∙ (ap (λ (core : Core). is_live core.view c.ended_id.result) c.in_ok-new.ensures.ok
-    ∙ (ap (is_live (opens c.args.self.now.view (next_object c.args.self.now.view c.args.call.entry.version
+    ∙ (ap (is_live (opens c.args.self.now.view (next_object (maker_by c.args.side) c.args.self.now.view c.args.call.entry.version
     c.args.call.makes))) id
     ∙ ended-live c.args.self.now c.args.side c.args.target c.args.opcode c.args.args.now c.args.call.signature.now
     c.args.call.makes c.args.call.entry.version c.requires.valid c.requires.passes))
@@ -72,7 +72,7 @@ end_object-requires-clause-room g c =
     (following_len c.args.side c.args.call.signature.now.destroys) c.args.call.tokens true
     (c.requires.len 0) (c.following_len.ensures ∙ ap (following_len c.args.side) c.destroys-what.ensures)
     c.requires.tokens c.if-not-fits.ensures in
-    let view = opens c.args.self.now.view (next_object c.args.self.now.view c.args.call.entry.version c.args.call.makes)
+    let view = opens c.args.self.now.view (next_object (maker_by c.args.side) c.args.self.now.view c.args.call.entry.version c.args.call.makes)
     in
     subst (λ (what : Destroys). fits c.write_call.new.self.outbox (following_len c.args.side what) 0 ≡ true)
     (sym c.destroys-what.ensures)
@@ -92,7 +92,7 @@ returns-clause-answer g c =
     answered c.args.self.now c.args.side c.args.target c.args.opcode c.args.args.now c.args.call.signature.now
     c.args.call.entry (Ok c.in_ok-new.new) c.requires.passes c.requires.entry (sym fit)
     (subst (λ (i : Option Iface). AnswersOrMemory refusals.Memory (is_some i)
-    (opening_answer c.args.self.now (next_object c.args.self.now.view c.args.call.entry.version i))
+    (opening_answer c.args.self.now (maker_by c.args.side) (next_object (maker_by c.args.side) c.args.self.now.view c.args.call.entry.version i))
     (Ok c.in_ok-new.new)) c.requires.makes c.in_ok-new.ensures.answer)
 
 pub returns-clause-ok : goal.returns-clause-ok

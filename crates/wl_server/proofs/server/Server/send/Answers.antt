@@ -4,6 +4,7 @@ use Rattle.std.specs.declared.result.Result.TheVariants.{Ok, Err}
 use Rattle.wl_sigs.specs.Valid.{Valid}
 use Rattle.wl_sigs.specs.declared.signature.Side.TheVariants.{Event}
 use Rattle.wl_objects.specs.Writing.{given}
+use Rattle.wl_object_map.specs.Objects.{ObjectsAreSound}
 use Rattle.wl_connection.specs.Core.{Core}
 use Rattle.wl_connection.specs.Sending.{after_send}
 use Rattle.wl_server.specs.Registries.{HasRegistries}
@@ -12,10 +13,10 @@ use Rattle.wl_server.proofs.server.Server.send.Goals as goal
 
 -- what held of the end before holds of it after, where it does after an accepted call
 by_result : {X E : Type 0} (P : Core → Type 0) (r : Result X E) (before now sent : Core) → OnOk r (now ≡ sent)
-    → OnErr r (now ≡ before) → IfOk r (λ _. Valid before.tables)
-    → (Valid before.tables → now ≡ sent → P now) → P before → P now
-by_result P (Ok x) before now sent ok err v f h = f v ok
-by_result P (Err why) before now sent ok err v f h = subst P (sym err) h
+    → OnErr r (now ≡ before) → IfOk r (λ _. Valid before.tables) → IfOk r (λ _. ObjectsAreSound before.view)
+    → (Valid before.tables → ObjectsAreSound before.view → now ≡ sent → P now) → P before → P now
+by_result P (Ok x) before now sent ok err v s f h = f v s ok
+by_result P (Err why) before now sent ok err v s f h = subst P (sym err) h
 
 pub invariant_of-self : goal.invariant_of-self
 invariant_of-self g c =
@@ -27,12 +28,12 @@ invariant_of-self g c =
     record {
       few = c.self.invariant.few;
       registries = by_result (λ (k : Core). HasRegistries k.view c.self.inside.registries.list) c.send.result core now
-          sent e.ok e.err e.valid
-          (λ v is. has_sent core now c.self.inside.registries.list c.args.target c.args.opcode list v is
+          sent e.ok e.err e.valid e.sound
+          (λ v s is. has_sent core now c.self.inside.registries.list c.args.target c.args.opcode list v s is
           c.self.invariant.registries) c.self.invariant.registries;
       past = by_result (λ (k : Core). c.self.inside.registries.past ≤ k.view.client.births) c.send.result core now sent e.ok
-          e.err e.valid
-          (λ v is. past_sent core now c.self.inside.registries.past c.args.target c.args.opcode list v is
+          e.err e.valid e.sound
+          (λ v s is. past_sent core now c.self.inside.registries.past c.args.target c.args.opcode list v is
           c.self.invariant.past) c.self.invariant.past;
       settled = c.self.invariant.settled;
     }

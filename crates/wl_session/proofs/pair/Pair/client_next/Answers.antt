@@ -7,5 +7,5 @@ returns g c = rw (← c.self.view_is) (nexts (λ s. record {
   server = c.self.inside.server;
   recording = c.self.inside.recording;
   ended_at = c.self.inside.ended_at;
-}) _ _ _ _ _ _
+}) _ _ _ _ _ _ _
     (client_never c.self.inside.client) c.next_owned.ensures.answer c.next_owned.ensures.state)

@@ -1,6 +1,6 @@
 use Rattle.wl_server.specs.Seen.{report_in}
 use Rattle.wl_session.proofs.InboxSizes.{holds, read_leaves_box}
-use Rattle.wl_session.proofs.CallOutcomes.{nexts, server_never}
+use Rattle.wl_session.proofs.CallOutcomes.{nexts, reports_alone, server_never}
 use Rattle.wl_session.proofs.pair.Pair.server_next.Goals as goal
 
 pub invariant_of-self : goal.invariant_of-self
@@ -17,5 +17,5 @@ returns g c = rw (← c.self.view_is) (nexts (λ s. record {
   server = s;
   recording = c.self.inside.recording;
   ended_at = c.self.inside.ended_at;
-}) _ _ _ _ _ _
-    (server_never c.self.inside.server) c.next_owned.ensures.answer c.next_owned.ensures.state)
+}) _ _ _ _ _ _ _
+    (server_never c.self.inside.server) (reports_alone _ _ _ c.next_owned.ensures.answer) c.next_owned.ensures.state)
