@@ -237,8 +237,7 @@ class Module:
         result = "()"
         if made:
             result = self.handle(interface, made.interface)
-        more = ["No end writes an event that makes an object yet: it is refused."] if made and end == "server" else []
-        self.say("", *documented(self.said(message, *more), "        "))
+        self.say("", *documented(self.said(message), "        "))
         if made and made.interface is None and side == "request":
             self.binds(message)
             return

@@ -70,6 +70,14 @@ static inline void carry_to_client(void)
 	carried = taken.bytes;
 }
 
+/* The kind of an argument that is taken apart, where a report has this one. */
+static inline uint32_t kind_apart(const waywire_arg *read, const waywire_kind *kind)
+{
+	if (kind->kind == WAYWIRE_NEW_BY_SERVER)
+		return WAYWIRE_NEW_BY_SERVER;
+	return read->kind == WAYWIRE_DEAD_OBJECT ? (uint32_t)WAYWIRE_OBJECT : read->kind;
+}
+
 /* An argument that was taken apart is the one of the report. */
 static inline void must_be_apart(waywire_sender sender, size_t place, const waywire_decoded *decoded)
 {
@@ -79,7 +87,7 @@ static inline void must_be_apart(waywire_sender sender, size_t place, const wayw
 	if (it->kind == WAYWIRE_BOUND)
 		MUST(!waywire_tables_interface(tables, (const char *)it->bytes, &kind.interface));
 	MUST(decoded->interfaces[place] == kind.interface);
-	MUST(it->kind == (read->kind == WAYWIRE_DEAD_OBJECT ? (uint32_t)WAYWIRE_OBJECT : read->kind));
+	MUST(it->kind == kind_apart(read, &kind));
 	MUST(it->i == read->i && it->u == (it->kind == WAYWIRE_FD ? 0 : read->u));
 	MUST(it->object.id == read->object.id && !it->object.birth && it->length == read->length);
 	MUST(!it->length || !memcmp(it->bytes, read->bytes, it->length));

@@ -6,11 +6,19 @@ use anyhow::{Context, Result, bail};
 use std::collections::BTreeMap;
 use std::io::Write;
 use wl::{
-    Arg, Args, End, GotRef, Incoming, IncomingWithEntry, Object, Request, Side, SlotTable, Tables,
-    Twins, event,
+    Arg, Args, Destroys, End, FIRST_SERVER_ID, GotRef, Incoming, IncomingWithEntry, Object,
+    Request, Side, SlotTable, Tables, Twins, event,
 };
 
 mod scene;
+
+/// A clipboard, whose offers the compositor makes.
+const CLIPBOARD: &[u8] = b"interface clipboard 1\n\
+    request ask\n\
+    request release D\n\
+    event offer N(offer)\n\
+    interface offer 1\n\
+    request destroy D\n";
 
 type Client<'t> = wl::Client<'t, SlotTable>;
 
@@ -62,6 +70,10 @@ impl Proxy<'_> {
         let new = client.send(target, read.opcode, &call.args[..call.count.min(20)])?;
         if let (Some(made), Some(new)) = (call.made, new) {
             self.twins.add(made, new)?;
+        }
+        // No delete_id comes for an object of the compositor's that the request has ended.
+        if target.id >= FIRST_SERVER_ID && client.live(target).is_none() {
+            self.twins.remove(target);
         }
         Ok(())
     }
@@ -120,8 +132,30 @@ impl Proxy<'_> {
             let line = read.shown(self.tables);
             writeln!(out, "{line}")?;
             self.pass_event(read, server)?;
+            if let Some(made) = client.made() {
+                self.keep_or_destroy(made, client)?;
+            }
         }
         server.announce()?;
+        Ok(())
+    }
+
+    /// Destroys an object of the compositor's whose event was not passed on, so that the client
+    /// does not have it, where a request without arguments does that.
+    fn keep_or_destroy(&self, made: Object, client: &mut Client<'_>) -> Result<()> {
+        let (None, Some((iface, version))) = (self.twins.at_server(made), client.live(made)) else {
+            return Ok(());
+        };
+        for opcode in 0..u16::MAX {
+            let Some(request) = self.tables.message(iface, Side::Request, opcode) else {
+                break;
+            };
+            let ends = request.destroys() == Destroys::Target && request.kinds().is_empty();
+            if ends && request.since() <= version {
+                client.send(made, opcode, &[])?;
+                break;
+            }
+        }
         Ok(())
     }
 
@@ -138,7 +172,10 @@ impl Proxy<'_> {
                 let target = self.twins.at_server(target).context("no twin")?;
                 // An event that names an object which is gone is for nobody.
                 if let Some(call) = self.call(Side::Event, args) {
-                    server.send(target, opcode, &call.args[..call.count.min(20)])?;
+                    let new = server.send(target, opcode, &call.args[..call.count.min(20)])?;
+                    if let (Some(made), Some(new)) = (call.made, new) {
+                        self.twins.add(new, made)?;
+                    }
                 }
             }
             Incoming::Deleted { object } => {
@@ -190,7 +227,7 @@ impl Proxy<'_> {
 }
 
 fn main(rt: HostRuntime) -> Result<()> {
-    let tables = Tables::core(rt.alloc())?;
+    let tables = Tables::core(rt.alloc())?.read_more(CLIPBOARD)?;
     let proxy = Proxy {
         tables: &tables,
         twins: Twins::new(rt.alloc())?,

@@ -13,6 +13,15 @@ const SIZES: Sizes = Sizes {
     limit: Limit::USUAL,
 };
 
+/// The messages of a clipboard and of an offer.
+const ASK: u16 = 0;
+
+const RELEASE: u16 = 1;
+
+const OFFER: u16 = 0;
+
+const DESTROY_OFFER: u16 = 0;
+
 /// Who stands in a row: the client, the proxy with its two ends, the compositor.
 #[derive(Drop)]
 struct Row<'t> {
@@ -21,6 +30,8 @@ struct Row<'t> {
     proxy: Proxy<'t>,
     client: Client<'t>,
     compositor: Server<'t>,
+    /// What the client was offered last.
+    offered: Option<Object>,
 }
 
 impl Row<'_> {
@@ -30,7 +41,7 @@ impl Row<'_> {
         self.proxy
             .pass_requests(&mut self.server, &mut self.client, out)?;
         carry(&mut self.client, &mut self.compositor);
-        serve(&mut self.compositor)?;
+        serve(self.proxy.tables, &mut self.compositor)?;
         carry(&mut self.compositor, &mut self.client);
         self.proxy
             .pass_events(&mut self.client, &mut self.server, out)?;
@@ -39,6 +50,7 @@ impl Row<'_> {
             if self.app.next()?.is_none() {
                 break;
             }
+            self.offered = self.app.made().or(self.offered);
         }
         Ok(())
     }
@@ -61,24 +73,36 @@ fn carry<A: End, B: End>(from: &mut A, to: &mut B) {
     to.feed(bytes, tokens);
 }
 
-/// What the compositor does: it answers syncs, and announces its globals.
-fn serve(compositor: &mut Server<'_>) -> Result<()> {
+/// What the compositor does: it answers syncs, offers what a clipboard is asked for, and announces
+/// its globals.
+fn serve(tables: &Tables, compositor: &mut Server<'_>) -> Result<()> {
     let display = compositor.display();
     for _ in 0..u64::MAX {
         let Some(mut read) = compositor.next()? else {
             break;
         };
-        if read.target == display && read.opcode == request::wl_display::SYNC {
+        let (target, opcode) = (read.target, read.opcode);
+        if target == display && opcode == request::wl_display::SYNC {
             if let Some(GotRef::New(callback)) = read.args.next() {
                 compositor.send(callback, event::wl_callback::DONE, &[Arg::Uint(0)])?;
             }
+        } else if opcode == ASK && is_clipboard(tables, compositor, target) {
+            compositor.send(target, OFFER, &[Arg::New])?;
         }
     }
     compositor.announce()?;
     Ok(())
 }
 
-/// The client makes a surface, hears that this was read, and destroys it.
+fn is_clipboard(tables: &Tables, compositor: &Server<'_>, object: Object) -> bool {
+    match compositor.live(object) {
+        Some((iface, _)) => tables.interface(b"clipboard") == Some(iface),
+        None => false,
+    }
+}
+
+/// The client makes a surface, hears that this was read, and destroys it. Then it is offered what
+/// is in the clipboard: twice with the same id, and last when it has released the clipboard.
 pub(crate) fn play<'t, W: Write>(
     alloc: Global,
     tables: &'t Tables,
@@ -91,9 +115,12 @@ pub(crate) fn play<'t, W: Write>(
         proxy,
         client: Client::new(alloc, tables, SIZES)?,
         compositor: Server::new(alloc, tables, SIZES)?,
+        offered: None,
     };
     let interface = tables.interface(b"wl_compositor").context("no interface")?;
     row.compositor.add_global(interface, 6)?;
+    let interface = tables.interface(b"clipboard").context("no interface")?;
+    row.compositor.add_global(interface, 1)?;
     let (display, theirs) = (row.server.display(), row.client.display());
     row.proxy.twins.add(display, theirs)?;
 
@@ -105,5 +132,17 @@ pub(crate) fn play<'t, W: Write>(
     row.create(display, request::wl_display::SYNC)?;
     row.turn(out)?;
     row.app.send(surface, request::wl_surface::DESTROY, &[])?;
+    row.turn(out)?;
+
+    let clipboard = row.app.bind(registry, 2, b"clipboard", 1)?;
+    for _ in 0..2 {
+        row.app.send(clipboard, ASK, &[])?;
+        row.turn(out)?;
+        let offer = row.offered.context("no offer")?;
+        row.app.send(offer, DESTROY_OFFER, &[])?;
+    }
+    row.app.send(clipboard, ASK, &[])?;
+    row.app.send(clipboard, RELEASE, &[])?;
+    row.turn(out)?;
     row.turn(out)
 }

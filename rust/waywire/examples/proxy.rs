@@ -13,8 +13,12 @@ use common::{compositor_path, socket, Failure, Link};
 use std::collections::HashMap;
 use std::os::unix::net::{UnixListener, UnixStream};
 use waywire::{
-    event, request, Arg, Client, Incoming, Object, SendError, Server, Sizes, Tables, Value,
+    event, request, Arg, Client, Destroys, Incoming, Object, SendError, Sender, Server, Sizes,
+    Tables, Value,
 };
+
+/// The first id of a compositor's range: it makes objects with ids from here on.
+const FIRST_SERVER_ID: u32 = 0xff00_0000;
 
 struct Proxy {
     tables: Tables,
@@ -123,7 +127,17 @@ impl Proxy {
         if let (Some(here), Some(there)) = (made, twin) {
             self.twins(here, there);
         }
+        // No delete_id comes for an object of the compositor's that the request has ended.
+        if target.id() >= FIRST_SERVER_ID && self.compositor_side.end.live(target).is_none() {
+            self.forget(target);
+        }
         Ok(())
+    }
+
+    fn forget(&mut self, of_compositor: Object) {
+        if let Some(twin) = self.to_client.remove(&of_compositor) {
+            self.to_compositor.remove(&twin);
+        }
     }
 
     fn pass_event(&mut self, passed: &Passed) -> Result<(), Failure> {
@@ -136,15 +150,42 @@ impl Proxy {
         };
         let Proxy { client_side, compositor_side, to_client, .. } = self;
         let token = |it| Some(client_side.token(compositor_side.descriptor(it)?));
-        let Some((args, _)) = passed.call(to_client, token) else {
+        let Some((args, made)) = passed.call(to_client, token) else {
             return Ok(());
         };
         match self.client_side.end.send(target, passed.opcode, &args) {
-            Ok(()) | Err(SendError::Stale | SendError::BadObject { .. }) => Ok(()),
+            Ok(twin) => {
+                if let (Some(there), Some(here)) = (made, twin) {
+                    self.twins(here, there);
+                }
+                Ok(())
+            }
+            Err(SendError::Stale | SendError::BadObject { .. }) => Ok(()),
             // The registries of the client are told by `announce`.
             Err(SendError::NoSuchMessage) => Ok(()),
             Err(error) => Err(error.into()),
         }
+    }
+
+    /// Destroys an object of the compositor's of which the client was not told.
+    fn keep_or_destroy(&mut self, made: Object) -> Result<(), Failure> {
+        let compositor = &mut self.compositor_side.end;
+        let (false, Some((interface, version))) =
+            (self.to_client.contains_key(&made), compositor.live(made))
+        else {
+            return Ok(());
+        };
+        for opcode in 0..=u16::MAX {
+            let Some(it) = self.tables.message(interface, Sender::Client, opcode) else {
+                return Ok(());
+            };
+            let ends = it.destroys == Destroys::Target && it.kinds.is_empty();
+            if ends && it.since <= version {
+                compositor.send(made, opcode, &[])?;
+                return Ok(());
+            }
+        }
+        Ok(())
     }
 
     /// A global of the compositor is offered, if the tables have its interface.
@@ -180,17 +221,16 @@ impl Proxy {
                     let passed = Passed::of(&event);
                     self.pass_event(&passed)?;
                 }
-                Incoming::Deleted(object) => {
-                    if let Some(twin) = self.to_client.remove(&object) {
-                        self.to_compositor.remove(&twin);
-                    }
-                }
+                Incoming::Deleted(object) => self.forget(object),
                 Incoming::Error(error) => {
                     let text = String::from_utf8_lossy(error.text).into_owned();
                     let display = self.client_side.end.display();
                     self.client_side.end.post_error(display, error.code, &text)?;
                 }
                 _ => {}
+            }
+            if let Some(made) = self.compositor_side.end.made() {
+                self.keep_or_destroy(made)?;
             }
         }
         Ok(())

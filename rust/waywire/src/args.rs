@@ -92,7 +92,7 @@ pub enum Value<'a> {
     Object(Option<Object>),
     /// An object that this end has destroyed already: the event was written before.
     Dead(Object),
-    /// The object that the request makes.
+    /// The object that the message makes.
     NewId(Object),
     /// The object that wl_registry.bind makes, its interface and its version.
     Bound {

@@ -35,7 +35,8 @@ impl Client {
     }
 
     /// How many objects the client has: wl_display, those that are live, and those that it destroyed
-    /// and that [`Incoming::Deleted`] has not ended yet.
+    /// and that have not ended yet. [`Incoming::Deleted`] ends one that the client made; one that the
+    /// server made ends when its id is used again.
     pub fn object_count(&self) -> usize {
         self.end.object_count()
     }
@@ -78,7 +79,8 @@ impl Client {
     /// Writes a request, and returns the object that it makes, if it makes one.
     ///
     /// An object that the request destroys is dead afterwards. Events for it may still come
-    /// ([`Incoming::Discarded`]), until [`Incoming::Deleted`] ends it. wl_registry.bind is
+    /// ([`Incoming::Discarded`]), until [`Incoming::Deleted`] ends it. That does not come for an object
+    /// that the server made, which is dead until an event makes one with its id. wl_registry.bind is
     /// [`SendError::NoSuchMessage`]: [`bind`](Client::bind) writes it.
     #[inline]
     pub fn send(
@@ -132,12 +134,22 @@ impl Client {
         self.end.take_waiting_tokens(tokens)
     }
 
-    /// Reads the next message; `None` while none is whole. It allocates nothing.
+    /// Reads the next message; `None` while none is whole. An event by which the server makes an
+    /// object opens it, and [`made`](Client::made) returns it. Memory is allocated only where the id
+    /// of that object is the next that the server has never used, and so never over tables without
+    /// such events.
     // Not an iterator's: what it returns is lent from the client.
     #[inline]
     #[allow(clippy::should_implement_trait)]
     pub fn next(&mut self) -> Result<Option<Incoming<'_>>, NextError> {
         self.end.next(&mut self.report)?;
         Ok(Incoming::of(&self.report))
+    }
+
+    /// The object that the message which [`next`](Client::next) read last made: one of the server's,
+    /// also where the report was [`Incoming::Discarded`], so that it can be destroyed. `None` where
+    /// that message made none, and before the first. A call that reads no message leaves it.
+    pub fn made(&self) -> Option<Object> {
+        self.end.made()
     }
 }

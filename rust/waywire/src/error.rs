@@ -96,7 +96,7 @@ pub enum NextError {
     Fault(Fault),
     /// The end had failed before.
     Failed,
-    /// Out of memory for the object that a request opens. The request stays, and can be read again.
+    /// Out of memory for the object that the message opens. The message stays, and can be read again.
     NoMemory,
     /// The server's outbox has no room for the delete_id of what the request destroys. The request
     /// stays: take, and read again.

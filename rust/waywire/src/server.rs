@@ -92,12 +92,18 @@ impl Server {
         self.end.announce()
     }
 
-    /// Writes an event. One that destroys its object is followed by its delete_id: both are written,
-    /// or nothing. The events of wl_display and wl_registry are [`SendError::NoSuchMessage`]: other
-    /// calls write them.
+    /// Writes an event, and returns the object of the server's that it makes, if it makes one.
+    ///
+    /// One that destroys its object is followed by its delete_id: both are written, or nothing. The
+    /// events of wl_display and wl_registry are [`SendError::NoSuchMessage`]: other calls write them.
     #[inline]
-    pub fn send(&mut self, target: Object, opcode: u16, args: &[Arg<'_>]) -> Result<(), SendError> {
-        self.end.send(target, opcode, args).map(|_none| ())
+    pub fn send(
+        &mut self,
+        target: Object,
+        opcode: u16,
+        args: &[Arg<'_>],
+    ) -> Result<Option<Object>, SendError> {
+        self.end.send(target, opcode, args)
     }
 
     /// Ends an object without its event, as a callback that nobody waits for.

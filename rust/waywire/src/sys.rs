@@ -497,6 +497,7 @@ extern "C" {
         line: *mut c_char,
         room: usize,
     ) -> usize;
+    fn waywire_client_made(client: *const RawEnd, made: *mut Object) -> u32;
     fn waywire_client_bind(
         client: *mut RawEnd,
         registry: Object,
@@ -757,6 +758,12 @@ end!(
 
 // Safety, for each call of these two: as for the calls that both ends have.
 impl Client {
+    pub fn made(&self) -> Option<Object> {
+        let mut made = Object::NONE;
+        unsafe { waywire_client_made(self.at.as_ptr(), &mut made) };
+        (made != Object::NONE).then_some(made)
+    }
+
     pub fn bind(
         &mut self,
         registry: Object,

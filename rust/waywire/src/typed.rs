@@ -117,18 +117,18 @@ pub fn send_at_server(
     opcode: u16,
     args: &[Arg<'_>],
 ) -> Result<(), SendError> {
-    server.send(target, opcode, args)
+    server.send(target, opcode, args).map(drop)
 }
 
-/// Writes an event that makes an object, which is refused: no end can write one yet.
+/// Writes an event that makes an object.
+#[inline]
 pub fn make_at_server<T: Handle>(
     server: &mut Server,
     target: Object,
     opcode: u16,
     args: &[Arg<'_>],
 ) -> Result<T, SendError> {
-    server.send(target, opcode, args)?;
-    Err(SendError::NoSuchMessage)
+    server.send(target, opcode, args)?.map(T::of).ok_or(SendError::NoSuchMessage)
 }
 
 /// The arguments of a message, read one after the other. Each call is `None` where the next argument is

@@ -263,6 +263,41 @@ fn objects_have_a_number_of_the_callers() {
     assert_eq!(pair.client.set_user(surface, 1), Err(SendError::Stale));
 }
 
+/// Objects that the server makes, also by an event for an object that the client has destroyed.
+#[test]
+fn an_event_makes_an_object() {
+    let text = b"interface dev 1\nrequest release D\nevent made N(off)\n\
+        interface off 1\nrequest destroy D\n";
+    let mut pair = Pair::new(&Tables::core().unwrap().read(text).unwrap());
+    let dev = pair.object("dev");
+    assert_eq!(pair.client.made(), None);
+    let first = pair.server.send(dev, 0, &[Arg::NewId]).unwrap().unwrap();
+    let second = pair.server.send(dev, 0, &[Arg::NewId]).unwrap().unwrap();
+    assert_eq!((first.id(), second.id()), (0xff00_0000, 0xff00_0001));
+    pair.carry_to_client();
+    match pair.client.next() {
+        Ok(Some(Incoming::Event(event))) => {
+            assert_eq!(event.args().next(), Some(Value::NewId(first)))
+        }
+        other => panic!("{other:?}"),
+    }
+    assert_eq!(pair.client.made(), Some(first));
+    pair.client.send(dev, 0, &[]).unwrap();
+    assert!(
+        matches!(pair.client.next(), Ok(Some(Incoming::Discarded { target, .. })) if target == dev)
+    );
+    assert_eq!(pair.client.made(), Some(second));
+    pair.client.send(first, 0, &[]).unwrap();
+    assert_eq!(pair.client.objects().collect::<Vec<_>>()[3..], [first, second]);
+    assert_eq!(pair.client.object_count(), 5);
+    pair.carry_to_server();
+    while pair.server.next().unwrap().is_some() {}
+    assert_eq!(pair.server.objects().collect::<Vec<_>>()[2..], [second]);
+    assert_eq!(pair.carry_to_client().len(), 12);
+    assert!(matches!(pair.client.next(), Ok(Some(Incoming::Deleted(object))) if object == dev));
+    assert_eq!(pair.client.made(), None);
+}
+
 /// What tables say of messages, and messages that are taken apart by it.
 #[test]
 fn messages_are_taken_apart() {

@@ -214,7 +214,7 @@ impl Player {
         let made = if is_request {
             self.client.send(target, opcode, &args).unwrap()
         } else {
-            self.server.send(target, opcode, &args).map(|()| None).unwrap()
+            self.server.send(target, opcode, &args).unwrap()
         };
         match made {
             Some(object) => self.names.learn(object, &makes.unwrap()),
