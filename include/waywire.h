@@ -313,7 +313,8 @@ typedef enum waywire_report_kind {
 	WAYWIRE_DISCARDED = 2, /* an event for an object that the client has destroyed: target, opcode, tokens.
 	                        * If it makes an object, that is open: waywire_client_made */
 	WAYWIRE_DELETED = 3,   /* wl_display.delete_id of an object: target. Its id is free again */
-	WAYWIRE_STRAY = 4,     /* wl_display.delete_id of an id that names no object: id. Nothing changed */
+	WAYWIRE_STRAY = 4,     /* wl_display.delete_id of an id that names no object, of 1, or of one of the
+	                        * server's: id. Nothing changed */
 	WAYWIRE_ERROR = 5,     /* wl_display.error: id, code, text, and `named`: WAYWIRE_OBJECT or
 	                        * WAYWIRE_DEAD_OBJECT where the id is that of target, and
 	                        * WAYWIRE_NULL_OBJECT where it is 0 or unknown. The client has failed */
@@ -528,7 +529,8 @@ waywire_status waywire_client_live(const waywire_client *client, waywire_object 
 /* Sets the caller's own pointer for an object that is live, in place of the one set before; null is none. Each
  * report whose target is the object has it, also after the client has destroyed the object (WAYWIRE_DISCARDED)
  * and when the object ends (WAYWIRE_DELETED). The library never follows it. The caller frees what it points to:
- * at the object's last report, and for the objects that are left (`object_after`) before the client is freed. The
+ * at the object's last report, and for the objects that are left (`object_after`) before the client is freed. An
+ * object that the server made has no last report: free what it has when you destroy it, and set null first. The
  * call may allocate: at most 32 bytes for each id up to the object's, from the first that its maker
  * gives (1 or 0xff000000) on. WAYWIRE_STALE if the object is not live, WAYWIRE_NO_MEMORY. */
 waywire_status waywire_client_set_user(waywire_client *client, waywire_object object, void *user);
@@ -641,8 +643,8 @@ waywire_status waywire_client_take_waiting_tokens(waywire_client *client, uint32
  * report says WAYWIRE_NOTHING. */
 waywire_status waywire_client_next(waywire_client *client, waywire_report *report);
 
-/* The object that the message which `next` read last made: one of the server's, also where the report was
- * WAYWIRE_DISCARDED, so that it can be destroyed. `made` gets id 0 if that message made none, and before the
+/* The object that the last message read has made: one of the server's, also where its report was
+ * WAYWIRE_DISCARDED, so that it can be destroyed. `made` gets id 0 if that message has made none, and before the
  * first. A call that reads no message changes nothing here. */
 waywire_status waywire_client_made(const waywire_client *client, waywire_object *made);
 

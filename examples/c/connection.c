@@ -73,11 +73,22 @@ static void *with_room(void *entries, size_t size, size_t *count, size_t least)
 	return more;
 }
 
+/* The server makes objects with ids from here on, the client those below. */
+#define FIRST_SERVER_ID 0xff000000u
+
+static size_t place_of(uint32_t id)
+{
+	return id < FIRST_SERVER_ID ? id : id - FIRST_SERVER_ID;
+}
+
 static struct known *find(const struct connection *connection, waywire_object object)
 {
-	if (object.id >= connection->known_count)
+	const struct known_range *range = object.id < FIRST_SERVER_ID ? &connection->of_client
+		: &connection->of_server;
+	size_t place = place_of(object.id);
+	if (place >= range->count)
 		return NULL;
-	struct known *it = &connection->known[object.id];
+	struct known *it = &range->at[place];
 	return object.id && waywire_object_equal(it->object, object) ? it : NULL;
 }
 
@@ -92,9 +103,11 @@ static void forget(struct known *it)
 /* An object's entry, which is made where there is none. */
 static struct known *entry(struct connection *connection, waywire_object object)
 {
-	connection->known = with_room(connection->known, sizeof *connection->known,
-		&connection->known_count, (size_t)object.id + 1);
-	struct known *it = &connection->known[object.id];
+	struct known_range *range = object.id < FIRST_SERVER_ID ? &connection->of_client
+		: &connection->of_server;
+	size_t place = place_of(object.id);
+	range->at = with_room(range->at, sizeof *range->at, &range->count, place + 1);
+	struct known *it = &range->at[place];
 	if (!waywire_object_equal(it->object, object))
 		forget(it);
 	it->object = object;
@@ -177,7 +190,7 @@ static void hear(struct connection *connection, const waywire_report *report)
 		forget(it);
 }
 
-/* The most objects of a client that are kept for it. */
+/* The most objects of a connection that are kept. */
 #define MOST_OBJECTS 50000
 
 /* Ends a client with an error where it opens too many objects. 0, or -1 where it did. */
@@ -188,7 +201,7 @@ static int bound_objects(struct connection *connection)
 	waywire_server_object_count(server, &count);
 	if (count <= MOST_OBJECTS)
 		return 0;
-	fprintf(stderr, "connection: the client has %zu objects\n", count);
+	fprintf(stderr, "connection: it has %zu objects\n", count);
 	waywire_server_post_error(server, connection->display, WAYWIRE_WL_DISPLAY_ERROR_NO_MEMORY,
 		"too many objects");
 	errno = EPROTO;
@@ -260,6 +273,13 @@ int connection_roundtrip(struct connection *connection)
 	return done ? 0 : -1;
 }
 
+static void forget_all(struct known_range *range)
+{
+	for (size_t each = 0; each < range->count; each++)
+		forget(&range->at[each]);
+	free(range->at);
+}
+
 void connection_close(struct connection *connection)
 {
 	link_flush(&connection->link);
@@ -267,8 +287,7 @@ void connection_close(struct connection *connection)
 	waywire_client_free(connection->link.client);
 	waywire_server_free(connection->link.server);
 	waywire_tables_free(connection->tables);
-	for (size_t each = 0; each < connection->known_count; each++)
-		forget(&connection->known[each]);
-	free(connection->known);
+	forget_all(&connection->of_client);
+	forget_all(&connection->of_server);
 	free(connection->implemented);
 }

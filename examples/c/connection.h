@@ -23,12 +23,17 @@ struct known {
 	void (*destroy)(void *data); /* called once the object is gone, where it is not null */
 };
 
+/* What is known of the objects of a range of ids, each at its distance from the first. */
+struct known_range {
+	struct known *at;
+	size_t count;
+};
+
 struct connection {
 	struct link link; /* with the client or the server */
 	waywire_tables *tables;
 	waywire_object display;
-	struct known *known; /* each at the place of its id */
-	size_t known_count;
+	struct known_range of_client, of_server; /* by who makes the objects */
 	struct listener *implemented; /* each at the place of its interface */
 	size_t implemented_count;
 };

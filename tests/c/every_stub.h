@@ -70,7 +70,7 @@ static inline void carry_to_client(void)
 	carried = taken.bytes;
 }
 
-/* The kind of an argument that is taken apart, where a report has this one. */
+/* The kind that an argument has where it is taken apart, and as `read` in a report. */
 static inline uint32_t kind_apart(const waywire_arg *read, const waywire_kind *kind)
 {
 	if (kind->kind == WAYWIRE_NEW_BY_SERVER)

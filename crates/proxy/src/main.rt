@@ -7,7 +7,7 @@ use std::collections::BTreeMap;
 use std::io::Write;
 use wl::{
     Arg, Args, Destroys, End, FIRST_SERVER_ID, GotRef, Incoming, IncomingWithEntry, Object,
-    Request, Side, SlotTable, Tables, Twins, event,
+    Request, SendError, Side, SlotTable, Tables, Twins, event,
 };
 
 mod scene;
@@ -140,8 +140,8 @@ impl Proxy<'_> {
         Ok(())
     }
 
-    /// Destroys an object of the compositor's whose event was not passed on, so that the client
-    /// does not have it, where a request without arguments does that.
+    /// Destroys what the compositor made by an event that was not passed on. Where no request
+    /// without arguments does that, it stays.
     fn keep_or_destroy(&self, made: Object, client: &mut Client<'_>) -> Result<()> {
         let (None, Some((iface, version))) = (self.twins.at_server(made), client.live(made)) else {
             return Ok(());
@@ -169,13 +169,20 @@ impl Proxy<'_> {
                 if self.is_registry(&read) {
                     return self.pass_global(opcode, args, server);
                 }
-                let target = self.twins.at_server(target).context("no twin")?;
-                // An event that names an object which is gone is for nobody.
-                if let Some(call) = self.call(Side::Event, args) {
-                    let new = server.send(target, opcode, &call.args[..call.count.min(20)])?;
-                    if let (Some(made), Some(new)) = (call.made, new) {
-                        self.twins.add(new, made)?;
-                    }
+                // An event of an object that the client was not told of, or that names one which is
+                // gone, is for nobody.
+                let Some(target) = self.twins.at_server(target) else {
+                    return Ok(());
+                };
+                let Some(call) = self.call(Side::Event, args) else {
+                    return Ok(());
+                };
+                let sent = server.send(target, opcode, &call.args[..call.count.min(20)]);
+                if let Err(SendError::Stale | SendError::BadObject(_)) = sent {
+                    return Ok(());
+                }
+                if let (Some(made), Some(new)) = (call.made, sent?) {
+                    self.twins.add(new, made)?;
                 }
             }
             Incoming::Deleted { object } => {

@@ -1,9 +1,9 @@
 //! A client and a compositor, with the proxy between them.
 use crate::{Client, Proxy, Server};
-use anyhow::{Context, Result};
+use anyhow::{Context, Result, bail};
 use std::alloc::Global;
 use std::io::Write;
-use wl::{Arg, End, GotRef, Limit, Object, Sizes, Tables, event, request};
+use wl::{Arg, End, GotRef, Limit, Maker, Object, Sizes, Tables, event, request};
 
 const SIZES: Sizes = Sizes {
     out_bytes: 65_536,
@@ -144,5 +144,9 @@ pub(crate) fn play<'t, W: Write>(
     row.app.send(clipboard, ASK, &[])?;
     row.app.send(clipboard, RELEASE, &[])?;
     row.turn(out)?;
-    row.turn(out)
+    row.turn(out)?;
+    if row.compositor.objects().len(Maker::Server) > 0 {
+        bail!("an offer is left");
+    }
+    Ok(())
 }

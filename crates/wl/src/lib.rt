@@ -7,8 +7,8 @@
 //! compositor, a proxy and a test use the same two types.
 //!
 //! The contract of each call says what it returns and what it leaves, and is proved. More is proved
-//! of two ends of this library that start together, over a transport that keeps bytes in order and
-//! descriptors in step. Up to the first error that the server posts, each end reads exactly the
+//! of two ends of this library that start together, with tables in which no event makes an object,
+//! over a transport that keeps bytes in order and descriptors in step. Up to the first error that the server posts, each end reads exactly the
 //! messages that the other wrote, however the bytes are cut. Once both streams are drained, both
 //! ends have the same objects.
 //!
@@ -64,7 +64,7 @@
 //!   ever had that id. A call that names an object which is gone is refused; it never reaches a
 //!   later object with the same id. The client makes objects with ids below [`FIRST_SERVER_ID`],
 //!   and where the tables have events that make some, the server makes those with ids from there
-//!   on. A request ends one of these like any other object, but no delete_id comes for it: the
+//!   on. A request destroys one of these like any other object, but no delete_id comes for it: the
 //!   client has it, destroyed, until an event makes one with its id.
 //! - A report of `next` ([`Incoming`], [`Request`]) borrows its strings, arrays and tokens from the
 //!   end, until the end's next call of any kind: code that keeps it longer does not compile.
@@ -85,7 +85,8 @@
 //! - `Discarded { target, opcode, tokens }`: an event for an object that the client has destroyed.
 //!   If it made an object, that is open, and [`Client::made`] returns it.
 //! - `Deleted { object }`: wl_display.delete_id; the object is gone, and its id is free again.
-//! - `Stray { id }`: a delete_id for no object, or for wl_display; nothing changed.
+//! - `Stray { id }`: a delete_id for no object, for wl_display, or for an object that the server
+//!   made; nothing changed.
 //! - `Error { id, named, code, text }`: wl_display.error; `named` is the client's object of that
 //!   id.
 //!

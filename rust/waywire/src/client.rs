@@ -146,9 +146,9 @@ impl Client {
         Ok(Incoming::of(&self.report))
     }
 
-    /// The object that the message which [`next`](Client::next) read last made: one of the server's,
-    /// also where the report was [`Incoming::Discarded`], so that it can be destroyed. `None` where
-    /// that message made none, and before the first. A call that reads no message leaves it.
+    /// The object that the last message read has made: one of the server's, also where its report was
+    /// [`Incoming::Discarded`], so that it can be destroyed. `None` where that message has made none,
+    /// and before the first. A call that reads no message leaves it.
     pub fn made(&self) -> Option<Object> {
         self.end.made()
     }

@@ -102,7 +102,7 @@ pub enum Incoming<'a> {
     /// An event for a live object.
     Event(Event<'a>),
     /// An event for an object that the client has destroyed. Its descriptors are the caller's to
-    /// close.
+    /// close. If it has made an object, that is open: [`Client::made`](crate::Client::made).
     Discarded {
         /// The object.
         target: Object,
@@ -113,7 +113,8 @@ pub enum Incoming<'a> {
     },
     /// wl_display.delete_id: the object is gone, and its id is free again.
     Deleted(Object),
-    /// wl_display.delete_id of an id that names no object. Nothing has changed.
+    /// wl_display.delete_id of an id that names no object, of 1, or of one of the server's. Nothing has
+    /// changed.
     Stray {
         /// The id.
         id: u32,

@@ -142,7 +142,8 @@ impl Server {
     }
 
     /// Reads the next request; `None` while none is whole. An object that it destroys is closed, and
-    /// its delete_id is written at once. It allocates only for an object that the request makes.
+    /// if the client made it, its delete_id is written at once. It allocates only for an object that
+    /// the request makes.
     // Not an iterator's: what it returns is lent from the server.
     #[inline]
     #[allow(clippy::should_implement_trait)]

@@ -8,8 +8,9 @@ use std::fmt;
 /// An object: its id, and its birth, which tells it from every other object that ever had this id.
 ///
 /// It is a plain value. Every call refuses an object that is gone, so one that is kept too long does
-/// no harm. Births count from 0 at each end: keep an object with its end, since no call can tell it
-/// from an object of another connection.
+/// no harm. The client makes objects with ids from 1 on, the server with ids from 0xff000000 on, and
+/// each end counts the births of both ranges apart. Keep an object with its end, since no call can tell
+/// it from an object of another connection.
 #[derive(Clone, Copy, PartialEq, Eq, Hash, PartialOrd, Ord)]
 #[repr(C)]
 pub struct Object {
