@@ -31,7 +31,7 @@ pub trait Playable: Receiver {
     /// words of an owned one.
     fn next_lent(&mut self, actor: &mut Actor<'_>, reply: &mut String) -> Result<(), AllocError>;
 
-    /// The object that the message read last made: of the server's, at a client.
+    /// The object that the last message read has made: one of the server's, at a client.
     fn made(&self) -> Option<Object>;
 
     /// Adds the objects that a report made.

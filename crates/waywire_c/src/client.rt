@@ -377,7 +377,7 @@ pub extern "C" fn waywire_c_client_next(
     read_event(&mut client.get_mut().client, report, args)
 }
 
-/// Writes the object that the message read last made to `made`, or id 0 where it made none.
+/// Writes the object that the last message read has made to `made`, or id 0 where it has made none.
 #[unsafe(no_mangle)]
 pub extern "C" fn waywire_c_client_made(client: &mut ClientHandle, made: &mut CObject)
     ensures made { object_from_c made.new ≡ made_object client.old.held.client.made }

@@ -12,12 +12,12 @@ use wl_objects::{Object, Table};
 use wl_sigs::Tables;
 
 /// A client's end of a connection: its objects, what came in and what goes out, the globals that it
-/// was told, and the object that the message read last made.
+/// was told, and the object that the last message read has made.
 #[derive(Drop)]
 pub struct Client<'t, T: Table> {
     pub(crate) end: Endpoint<'t, T>,
     pub(crate) globals: Remembered<T::Alloc>,
-    /// What the message read last made.
+    /// What the last message read has made.
     pub(crate) made: Option<Object>,
     /// Allocates owned reports.
     pub(crate) alloc: T::Alloc,
@@ -56,9 +56,10 @@ impl<'t, T: Table> Client<'t, T> {
         })
     }
 
-    /// The object that the message read last made: one of the server's, which an event makes, also
-    /// where it was `Discarded`. None where that message made none, and before the first. A call
-    /// that reads no message leaves it.
+    /// The object that the last message read has made: one of the server's, which an event makes,
+    /// also where it was `Discarded`. None where that message has made none, and before the first.
+    /// A call that reads no message leaves it. After `read_all` it is what the last of its messages
+    /// has made.
     pub fn made(&self) -> Option<Object>
         ensures { result ≡ self.now.made }
     {

@@ -15,7 +15,8 @@ pub enum Incoming<'a> {
         args: Args<'a>,
     },
     /// An event for an object that the client has destroyed. The tokens that came with it are
-    /// returned, so that the caller can close what they stand for.
+    /// returned, so that the caller can close what they stand for. What it has made, `made` of the
+    /// client returns.
     Discarded {
         target: Object,
         opcode: u16,
@@ -25,7 +26,8 @@ pub enum Incoming<'a> {
     Deleted {
         object: Object,
     },
-    /// wl_display.delete_id of an id that names no object, or of wl_display's own. Nothing changed.
+    /// wl_display.delete_id of an id that names no object, of wl_display's own, or of one of the
+    /// server's. Nothing changed.
     Stray {
         id: u32,
     },

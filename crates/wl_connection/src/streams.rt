@@ -43,10 +43,11 @@ impl ReadAll {
 ///
 /// All that waits is read before each piece and at the end. A piece is taken in as far as it fits,
 /// and the rest of it after what waits was read again. Room for a report is made before its message
-/// is read. `stop` is `Memory` if that room or the report's own memory is refused, and then the
-/// message stands in front and can be read again. The reading ends early where no message can be
-/// read, after the last report, and before a piece whose tokens do not all fit; what was read
-/// before stays read. An end that has failed reads nothing, not even where there are no pieces.
+/// is read. `stop` is `Memory` if that room, the report's own memory or that of the object which
+/// the message makes is refused, and then the message stands in front and can be read again. The
+/// reading ends early where no message can be read, after the last report, and before a piece whose
+/// tokens do not all fit; what was read before stays read. An end that has failed reads nothing,
+/// not even where there are no pieces.
 pub fn read_all<E: Receiver, A: Allocator>(
     end: &mut E,
     pieces: &[Piece<'_>],

@@ -27,7 +27,7 @@ pub enum Maker {
 /// What a table keeps of an object, beside its id.
 #[derive(Clone, Copy, Debug, PartialEq, Eq)]
 pub struct Entry {
-    /// The number of the object, counted from 0.
+    /// The number of the object in its range of ids.
     pub birth: u64,
     /// The object's interface.
     pub iface: Iface,
@@ -43,7 +43,8 @@ pub struct Entry {
 pub struct Object {
     /// The object's id on the wire.
     pub id: u32,
-    /// The number of the object, counted from 0 by this end. Births are never sent.
+    /// The number of the object, which this end counts: in the client's range from 0, which is
+    /// wl_display, in the server's from 1. Births are never sent.
     pub birth: u64,
 }
 

@@ -10,7 +10,7 @@ use super::{Entry, Object, TableError};
 use std::alloc::{AllocError, Allocator};
 use wl_wire::Iface;
 
-/// The most ids that a connection has, id 1 counted.
+/// The most ids of the client's range, id 1 counted.
 pub const MAX_IDS: u32 = 1_048_576;
 
 /// The id of wl_display.

@@ -75,8 +75,8 @@ pub enum NextError {
     Fault { fault: Fault, offset: u64 },
     /// The end had failed before.
     Failed,
-    /// There is no memory for the report, or for the object that an event makes. The message stays
-    /// and can be read again.
+    /// There is no memory for the report, or for the object that the message makes. The message
+    /// stays and can be read again.
     Memory,
     /// The outbox has no room for the delete_id that follows a request that destroys an object
     /// which the client made. The message stays and can be read again.

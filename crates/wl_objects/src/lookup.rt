@@ -9,9 +9,10 @@ use wl_sigs::{Side, Tables};
 /// What an id is to a reader that finds it as a new object's.
 #[derive(Clone, Copy, Debug, PartialEq, Eq)]
 pub enum NewId {
-    /// A freed id or the next one, and the object can be opened.
+    /// The object can be opened: a request's at a freed id or the next one, an event's also at that
+    /// of an object that has ended, or that no request can end.
     Free,
-    /// 0, in use, or neither freed nor the next.
+    /// None of these.
     Wrong,
     /// As `Free`, but the connection has no more room.
     TooMany,

@@ -121,8 +121,8 @@ impl<'t, T: Table> Pair<'t, T> {
 
     /// What was carried, piece by piece.
     ///
-    /// Up to the first error that was posted it is lawful, whatever was done with the pair: `check`
-    /// says so of it, where it has memory.
+    /// Over tables in which no event makes an object it is lawful up to the first error that was
+    /// posted, whatever was done with the pair: `check` says so of it, where it has memory.
     pub fn recording(&self) -> &Recording<T::Alloc>
         ensures lends { result.now ≡ self.now.recording }
         ensures lawful { (world : World) → Linked self.now world
