@@ -453,6 +453,7 @@
 //!     fn name(&self) -> &[u8]
 //!     fn since(&self) -> u32
 //!     fn kinds(&self) -> &[Kind]
+//!     fn has_new_object(&self) -> bool
 //!     fn destroys(&self) -> Destroys
 //! Destroys
 //!     fn destroys_one(self) -> bool

@@ -255,12 +255,7 @@ fn changes_of(
     let values = &message.values();
     MessageChanges {
         direction,
-        made: made_by_message(
-            tables,
-            message.entry.version,
-            message.signature.kinds(),
-            values,
-        ),
+        made: made_by_message(tables, message.entry.version, message.signature, values),
         deleted: if is_delete_id(side, iface, opcode) {
             first_number(values)
         } else {

@@ -120,7 +120,7 @@ pub(crate) fn change_of(tables: &Tables, opcode: u16, message: &Received<'_, '_>
 {
     let signature = message.signature;
     let version = message.entry.version;
-    let made = made_by_message(tables, version, signature.kinds(), &message.values());
+    let made = made_by_message(tables, version, signature, &message.values());
     Change {
         made,
         objects: object_change_of(signature.destroys(), message.target.id),

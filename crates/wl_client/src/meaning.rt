@@ -65,6 +65,7 @@ pub(crate) fn meaning_of<T: Table>(
         return meaning_of_delete_id(objects, number_at(message.args, message.body, 0));
     }
     let target = message.target;
+    let change = change_of(tables, opcode, message);
     match message.entry.state {
         State::Zombie => (
             Outline::Discarded {
@@ -72,7 +73,7 @@ pub(crate) fn meaning_of<T: Table>(
                 opcode,
                 tokens: message.tokens,
             },
-            change_of(tables, opcode, message),
+            change,
             Some(message.entry),
         ),
         State::Live => (
@@ -81,7 +82,7 @@ pub(crate) fn meaning_of<T: Table>(
                 opcode,
                 birth: objects.births(FIRST_SERVER_ID),
             },
-            change_of(tables, opcode, message),
+            change,
             Some(message.entry),
         ),
     }

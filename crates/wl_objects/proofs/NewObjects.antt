@@ -1,14 +1,16 @@
 -- New objects, one argument after another.
-use Rattle.std.proofs.Common.{◌≡◌, ℕ, zero, suc, ◌+◌, ◌<◌, ◌≤◌, false, List, [], ◌∷◌, length, get_or, drop, Some}
+use Rattle.std.proofs.Common.{◌≡◌, ℕ, zero, suc, ◌+◌, ◌<◌, ◌≤◌, Bool, true, false, ◌||◌}
+use Rattle.std.proofs.Common.{List, [], ◌∷◌, length, get_or, drop, Some}
+use Rattle.std.specs.List.{list_any}
 use Rattle.std.proofs.Common.{None, refl, sym, ◌∙◌, add-one, drop-cons, drop-drop, slice_get}
 use Rattle.std.proofs.lemmas.List.{drop_all}
 use Rattle.std.proofs.lemmas.Option.{slice_get_within, get_or_from_slice_get}
 use Rattle.wl_wire.specs.declared.kind.Kind.{Kind}
 use Rattle.wl_wire.specs.declared.kind.Kind.TheVariants as kinds
 use Rattle.wl_wire.specs.Argument.{Argument}
-use Rattle.wl_sigs.specs.Tables.{Interface}
+use Rattle.wl_sigs.specs.Tables.{Interface, is_new_object}
 use Rattle.wl_objects.specs.declared.new_object.NewObject.{NewObject}
-use Rattle.wl_objects.specs.Messages.{is_new_id_kind, made, made_by}
+use Rattle.wl_objects.specs.Messages.{made, made_by}
 
 pub made-next : (tables : List Interface) (version i : ℕ) (ks : List Kind) (k : Kind) (left more : List Argument)
     (v : Argument) → i < length ks → left ≡ v ∷ more
@@ -32,7 +34,7 @@ made-end tables version i ks left p = rw (drop_all i ks p) refl
 
 -- ---- kinds that make nothing
 
-made_by-other : (tables : List Interface) (version : ℕ) (kind : Kind) (value : Argument) → is_new_id_kind kind ≡ false
+made_by-other : (tables : List Interface) (version : ℕ) (kind : Kind) (value : Argument) → is_new_object kind ≡ false
     → made_by tables version kind value ≡ None
 made_by-other tables version kinds.Int value e = refl
 made_by-other tables version kinds.Uint value e = refl
@@ -49,18 +51,31 @@ made-empty tables version [] = refl
 made-empty tables version (kind ∷ ks) = refl
 
 skip-one : (tables : List Interface) (version : ℕ) (kind : Kind) (ks : List Kind) (values : List Argument)
-    → is_new_id_kind kind ≡ false → made tables version (kind ∷ ks) values ≡ made tables version ks (drop 1 values)
+    → is_new_object kind ≡ false → made tables version (kind ∷ ks) values ≡ made tables version ks (drop 1 values)
 skip-one tables version kind ks [] e = sym (made-empty tables version ks)
 skip-one tables version kind ks (value ∷ values) e = rw (made_by-other tables version kind value e) refl
 
 pub made-skip : (tables : List Interface) (version i : ℕ) (ks : List Kind) (k : Kind) (values : List Argument)
-    → i < length ks → is_new_id_kind (get_or ks i k) ≡ false
+    → i < length ks → is_new_object (get_or ks i k) ≡ false
     → made tables version (drop i ks) (drop i values) ≡ made tables version (drop (i + 1) ks) (drop (i + 1) values)
 made-skip tables version i ks k values p e =
     let behind : drop 1 (drop i values) ≡ drop (i + 1) values = drop-drop 1 i values in
     rw (drop-cons ks i k p)
     (skip-one tables version (get_or ks i k) (drop (suc i) ks) (drop i values) e
     ∙ rw (behind, add-one) refl)
+
+neither : (a b : Bool) → a || b ≡ false → (a ≡ false) × (b ≡ false)
+neither false b e = (refl, e)
+neither true b e = absurd (cc)
+
+-- where no kind is a new object, the message makes none
+pub made-nothing : (tables : List Interface) (version : ℕ) (ks : List Kind) (values : List Argument)
+    → list_any is_new_object ks ≡ false → made tables version ks values ≡ None
+made-nothing tables version [] [] e = refl
+made-nothing tables version [] (value ∷ values) e = refl
+made-nothing tables version (kind ∷ ks) values e =
+    let parts = neither (is_new_object kind) (list_any is_new_object ks) e in
+    skip-one tables version kind ks values parts.0 ∙ made-nothing tables version ks (drop 1 values) parts.1
 
 -- the value at a place, and those behind it
 pub left-at : (values : List Argument) (i : ℕ) (v : Argument) → Some v ≡ slice_get values i

@@ -150,12 +150,6 @@ made_by tables version (kinds.New None) (NewNamed name own id) =
     option_map (λ iface. record { id = id; iface = iface; version = own }) (place_of tables name)
 made_by tables version _ _ = None
 
--- whether an argument of this kind is a new object
-abbrev pub is_new_id_kind : Kind → Bool
-is_new_id_kind (kinds.New iface) = true
-is_new_id_kind (kinds.NewByServer iface) = true
-is_new_id_kind _ = false
-
 abbrev pub or_else : {X : Type 0} → Option X → Option X → Option X
 or_else None other = other
 or_else (Some x) other = Some x

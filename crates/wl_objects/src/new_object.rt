@@ -1,10 +1,10 @@
 //! The object that a message makes.
 ghost use Rattle.std.specs.Prelude.{◌≡◌};
 ghost use Rattle.wl_wire.specs.Argument.{lent};
-ghost use Rattle.wl_objects.specs.Messages.{is_new_id_kind, made, made_by};
+ghost use Rattle.wl_objects.specs.Messages.{made, made_by};
 
 use crate::values::Values;
-use wl_sigs::Tables;
+use wl_sigs::{Signature, Tables, is_new_object};
 use wl_wire::{Iface, Kind, ValueRef};
 
 /// A new object: its id, its interface and its version.
@@ -17,7 +17,24 @@ pub struct NewObject {
 
 /// The object that a message makes, if it makes one, where its target has this version: of the
 /// signature's interface and the target's version, or of those that a bind names.
+#[inline(always)]
 pub fn made_by_message(
+    tables: &Tables,
+    version: u32,
+    signature: &Signature,
+    values: &Values<'_>,
+) -> Option<NewObject>
+    ensures { result ≡ made tables.now version signature.now.kinds values.now }
+{
+    // Most messages make nothing: of these no kind is looked at.
+    if !signature.has_new_object() {
+        return None;
+    }
+    made_among(tables, version, signature.kinds(), values)
+}
+
+/// The object that one of a message's arguments makes, if one does.
+fn made_among(
     tables: &Tables,
     version: u32,
     kinds: &[Kind],
@@ -26,8 +43,8 @@ pub fn made_by_message(
     ensures { result ≡ made tables.now version kinds.now values.now }
 {
     'kinds: for (place, kind) in kinds.iter().enumerate() {
-        // Most kinds make nothing: of these no value is made.
-        if !is_new(*kind) {
+        // Of a kind that makes nothing no value is made.
+        if !is_new_object(*kind) {
             continue;
         }
         let value = match values.at(place) {
@@ -39,13 +56,6 @@ pub fn made_by_message(
         }
     }
     None
-}
-
-/// Whether an argument of this kind is a new object.
-fn is_new(kind: Kind) -> bool
-    ensures { result ≡ is_new_id_kind kind }
-{
-    matches!(&kind, Kind::New(_) | Kind::NewByServer(_))
 }
 
 fn made_by(tables: &Tables, version: u32, kind: Kind, value: ValueRef<'_>) -> Option<NewObject>

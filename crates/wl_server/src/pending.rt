@@ -148,12 +148,7 @@ fn change_of(tables: &Tables, message: &Received<'_, '_>) -> Change
 {
     let signature = message.signature;
     Change {
-        made: made_by_message(
-            tables,
-            message.entry.version,
-            signature.kinds(),
-            &message.values(),
-        ),
+        made: made_by_message(tables, message.entry.version, signature, &message.values()),
         ended: ended_by(signature.destroys(), message.target, message.args),
     }
 }

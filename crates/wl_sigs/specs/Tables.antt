@@ -125,6 +125,16 @@ named_interface (kinds.New iface) = iface
 named_interface (kinds.NewByServer iface) = Some iface
 named_interface _ = None
 
+-- whether an argument is a new object, of the client or of the server
+abbrev pub is_new_object : Kind → Bool
+is_new_object (kinds.New iface) = true
+is_new_object (kinds.NewByServer iface) = true
+is_new_object _ = false
+
+-- whether a message has a new object
+abbrev pub has_new_object : MessageSignature → Bool
+has_new_object m = list_any is_new_object m.kinds
+
 -- whether an argument is a new object of the server
 abbrev pub is_by_server : Kind → Bool
 is_by_server (kinds.NewByServer iface) = true

@@ -1,8 +1,10 @@
 //! The kinds of a message's arguments.
 ghost use Rattle.std.specs.Prelude.{◌≡◌, ◌≤◌, ◌<◌, ℕ, List, IfOk, length, map, take, unwrap_or};
+ghost use Rattle.std.specs.List.{list_any};
 ghost use Rattle.wl_sigs.specs.Joined.{kind_placed};
 ghost use Rattle.wl_sigs.specs.Stored.{kinds_listed};
 ghost use Rattle.wl_sigs.specs.Places.{PlacesFit, place_in};
+ghost use Rattle.wl_sigs.specs.Tables.{is_new_object};
 
 use crate::front::Front;
 use crate::places::{Places, place_in};
@@ -36,6 +38,14 @@ impl<A: Allocator> Kinds<A> {
             Kinds::Few(kinds) => kinds.as_slice(),
             Kinds::Many(kinds) => kinds.as_slice(),
         }
+    }
+
+    /// Whether one of them is a new object.
+    #[inline(always)]
+    pub(crate) fn has_new_object(&self) -> bool
+        ensures { result ≡ list_any is_new_object (kinds_listed self.now) }
+    {
+        self.as_slice().iter().any(|kind| is_new_object(*kind))
     }
 }
 
@@ -73,6 +83,14 @@ impl<A: Allocator> Debug for Kinds<A> {
     fn fmt<W: fmt::Write>(&self, f: &mut Formatter<W>) -> fmt::Result {
         self.as_slice().fmt(f)
     }
+}
+
+/// Whether an argument of this kind is a new object, of the client or of the server.
+#[inline(always)]
+pub fn is_new_object(kind: Kind) -> bool
+    ensures { result ≡ is_new_object kind }
+{
+    matches!(&kind, Kind::New(_) | Kind::NewByServer(_))
 }
 
 fn few_placed<'n, A: Allocator>(

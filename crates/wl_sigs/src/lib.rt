@@ -23,6 +23,7 @@ pub mod samples;
 mod signature;
 mod tables;
 
+pub use kinds::is_new_object;
 pub use laws::{
     first_broken_is_first, found_by_its_name, opcodes_are_of_their_names, places_and_opcodes_stay,
     texts_are_told, unbroken_where_valid, valid_where_tests_pass, without_extensions,

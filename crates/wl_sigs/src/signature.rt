@@ -4,7 +4,9 @@ ghost use Rattle.wl_sigs.specs.Joined.{destroys_of, message_placed};
 ghost use Rattle.std.specs.List.{list_any};
 ghost use Rattle.wl_sigs.specs.Extending.{is_object_of, is_server_object_of};
 ghost use Rattle.wl_sigs.specs.Places.{PlacesFit, place_in};
-ghost use Rattle.wl_sigs.specs.Tables.{destroys_one, destroys_target, has_server_object};
+ghost use Rattle.wl_sigs.specs.Stored.{kinds_listed, name_bytes};
+ghost use Rattle.wl_sigs.specs.Tables.{destroys_one, destroys_target, has_new_object};
+ghost use Rattle.wl_sigs.specs.Tables.{has_server_object};
 ghost use Rattle.wl_sigs.specs.Written.{message_written};
 
 use crate::core_interfaces::CoreMessage;
@@ -12,6 +14,7 @@ use crate::kinds::Kinds;
 use crate::name::Name;
 use crate::places::Places;
 use std::alloc::{AllocError, Allocator, Global};
+use std::fmt::{self, Debug, Formatter};
 use std::marker::Model;
 use wl_interface_text::WrittenMessage;
 use wl_wire::{Iface, Kind};
@@ -49,12 +52,15 @@ pub enum Side {
 }
 
 /// The signature of a request or an event.
-#[derive(Debug, Drop)]
+#[derive(Drop)]
 pub struct Signature<A: Allocator = Global> {
     name: Name<A>,
     since: u32,
     kinds: Kinds<A>,
     destroys: Destroys,
+    /// Whether one of the kinds is a new object. It is asked of each message that is read, and most
+    /// have none.
+    has_new_object: bool,
 }
 
 impl<A: Allocator> Model for Signature<A> {
@@ -70,9 +76,46 @@ impl<A: Allocator> Model for Signature<A> {
       kinds = kinds_listed s.kinds;
       destroys = s.destroys;
     } };
+
+    ghost use Rattle.std.specs.Prelude.{◌≡◌};
+    ghost use Rattle.std.specs.List.{list_any};
+    ghost use Rattle.wl_sigs.specs.Tables.{is_new_object};
+
+    ghost invariant = { λ s. s.has_new_object ≡ list_any is_new_object (kinds_listed s.kinds) };
+}
+
+// Whether there is a new object is left out, since the kinds tell it.
+impl<A: Allocator> Debug for Signature<A> {
+    fn fmt<W: fmt::Write>(&self, f: &mut Formatter<W>) -> fmt::Result {
+        f.debug_struct("Signature")
+            .field("name", &self.name)
+            .field("since", &self.since)
+            .field("kinds", &self.kinds)
+            .field("destroys", &self.destroys)
+            .finish()
+    }
 }
 
 impl<A: Allocator> Signature<A> {
+    #[inline(always)]
+    fn new(name: Name<A>, since: u32, kinds: Kinds<A>, destroys: Destroys) -> Self
+        ensures { result ≡ record {
+          name = name_bytes name;
+          since = since;
+          kinds = kinds_listed kinds;
+          destroys = destroys;
+        } }
+    {
+        let has_new_object = kinds.has_new_object();
+        Signature {
+            name,
+            since,
+            kinds,
+            destroys,
+            has_new_object,
+        }
+    }
+
     /// The message's name, as `commit`.
     pub fn name(&self) -> &[u8]
         ensures { result.now ≡ self.now.name }
@@ -93,6 +136,15 @@ impl<A: Allocator> Signature<A> {
         ensures { result.now ≡ self.now.kinds }
     {
         self.kinds.as_slice()
+    }
+
+    /// Whether one of its arguments is a new object, of the client or of the server. It looks at no
+    /// kind.
+    #[inline]
+    pub fn has_new_object(&self) -> bool
+        ensures { result ≡ has_new_object self.now }
+    {
+        self.has_new_object
     }
 
     /// Whether one of its arguments is a new object of the server.
@@ -139,12 +191,9 @@ impl<A: Allocator + Clone + Drop> Signature<A> {
     pub(crate) fn of(alloc: &A, message: &CoreMessage) -> Result<Self, AllocError>
         ensures { IfOk result (λ s. s ≡ message_written message.now) }
     {
-        Ok(Signature {
-            name: Name::from_slice(alloc, message.name)?,
-            since: message.since,
-            kinds: Kinds::from_slice(alloc, message.kinds)?,
-            destroys: message.destroys,
-        })
+        let name = Name::from_slice(alloc, message.name)?;
+        let kinds = Kinds::from_slice(alloc, message.kinds)?;
+        Ok(Signature::new(name, message.since, kinds, message.destroys))
     }
 
     /// The same signature in memory of its own.
@@ -156,6 +205,7 @@ impl<A: Allocator + Clone + Drop> Signature<A> {
             since: self.since,
             kinds: Kinds::from_slice(alloc, self.kinds())?,
             destroys: self.destroys,
+            has_new_object: self.has_new_object,
         })
     }
 
@@ -169,12 +219,10 @@ impl<A: Allocator + Clone + Drop> Signature<A> {
         requires { PlacesFit (place_in places.now) past }
         ensures { IfOk result (λ s. s ≡ message_placed (place_in places.now) past message.now) }
     {
-        Ok(Signature {
-            name: Name::from_slice(alloc, message.name)?,
-            since: message.since,
-            kinds: Kinds::placed(alloc, places, past, message.kinds.as_slice())?,
-            destroys: destroys_of(message.destroys),
-        })
+        let name = Name::from_slice(alloc, message.name)?;
+        let kinds = Kinds::placed(alloc, places, past, message.kinds.as_slice())?;
+        let destroys = destroys_of(message.destroys);
+        Ok(Signature::new(name, message.since, kinds, destroys))
     }
 }
 

@@ -47,15 +47,15 @@ returns-in-Zombie-clause-changed g c =
     let f = found_as c.args.opcode m in
     let error : is_error_event f ≡ false = sym c.requires.error ∙ c.if-message.false in
     let delete : is_delete_event f ≡ false = sym c.if-is_delete_id.ensures in
-    plain_view c.args.tables.now c.args.objects.now f c.change_of.result.made c.change_of.result.objects error delete
-    c.change_of.ensures.made c.change_of.ensures.changed
+    plain_view c.args.tables.now c.args.objects.now f c.change_of-change.result.made c.change_of-change.result.objects error delete
+    c.change_of-change.ensures.made c.change_of-change.ensures.changed
 
 pub returns-in-Zombie-clause-can : goal.returns-in-Zombie-clause-can
 returns-in-Zombie-clause-can g c =
     let view = c.args.objects.now in
     let m = c.args.message.now in
-    let made = c.change_of.result.made in
-    c.change_of.ensures.can (opens view made) (held_opened view made m.target.id m.entry c.requires.row)
+    let made = c.change_of-change.result.made in
+    c.change_of-change.ensures.can (opens view made) (held_opened view made m.target.id m.entry c.requires.row)
 
 pub returns-in-Live-clause-changed : goal.returns-in-Live-clause-changed
 returns-in-Live-clause-changed g c =
@@ -63,12 +63,12 @@ returns-in-Live-clause-changed g c =
     let f = found_as c.args.opcode m in
     let error : is_error_event f ≡ false = sym c.requires.error ∙ c.if-message.false in
     let delete : is_delete_event f ≡ false = sym c.if-is_delete_id.ensures in
-    plain_view c.args.tables.now c.args.objects.now f c.change_of-in-Live.result.made c.change_of-in-Live.result.objects
-    error delete c.change_of-in-Live.ensures.made c.change_of-in-Live.ensures.changed
+    plain_view c.args.tables.now c.args.objects.now f c.change_of-change.result.made c.change_of-change.result.objects
+    error delete c.change_of-change.ensures.made c.change_of-change.ensures.changed
 
 pub returns-in-Live-clause-can : goal.returns-in-Live-clause-can
 returns-in-Live-clause-can g c =
     let view = c.args.objects.now in
     let m = c.args.message.now in
-    let made = c.change_of-in-Live.result.made in
-    c.change_of-in-Live.ensures.can (opens view made) (held_opened view made m.target.id m.entry c.requires.row)
+    let made = c.change_of-change.result.made in
+    c.change_of-change.ensures.can (opens view made) (held_opened view made m.target.id m.entry c.requires.row)

@@ -1,6 +1,6 @@
 use Rattle.std.proofs.Common.{◌≡◌, drop}
 use Rattle.wl_objects.specs.Messages.{made}
-use Rattle.wl_objects.proofs.new_object.made_by_message.Given as goal
+use Rattle.wl_objects.proofs.new_object.made_among.Given as goal
 
 -- the arguments before make nothing
 abbrev pub invariant-kinds : goal.invariant-kinds
