@@ -1,5 +1,5 @@
 -- What a client reads, and what it makes of it.
-use Rattle.std.specs.Prelude.{ℕ, Bool, true, false, ◌&&◌, ◌||◌, not, nat_eq, nat_lt}
+use Rattle.std.specs.Prelude.{ℕ, Bool, true, false, ◌&&◌, not, nat_eq, nat_lt}
 use Rattle.std.specs.Prelude.{if◌then◌else◌, List}
 use Rattle.std.specs.Prelude.{[], ◌∷◌, ◌++◌, length, map, filter, Option, Some, None, is_some}
 use Rattle.std.specs.Prelude.{unwrap_or, slice_get, option_map}
@@ -17,7 +17,6 @@ use Rattle.wl_object_map.specs.declared.object.State.TheVariants.{Live, Zombie}
 use Rattle.wl_objects.specs.declared.argument.Named.{Named}
 use Rattle.wl_objects.specs.declared.error.Fault.{Fault}
 use Rattle.wl_objects.specs.declared.error.NextError.{NextError}
-use Rattle.wl_objects.specs.declared.error.NextError.TheVariants as errors
 use Rattle.wl_object_map.specs.declared.object.Entry.{Entry}
 use Rattle.wl_object_map.specs.View as table
 use Rattle.wl_object_map.specs.Objects.{Objects, look, is_held, births}
@@ -25,10 +24,10 @@ use Rattle.wl_objects.specs.Reading.{Reported, named_at}
 use Rattle.wl_objects.specs.Messages.{Received, NewObject, made, is_error, is_delete_id, same_iface}
 use Rattle.wl_objects.specs.Messages.{after, after_delete_id, ended_id}
 use Rattle.wl_connection.specs.Core.{Core, with_view, with_failure}
-use Rattle.wl_connection.specs.Outcomes.{AnswersOrMemory, answers_with}
 use Rattle.wl_connection.specs.Receiving.{Found, found, reader_in, reported, own_tokens}
 use Rattle.wl_connection.specs.Receiving.{past_found, is_none}
-use Rattle.wl_connection.specs.Roles.{Role, role_answer, role_after}
+use Rattle.wl_connection.specs.Roles.{Role, role_answer, role_after, IsNext}
+use Rattle.wl_connection.specs.Roles.{IsLentNext as IsLent, IsReportNext as IsReport}
 use Rattle.wl_client.specs.State.{State, Global, is_named, global_of, with_core}
 use Rattle.wl_object_map.specs.View.{lives}
 use Rattle.wl_connection.specs.Core.{max_globals}
@@ -204,6 +203,12 @@ abbrev pub is_last : Report → Bool
 is_last (Error id named code text) = true
 is_last _ = false
 
+-- Whether what stands in front opens an object at an id that has no row, which may need memory. At
+-- an id that has one, a zombie's say, the object takes its place.
+abbrev pub event_opens : Core → Result (Option Found) Fault → Bool
+event_opens core (Ok (Some f)) = opens_row core.view (made_by_event core f.message)
+event_opens core _ = false
+
 -- A client's reading waits for no room, and a fault makes it fail, as wl_display.error does once it
 -- is reported.
 abbrev pub client_role : Role State Report
@@ -217,6 +222,8 @@ client_role = record {
   past = state_past;
   failing = λ state fault. with_core state (with_failure state.core);
   is_last = is_last;
+  wants = needs_memory;
+  opens = λ state. event_opens state.core (found state.core event_side);
 }
 
 -- What `next` returns: what the first message is, nothing where none is whole, or why it cannot be
@@ -228,31 +235,17 @@ next_answer state = role_answer client_role state
 abbrev pub after_next : State → State
 after_next state = role_after client_role state
 
--- Whether what stands in front opens an object at an id that has no row, which may need memory. At
--- an id that has one, a zombie's say, the object takes its place.
-abbrev pub event_opens : Core → Result (Option Found) Fault → Bool
-event_opens core (Ok (Some f)) = opens_row core.view (made_by_event core f.message)
-event_opens core _ = false
-
 -- What `next_owned` returns where memory can be refused: out of memory stands only in place of a
 -- report that needs some, or of an event that opens an object at an id without a row.
 abbrev pub IsClientNext : State → Result (Option Report) NextError → Type 0
-IsClientNext state result =
-    AnswersOrMemory errors.Memory
-    (answers_with needs_memory (next_answer state)
-    || event_opens state.core (found state.core event_side))
-    (next_answer state) result
+IsClientNext state result = IsNext client_role state result
 
 -- The same in tables without such events: out of memory stands only in place of a report that needs
 -- some.
 abbrev pub IsReportNext : State → Result (Option Report) NextError → Type 0
-IsReportNext state result =
-    AnswersOrMemory errors.Memory (answers_with needs_memory (next_answer state))
-    (next_answer state) result
+IsReportNext state result = IsReport client_role state result
 
 -- The same for a lent report: no memory stands only in place of an event that opens an object at an
 -- id without a row.
 abbrev pub IsLentNext : State → Result (Option Report) NextError → Type 0
-IsLentNext state result =
-    AnswersOrMemory errors.Memory (event_opens state.core (found state.core event_side))
-    (next_answer state) result
+IsLentNext state result = IsLent client_role state result

@@ -1,11 +1,12 @@
 -- What an end is to the other: what it reads, what it reports of that, and what that leaves.
-use Rattle.std.specs.Prelude.{Bool, if◌then◌else◌, Option, Some, None}
+use Rattle.std.specs.Prelude.{Bool, ◌||◌, if◌then◌else◌, Option, Some, None}
 use Rattle.std.specs.declared.result.Result.{Result}
 use Rattle.std.specs.declared.result.Result.TheVariants.{Ok, Err}
 use Rattle.wl_sigs.specs.declared.signature.Side.{Side}
 use Rattle.wl_objects.specs.declared.error.Fault.{Fault}
 use Rattle.wl_objects.specs.declared.error.NextError.TheVariants as errors
 use Rattle.wl_connection.specs.Core.{Core}
+use Rattle.wl_connection.specs.Outcomes.{AnswersOrMemory, answers_with}
 use Rattle.wl_connection.specs.Receiving.{Found}
 use Rattle.wl_connection.specs.Reads.{Answer, Reading}
 
@@ -25,6 +26,10 @@ pub record Role (S R : Type 0) : Type 0 where
   pub failing : S → Fault → S
   -- the report after which nothing more is read
   pub is_last : R → Bool
+  -- whether the copy of a report may need memory
+  pub wants : R → Bool
+  -- whether taking what stands in front may need memory, for an object that it makes
+  pub opens : S → Bool
 
 -- ---- reading the next message, where no memory is needed
 
@@ -60,3 +65,25 @@ role_reading role = record {
   after = role_after role;
   is_last = role.is_last;
 }
+
+-- ---- reading the next message, where memory can be refused
+
+-- What a read returns whose report is copied: out of memory stands only in place of a report that
+-- needs some, or of a message whose taking needs some.
+abbrev pub IsNext : {S R : Type 0} → Role S R → S → Answer R → Type 0
+IsNext role state result =
+    AnswersOrMemory errors.Memory
+    (answers_with role.wants (role_answer role state) || role.opens state)
+    (role_answer role state) result
+
+-- The same where taking needs none: out of memory stands only in place of a report that needs some.
+abbrev pub IsReportNext : {S R : Type 0} → Role S R → S → Answer R → Type 0
+IsReportNext role state result =
+    AnswersOrMemory errors.Memory (answers_with role.wants (role_answer role state))
+    (role_answer role state) result
+
+-- The same for a lent report: out of memory stands only in place of a message whose taking needs
+-- some.
+abbrev pub IsLentNext : {S R : Type 0} → Role S R → S → Answer R → Type 0
+IsLentNext role state result =
+    AnswersOrMemory errors.Memory (role.opens state) (role_answer role state) result

@@ -10,6 +10,7 @@ mod endpoint;
 mod laws;
 mod receive;
 mod receiver;
+mod role;
 mod send;
 mod shared;
 mod streams;
@@ -23,6 +24,7 @@ pub use laws::{
 };
 pub use receive::MAX_TOKENS;
 pub use receiver::Receiver;
+pub use role::{Role, read, read_owned};
 pub use send::DELETE_ID_LEN;
 pub use shared::{Core, MAX_GLOBALS};
 pub use streams::{ReadAll, read_all};

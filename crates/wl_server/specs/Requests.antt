@@ -15,14 +15,13 @@ use Rattle.wl_object_map.specs.Ranges.{is_of_server}
 use Rattle.wl_objects.specs.declared.error.Fault.{Fault}
 use Rattle.wl_objects.specs.declared.error.Fault.TheVariants as faults
 use Rattle.wl_objects.specs.declared.error.NextError.{NextError}
-use Rattle.wl_objects.specs.declared.error.NextError.TheVariants as errors
 use Rattle.wl_objects.specs.declared.argument.Named.TheVariants as named_as
 use Rattle.wl_objects.specs.Reading.{Reported}
 use Rattle.wl_objects.specs.Messages.{Received, NewObject, made, is_bind, after}
 use Rattle.wl_connection.specs.Core.{Core, with_view}
-use Rattle.wl_connection.specs.Outcomes.{AnswersOrMemory, answers_with}
 use Rattle.wl_connection.specs.Receiving.{Found, found, reported, past_found, is_none}
-use Rattle.wl_connection.specs.Roles.{Role, role_answer, role_after}
+use Rattle.wl_connection.specs.Roles.{Role, role_answer, role_after, IsReportNext}
+use Rattle.wl_connection.specs.Roles.{IsLentNext as IsLent}
 use Rattle.wl_connection.specs.Sending.{with_following, with_error_event, delete_id_len}
 use Rattle.wl_server.specs.State.{State, Global, Registry, global_of, untold, with_core}
 use Rattle.wl_server.specs.Registries.{with_registry, without_object}
@@ -165,6 +164,11 @@ is_out_full core f = owes_delete_id core f && nat_lt (room_of core.outbox) delet
 abbrev pub is_last : Report → Bool
 is_last report = false
 
+-- whether what stands in front opens an object
+abbrev pub request_opens : Core → Result (Option Found) Fault → Bool
+request_opens core (Ok (Some f)) = is_some (made_by_request core f.message)
+request_opens core _ = false
+
 abbrev pub server_role : Role State Report
 server_role = record {
   core = λ state. state.core;
@@ -176,6 +180,8 @@ server_role = record {
   past = state_past;
   failing = after_fault;
   is_last = is_last;
+  wants = needs_memory;
+  opens = λ state. request_opens state.core (request state);
 }
 
 -- What `next` returns: what the first message is, nothing where none is whole, or why it cannot be
@@ -188,19 +194,10 @@ abbrev pub after_next : State → State
 after_next state = role_after server_role state
 
 -- What `next_owned` returns where memory can be refused: out of memory stands only in place of a
--- report that needs some.
+-- report that needs some. A request that opens an object has such a report.
 abbrev pub IsServerNext : State → Result (Option Report) NextError → Type 0
-IsServerNext state result =
-    AnswersOrMemory errors.Memory (answers_with needs_memory (next_answer state))
-    (next_answer state) result
-
--- whether what stands in front opens an object
-abbrev pub request_opens : Core → Result (Option Found) Fault → Bool
-request_opens core (Ok (Some f)) = is_some (made_by_request core f.message)
-request_opens core _ = false
+IsServerNext state result = IsReportNext server_role state result
 
 -- The same for a lent report: no memory stands only in place of a request that opens an object.
 abbrev pub IsLentNext : State → Result (Option Report) NextError → Type 0
-IsLentNext state result =
-    AnswersOrMemory errors.Memory (request_opens state.core (request state))
-    (next_answer state) result
+IsLentNext state result = IsLent server_role state result

@@ -1,0 +1,153 @@
+//! How an end reads the next message, whichever of the two it is.
+ghost use Rattle.std.specs.Prelude.{◌≡◌, true, Err, List, IfOk, IfSome, OnOk, OnErr};
+ghost use Rattle.wl_objects.specs.declared.parsed.ParsedArg.{ParsedArg};
+ghost use Rattle.wl_connection.specs.Core.{Core as CoreState};
+ghost use Rattle.wl_connection.specs.Outcomes.{read_as, unless_memory};
+ghost use Rattle.wl_connection.specs.Roles.{Role as RoleOf, IsNext, IsLentNext, role_after};
+ghost use Rattle.wl_connection.specs.Roles.{role_answer};
+
+use crate::endpoint::Endpoint;
+use std::alloc::AllocError;
+use wl_objects::{NextError, Table};
+
+/// What an end is to the other: what it keeps beside its endpoint, and how it finds, copies and
+/// takes a message with that.
+pub trait Role<T: Table>: Drop {
+    /// A message that was found and not yet taken. It lends nothing: its arguments lie at the end
+    /// that read it.
+    type Pending: Copy;
+
+    /// The report of a message, in memory of its own.
+    type Owned: Drop;
+
+    // What reports say, without where they lie in memory.
+    ghost Report: { Type 0 };
+
+    // What an end is: its core, and what it keeps beside that.
+    ghost State: { Type 0 };
+
+    ghost state: { CoreState → Self → State };
+
+    ghost role: { RoleOf State Report };
+
+    ghost owned: { Self.Owned → Report };
+
+    // What is reported of a message that stands in front, and of the message that was taken last.
+    ghost fronts: { CoreState → List ParsedArg → Self.Pending → Report };
+
+    ghost tells: { CoreState → List ParsedArg → Self.Pending → Report };
+
+    // What holds between calls.
+    ghost IsSound: { CoreState → Self → Type 0 };
+
+    // This message stands in front and can be taken.
+    ghost IsAhead: { CoreState → Self → List ParsedArg → Self.Pending → Type 0 };
+
+    /// The message in front, once it is whole and if it can be taken. The end fails with a fault;
+    /// else nothing changes but the arguments that were parsed last.
+    fn find(&self, end: &mut Endpoint<'_, T>) -> Result<Option<Self::Pending>, NextError>
+        requires sound { IsSound end.old.core self.now }
+        ensures answer { read_as (fronts end.old.core end.new.args) result
+            ≡ role_answer role (state end.old.core self.now) }
+        ensures same { IfOk result (λ _. end.new.core ≡ end.old.core) }
+        ensures fails { OnErr result
+            (state end.new.core self.now ≡ role_after role (state end.old.core self.now)) }
+        ensures ahead { IfOk result (λ found. IfSome found
+            (λ pending. IsAhead end.old.core self.now end.new.args pending)) }
+        ensures sound { IsSound end.new.core self.now };
+
+    /// Copies the report of a message that was found. Nothing changes.
+    fn copy(
+        &self,
+        end: &mut Endpoint<'_, T>,
+        alloc: &T::Alloc,
+        pending: &Self::Pending,
+    ) -> Result<Self::Owned, AllocError>
+        requires ahead { IsAhead end.old.core self.now end.old.args pending.now }
+        ensures core { end.new.core ≡ end.old.core }
+        ensures args { end.new.args ≡ end.old.args }
+        ensures ok { IfOk result
+            (λ report. owned report ≡ fronts end.old.core end.old.args pending.now) }
+        ensures wants { OnErr result
+            (role.wants (fronts end.old.core end.old.args pending.now) ≡ true) };
+
+    /// Takes a message that was found, and makes its changes. If there is no memory for an object
+    /// that it makes, nothing changes.
+    fn take(&mut self, end: &mut Endpoint<'_, T>, pending: &Self::Pending) -> Result<(), AllocError>
+        requires sound { IsSound end.old.core self.old }
+        requires ahead { IsAhead end.old.core self.old end.old.args pending.now }
+        ensures args { end.new.args ≡ end.old.args }
+        ensures ok { OnOk result
+            (state end.new.core self.new ≡ role_after role (state end.old.core self.old)) }
+        ensures told { OnOk result (tells end.new.core end.new.args pending.now
+            ≡ fronts end.old.core end.old.args pending.now) }
+        ensures err { OnErr result
+            (state end.new.core self.new ≡ state end.old.core self.old) }
+        ensures opens { OnErr result (role.opens (state end.old.core self.old) ≡ true) }
+        ensures sound { IsSound end.new.core self.new };
+}
+
+/// Reads the next message at an end, and takes it. Its report lies in the message that was taken
+/// last.
+pub fn read<T: Table, R: Role<T>>(
+    end: &mut Endpoint<'_, T>,
+    role: &mut R,
+) -> Result<Option<R::Pending>, NextError>
+    requires { R.IsSound end.old.core role.old }
+    ensures answer { IsLentNext R.role (R.state end.old.core role.old)
+        (read_as (R.tells end.new.core end.new.args) result) }
+    ensures state { R.state end.new.core role.new
+        ≡ unless_memory (R.state end.old.core role.old)
+        (role_after R.role (R.state end.old.core role.old))
+        (read_as (R.tells end.new.core end.new.args) result) }
+    ensures sound { R.IsSound end.new.core role.new }
+    // What was taken had stood in front, and what no memory was for still does.
+    ensures ahead { IfOk result (λ read. IfSome read
+        (λ pending. R.IsAhead end.old.core role.old end.new.args pending)) }
+    ensures refused { result ≡ Err NextError.Memory
+        → (pending : R.Pending) × R.IsAhead end.old.core role.old end.new.args pending }
+{
+    let pending = match role.find(end)? {
+        Some(pending) => pending,
+        None => return Ok(None),
+    };
+    match role.take(end, &pending) {
+        Ok(()) => Ok(Some(pending)),
+        Err(_) => Err(NextError::Memory),
+    }
+}
+
+/// Reads the next message at an end, copies its report, and takes it.
+pub fn read_owned<T: Table, R: Role<T>>(
+    end: &mut Endpoint<'_, T>,
+    role: &mut R,
+    alloc: &T::Alloc,
+) -> Result<Option<(R::Owned, R::Pending)>, NextError>
+    requires { R.IsSound end.old.core role.old }
+    ensures answer { IsNext R.role (R.state end.old.core role.old)
+        (read_as (λ read. R.owned read.0) result) }
+    ensures state { R.state end.new.core role.new
+        ≡ unless_memory (R.state end.old.core role.old)
+        (role_after R.role (R.state end.old.core role.old))
+        (read_as (λ read. R.owned read.0) result) }
+    ensures sound { R.IsSound end.new.core role.new }
+    ensures told { IfOk result (λ read. IfSome read
+        (λ both. R.owned both.0 ≡ R.fronts end.old.core end.new.args both.1)) }
+    ensures ahead { IfOk result (λ read. IfSome read
+        (λ both. R.IsAhead end.old.core role.old end.new.args both.1)) }
+    ensures refused { result ≡ Err NextError.Memory
+        → (pending : R.Pending) × R.IsAhead end.old.core role.old end.new.args pending }
+{
+    let pending = match role.find(end)? {
+        Some(pending) => pending,
+        None => return Ok(None),
+    };
+    let report = match role.copy(end, alloc, &pending) {
+        Ok(report) => report,
+        Err(_) => return Err(NextError::Memory),
+    };
+    match role.take(end, &pending) {
+        Ok(()) => Ok(Some((report, pending))),
+        Err(_) => Err(NextError::Memory),
+    }
+}
