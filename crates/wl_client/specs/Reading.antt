@@ -7,23 +7,19 @@ use Rattle.wl_sigs.specs.declared.signature.Side.TheVariants.{Event as event_sid
 use Rattle.wl_sigs.specs.Tables.{Interface, max_args}
 use Rattle.wl_sigs.specs.Rules.{has_server_objects}
 use Rattle.wl_objects.specs.declared.error.Fault.{Fault}
-use Rattle.wl_objects.specs.declared.error.NextError.{NextError}
-use Rattle.wl_objects.specs.declared.error.NextError.TheVariants as errors
 use Rattle.wl_objects.specs.declared.parsed.ParsedArg.{ParsedArg}
-use Rattle.wl_object_map.specs.declared.object.Object.{Object}
 use Rattle.wl_object_map.specs.Objects.{Objects}
 use Rattle.wl_objects.specs.Messages.{Received, opens}
 use Rattle.wl_message.specs.Arrived.{in_front}
 use Rattle.wl_message.specs.Cut.{Whole}
-use Rattle.wl_connection.specs.Core.{Core, with_failure}
+use Rattle.wl_connection.specs.Core.{Core}
 use Rattle.wl_connection.specs.Receiving.{Found, found, takes}
 use Rattle.wl_client.specs.declared.pending.PendingEvent.{PendingEvent}
-use Rattle.wl_client.specs.State.{State, Global}
-use Rattle.wl_client.specs.Reports.{Report, report, is_error_event, object_made, opens_row}
-use Rattle.wl_client.specs.Reports.{event_opens}
+use Rattle.wl_client.specs.State.{Global}
+use Rattle.wl_client.specs.Reports.{Report, report, is_error_event, event_opens, opens_row}
 use Rattle.wl_client.specs.Outlines.{outline_entry, outlined}
 use Rattle.wl_client.specs.Steps.{report_by, made_by_found, view_by, globals_by, CanOpen, CanChange}
-use Rattle.wl_client.specs.Steps.{client_state, view_stepped, stepped, with_global_change}
+use Rattle.wl_client.specs.Steps.{view_stepped, with_global_change}
 
 -- A pending event is what this message, of this body and these parsed arguments, is and does where
 -- these tables and objects are there.
@@ -89,30 +85,14 @@ IsFront core args r (Ok (Some event)) =
     (f : Found) × (r ≡ Ok (Some f)) × IsAhead core args f event
 IsFront core args r (Err fault) = r ≡ Err fault
 
--- what is reported of what stands in front
-abbrev pub fronts_in : Core → List ParsedArg → Result (Option PendingEvent) NextError
-    → Result (Option Report) NextError
-fronts_in core args (Err why) = Err why
-fronts_in core args (Ok None) = Ok None
-fronts_in core args (Ok (Some event)) = Ok (Some (front_report core args event))
-
--- the end after it was found: a fault makes it fail
-abbrev pub core_unless : Core → Result (Option PendingEvent) NextError → Core
-core_unless core (Err (errors.Fault fault offset)) = with_failure core
-core_unless core result = core
-
--- the client after what was found is taken
-abbrev pub after_front : Core → List Global → Option Object
-    → Result (Option PendingEvent) NextError → State
-after_front core globals made (Ok (Some event)) =
-    client_state (stepped core event) (with_global_change globals event.change.globals)
-    (object_made core.view event.change.made)
-after_front core globals made result = client_state (core_unless core result) globals made
+-- This event stands in front of an end that has not failed.
+pub record IsNextEvent (core : Core) (args : List ParsedArg) (event : PendingEvent) : Type 0 where
+  pub lives : core.failed ≡ false
+  pub message : Found
+  pub is_found : found core event_side ≡ Ok (Some message)
+  pub ahead : IsAhead core args message event
 
 -- what is reported of an event whose message an end took last
-abbrev pub taken_in : Core → List ParsedArg → Result (Option PendingEvent) NextError
-    → Result (Option Report) NextError
-taken_in core args (Err why) = Err why
-taken_in core args (Ok None) = Ok None
-taken_in core args (Ok (Some event)) =
-    Ok (Some (outlined core.inbox.last args core.inbox.last_tokens event.outline))
+abbrev pub taken_report : Core → List ParsedArg → PendingEvent → Report
+taken_report core args event =
+    outlined core.inbox.last args core.inbox.last_tokens event.outline

@@ -8,7 +8,7 @@ use Rattle.wl_object_map.specs.declared.object.Object.{Object}
 use Rattle.wl_object_map.specs.Objects.{Objects, opening, is_held, has_room, closed, zombied}
 use Rattle.wl_objects.specs.Messages.{NewObject, made, opens, server_may_use}
 use Rattle.wl_objects.specs.Seen.{received_of}
-use Rattle.wl_connection.specs.Core.{Core, past, with_view}
+use Rattle.wl_connection.specs.Core.{Core}
 use Rattle.wl_connection.specs.Receiving.{Found}
 use Rattle.wl_client.specs.declared.changes.ObjectChange.{ObjectChange}
 use Rattle.wl_client.specs.declared.changes.ObjectChange.TheVariants as object_changes
@@ -79,12 +79,6 @@ changed view (object_changes.Close id) = closed view id
 -- the objects after an event: what it makes is opened first
 abbrev pub view_stepped : Objects → PendingEvent → Objects
 view_stepped view event = changed (opens view event.change.made) event.change.objects
-
--- the end after an event in front was taken, with its bytes and tokens; it fails with the last
-abbrev pub stepped : Core → PendingEvent → Core
-stepped core event =
-    record (with_view (past core event.size event.tokens) (view_stepped core.view event))
-    { failed = event.change.last }
 
 -- the change can be made: of an object that is there, and is not wl_display
 abbrev pub CanChange : Objects → ObjectChange → Type 0

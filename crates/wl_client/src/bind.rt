@@ -17,7 +17,7 @@ impl<'t, T: Table> Client<'t, T> {
     pub fn remembers(&self, name: u32) -> bool
         ensures { result ≡ is_some (global_of self.now.globals name) }
     {
-        self.globals.get(name).is_some()
+        self.kept.globals.get(name).is_some()
     }
 
     /// Binds a global that the client was told, of this name and interface, and returns the new
@@ -46,7 +46,7 @@ impl<'t, T: Table> Client<'t, T> {
         if entry.iface != REGISTRY {
             return Err(SendError::NoSuchMessage);
         }
-        let global = match self.globals.get(name) {
+        let global = match self.kept.globals.get(name) {
             Some(global) if can_bind(self.end.core.tables, global, iface, version) => global,
             _ => return Err(SendError::BadBind),
         };

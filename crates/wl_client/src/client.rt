@@ -4,6 +4,7 @@ ghost use Rattle.wl_message.specs.Arrived.{AreSizes};
 ghost use Rattle.wl_client.specs.State.{new_state};
 
 use crate::globals::Remembered;
+use crate::role::Kept;
 use std::alloc::AllocError;
 use std::marker::Model;
 use wl_connection::{Core, Endpoint};
@@ -16,9 +17,7 @@ use wl_sigs::Tables;
 #[derive(Drop)]
 pub struct Client<'t, T: Table> {
     pub(crate) end: Endpoint<'t, T>,
-    pub(crate) globals: Remembered<T::Alloc>,
-    /// What the last message read has made.
-    pub(crate) made: Option<Object>,
+    pub(crate) kept: Kept<T::Alloc>,
     /// Allocates owned reports.
     pub(crate) alloc: T::Alloc,
 }
@@ -34,8 +33,8 @@ impl<'t, T: Table> Model for Client<'t, T> {
 
     ghost view = { λ c. record {
       core = c.end.core;
-      globals = c.globals;
-      made = c.made;
+      globals = c.kept.globals;
+      made = c.kept.made;
     } };
 }
 
@@ -50,8 +49,10 @@ impl<'t, T: Table> Client<'t, T> {
         let core = Core::new(alloc, tables, sizes)?;
         Ok(Client {
             end: Endpoint::new(core),
-            globals,
-            made: None,
+            kept: Kept {
+                globals,
+                made: None,
+            },
             alloc: own,
         })
     }
@@ -63,6 +64,6 @@ impl<'t, T: Table> Client<'t, T> {
     pub fn made(&self) -> Option<Object>
         ensures { result ≡ self.now.made }
     {
-        self.made
+        self.kept.made
     }
 }

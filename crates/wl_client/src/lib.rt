@@ -14,6 +14,7 @@ mod pending;
 mod read_all;
 mod receive;
 mod report;
+mod role;
 mod send;
 mod shown;
 mod tokens;

@@ -10,8 +10,8 @@ pub returns-clause-yes : goal.returns-clause-yes
 returns-clause-yes g c t =
     let state : State = record {
       core = c.self.inside.end.core;
-      globals = c.self.inside.globals;
-      made = c.self.inside.made;
+      globals = c.self.inside.kept.globals;
+      made = c.self.inside.kept.made;
     } in
     elim c.match-find.branch [
       | in-Ok-Some w ↦

@@ -1,0 +1,87 @@
+//! What a client keeps beside its endpoint, and how it reads an event with that.
+ghost use Rattle.std.specs.Prelude.{◌≡◌};
+
+use crate::changes::{apply_object_change, open_made};
+use crate::globals::Remembered;
+use crate::pending::{PendingEvent, find};
+use crate::report::OwnedIncoming;
+use std::alloc::{AllocError, Allocator};
+use wl_connection::{Endpoint, Role};
+use wl_objects::{NextError, Object, Table};
+
+/// What a client keeps beside its endpoint.
+#[derive(Drop)]
+pub(crate) struct Kept<A: Allocator> {
+    /// The globals that it was told.
+    pub(crate) globals: Remembered<A>,
+    /// What the last message read has made.
+    pub(crate) made: Option<Object>,
+}
+
+impl<T: Table> Role<T> for Kept<T::Alloc> {
+    ghost use Rattle.wl_client.specs.State.{State as ClientState};
+    ghost use Rattle.wl_client.specs.Reports.{Report as ClientReport, client_role};
+    ghost use Rattle.wl_client.specs.Seen.{report_of};
+    ghost use Rattle.wl_client.specs.Steps.{client_state};
+    ghost use Rattle.wl_client.specs.Reading.{IsNextEvent, front_report, taken_report};
+
+    type Pending = PendingEvent;
+
+    type Owned = OwnedIncoming<T::Alloc>;
+
+    ghost Report = { ClientReport };
+
+    ghost State = { ClientState };
+
+    ghost state = { λ core kept. client_state core kept.globals kept.made };
+
+    ghost role = { client_role };
+
+    ghost owned = { report_of };
+
+    ghost fronts = { front_report };
+
+    ghost tells = { taken_report };
+
+    ghost IsSound = { λ core kept. Unit {0} };
+
+    ghost IsAhead = { λ core kept args event. IsNextEvent core args event };
+
+    fn find(&self, end: &mut Endpoint<'_, T>) -> Result<Option<PendingEvent>, NextError> {
+        if end.core.failed {
+            return Err(NextError::Failed);
+        }
+        match find(end) {
+            Ok(event) => Ok(event),
+            Err(fault) => {
+                end.core.failed = true;
+                Err(NextError::Fault {
+                    fault,
+                    offset: end.core.read,
+                })
+            }
+        }
+    }
+
+    fn copy(
+        &self,
+        end: &mut Endpoint<'_, T>,
+        alloc: &T::Alloc,
+        event: &PendingEvent,
+    ) -> Result<OwnedIncoming<T::Alloc>, AllocError> {
+        let tokens = end.core.first_tokens(event.tokens);
+        let tokens = &tokens[..event.tokens];
+        let body = end.core.inbox.body();
+        event.outline.to_owned(alloc, &end.args, body, tokens)
+    }
+
+    fn take(&mut self, end: &mut Endpoint<'_, T>, event: &PendingEvent) -> Result<(), AllocError> {
+        self.made = open_made(&mut end.core, event.change.made)?;
+        // Nothing is allocated from here on.
+        end.core.pass(event.size, event.tokens);
+        apply_object_change(&mut end.core, event.change.objects);
+        end.core.failed = event.change.last;
+        self.globals.apply(event.change.globals);
+        Ok(())
+    }
+}
