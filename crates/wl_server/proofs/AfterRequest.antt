@@ -1,8 +1,8 @@
 -- What a server is after the step of a request.
 use Rattle.std.proofs.Common.{◌≡◌, ◌≢◌, ℕ, ◌+◌, ◌<◌, length, take, drop, get_or, Bool, true, false, List}
-use Rattle.std.proofs.Common.{[], ◌∷◌, ◌++◌, Some, None, map, refl, sym, ap, subst, ◌∙◌, inr, arith}
-use Rattle.std.proofs.Common.{rules, eqb, cond}
-use Rattle.std.specs.Prelude.{Option, not, if◌then◌else◌, IsOk, IsTrue, is_some}
+use Rattle.std.proofs.Common.{[], ◌∷◌, ◌++◌, Some, None, map, refl, sym, ap, subst, ◌∙◌, inl, inr, arith}
+use Rattle.std.proofs.Common.{eqb, cond}
+use Rattle.std.specs.Prelude.{Option, ◌||◌, ◌≤◌, not, if◌then◌else◌, IsOk, OnOk, OnErr, IsTrue, is_some}
 use Rattle.std.specs.declared.result.Result.{Result}
 use Rattle.std.specs.declared.result.Result.TheVariants.{Ok, Err}
 use Rattle.wl_sigs.specs.declared.signature.Destroys.{Destroys}
@@ -19,27 +19,29 @@ use Rattle.wl_object_map.specs.Objects.{Objects, closed, is_held, look}
 use Rattle.wl_object_map.specs.Ranges.{is_of_server}
 use Rattle.wl_object_map.specs.ObjectsLaws.{look-opened_at, opened_at-client}
 use Rattle.wl_objects.specs.declared.parsed.ParsedArg.{ParsedArg}
+use Rattle.wl_objects.specs.Parsed.{reported_of}
 use Rattle.wl_objects.specs.Messages.{NewObject, made, opens, same_iface}
 use Rattle.wl_sigs.specs.Fixed.{registry}
 use Rattle.wl_message.specs.Arrived.{Arrived, in_front, without_first}
 use Rattle.wl_message.specs.Cut.{message_size}
 use Rattle.wl_connection.specs.Core.{Core, past, with_view}
 use Rattle.wl_connection.specs.Receiving.{Found, is_none, reader_in}
-use Rattle.wl_connection.specs.Outcomes.{answers_with, unless_memory}
-use Rattle.wl_connection.specs.Roles.{front_answer, front_left}
+use Rattle.wl_connection.specs.Outcomes.{answers_with}
+use Rattle.wl_connection.specs.Reads.{Answer}
+use Rattle.wl_connection.specs.Roles.{IsNext, front_answer, front_left}
 use Rattle.wl_connection.proofs.Frames.{same-body, same-tokens}
 use Rattle.wl_connection.proofs.ReceivedMessage.{some_reported}
-use Rattle.wl_server.specs.State.{State, Global, Registry, RiseFrom, with_core, untold}
+use Rattle.wl_server.specs.State.{State, Global, Registry, RiseFrom, untold}
 use Rattle.wl_server.specs.Requests.{Report, report, request, made_by_request, is_out_full, next_answer}
 use Rattle.wl_server.specs.Requests.{after_next, server_role, state_past}
 use Rattle.wl_server.specs.Requests.{registries_after, needs_memory, request_opens, IsServerNext}
-use Rattle.wl_server.specs.Requests.{IsLentNext}
 use Rattle.wl_server.specs.declared.pending.PendingRequest.{PendingRequest}
 use Rattle.wl_server.specs.Steps.{CanTake, Step, ended_by_request, pending_in, outlined, taken_report}
 use Rattle.wl_server.specs.Steps.{step_of, step_found, front_step, checked_front, after_front}
-use Rattle.wl_server.specs.Steps.{after_step, report_of_step, core_by, core_told, core_without}
+use Rattle.wl_server.specs.Steps.{after_step, report_of_step, core_by, core_without, front_report}
 use Rattle.wl_server.specs.Steps.{registries_by, server_state, whole_state}
-use Rattle.wl_server.specs.Registries.{IsFreshId}
+use Rattle.wl_server.specs.Registries.{HasRegistries, IsFreshId}
+use Rattle.wl_server.specs.Slots.{IsSound, KeepsSettled, KeptRegistries}
 use Rattle.wl_server.proofs.RisingBirths.{rise-below, rise-new}
 use Rattle.wl_server.proofs.ReadingStays.{inbox_kept}
 
@@ -134,32 +136,6 @@ pub answer-is : (state : State) (x : Result (Option Step) NextError) → x ≡ c
     → report_of_step x ≡ next_answer state
 answer-is state x e = ap report_of_step e ∙ sym (answer-checked state)
 
--- what stands in front is never a lack of memory
-no-memory-found : (core : Core) (x : Result (Option Found) Fault) → step_found core x ≢ Err errors.Memory
-no-memory-found core (Err fault) e = cc e
-no-memory-found core (Ok None) e = cc e
-no-memory-found core (Ok (Some f)) e = by_full (is_out_full core f) e
-  where
-    by_full : (b : Bool) → (if b then Err errors.OutFull else Ok (Some (step_of core f))) ≡ Err errors.Memory → ⊥
-    by_full true k = cc k
-    by_full false k = cc k
-
-no-memory : (state : State) → checked_front state ≢ Err errors.Memory
-no-memory state = by_failed state.core.failed
-  where
-    by_failed : (b : Bool) → (if b then Err errors.Failed else front_step state) ≢ Err errors.Memory
-    by_failed true e = cc e
-    by_failed false e = no-memory-found state.core (request state) e
-
--- so what is left after an error is what the error leaves
-pub leaves-err : (state : State) (why : NextError) → Err why ≡ checked_front state
-    → with_core state (core_told state.core why) ≡ unless_memory state (after_next state)
-    (let answer : Result (Option Report) NextError = Err why in answer)
-leaves-err state errors.Memory e = absurd (no-memory state (sym e))
-leaves-err state errors.Failed e = after-is state (Err errors.Failed) e
-leaves-err state errors.OutFull e = after-is state (Err errors.OutFull) e
-leaves-err state (errors.Fault fault offset) e = after-is state (Err (errors.Fault fault offset)) e
-
 -- what stands in front does not depend on the registries
 pub seen-by : (state : State) (globals : List Global) (x : Result (Option Step) NextError) → state.core.failed ≡ false
     → globals ≡ state.globals → x ≡ front_step (server_state state.core globals) → x ≡ checked_front state
@@ -196,16 +172,10 @@ is_made (Some m) h = refl
 
 -- a request that opens an object
 pub opens-one : (state : State) (step : Step) → Ok (Some step) ≡ checked_front state → step.made ≢ None
-    → IsLentNext state (let answer : Result (Option Report) NextError = Err errors.Memory in answer)
+    → request_opens state.core (request state) ≡ true
 opens-one state step e m =
     let f = found-by state step e in
-    let answer : next_answer state ≡ Ok (Some step.report) = sym (answer-is state (Ok (Some step)) e) in
-    inr (
-      refl,
-      ap (request_opens state.core) f.1 ∙
-          (sym (ap (λ (s : Step). is_some s.made) f.2) ∙ is_made step.made m),
-      subst IsOk (sym answer) (search rules),
-    )
+    ap (request_opens state.core) f.1 ∙ (sym (ap (λ (s : Step). is_some s.made) f.2) ∙ is_made step.made m)
 
 -- and it has arguments
 made-nothing : (tables : List Interface) (version : ℕ) (ks : List Kind) → made tables version ks [] ≡ None
@@ -216,23 +186,56 @@ made-some : (core : Core) (f : Found) → made_by_request core f.message ≢ Non
 made-some core f m none = m (ap (made core.tables f.message.entry.version f.message.signature.kinds) none
     ∙ made-nothing core.tables f.message.entry.version f.message.signature.kinds)
 
-pub needs-some : (state : State) (step : Step) → Ok (Some step) ≡ checked_front state → needs_memory step.report ≡ true
-    → IsServerNext state (let answer : Result (Option Report) NextError = Err errors.Memory in answer)
-needs-some state step e n =
-    let answer : next_answer state ≡ Ok (Some step.report) = sym (answer-is state (Ok (Some step)) e) in
-    inr (refl, ap (answers_with needs_memory) answer ∙ n, subst IsOk (sym answer) (search rules))
+not_none : (o : Option NewObject) → is_some o ≡ true → o ≢ None
+not_none None h e = cc h
+not_none (Some m) h e = cc e
 
-pub memory-wanted : (state : State) (step : Step) → Ok (Some step) ≡ checked_front state → step.made ≢ None
-    → IsServerNext state (let answer : Result (Option Report) NextError = Err errors.Memory in answer)
-memory-wanted state step e m =
-    let f = found-by state step e in
-    let some : f.0.message.values ≢ [] = made-some state.core f.0 (λ none. m (ap (λ (s : Step). s.made) f.2 ∙ none)) in
-    needs-some state step e (ap (λ (s : Step). needs_memory s.report) f.2
-    ∙ some_reported (reader_in state.core request_side) state.core.inbox.tokens f.0.message.values some)
-
-pub some-args : {X Y : Type 0} (f : X → Y) (xs : List X) → xs ≢ [] → not (is_none (map f xs)) ≡ true
+some-args : {X Y : Type 0} (f : X → Y) (xs : List X) → xs ≢ [] → not (is_none (map f xs)) ≡ true
 some-args f [] h = absurd (h refl)
 some-args f (x ∷ xs) h = refl
+
+made-wants : (core : Core) (f : Found) → is_some (made_by_request core f.message) ≡ true
+    → needs_memory (report core f) ≡ true
+made-wants core f m = some_reported (reader_in core request_side) core.inbox.tokens f.message.values
+    (made-some core f (not_none (made_by_request core f.message) m))
+
+-- so where taking needs memory, the report does
+either : (a b : Bool) → (b ≡ true → a ≡ true) → (a || b) ≡ true → a ≡ true
+either true b h o = refl
+either false b h o = h o
+
+wants-full : (core : Core) (f : Found) (full : Bool)
+    → (answers_with needs_memory (if full then Err errors.OutFull else Ok (Some (report core f)))
+    || is_some (made_by_request core f.message)) ≡ true
+    → IsOk (let answer : Answer Report = if full then Err errors.OutFull else Ok (Some (report core f)) in answer)
+    → answers_with needs_memory (if full then Err errors.OutFull else Ok (Some (report core f))) ≡ true
+wants-full core f true w o = absurd (cc o)
+wants-full core f false w o = either (needs_memory (report core f)) _ (made-wants core f) w
+
+wants-found : (core : Core) (x : Result (Option Found) Fault)
+    → (answers_with needs_memory (front_answer server_role core x) || request_opens core x) ≡ true
+    → IsOk (front_answer server_role core x) → answers_with needs_memory (front_answer server_role core x) ≡ true
+wants-found core (Err fault) w o = absurd (cc o)
+wants-found core (Ok None) w o = absurd (cc w)
+wants-found core (Ok (Some f)) w o = wants-full core f (is_out_full core f) w o
+
+wants-one : (state : State) (failed : Bool)
+    → (answers_with needs_memory (if failed then Err errors.Failed else front_answer server_role state.core (request state))
+    || request_opens state.core (request state)) ≡ true
+    → IsOk (if failed then Err errors.Failed else front_answer server_role state.core (request state))
+    → answers_with needs_memory
+    (if failed then Err errors.Failed else front_answer server_role state.core (request state)) ≡ true
+wants-one state true w o = absurd (cc o)
+wants-one state false w o = wants-found state.core (request state) w o
+
+pub owned-next : (state : State) (result : Answer Report) → IsNext server_role state result → IsServerNext state result
+owned-next state result (inl e) = inl e
+owned-next state result (inr w) = inr (w.0, wants-one state state.core.failed w.1 w.2, w.2)
+
+-- the copy of a report needs memory where there are arguments
+pub copy-wants : (core : Core) (args : List ParsedArg) (p : PendingRequest) → args ≢ []
+    → needs_memory (front_report core args p) ≡ true
+copy-wants core args p h = some-args (reported_of _ p.outline.birth _) args h
 
 -- ---- what was taken last
 
@@ -266,34 +269,26 @@ front-told core inner args held p body tokens same kept can b all first =
     let own = same-tokens core inner p.tokens tokens same can.few can.tokens all first in
     λ i. outlined (told i) (kept i) (own i) p.outline
 
--- ---- a read of an end and what stands beside it
+-- ---- a message that was taken
 
--- after an error
-pub err-left : (core now : Core) (globals : List Global) (rs : List Registry) (why : NextError)
-    → Err why ≡ checked_front (whole_state core globals rs) → now ≡ core_told core why
-    → whole_state now globals rs ≡ unless_memory (whole_state core globals rs)
-    (after_next (whole_state core globals rs))
-    (let answer : Result (Option Report) NextError = Err why in answer)
-err-left core now globals rs why e n = ap (λ (k : Core). whole_state k globals rs) n
-    ∙ leaves-err (whole_state core globals rs) why e
-
--- where nothing is whole yet
-pub none-left : (core now : Core) (globals : List Global) (rs : List Registry)
-    → Ok None ≡ checked_front (whole_state core globals rs) → now ≡ core
-    → whole_state now globals rs ≡ after_next (whole_state core globals rs)
-none-left core now globals rs e n = ap (λ (k : Core). whole_state k globals rs) n
-    ∙ after-is (whole_state core globals rs) (Ok None) e
-
--- where a request was taken
-pub taken-left : (core now : Core) (globals : List Global) (rs ms : List Registry) (step : Step)
-    → Ok (Some step) ≡ checked_front (whole_state core globals rs) → now ≡ core_by core step
-    → ms ≡ registries_by core rs step
-    → whole_state now globals ms ≡ after_next (whole_state core globals rs)
-taken-left core now globals rs ms step e n m = (λ i. whole_state (n i) globals (m i))
+pub taken-left : {X E : Type 0} (r : Result X E) (core now : Core) (globals : List Global) (rs ms : List Registry)
+    (step : Step) → Ok (Some step) ≡ checked_front (whole_state core globals rs) → OnOk r (now ≡ core_by core step)
+    → OnOk r (ms ≡ registries_by core rs step)
+    → OnOk r (whole_state now globals ms ≡ after_next (whole_state core globals rs))
+taken-left (Ok x) core now globals rs ms step e n m = (λ i. whole_state (n i) globals (m i))
     ∙ after-is (whole_state core globals rs) (Ok (Some step)) e
+taken-left (Err y) core now globals rs ms step e n m = tt
 
--- what is reported of it
-pub step-answer : (state : State) (step : Step) (report : Report) → Ok (Some step) ≡ checked_front state
-    → report ≡ step.report → (let answer : Result (Option Report) NextError = Ok (Some report) in answer) ≡ next_answer state
-step-answer state step report e r = ap (λ (x : Report). let answer : Result (Option Report) NextError = Ok (Some x) in answer) r
-    ∙ answer-is state (Ok (Some step)) e
+pub taken-sound : {X E : Type 0} (r : Result X E) (core now : Core) (globals : List Global) (kept left : KeptRegistries)
+    → IsSound core globals kept → OnOk r (HasRegistries now.view left.list)
+    → OnErr r ((now ≡ core) × (left.list ≡ kept.list)) → left.past ≤ now.view.client.births → KeepsSettled kept left
+    → IsSound now globals left
+taken-sound (Ok x) core now globals kept left h o e p k =
+    record { few = h.few; registries = o; past = p; settled = k globals h.settled }
+taken-sound (Err y) core now globals kept left h o e p k = record {
+  few = h.few;
+  registries = subst (λ (v : Objects). HasRegistries v left.list) (sym (ap (λ (c : Core). c.view) e.0))
+      (subst (HasRegistries core.view) (sym e.1) h.registries);
+  past = p;
+  settled = k globals h.settled;
+}

@@ -1,9 +1,11 @@
 -- How a server keeps its open registries.
-use Rattle.std.specs.Prelude.{◌≡◌, ℕ, suc, ◌≤◌, max, List, [], ◌∷◌, map, take}
+use Rattle.std.specs.Prelude.{◌≡◌, ℕ, suc, ◌≤◌, max, List, [], ◌∷◌, length, map, take}
 use Rattle.std.specs.List.{filter}
+use Rattle.wl_connection.specs.Core.{Core, max_globals}
 use Rattle.wl_server.specs.declared.registry.Slot.{Slot}
 use Rattle.wl_server.specs.State.{Global, Registry}
 use Rattle.wl_server.specs.Announcing.{owed_in}
+use Rattle.wl_server.specs.Registries.{HasRegistries}
 
 -- The open registries, how many of them, from the first on, are known to be owed nothing, a number
 -- that is above the births of all registries that were kept, for how many more there is room, and how
@@ -38,3 +40,10 @@ settled_in kept = take kept.settled kept.list
 abbrev pub KeepsSettled : KeptRegistries → KeptRegistries → Type 0
 KeepsSettled before after = (globals : List Global) → owed_in globals (settled_in before) ≡ []
     → owed_in globals (settled_in after) ≡ []
+
+-- What holds of a server between calls.
+pub record IsSound (core : Core) (globals : List Global) (kept : KeptRegistries) : Type 0 where
+  pub few : length globals ≤ max_globals
+  pub registries : HasRegistries core.view kept.list
+  pub past : kept.past ≤ core.view.client.births
+  pub settled : owed_in globals (settled_in kept) ≡ []

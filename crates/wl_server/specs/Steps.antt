@@ -137,6 +137,10 @@ IsPendingOf tables view globals header body args r (Ok p) =
     × (is_bad_bind tables globals header.opcode message ≡ false)
     × IsPending tables view header body args message p
 
+-- what is reported of it
+abbrev pub front_report : Core → List ParsedArg → PendingRequest → Report
+front_report core args p = (pending_in core args p).report
+
 abbrev pub pendings_in : Core → List ParsedArg → Result (Option PendingRequest) NextError
     → Result (Option Step) NextError
 pendings_in core args (Err why) = Err why
@@ -201,6 +205,13 @@ pub record CanTake (core : Core) (step : Step) : Type 0 where
 abbrev pub checked_front : State → Result (Option Step) NextError
 checked_front state = if state.core.failed then Err errors.Failed else front_step state
 
+-- This request stands in front of a server that has not failed.
+pub record IsNextRequest (state : State) (args : List ParsedArg) (p : PendingRequest)
+    : Type 0 where
+  pub step : Ok (Some (pending_in state.core args p)) ≡ checked_front state
+  pub can_take : CanTake state.core (pending_in state.core args p)
+  pub entry : look state.core.view p.outline.target.id ≡ Some p.entry
+
 -- ---- what the reading leaves
 
 -- the end without the object that a request destroys
@@ -238,11 +249,6 @@ core_told core (errors.Fault fault offset) =
     with_error_event core 1 (fault_code fault) (fault_message fault)
 core_told core why = core
 
--- the same, where that was what the front came to
-abbrev pub core_unless : {X : Type 0} → Core → Result X NextError → Core
-core_unless core (Ok found) = core
-core_unless core (Err why) = core_told core why
-
 -- what a read leaves, by the step in front
 abbrev pub after_front : State → Result (Option Step) NextError → State
 after_front state (Ok None) = state
@@ -254,10 +260,3 @@ abbrev pub report_of_step : Result (Option Step) NextError → Result (Option Re
 report_of_step (Ok None) = Ok None
 report_of_step (Ok (Some step)) = Ok (Some step.report)
 report_of_step (Err why) = Err why
-
--- what a read returns, by the request that was taken
-abbrev pub taken_in : Core → List ParsedArg → Result (Option PendingRequest) NextError
-    → Result (Option Report) NextError
-taken_in core args (Err why) = Err why
-taken_in core args (Ok None) = Ok None
-taken_in core args (Ok (Some p)) = Ok (Some (taken_report core args p))

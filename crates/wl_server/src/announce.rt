@@ -140,7 +140,7 @@ impl<'t, T: Table> Server<'t, T> {
             return Err(SendError::Failed);
         }
         let core = &mut self.end.core;
-        let told = self.registries.announce(core, &self.globals);
+        let told = self.kept.registries.announce(core, &self.kept.globals);
         Ok(told.count)
     }
 }

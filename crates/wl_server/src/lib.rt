@@ -16,6 +16,7 @@ mod read_all;
 mod receive;
 mod registry;
 mod report;
+mod role;
 mod send;
 mod server;
 mod shown;

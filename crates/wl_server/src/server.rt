@@ -3,8 +3,8 @@ ghost use Rattle.std.specs.Prelude.{◌≡◌, IfOk};
 ghost use Rattle.wl_message.specs.Arrived.{AreSizes};
 ghost use Rattle.wl_server.specs.State.{new_state};
 
-use crate::globals::Advertised;
 use crate::open_registries::OpenRegistries;
+use crate::role::Kept;
 use std::alloc::AllocError;
 use std::marker::Model;
 use wl_connection::{Core, Endpoint};
@@ -19,20 +19,14 @@ pub struct Server<'t, T: Table> {
     pub(crate) end: Endpoint<'t, T>,
     /// Allocates owned reports.
     pub(crate) alloc: T::Alloc,
-    /// In the order of their names.
-    pub(crate) globals: Vec<Advertised, T::Alloc>,
-    pub(crate) registries: OpenRegistries<T::Alloc>,
+    pub(crate) kept: Kept<T::Alloc>,
 }
 
 impl<'t, T: Table> Model for Server<'t, T> {
-    ghost use Rattle.std.specs.Prelude.{◌≡◌, ◌≤◌, [], length};
     ghost use Rattle.std.specs.Coded.{codes};
     ghost use Rattle.wl_object_map.specs.Objects.{objects_code};
-    ghost use Rattle.wl_connection.specs.Core.{max_globals};
     ghost use Rattle.wl_server.specs.State.{State};
-    ghost use Rattle.wl_server.specs.Registries.{HasRegistries};
-    ghost use Rattle.wl_server.specs.Announcing.{owed_in};
-    ghost use Rattle.wl_server.specs.Slots.{settled_in};
+    ghost use Rattle.wl_server.specs.Slots.{IsSound};
 
     ghost Value = { State };
 
@@ -40,16 +34,11 @@ impl<'t, T: Table> Model for Server<'t, T> {
 
     ghost view = { λ s. record {
       core = s.end.core;
-      globals = s.globals.items;
-      registries = s.registries.list;
+      globals = s.kept.globals.items;
+      registries = s.kept.registries.list;
     } };
 
-    ghost invariant = { λ s. record {
-      few : length s.globals.items ≤ max_globals;
-      registries : HasRegistries s.end.core.view s.registries.list;
-      past : s.registries.past ≤ s.end.core.view.client.births;
-      settled : owed_in s.globals.items (settled_in s.registries) ≡ [];
-    } };
+    ghost invariant = { λ s. IsSound s.end.core s.kept.globals.items s.kept.registries };
 }
 
 impl<'t, T: Table> Server<'t, T> {
@@ -64,8 +53,10 @@ impl<'t, T: Table> Server<'t, T> {
         Ok(Server {
             end: Endpoint::new(core),
             alloc,
-            globals,
-            registries,
+            kept: Kept {
+                globals,
+                registries,
+            },
         })
     }
 }

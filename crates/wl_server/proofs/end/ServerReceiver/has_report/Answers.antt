@@ -13,8 +13,8 @@ pub returns-clause-yes : goal.returns-clause-yes
 returns-clause-yes g c t =
     let state : State = record {
       core = c.self.inside.end.core;
-      globals = c.self.inside.globals.items;
-      registries = c.self.inside.registries.list;
+      globals = c.self.inside.kept.globals.items;
+      registries = c.self.inside.kept.registries.list;
     } in
     let lives : state.core.failed ≡ false = ap (λ (s : State). s.core.failed) c.self.view_is ∙ c.requires in
     elim c.match-find.branch [

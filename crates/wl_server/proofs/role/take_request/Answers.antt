@@ -7,7 +7,7 @@ use Rattle.wl_connection.specs.Sending.{delete_id_len, fits}
 use Rattle.wl_server.specs.Steps.{core_by, core_without, pending_in, registries_by, registries_without}
 use Rattle.wl_server.proofs.Closings.{registries_opened, row_opened}
 use Rattle.wl_server.proofs.Registries.{births_left, has_now}
-use Rattle.wl_server.proofs.receive.take_request.Goals as goal
+use Rattle.wl_server.proofs.role.take_request.Goals as goal
 
 pub open_new_object-requires-clause-free : goal.open_new_object-requires-clause-free
 open_new_object-requires-clause-free g c = c.requires.can.made

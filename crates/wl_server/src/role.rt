@@ -1,0 +1,122 @@
+//! What a server keeps beside its endpoint, and how it reads a request with that.
+ghost use Rattle.std.specs.Prelude.{◌≡◌, ◌≢◌, ◌≤◌, None, OnOk, OnErr};
+ghost use Rattle.wl_server.specs.Registries.{HasRegistries};
+ghost use Rattle.wl_server.specs.Slots.{KeepsSettled};
+ghost use Rattle.wl_server.specs.Steps.{CanTake, core_by, pending_in, registries_by};
+
+use crate::changes::{Change, close_object, open_new_object};
+use crate::faults::report_fault;
+use crate::globals::Advertised;
+use crate::open_registries::OpenRegistries;
+use crate::pending::{PendingRequest, find};
+use crate::report::OwnedRequest;
+use std::alloc::{AllocError, Allocator};
+use wl_connection::{Endpoint, Role};
+use wl_objects::{NextError, Table};
+
+/// What a server keeps beside its endpoint.
+#[derive(Drop)]
+pub(crate) struct Kept<A: Allocator> {
+    /// The globals that it has added, in the order of their names.
+    pub(crate) globals: Vec<Advertised, A>,
+    pub(crate) registries: OpenRegistries<A>,
+}
+
+impl<T: Table> Role<T> for Kept<T::Alloc> {
+    ghost use Rattle.wl_server.specs.State.{State as ServerState};
+    ghost use Rattle.wl_server.specs.Requests.{Report as ServerReport, server_role};
+    ghost use Rattle.wl_server.specs.Seen.{report_of};
+    ghost use Rattle.wl_server.specs.Slots.{IsSound as IsSoundServer};
+    ghost use Rattle.wl_server.specs.Steps.{IsNextRequest, front_report, taken_report};
+    ghost use Rattle.wl_server.specs.Steps.{whole_state};
+
+    type Pending = PendingRequest;
+
+    type Owned = OwnedRequest<T::Alloc>;
+
+    ghost Report = { ServerReport };
+
+    ghost State = { ServerState };
+
+    ghost state = { λ core kept. whole_state core kept.globals.items kept.registries.list };
+
+    ghost role = { server_role };
+
+    ghost owned = { report_of };
+
+    ghost fronts = { front_report };
+
+    ghost tells = { taken_report };
+
+    ghost IsSound = { λ core kept. IsSoundServer core kept.globals.items kept.registries };
+
+    ghost IsAhead = { λ core kept args request. IsNextRequest
+        (whole_state core kept.globals.items kept.registries.list) args request };
+
+    fn find(&self, end: &mut Endpoint<'_, T>) -> Result<Option<PendingRequest>, NextError> {
+        if end.core.failed {
+            return Err(NextError::Failed);
+        }
+        match find(end, &self.globals) {
+            Ok(request) => Ok(request),
+            Err(why) => {
+                // The client is told of a fault.
+                report_fault(&mut end.core, why);
+                Err(why)
+            }
+        }
+    }
+
+    fn copy(
+        &self,
+        end: &mut Endpoint<'_, T>,
+        alloc: &T::Alloc,
+        request: &PendingRequest,
+    ) -> Result<OwnedRequest<T::Alloc>, AllocError> {
+        let tokens = end.core.first_tokens(request.tokens);
+        let tokens = &tokens[..request.tokens];
+        let body = end.core.inbox.body();
+        request.outline.to_owned(alloc, &end.args, body, tokens)
+    }
+
+    fn take(
+        &mut self,
+        end: &mut Endpoint<'_, T>,
+        request: &PendingRequest,
+    ) -> Result<(), AllocError> {
+        take_request(end, &mut self.registries, request)
+    }
+}
+
+/// Takes the message in front with its tokens, opens the object that it makes and closes the one
+/// that it destroys. If there is no memory for the object that it makes, nothing changes.
+fn take_request<T: Table>(
+    end: &mut Endpoint<'_, T>,
+    registries: &mut OpenRegistries<T::Alloc>,
+    request: &PendingRequest,
+) -> Result<(), AllocError>
+    requires can { CanTake end.old.core (pending_in end.old.core end.old.args request.now) }
+    requires sound { HasRegistries end.old.core.view registries.old.list }
+    requires past { registries.old.past ≤ end.old.core.view.client.births }
+    ensures args { end.new.args ≡ end.old.args }
+    ensures core { OnOk result (end.new.core
+        ≡ core_by end.old.core (pending_in end.old.core end.old.args request.now)) }
+    ensures registries { OnOk result (registries.new.list
+        ≡ registries_by end.old.core registries.old.list
+        (pending_in end.old.core end.old.args request.now)) }
+    ensures err { OnErr result
+        ((end.new.core ≡ end.old.core) × (registries.new.list ≡ registries.old.list)) }
+    ensures wants { OnErr result (request.now.change.made ≢ None) }
+    ensures sound { OnOk result (HasRegistries end.new.core.view registries.new.list) }
+    ensures settled { KeepsSettled registries.old registries.new }
+    ensures past { registries.new.past ≤ end.new.core.view.client.births }
+{
+    let Change { made, ended } = request.change;
+    open_new_object(&mut end.core, registries, made, request.outline.birth)?;
+    // Nothing is allocated from here on.
+    end.core.pass(request.size, request.tokens);
+    if let Some(object) = ended {
+        close_object(&mut end.core, registries, object);
+    }
+    Ok(())
+}
