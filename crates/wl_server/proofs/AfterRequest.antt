@@ -2,7 +2,7 @@
 use Rattle.std.proofs.Common.{◌≡◌, ◌≢◌, ℕ, ◌+◌, ◌<◌, length, take, drop, get_or, Bool, true, false, List}
 use Rattle.std.proofs.Common.{[], ◌∷◌, ◌++◌, Some, None, map, refl, sym, ap, subst, ◌∙◌, inl, inr, arith}
 use Rattle.std.proofs.Common.{eqb, cond}
-use Rattle.std.specs.Prelude.{Option, ◌||◌, ◌≤◌, not, if◌then◌else◌, IsOk, OnOk, OnErr, IsTrue, is_some}
+use Rattle.std.specs.Prelude.{Option, ◌||◌, not, if◌then◌else◌, IsOk, IsTrue, is_some}
 use Rattle.std.specs.declared.result.Result.{Result}
 use Rattle.std.specs.declared.result.Result.TheVariants.{Ok, Err}
 use Rattle.wl_sigs.specs.declared.signature.Destroys.{Destroys}
@@ -40,8 +40,7 @@ use Rattle.wl_server.specs.Steps.{CanTake, Step, ended_by_request, pending_in, o
 use Rattle.wl_server.specs.Steps.{step_of, step_found, front_step, checked_front, after_front}
 use Rattle.wl_server.specs.Steps.{after_step, report_of_step, core_by, core_without, front_report}
 use Rattle.wl_server.specs.Steps.{registries_by, server_state, whole_state}
-use Rattle.wl_server.specs.Registries.{HasRegistries, IsFreshId}
-use Rattle.wl_server.specs.Slots.{IsSound, KeepsSettled, KeptRegistries}
+use Rattle.wl_server.specs.Registries.{IsFreshId}
 use Rattle.wl_server.proofs.RisingBirths.{rise-below, rise-new}
 use Rattle.wl_server.proofs.ReadingStays.{inbox_kept}
 
@@ -145,39 +144,7 @@ seen-by state globals x h e g =
 
 -- ---- where memory can be refused
 
--- what was found, behind a step
-found-by : (state : State) (step : Step) → Ok (Some step) ≡ checked_front state
-    → (f : Found) × (request state ≡ Ok (Some f)) × (step ≡ step_of state.core f)
-found-by state step e = by_failed state.core.failed e
-  where
-    by_found : (x : Result (Option Found) Fault) → request state ≡ x → Ok (Some step) ≡ step_found state.core x
-        → (f : Found) × (request state ≡ Ok (Some f)) × (step ≡ step_of state.core f)
-    by_found (Err fault) r k = absurd (cc k)
-    by_found (Ok None) r k = absurd (cc k)
-    by_found (Ok (Some f)) r k = by_full (is_out_full state.core f) k
-      where
-        by_full : (b : Bool) → Ok (Some step) ≡ (if b then Err errors.OutFull else Ok (Some (step_of state.core f)))
-            → (g : Found) × (request state ≡ Ok (Some g)) × (step ≡ step_of state.core g)
-        by_full true q = absurd (cc q)
-        by_full false q = (f, r, cc q)
-
-    by_failed : (b : Bool) → Ok (Some step) ≡ (if b then Err errors.Failed else front_step state)
-        → (f : Found) × (request state ≡ Ok (Some f)) × (step ≡ step_of state.core f)
-    by_failed true k = absurd (cc k)
-    by_failed false k = by_found (request state) refl k
-
-is_made : (o : Option NewObject) → o ≢ None → is_some o ≡ true
-is_made None h = absurd (h refl)
-is_made (Some m) h = refl
-
--- a request that opens an object
-pub opens-one : (state : State) (step : Step) → Ok (Some step) ≡ checked_front state → step.made ≢ None
-    → request_opens state.core (request state) ≡ true
-opens-one state step e m =
-    let f = found-by state step e in
-    ap (request_opens state.core) f.1 ∙ (sym (ap (λ (s : Step). is_some s.made) f.2) ∙ is_made step.made m)
-
--- and it has arguments
+-- a request that opens an object has arguments
 made-nothing : (tables : List Interface) (version : ℕ) (ks : List Kind) → made tables version ks [] ≡ None
 made-nothing tables version [] = refl
 made-nothing tables version (k ∷ ks) = refl
@@ -271,24 +238,8 @@ front-told core inner args held p body tokens same kept can b all first =
 
 -- ---- a message that was taken
 
-pub taken-left : {X E : Type 0} (r : Result X E) (core now : Core) (globals : List Global) (rs ms : List Registry)
-    (step : Step) → Ok (Some step) ≡ checked_front (whole_state core globals rs) → OnOk r (now ≡ core_by core step)
-    → OnOk r (ms ≡ registries_by core rs step)
-    → OnOk r (whole_state now globals ms ≡ after_next (whole_state core globals rs))
-taken-left (Ok x) core now globals rs ms step e n m = (λ i. whole_state (n i) globals (m i))
+pub taken-left : (core now : Core) (globals : List Global) (rs ms : List Registry) (step : Step)
+    → Ok (Some step) ≡ checked_front (whole_state core globals rs) → now ≡ core_by core step
+    → ms ≡ registries_by core rs step → whole_state now globals ms ≡ after_next (whole_state core globals rs)
+taken-left core now globals rs ms step e n m = (λ i. whole_state (n i) globals (m i))
     ∙ after-is (whole_state core globals rs) (Ok (Some step)) e
-taken-left (Err y) core now globals rs ms step e n m = tt
-
-pub taken-sound : {X E : Type 0} (r : Result X E) (core now : Core) (globals : List Global) (kept left : KeptRegistries)
-    → IsSound core globals kept → OnOk r (HasRegistries now.view left.list)
-    → OnErr r ((now ≡ core) × (left.list ≡ kept.list)) → left.past ≤ now.view.client.births → KeepsSettled kept left
-    → IsSound now globals left
-taken-sound (Ok x) core now globals kept left h o e p k =
-    record { few = h.few; registries = o; past = p; settled = k globals h.settled }
-taken-sound (Err y) core now globals kept left h o e p k = record {
-  few = h.few;
-  registries = subst (λ (v : Objects). HasRegistries v left.list) (sym (ap (λ (c : Core). c.view) e.0))
-      (subst (HasRegistries core.view) (sym e.1) h.registries);
-  past = p;
-  settled = k globals h.settled;
-}

@@ -1,8 +1,4 @@
 //! What a server keeps beside its endpoint, and how it reads a request with that.
-ghost use Rattle.std.specs.Prelude.{◌≡◌, ◌≢◌, ◌≤◌, None, OnOk, OnErr};
-ghost use Rattle.wl_server.specs.Registries.{HasRegistries};
-ghost use Rattle.wl_server.specs.Slots.{KeepsSettled};
-ghost use Rattle.wl_server.specs.Steps.{CanTake, core_by, pending_in, registries_by};
 
 use crate::changes::{Change, close_object, open_new_object};
 use crate::faults::report_fault;
@@ -84,39 +80,14 @@ impl<T: Table> Role<T> for Kept<T::Alloc> {
         end: &mut Endpoint<'_, T>,
         request: &PendingRequest,
     ) -> Result<(), AllocError> {
-        take_request(end, &mut self.registries, request)
+        let Change { made, ended } = request.change;
+        let birth = request.outline.birth;
+        open_new_object(&mut end.core, &mut self.registries, made, birth)?;
+        // Nothing is allocated from here on.
+        end.core.pass(request.size, request.tokens);
+        if let Some(object) = ended {
+            close_object(&mut end.core, &mut self.registries, object);
+        }
+        Ok(())
     }
-}
-
-/// Takes the message in front with its tokens, opens the object that it makes and closes the one
-/// that it destroys. If there is no memory for the object that it makes, nothing changes.
-fn take_request<T: Table>(
-    end: &mut Endpoint<'_, T>,
-    registries: &mut OpenRegistries<T::Alloc>,
-    request: &PendingRequest,
-) -> Result<(), AllocError>
-    requires can { CanTake end.old.core (pending_in end.old.core end.old.args request.now) }
-    requires sound { HasRegistries end.old.core.view registries.old.list }
-    requires past { registries.old.past ≤ end.old.core.view.client.births }
-    ensures args { end.new.args ≡ end.old.args }
-    ensures core { OnOk result (end.new.core
-        ≡ core_by end.old.core (pending_in end.old.core end.old.args request.now)) }
-    ensures registries { OnOk result (registries.new.list
-        ≡ registries_by end.old.core registries.old.list
-        (pending_in end.old.core end.old.args request.now)) }
-    ensures err { OnErr result
-        ((end.new.core ≡ end.old.core) × (registries.new.list ≡ registries.old.list)) }
-    ensures wants { OnErr result (request.now.change.made ≢ None) }
-    ensures sound { OnOk result (HasRegistries end.new.core.view registries.new.list) }
-    ensures settled { KeepsSettled registries.old registries.new }
-    ensures past { registries.new.past ≤ end.new.core.view.client.births }
-{
-    let Change { made, ended } = request.change;
-    open_new_object(&mut end.core, registries, made, request.outline.birth)?;
-    // Nothing is allocated from here on.
-    end.core.pass(request.size, request.tokens);
-    if let Some(object) = ended {
-        close_object(&mut end.core, registries, object);
-    }
-    Ok(())
 }
