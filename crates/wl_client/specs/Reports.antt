@@ -27,7 +27,6 @@ use Rattle.wl_connection.specs.Core.{Core, with_view, with_failure}
 use Rattle.wl_connection.specs.Receiving.{Found, found, reader_in, reported, own_tokens}
 use Rattle.wl_connection.specs.Receiving.{past_found, is_none}
 use Rattle.wl_connection.specs.Roles.{Role, role_answer, role_after, IsNext}
-use Rattle.wl_connection.specs.Roles.{IsLentNext as IsLent, IsReportNext as IsReport}
 use Rattle.wl_client.specs.State.{State, Global, is_named, global_of, with_core}
 use Rattle.wl_object_map.specs.View.{lives}
 use Rattle.wl_connection.specs.Core.{max_globals}
@@ -239,13 +238,3 @@ after_next state = role_after client_role state
 -- report that needs some, or of an event that opens an object at an id without a row.
 abbrev pub IsClientNext : State → Result (Option Report) NextError → Type 0
 IsClientNext state result = IsNext client_role state result
-
--- The same in tables without such events: out of memory stands only in place of a report that needs
--- some.
-abbrev pub IsReportNext : State → Result (Option Report) NextError → Type 0
-IsReportNext state result = IsReport client_role state result
-
--- The same for a lent report: no memory stands only in place of an event that opens an object at an
--- id without a row.
-abbrev pub IsLentNext : State → Result (Option Report) NextError → Type 0
-IsLentNext state result = IsLent client_role state result

@@ -5,8 +5,9 @@ ghost use Rattle.std.specs.Io.BufRead.{Rests};
 ghost use Rattle.wl_sigs.specs.Rules.{has_server_objects};
 ghost use Rattle.wl_object_map.specs.Objects.{Objects};
 ghost use Rattle.wl_connection.specs.Outcomes.{unless_memory};
-ghost use Rattle.wl_client.specs.Reports.{IsClientNext, after_next, entry_of};
-ghost use Rattle.wl_client.specs.Reports.{IsLentNext, IsReportNext, next_answer};
+ghost use Rattle.wl_connection.specs.Roles.{IsLentNext, IsReportNext};
+ghost use Rattle.wl_client.specs.Reports.{IsClientNext, after_next, client_role, entry_of};
+ghost use Rattle.wl_client.specs.Reports.{next_answer};
 ghost use Rattle.wl_client.specs.Outlines.{client_row, incoming_in, lent_in, lent_report};
 ghost use Rattle.wl_client.specs.Outlines.{outline_entry};
 ghost use Rattle.wl_client.specs.Seen.{owned_incoming_in as owned_in, report_in, report_of};
@@ -31,7 +32,7 @@ impl<'t, T: Table> Client<'t, T> {
         ensures* state { sem 𝓛
             (Rests (client_row T.row T.Alloc.row T.Table T.Alloc.Allocator T.Alloc.Clone) self.entry
             (λ client. client ≡ unless_memory self.old (after_next self.old) (lent_in result))) }
-        ensures answer { IsLentNext self.old (lent_in result) }
+        ensures answer { IsLentNext client_role self.old (lent_in result) }
         ensures takes_none { has_server_objects self.old.core.tables ≡ false
             → lent_in result ≡ next_answer self.old }
     {
@@ -48,7 +49,7 @@ impl<'t, T: Table> Client<'t, T> {
             (Rests (client_row T.row T.Alloc.row T.Table T.Alloc.Allocator T.Alloc.Clone) self.entry
             (λ client. client
             ≡ unless_memory self.old (after_next self.old) (incoming_in result))) }
-        ensures answer { IsLentNext self.old (incoming_in result) }
+        ensures answer { IsLentNext client_role self.old (incoming_in result) }
         ensures takes_none { has_server_objects self.old.core.tables ≡ false
             → incoming_in result ≡ next_answer self.old }
         ensures entry { IfOk result (λ read. IfSome read (λ told. told.entry
@@ -72,7 +73,7 @@ impl<'t, T: Table> Client<'t, T> {
     pub fn next_owned(&mut self) -> Result<Option<OwnedIncoming<T::Alloc>>, NextError>
         ensures answer { IsClientNext self.old (report_in result) }
         ensures for_report { has_server_objects self.old.core.tables ≡ false
-            → IsReportNext self.old (report_in result) }
+            → IsReportNext client_role self.old (report_in result) }
         ensures state { self.new ≡ unless_memory self.old (after_next self.old) (report_in result) }
     {
         match self.next_owned_with_entry()? {
@@ -88,7 +89,7 @@ impl<'t, T: Table> Client<'t, T> {
     ) -> Result<Option<OwnedIncomingWithEntry<T::Alloc>>, NextError>
         ensures answer { IsClientNext self.old (owned_in result) }
         ensures for_report { has_server_objects self.old.core.tables ≡ false
-            → IsReportNext self.old (owned_in result) }
+            → IsReportNext client_role self.old (owned_in result) }
         ensures state { self.new ≡ unless_memory self.old (after_next self.old) (owned_in result) }
         ensures entry { IfOk result (λ read. IfSome read (λ told. told.entry
             ≡ entry_of self.old.core.view (report_of told.incoming))) }

@@ -21,7 +21,6 @@ use Rattle.wl_objects.specs.Messages.{Received, NewObject, made, is_bind, after}
 use Rattle.wl_connection.specs.Core.{Core, with_view}
 use Rattle.wl_connection.specs.Receiving.{Found, found, reported, past_found, is_none}
 use Rattle.wl_connection.specs.Roles.{Role, role_answer, role_after, IsReportNext}
-use Rattle.wl_connection.specs.Roles.{IsLentNext as IsLent}
 use Rattle.wl_connection.specs.Sending.{with_following, with_error_event, delete_id_len}
 use Rattle.wl_server.specs.State.{State, Global, Registry, global_of, untold, with_core}
 use Rattle.wl_server.specs.Registries.{with_registry, without_object}
@@ -197,7 +196,3 @@ after_next state = role_after server_role state
 -- report that needs some. A request that opens an object has such a report.
 abbrev pub IsServerNext : State → Result (Option Report) NextError → Type 0
 IsServerNext state result = IsReportNext server_role state result
-
--- The same for a lent report: no memory stands only in place of a request that opens an object.
-abbrev pub IsLentNext : State → Result (Option Report) NextError → Type 0
-IsLentNext state result = IsLent server_role state result

@@ -4,7 +4,8 @@ ghost use Rattle.std.specs.Borrow.{sem};
 ghost use Rattle.std.specs.Io.BufRead.{Rests};
 ghost use Rattle.wl_object_map.specs.Objects.{look};
 ghost use Rattle.wl_connection.specs.Outcomes.{unless_memory};
-ghost use Rattle.wl_server.specs.Requests.{after_next, IsLentNext, IsServerNext};
+ghost use Rattle.wl_connection.specs.Roles.{IsLentNext};
+ghost use Rattle.wl_server.specs.Requests.{after_next, server_role, IsServerNext};
 ghost use Rattle.wl_server.specs.Seen.{lent_in, lent_report, lent_request_in, report_in};
 ghost use Rattle.wl_server.specs.Seen.{report_of, request_in};
 ghost use Rattle.wl_server.specs.Steps.{taken_report};
@@ -31,7 +32,7 @@ impl<'t, T: Table> Server<'t, T> {
         ensures* after { sem 𝓛 (Rests
             (server_row T.row T.Alloc.row T.Table T.Alloc.Allocator T.Alloc.Clone) self.entry
             (λ server. server ≡ unless_memory self.old (after_next self.old) (lent_in result))) }
-        ensures answer { IsLentNext self.old (lent_in result) }
+        ensures answer { IsLentNext server_role self.old (lent_in result) }
     {
         match read(&mut self.end, &mut self.kept)? {
             Some(request) => Ok(Some(lend(&self.end, request))),
@@ -46,7 +47,7 @@ impl<'t, T: Table> Server<'t, T> {
             (server_row T.row T.Alloc.row T.Table T.Alloc.Allocator T.Alloc.Clone) self.entry
             (λ server. server
             ≡ unless_memory self.old (after_next self.old) (lent_request_in result))) }
-        ensures answer { IsLentNext self.old (lent_request_in result) }
+        ensures answer { IsLentNext server_role self.old (lent_request_in result) }
         ensures entry { IfOk result (λ read. IfSome read (λ told.
             look self.old.core.view told.request.target.id ≡ Some told.entry)) }
     {
