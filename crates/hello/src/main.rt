@@ -5,6 +5,7 @@
 ghost use Rattle.std.specs.Prelude.{◌≤◌, length};
 
 use anyhow::{Context, Result, bail};
+use std::alloc::Global;
 use std::io::Write;
 use wl::{
     Arg, Direction, End, Got, GotRef, Incoming, Limit, Object, OwnedArgs, OwnedIncoming, Recording,
@@ -26,13 +27,17 @@ const SIZES: Sizes = Sizes {
 
 fn main(rt: HostRuntime) -> Result<()> {
     let tables = Tables::core(rt.alloc())?;
-    let mut client = Client::new(rt.alloc(), &tables, SIZES)?;
-    let mut server = Server::new(rt.alloc(), &tables, SIZES)?;
-    let mut wire = Recording::new(rt.alloc());
-    talk(&tables, &mut client, &mut server, &mut wire)?;
+    let wire = session(rt.alloc(), &tables)?;
     let (lines, _verdict) = trace(rt.alloc(), &wire, &tables, Limit::USUAL)?;
     rt.stdout().write_all(lines.as_slice())?;
     Ok(())
+}
+
+/// What a client and a server over these tables wrote to each other.
+fn session(alloc: Global, tables: &Tables) -> Result<Recording> {
+    let mut client = Client::new(alloc, tables, SIZES)?;
+    let mut server = Server::new(alloc, tables, SIZES)?;
+    talk(tables, &mut client, &mut server, Recording::new(alloc))
 }
 
 /// The client makes a surface, and hears when the server has read all that it wrote.
@@ -40,20 +45,20 @@ fn talk(
     tables: &Tables,
     client: &mut Client<'_>,
     server: &mut Server<'_>,
-    wire: &mut Recording,
-) -> Result<()> {
+    mut wire: Recording,
+) -> Result<Recording> {
     let interface = tables.interface(b"wl_compositor").context("no interface")?;
     server.add_global(interface, 6)?;
 
     let registry = create(client, client.display(), request::wl_display::GET_REGISTRY)?;
-    round_trip(client, server, wire)?;
+    round_trip(client, server, &mut wire)?;
     let compositor = bind(client, registry)?;
     let surface = create(client, compositor, request::wl_compositor::CREATE_SURFACE)?;
     client.send(surface, request::wl_surface::COMMIT, &[])?;
     let callback = create(client, client.display(), request::wl_display::SYNC)?;
-    round_trip(client, server, wire)?;
+    round_trip(client, server, &mut wire)?;
     wait_for(client, callback, event::wl_callback::DONE)?;
-    Ok(())
+    Ok(wire)
 }
 
 /// Sends a request whose one argument is a new object, and returns that object.

@@ -34,7 +34,73 @@ struct Row<'t> {
     offered: Option<Object>,
 }
 
-impl Row<'_> {
+impl<'t> Row<'t> {
+    fn new(alloc: Global, tables: &'t Tables, proxy: Proxy<'t>) -> Result<Self> {
+        let (app, compositor) = ends(alloc, tables)?;
+        let (client, server) = ends(alloc, tables)?;
+        Ok(Row {
+            app,
+            server,
+            proxy,
+            client,
+            compositor,
+            offered: None,
+        })
+    }
+
+    /// Adds the compositor's globals, and the twins that every row has: the two wl_displays.
+    fn begin(&mut self) -> Result<()> {
+        let tables = self.proxy.tables;
+        let interface = tables.interface(b"wl_compositor").context("no interface")?;
+        self.compositor.add_global(interface, 6)?;
+        let interface = tables.interface(b"clipboard").context("no interface")?;
+        self.compositor.add_global(interface, 1)?;
+        let (display, theirs) = (self.server.display(), self.client.display());
+        Ok(self.proxy.twins.add(display, theirs)?)
+    }
+
+    /// What the client and the compositor say to each other through the proxy.
+    fn play<W: Write>(&mut self, out: &mut W) -> Result<()> {
+        self.begin()?;
+        let display = self.server.display();
+        let registry = self.create(display, request::wl_display::GET_REGISTRY)?;
+        self.turn(out)?;
+        self.make_surface(registry, out)?;
+        self.offer_clipboard(registry, out)?;
+        if self.compositor.objects().len(Maker::Server) > 0 {
+            bail!("an offer is left");
+        }
+        Ok(())
+    }
+
+    /// The client makes a surface, hears that this was read, and destroys it.
+    fn make_surface<W: Write>(&mut self, registry: Object, out: &mut W) -> Result<()> {
+        let compositor = self.app.bind(registry, 1, b"wl_compositor", 6)?;
+        let surface = self.create(compositor, request::wl_compositor::CREATE_SURFACE)?;
+        self.app.send(surface, request::wl_surface::COMMIT, &[])?;
+        let display = self.server.display();
+        self.create(display, request::wl_display::SYNC)?;
+        self.turn(out)?;
+        self.app.send(surface, request::wl_surface::DESTROY, &[])?;
+        self.turn(out)
+    }
+
+    /// The client is offered what is in the clipboard: twice with the same id, and last when it has
+    /// released the clipboard.
+    fn offer_clipboard<W: Write>(&mut self, registry: Object, out: &mut W) -> Result<()> {
+        let clipboard = self.app.bind(registry, 2, b"clipboard", 1)?;
+        for _ in 0..2 {
+            self.app.send(clipboard, ASK, &[])?;
+            self.turn(out)?;
+            let offer = self.offered.context("no offer")?;
+            self.app.send(offer, DESTROY_OFFER, &[])?;
+        }
+        self.app.send(clipboard, ASK, &[])?;
+        self.app.send(clipboard, RELEASE, &[])?;
+        self.turn(out)?;
+        self.turn(out)
+    }
+
     /// All that the client wrote goes to the compositor, and the answers come back.
     fn turn<W: Write>(&mut self, out: &mut W) -> Result<()> {
         carry(&mut self.app, &mut self.server);
@@ -101,52 +167,19 @@ fn is_clipboard(tables: &Tables, compositor: &Server<'_>, object: Object) -> boo
     }
 }
 
-/// The client makes a surface, hears that this was read, and destroys it. Then it is offered what
-/// is in the clipboard: twice with the same id, and last when it has released the clipboard.
+/// A client's end and a server's, which are not those of one connection.
+fn ends<'t>(alloc: Global, tables: &'t Tables) -> Result<(Client<'t>, Server<'t>)> {
+    let client = Client::new(alloc, tables, SIZES)?;
+    Ok((client, Server::new(alloc, tables, SIZES)?))
+}
+
+/// Plays what a client and a compositor say to each other through a proxy.
 pub(crate) fn play<'t, W: Write>(
     alloc: Global,
     tables: &'t Tables,
     proxy: Proxy<'t>,
     out: &mut W,
 ) -> Result<()> {
-    let mut row = Row {
-        app: Client::new(alloc, tables, SIZES)?,
-        server: Server::new(alloc, tables, SIZES)?,
-        proxy,
-        client: Client::new(alloc, tables, SIZES)?,
-        compositor: Server::new(alloc, tables, SIZES)?,
-        offered: None,
-    };
-    let interface = tables.interface(b"wl_compositor").context("no interface")?;
-    row.compositor.add_global(interface, 6)?;
-    let interface = tables.interface(b"clipboard").context("no interface")?;
-    row.compositor.add_global(interface, 1)?;
-    let (display, theirs) = (row.server.display(), row.client.display());
-    row.proxy.twins.add(display, theirs)?;
-
-    let registry = row.create(display, request::wl_display::GET_REGISTRY)?;
-    row.turn(out)?;
-    let compositor = row.app.bind(registry, 1, b"wl_compositor", 6)?;
-    let surface = row.create(compositor, request::wl_compositor::CREATE_SURFACE)?;
-    row.app.send(surface, request::wl_surface::COMMIT, &[])?;
-    row.create(display, request::wl_display::SYNC)?;
-    row.turn(out)?;
-    row.app.send(surface, request::wl_surface::DESTROY, &[])?;
-    row.turn(out)?;
-
-    let clipboard = row.app.bind(registry, 2, b"clipboard", 1)?;
-    for _ in 0..2 {
-        row.app.send(clipboard, ASK, &[])?;
-        row.turn(out)?;
-        let offer = row.offered.context("no offer")?;
-        row.app.send(offer, DESTROY_OFFER, &[])?;
-    }
-    row.app.send(clipboard, ASK, &[])?;
-    row.app.send(clipboard, RELEASE, &[])?;
-    row.turn(out)?;
-    row.turn(out)?;
-    if row.compositor.objects().len(Maker::Server) > 0 {
-        bail!("an offer is left");
-    }
-    Ok(())
+    let mut row = Row::new(alloc, tables, proxy)?;
+    row.play(out)
 }

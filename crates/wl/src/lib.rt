@@ -150,7 +150,8 @@
 //!
 //! The crate `hello` is this program, with a buffer in place of a socket. The lines with `ghost`
 //! and `requires` are for the proof, and the `for` loops have an upper bound since every loop here
-//! is proved to end.
+//! is proved to end. `session` owns the two ends and does little else: each way out of a function
+//! drops what it owns, and the drop of an end is a long proof.
 //!
 //! Its line of `crates.txt` names `wl_message` beside `wl`: it slices by what `take` returned, and
 //! its file `proofs/Amounts.antt` proves with a lemma of that crate that this is within the slice.
@@ -165,6 +166,7 @@
 //! ghost use Rattle.std.specs.Prelude.{◌≤◌, length};
 //!
 //! use anyhow::{Context, Result, bail};
+//! use std::alloc::Global;
 //! use std::io::Write;
 //! use wl::{
 //!     Arg, Direction, End, Got, GotRef, Incoming, Limit, Object, OwnedArgs, OwnedIncoming, Recording,
@@ -186,13 +188,17 @@
 //!
 //! fn main(rt: HostRuntime) -> Result<()> {
 //!     let tables = Tables::core(rt.alloc())?;
-//!     let mut client = Client::new(rt.alloc(), &tables, SIZES)?;
-//!     let mut server = Server::new(rt.alloc(), &tables, SIZES)?;
-//!     let mut wire = Recording::new(rt.alloc());
-//!     talk(&tables, &mut client, &mut server, &mut wire)?;
+//!     let wire = session(rt.alloc(), &tables)?;
 //!     let (lines, _verdict) = trace(rt.alloc(), &wire, &tables, Limit::USUAL)?;
 //!     rt.stdout().write_all(lines.as_slice())?;
 //!     Ok(())
+//! }
+//!
+//! /// What a client and a server over these tables wrote to each other.
+//! fn session(alloc: Global, tables: &Tables) -> Result<Recording> {
+//!     let mut client = Client::new(alloc, tables, SIZES)?;
+//!     let mut server = Server::new(alloc, tables, SIZES)?;
+//!     talk(tables, &mut client, &mut server, Recording::new(alloc))
 //! }
 //!
 //! /// The client makes a surface, and hears when the server has read all that it wrote.
@@ -200,20 +206,20 @@
 //!     tables: &Tables,
 //!     client: &mut Client<'_>,
 //!     server: &mut Server<'_>,
-//!     wire: &mut Recording,
-//! ) -> Result<()> {
+//!     mut wire: Recording,
+//! ) -> Result<Recording> {
 //!     let interface = tables.interface(b"wl_compositor").context("no interface")?;
 //!     server.add_global(interface, 6)?;
 //!
 //!     let registry = create(client, client.display(), request::wl_display::GET_REGISTRY)?;
-//!     round_trip(client, server, wire)?;
+//!     round_trip(client, server, &mut wire)?;
 //!     let compositor = bind(client, registry)?;
 //!     let surface = create(client, compositor, request::wl_compositor::CREATE_SURFACE)?;
 //!     client.send(surface, request::wl_surface::COMMIT, &[])?;
 //!     let callback = create(client, client.display(), request::wl_display::SYNC)?;
-//!     round_trip(client, server, wire)?;
+//!     round_trip(client, server, &mut wire)?;
 //!     wait_for(client, callback, event::wl_callback::DONE)?;
-//!     Ok(())
+//!     Ok(wire)
 //! }
 //!
 //! /// Sends a request whose one argument is a new object, and returns that object.
