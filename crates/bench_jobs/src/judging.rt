@@ -279,16 +279,22 @@ fn inspect_session(
     digest: &mut Digest,
 ) -> Option<()> {
     let mut inspector = Inspector::new(alloc, tables, Limit::USUAL).ok()?;
+    inspect_pieces(alloc, &mut inspector, script, digest)
+}
+
+fn inspect_pieces(
+    alloc: Global,
+    inspector: &mut Inspector<'_>,
+    script: Script,
+    digest: &mut Digest,
+) -> Option<()> {
     let mut turn = empty_turn(alloc);
     let mut session = script.session();
-    let mut pieces = InspectedPieces {
-        inspector: &mut inspector,
-        digest,
-    };
+    let mut pieces = InspectedPieces { inspector, digest };
     play(&mut pieces, &mut session, &mut turn, script)?;
     session.break_rule(&mut turn)?;
     pass(&mut pieces, &mut turn)?;
-    add_verdict(alloc, inspector.verdict(), digest)
+    add_verdict(alloc, pieces.inspector.verdict(), pieces.digest)
 }
 
 /// Sessions judged as they pass, beside ten and beside 100,000 open objects.

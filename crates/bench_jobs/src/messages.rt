@@ -522,8 +522,6 @@ fn play_course(
     amount: Amount,
     digest: &mut Digest,
 ) -> Option<()> {
-    let mut client = Client::new(alloc, tables, SIZES).ok()?;
-    let mut server = Server::new(alloc, tables, SIZES).ok()?;
     let mut bytes = Vec::new(alloc);
     bytes.resize(65_536, 0).ok()?;
     let mut tokens = Vec::new(alloc);
@@ -536,6 +534,8 @@ fn play_course(
         digest,
         replies: Vec::new(alloc),
     };
+    let mut client = Client::new(alloc, tables, SIZES).ok()?;
+    let mut server = Server::new(alloc, tables, SIZES).ok()?;
     play_over(&mut client, &mut server, tables, course, amount, &mut play)
 }
 

@@ -128,9 +128,9 @@ fn at_place(
     let mut words = Words::of(scene.place);
     let _article = words.word();
     let outcome = match words.word() {
-        Ok("client") => at_client(props, words.rest(), scene, refusal),
-        Ok("server") => at_server(props, words.rest(), scene, refusal),
-        Ok("pair") => at_pair(props, words.rest(), scene, refusal),
+        Ok("client") => at_client::<Objects>(props, words.rest(), scene, refusal),
+        Ok("server") => at_server::<Objects>(props, words.rest(), scene, refusal),
+        Ok("pair") => at_pair::<Objects>(props, words.rest(), scene, refusal),
         Ok("recording") => at_recording(props, scene, refusal),
         _ => Err(Trouble::Unreadable),
     };
@@ -149,25 +149,25 @@ fn nowhere(props: Props<'_>, scene: &Scene<'_>) -> Result<SceneOutcome, AllocErr
     })
 }
 
-fn at_client(
+fn at_client<T: Table<Alloc = RefusingAllocator> + Drop>(
     props: Props<'_>,
     sizes: &str,
     scene: &Scene<'_>,
     refusal: Option<Refusal>,
 ) -> Result<SceneOutcome, Trouble> {
     let queues = read_queues(sizes)?;
-    let client = Client::<Objects>::new(props.memory.clone()?, props.tables, queues.sizes)?;
+    let client = Client::<T>::new(props.memory.clone()?, props.tables, queues.sizes)?;
     Ok(at_end(props, client, scene, refusal)?)
 }
 
-fn at_server(
+fn at_server<T: Table<Alloc = RefusingAllocator> + Drop>(
     props: Props<'_>,
     sizes: &str,
     scene: &Scene<'_>,
     refusal: Option<Refusal>,
 ) -> Result<SceneOutcome, Trouble> {
     let queues = read_queues(sizes)?;
-    let server = Server::<Objects>::new(props.memory.clone()?, props.tables, queues.sizes)?;
+    let server = Server::<T>::new(props.memory.clone()?, props.tables, queues.sizes)?;
     Ok(at_end(props, server, scene, refusal)?)
 }
 
@@ -190,7 +190,7 @@ fn at_end<T: Table<Alloc = RefusingAllocator>, E: Playable<Table = T> + Drop>(
 }
 
 /// Plays a scene at a pair: the queues of the client, and behind a bar those of the server.
-fn at_pair(
+fn at_pair<T: Table<Alloc = RefusingAllocator> + Drop>(
     props: Props<'_>,
     sizes: &str,
     scene: &Scene<'_>,
@@ -203,25 +203,16 @@ fn at_pair(
     if client.sizes.limit.bytes != server.sizes.limit.bytes {
         return Err(Trouble::Unreadable);
     }
+    let actor = Actor::new(props.alloc, props.tables)?;
+    let granting = RefusingAllocator::new(props.alloc)?;
     let memory = props.memory.clone()?;
-    let pair = Pair::<Objects>::new(memory, props.tables, client.sizes, server.sizes)?;
-    Ok(with_pair(props, pair, client.sizes.limit, scene, refusal)?)
-}
-
-fn with_pair<T: Table<Alloc = RefusingAllocator> + Drop>(
-    props: Props<'_>,
-    pair: Pair<'_, T>,
-    limit: Limit,
-    scene: &Scene<'_>,
-    refusal: Option<Refusal>,
-) -> Result<SceneOutcome, AllocError> {
     let mut stage = AtPair {
         alloc: props.alloc,
         tables: props.tables,
-        pair,
-        limit,
-        actor: Actor::new(props.alloc, props.tables)?,
-        granting: RefusingAllocator::new(props.alloc)?,
+        pair: Pair::<T>::new(memory, props.tables, client.sizes, server.sizes)?,
+        limit: client.sizes.limit,
+        actor,
+        granting,
     };
     play_and_judge(props, &mut stage, &scene.rows, refusal)
 }
@@ -232,7 +223,7 @@ fn play_and_judge<T: Table + Drop>(
     stage: &mut AtPair<'_, '_, T>,
     rows: &[Row<'_>],
     refusal: Option<Refusal>,
-) -> Result<SceneOutcome, AllocError> {
+) -> Result<SceneOutcome, Trouble> {
     let mut played = play(props, stage, rows, refusal)?;
     if played.wrong.is_empty() {
         stage.judge(&mut played.wrong)?;

@@ -48,9 +48,20 @@ pub fn inspect(
     requires { 0 < size }
 {
     let mut inspector = Inspector::new(alloc, tables, Limit::USUAL)?;
+    pass_all(alloc, &mut inspector, recording, size)
+}
+
+fn pass_all(
+    alloc: Global,
+    inspector: &mut Inspector<'_>,
+    recording: &Recording,
+    size: usize,
+) -> Result<Told, AllocError>
+    requires { 0 < size }
+{
     let mut lines = Vec::new(alloc);
     for piece in recording.pieces() {
-        pass_cut(&mut inspector, piece, size, &mut lines)?;
+        pass_cut(inspector, piece, size, &mut lines)?;
     }
     let verdict = inspector.verdict();
     Ok(Told { lines, verdict })

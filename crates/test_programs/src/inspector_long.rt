@@ -20,6 +20,10 @@ const ROUNDS: u64 = 20_000;
 /// The verdict behind so many rounds, with memory for a small session alone.
 fn goes_on(heap: &LocalHeap, tables: &Tables) -> Result<Verdict, AllocError> {
     let mut inspector = Inspector::new(heap, tables, Limit::USUAL)?;
+    go_on(&mut inspector)
+}
+
+fn go_on(inspector: &mut Inspector<'_, &LocalHeap>) -> Result<Verdict, AllocError> {
     for _ in 0..ROUNDS {
         inspector.pass(Direction::ToServer, &SYNC, 0)?;
         // The second piece begins with the rest of a message.
@@ -59,6 +63,14 @@ const GLOBALS: u64 = 2_000;
 /// How much memory an inspector takes behind small pieces, before a huge one and after it.
 fn taken(heap: &LocalHeap, tables: &Tables, huge: &[u8]) -> Result<(usize, usize), AllocError> {
     let mut inspector = Inspector::new(heap, tables, Limit::USUAL)?;
+    taken_by(heap, &mut inspector, huge)
+}
+
+fn taken_by(
+    heap: &LocalHeap,
+    inspector: &mut Inspector<'_, &LocalHeap>,
+    huge: &[u8],
+) -> Result<(usize, usize), AllocError> {
     inspector.pass(Direction::ToServer, &GET_REGISTRY, 0)?;
     inspector.pass(Direction::ToClient, &GLOBAL[..7], 0)?;
     inspector.pass(Direction::ToClient, &GLOBAL[7..], 0)?;
@@ -91,6 +103,14 @@ fn taken_by_refused(
     huge: &[u8],
 ) -> Result<Option<(usize, usize)>, AllocError> {
     let mut inspector = Inspector::new(heap, tables, Limit::USUAL)?;
+    taken_by_one_that_refuses(heap, &mut inspector, huge)
+}
+
+fn taken_by_one_that_refuses(
+    heap: &LocalHeap,
+    inspector: &mut Inspector<'_, &LocalHeap>,
+    huge: &[u8],
+) -> Result<Option<(usize, usize)>, AllocError> {
     inspector.pass(Direction::ToServer, &GET_REGISTRY, 0)?;
     let before = heap.used();
     let passed = inspector.pass(Direction::ToServer, huge, 0);

@@ -1,4 +1,5 @@
 //! Where memory runs out, an inspector is as it was, and the same piece can be passed again.
+use crate::inspecting::Told;
 use crate::recordings::{ALL, DEVICES};
 use std::alloc::{AllocError, Allocator, Global};
 use std::test::Fail;
@@ -47,19 +48,31 @@ fn agrees(
         return Ok(false);
     };
     let (lines, verdict) = trace(alloc, &recording, tables, Limit::USUAL)?;
-    let mut told = Vec::new(alloc);
-    let mut last = Vec::new(alloc);
     memory.refuse_none();
     let mut inspector = Inspector::new(memory.clone()?, tables, Limit::USUAL)?;
-    for piece in recording.pieces() {
-        if !passes(memory, &mut inspector, piece, last.as_slice()) {
+    let told = Told { lines, verdict };
+    says(alloc, memory, &mut inspector, recording.pieces(), &told)
+}
+
+/// Whether an inspector says this of the pieces, each passed until it is granted all.
+fn says(
+    alloc: Global,
+    memory: &RefusingAllocator,
+    inspector: &mut Inspector<'_, RefusingAllocator>,
+    pieces: &[Passed],
+    told: &Told,
+) -> Result<bool, AllocError> {
+    let mut lines = Vec::new(alloc);
+    let mut last = Vec::new(alloc);
+    for piece in pieces {
+        if !passes(memory, inspector, piece, last.as_slice()) {
             return Ok(false);
         }
         last.clear();
         last.extend_from_slice(inspector.lines())?;
-        told.extend_from_slice(inspector.lines())?;
+        lines.extend_from_slice(inspector.lines())?;
     }
-    Ok(told.as_slice() == lines.as_slice() && inspector.verdict() == verdict)
+    Ok(lines.as_slice() == told.lines.as_slice() && inspector.verdict() == told.verdict)
 }
 
 #[test]
@@ -108,32 +121,64 @@ fn agree(
     Ok(true)
 }
 
+/// A piece, those that pass before it, and others that pass behind it.
+#[derive(Clone, Copy)]
+struct Passing<'a> {
+    before: &'a [Passed],
+    piece: &'a Passed,
+    others: &'a [Passed],
+}
+
 /// Refuses each allocation of a piece in turn, and goes on with other pieces each time. Whether
 /// each refused inspector says of these what one says that the piece was never passed to.
 fn forgets(
     alloc: Global,
     memory: &RefusingAllocator,
     tables: &Tables,
-    before: &[Passed],
-    piece: &Passed,
-    others: &[Passed],
+    passing: Passing<'_>,
 ) -> Result<bool, AllocError> {
-    let (bytes, tokens) = (piece.bytes.as_slice(), piece.tokens as usize);
     for number in 0u64..1000 {
-        let mut refused = after(memory.clone()?, tables, before)?;
-        let mut other = after(alloc, tables, before)?;
-        memory.refuse_nth(number);
-        let is_granted = refused.pass(piece.direction, bytes, tokens).is_ok();
-        let has_refused = memory.has_refused();
-        memory.refuse_none();
-        if is_granted {
-            return Ok(!has_refused);
-        }
-        if !has_refused || !agree(&mut refused, &mut other, others)? {
-            return Ok(false);
+        if let Some(forgets_all) = forgets_at(alloc, memory, tables, passing, number)? {
+            return Ok(forgets_all);
         }
     }
     Ok(false)
+}
+
+/// Refuses one allocation of the piece. None where that leaves nothing behind, so that the next
+/// one is to be refused.
+fn forgets_at(
+    alloc: Global,
+    memory: &RefusingAllocator,
+    tables: &Tables,
+    passing: Passing<'_>,
+    number: u64,
+) -> Result<Option<bool>, AllocError> {
+    let mut refused = after(memory.clone()?, tables, passing.before)?;
+    let mut other = after(alloc, tables, passing.before)?;
+    memory.refuse_nth(number);
+    is_forgotten(memory, &mut refused, &mut other, passing)
+}
+
+fn is_forgotten(
+    memory: &RefusingAllocator,
+    refused: &mut Inspector<'_, RefusingAllocator>,
+    other: &mut Inspector<'_>,
+    passing: Passing<'_>,
+) -> Result<Option<bool>, AllocError> {
+    let piece = passing.piece;
+    let passed = refused.pass(
+        piece.direction,
+        piece.bytes.as_slice(),
+        piece.tokens as usize,
+    );
+    let has_refused = memory.has_refused();
+    memory.refuse_none();
+    if passed.is_ok() {
+        return Ok(Some(!has_refused));
+    }
+    let is_forgotten = has_refused && agree(refused, other, passing.others)?;
+    Ok(if is_forgotten { None } else { Some(false) })
 }
 
 /// Whether a refused piece leaves nothing behind, for whatever piece comes next: the pieces behind
@@ -150,10 +195,16 @@ fn leaves_nothing(
     let pieces = recording.pieces();
     for (place, piece) in pieces.iter().enumerate() {
         let (before, others) = pieces.split_at(place);
-        let behind = others.get(1..).unwrap_or(&[]);
-        if !forgets(alloc, memory, tables, before, piece, behind)?
-            || !forgets(alloc, memory, tables, before, piece, pieces)?
-        {
+        let then = Passing {
+            before,
+            piece,
+            others: others.get(1..).unwrap_or(&[]),
+        };
+        let again = Passing {
+            others: pieces,
+            ..then
+        };
+        if !forgets(alloc, memory, tables, then)? || !forgets(alloc, memory, tables, again)? {
             return Ok(false);
         }
     }

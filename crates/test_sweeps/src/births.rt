@@ -7,7 +7,7 @@ use test_player::Trouble;
 use wl_client::Client;
 use wl_connection::{End, Receiver, read_all};
 use wl_message::{Limit, Piece, Sizes};
-use wl_objects::{Arg, Object, SlotTable};
+use wl_objects::{Arg, Object, Table};
 use wl_server::Server;
 use wl_sigs::request;
 
@@ -30,28 +30,38 @@ const SYNC: [u8; 12] = [1, 0, 0, 0, 0, 0, 12, 0, 2, 0, 0, 0];
 const DELETE: [u8; 12] = [1, 0, 0, 0, 1, 0, 12, 0, 2, 0, 0, 0];
 
 /// Makes callbacks at a client, the id of each of which the server deletes at once.
-pub fn born_at_client(props: Props<'_>) -> Result<Tally, Trouble> {
-    let mut client = Client::<SlotTable<Global>>::new(props.alloc, props.tables, SIZES)?;
+pub fn born_at_client<T: Table<Alloc = Global> + Drop>(props: Props<'_>) -> Result<Tally, Trouble> {
+    let mut client = Client::<T>::new(props.alloc, props.tables, SIZES)?;
+    make_callbacks(props, &mut client)
+}
+
+fn make_callbacks<T: Table<Alloc = Global>>(
+    props: Props<'_>,
+    client: &mut Client<'_, T>,
+) -> Result<Tally, Trouble> {
     let mut tally = Tally::NONE;
     for birth in 1..BIRTHS.saturating_add(1) {
         let object = Object { id: 2, birth };
-        let made = client.send(
-            End::display(&client),
-            request::wl_display::SYNC,
-            &[Arg::New],
-        );
+        let made = client.send(End::display(client), request::wl_display::SYNC, &[Arg::New]);
         let is_made = made == Ok(Some(object));
-        tally.count(false, is_made && reads(props, &mut client, &DELETE)?);
+        tally.count(false, is_made && reads(props, client, &DELETE)?);
     }
     Ok(tally)
 }
 
 /// Lets a server read of callbacks, each of which it drops at once.
-pub fn born_at_server(props: Props<'_>) -> Result<Tally, Trouble> {
-    let mut server = Server::<SlotTable<Global>>::new(props.alloc, props.tables, SIZES)?;
+pub fn born_at_server<T: Table<Alloc = Global> + Drop>(props: Props<'_>) -> Result<Tally, Trouble> {
+    let mut server = Server::<T>::new(props.alloc, props.tables, SIZES)?;
+    drop_callbacks(props, &mut server)
+}
+
+fn drop_callbacks<T: Table<Alloc = Global>>(
+    props: Props<'_>,
+    server: &mut Server<'_, T>,
+) -> Result<Tally, Trouble> {
     let mut tally = Tally::NONE;
     for birth in 1..BIRTHS.saturating_add(1) {
-        let is_read = reads(props, &mut server, &SYNC)?;
+        let is_read = reads(props, server, &SYNC)?;
         let is_dropped = server.drop_object(Object { id: 2, birth }) == Ok(());
         tally.count(false, is_read && is_dropped);
     }

@@ -21,7 +21,7 @@ use changes::judge_changed;
 use cuts::judge_cut;
 use moves::compare_tables;
 use refusals::{Call, refuse};
-use replay::{Props, sweep_client, sweep_server};
+use replay::{Objects, Props, sweep_client, sweep_server};
 use runs::{KINDS, judge_runs};
 use sample::Sample;
 use std::process::ExitCode;
@@ -100,8 +100,8 @@ fn sweep_all(rt: &HostRuntime) -> io::Result<bool> {
     };
     let mut all = sweep_files(rt, props)?;
     println!(rt; "births")?;
-    all = report(rt, "at a client", born_at_client(props))? && all;
-    all = report(rt, "at a server", born_at_server(props))? && all;
+    all = report(rt, "at a client", born_at_client::<Objects>(props))? && all;
+    all = report(rt, "at a server", born_at_server::<Objects>(props))? && all;
     println!(rt; "runs")?;
     all = print_runs(rt, props)? && all;
     Ok(all)

@@ -1,25 +1,34 @@
 //! A list of moves, made at a pair over each of the two tables of objects.
 
-use crate::replay::{Props, SIZES};
+use crate::replay::{Objects, Props, SIZES};
 use crate::tally::Tally;
 use std::alloc::{AllocError, Global};
 use test_player::{Actor, OUT_OF_MEMORY, Trouble};
-use wl_objects::{MapTable, SlotTable, Table};
+use wl_objects::{MapTable, Table};
 use wl_session::Pair;
 
 /// Makes the moves of a list, one a line, in the words of a scene, at a pair over an ordered map
 /// and at one over slots. Both reply the same to each move, and not that memory is out; and they
 /// record the same.
 pub fn compare_tables(props: Props<'_>, list: &str) -> Result<Tally, Trouble> {
-    let mut map = new_pair::<MapTable<Global>>(props)?;
-    let mut slots = new_pair::<SlotTable<Global>>(props)?;
-    compare(props, &mut map, &mut slots, list)
+    compare_over::<MapTable<Global>, Objects>(props, list)
 }
 
-fn new_pair<'a, T: Table<Alloc = Global> + Drop>(
-    props: Props<'a>,
-) -> Result<Pair<'a, T>, AllocError> {
-    Pair::new(props.alloc, props.tables, SIZES, SIZES)
+fn compare_over<T: Table<Alloc = Global> + Drop, U: Table<Alloc = Global> + Drop>(
+    props: Props<'_>,
+    list: &str,
+) -> Result<Tally, Trouble> {
+    let mut one = Pair::<T>::new(props.alloc, props.tables, SIZES, SIZES)?;
+    compare_with::<T, U>(props, &mut one, list)
+}
+
+fn compare_with<T: Table<Alloc = Global>, U: Table<Alloc = Global> + Drop>(
+    props: Props<'_>,
+    one: &mut Pair<'_, T>,
+    list: &str,
+) -> Result<Tally, Trouble> {
+    let mut other = Pair::<U>::new(props.alloc, props.tables, SIZES, SIZES)?;
+    compare(props, one, &mut other, list)
 }
 
 fn compare<T: Table<Alloc = Global>, U: Table<Alloc = Global>>(

@@ -26,6 +26,9 @@ pub const SIZES: Sizes = Sizes {
     limit: Limit::USUAL,
 };
 
+/// The objects of every end, but where two kinds of tables are compared.
+pub type Objects = SlotTable<Global>;
+
 /// What every sweep is played with.
 #[derive(Clone, Copy)]
 pub struct Props<'a> {
@@ -129,7 +132,7 @@ fn play_as_it_is(
     };
     let written = sample.stream(props.alloc, other)?;
     let mut outcome = Outcome::new(props.alloc);
-    play_at(props, session, stream, Cut::Whole, &mut outcome)?;
+    play_at::<Objects>(props, session, stream, Cut::Whole, &mut outcome)?;
     let is_right = outcome.fault.is_none() && outcome.written.as_slice() == written.as_slice();
     tally.count(outcome.fault.is_some(), is_right);
     Ok(())
@@ -144,8 +147,8 @@ fn play_both_ways(
 ) -> Result<(), Trouble> {
     let mut whole = Outcome::new(props.alloc);
     let mut alone = Outcome::new(props.alloc);
-    play_at(props, session, stream, Cut::Whole, &mut whole)?;
-    play_at(props, session, stream, Cut::Bytewise, &mut alone)?;
+    play_at::<Objects>(props, session, stream, Cut::Whole, &mut whole)?;
+    play_at::<Objects>(props, session, stream, Cut::Bytewise, &mut alone)?;
     let is_right = is_same(&whole, &alone) && whole.is_right && alone.is_right;
     tally.count(whole.fault.is_some(), is_right);
     Ok(())
@@ -158,7 +161,7 @@ fn is_same(one: &Outcome, other: &Outcome) -> bool {
 }
 
 /// Plays a session at a new end.
-fn play_at(
+fn play_at<T: Table<Alloc = Global> + Drop>(
     props: Props<'_>,
     session: Session<'_>,
     stream: &[u8],
@@ -168,11 +171,11 @@ fn play_at(
     let alloc = props.alloc;
     match session.direction {
         Direction::ToServer => {
-            let server = Server::<SlotTable<Global>>::new(alloc, props.tables, SIZES)?;
+            let server = Server::<T>::new(alloc, props.tables, SIZES)?;
             at_end(props, server, session, stream, cut, outcome)
         }
         Direction::ToClient => {
-            let client = Client::<SlotTable<Global>>::new(alloc, props.tables, SIZES)?;
+            let client = Client::<T>::new(alloc, props.tables, SIZES)?;
             at_end(props, client, session, stream, cut, outcome)
         }
     }

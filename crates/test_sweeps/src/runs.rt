@@ -1,12 +1,12 @@
 //! Random runs of a pair: whatever is done with it, what it recorded is lawful.
 
 use crate::dice::Dice;
-use crate::replay::Props;
+use crate::replay::{Objects, Props};
 use crate::tally::Tally;
 use std::alloc::{AllocError, Global};
 use test_player::{Trouble, own_verdict};
 use wl_message::{Limit, Sizes};
-use wl_objects::{Object, SlotTable};
+use wl_objects::{Object, Table};
 use wl_session::{Carried, Move, Pair, Reply, SendArg, Verdict};
 use wl_sigs::{Side, Tables};
 use wl_wire::{Fixed, Iface, Kind};
@@ -103,19 +103,19 @@ pub fn judge_runs(props: Props<'_>) -> Result<RunTallies, Trouble> {
         moves: [Tally::NONE; 12],
     };
     for seed in 0..RUNS {
-        let mut pair = Pair::<SlotTable<Global>>::new(props.alloc, props.tables, SIZES, SIZES)?;
-        let mut run = Run::new(props, seed)?;
-        run.play(&mut pair, MOVES, &mut tallies.moves)?;
-        let error = run.error();
-        run.do_move(&mut pair, error, &mut tallies.moves)?;
-        run.play(&mut pair, LAST_MOVES, &mut tallies.moves)?;
-        let verdict = own_verdict(&props.alloc, props.tables, &pair, Limit::USUAL)?;
-        let is_lawful = matches!(verdict, Verdict::Lawful { .. });
-        tallies
-            .runs
-            .count(false, is_lawful && pair.ended_at().is_some());
+        judge_run::<Objects>(props, seed, &mut tallies)?;
     }
     Ok(tallies)
+}
+
+fn judge_run<T: Table<Alloc = Global> + Drop>(
+    props: Props<'_>,
+    seed: u64,
+    tallies: &mut RunTallies,
+) -> Result<(), Trouble> {
+    let mut run = Run::new(props, seed)?;
+    let mut pair = Pair::<T>::new(props.alloc, props.tables, SIZES, SIZES)?;
+    run.judge(&mut pair, tallies)
 }
 
 impl<'a> Run<'a> {
@@ -131,10 +131,28 @@ impl<'a> Run<'a> {
         })
     }
 
-    /// Makes this many random moves.
-    fn play(
+    /// Makes random moves, an error, and a few moves more, and judges what the pair recorded.
+    fn judge<T: Table<Alloc = Global>>(
         &mut self,
-        pair: &mut Pair<'_, SlotTable<Global>>,
+        pair: &mut Pair<'_, T>,
+        tallies: &mut RunTallies,
+    ) -> Result<(), Trouble> {
+        self.play(pair, MOVES, &mut tallies.moves)?;
+        let error = self.error();
+        self.do_move(pair, error, &mut tallies.moves)?;
+        self.play(pair, LAST_MOVES, &mut tallies.moves)?;
+        let verdict = own_verdict(&self.alloc, self.tables, pair, Limit::USUAL)?;
+        let is_lawful = matches!(verdict, Verdict::Lawful { .. });
+        tallies
+            .runs
+            .count(false, is_lawful && pair.ended_at().is_some());
+        Ok(())
+    }
+
+    /// Makes this many random moves.
+    fn play<T: Table<Alloc = Global>>(
+        &mut self,
+        pair: &mut Pair<'_, T>,
         count: usize,
         moves: &mut [Tally],
     ) -> Result<(), AllocError> {
@@ -146,9 +164,9 @@ impl<'a> Run<'a> {
     }
 
     /// Makes a move, alone in its run of the pair.
-    fn do_move(
+    fn do_move<T: Table<Alloc = Global>>(
         &mut self,
-        pair: &mut Pair<'_, SlotTable<Global>>,
+        pair: &mut Pair<'_, T>,
         random: RandomMove,
         moves: &mut [Tally],
     ) -> Result<(), AllocError> {
