@@ -93,6 +93,18 @@ class TimedGate(unittest.TestCase):
     def test_other_processes_are_not_counted(self):
         self.assertIsNone(self.tool.part_of(f"/proc/{os.getpid()}"))
 
+    def test_a_crate_is_proved_in_one_process(self):
+        """As many at once as there are processors. Where memory may be short, rt decides."""
+        number = self.tool.processors()
+        for free, given in ((number * self.tool.MEMORY_EACH, str(number)), (1, None)):
+            with (
+                unittest.mock.patch.object(self.tool, "free", lambda free=free: free),
+                unittest.mock.patch.dict(os.environ),
+            ):
+                os.environ.pop("RT_JOBS", None)
+                found = self.tool.one_process_each()
+                self.assertEqual(found and found["RT_JOBS"], given)
+
     def test_no_row_without_a_figure(self):
         """A crate of which a part was not timed is named, and the page has the marks of the figures."""
         table = {"wl_line_text": {"proof": 1.0, "tests": 0.0, "mutants": 0.5}}
