@@ -95,6 +95,16 @@ def has_come(test, seconds=COMES_UP):
     return True
 
 
+def end(process):
+    """Ends a process, by force where it has not ended after twenty seconds."""
+    process.terminate()
+    try:
+        process.wait(20)
+    except subprocess.TimeoutExpired:
+        process.kill()
+        process.wait()
+
+
 def ends_of(said):
     """What a command said, without the middle where that is long."""
     return said if len(said) <= 1600 else f"{said[:400]}\n..\n{said[-1200:]}"
@@ -114,7 +124,7 @@ def run(words, status=0, with_error=False, **kept):
 
 def sockets_at(path):
     """The words of the lines of /proc/net/unix for the sockets at a path."""
-    with open("/proc/net/unix", encoding="utf-8") as sockets:
+    with open("/proc/net/unix", encoding="utf-8", errors="surrogateescape") as sockets:
         return [it for it in map(str.split, sockets) if it[-1] == path]
 
 

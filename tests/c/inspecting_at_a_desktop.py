@@ -7,6 +7,7 @@ and its messages are those that WAYLAND_DEBUG makes the program say, each direct
 
 The environment is that of tests/c/inspecting.py. A program that is not installed is skipped, and so
 is one that makes no connection."""
+import contextlib
 import os
 import re
 import signal
@@ -68,8 +69,8 @@ class Desktop(inspecting_at_sway.Sway):
         self.copy("a text")
         if not has_come(lambda: self.pasted() == b"a text"):
             self.skipTest("wl-copy has not come up")
-        # A keyboard, for as long as the test runs.
-        other = subprocess.Popen(["wtype", "-s", str(1000 * LONG), "x"], env=self.quiet())
+        # A keyboard, for as long as the test runs: so many milliseconds at most.
+        other = subprocess.Popen(["wtype", "-s", "4000000", "x"], env=self.quiet())
         self.addCleanup(self.end_all, [other])
         self.env.update(GDK_BACKEND="wayland", QT_QPA_PLATFORM="wayland", NO_AT_BRIDGE="1",
                         GSK_RENDERER="cairo", WAYLAND_DEBUG="1", HOME=self.folder,
@@ -86,6 +87,9 @@ class Desktop(inspecting_at_sway.Sway):
         Returns that, and what the program has said."""
         paths = said, error = f"{self.folder}/said", f"{self.folder}/error"
         for path in paths:
+            # A file of its own: a client of the program before may still write to that one's.
+            with contextlib.suppress(FileNotFoundError):
+                os.unlink(path)
             open(path, "wb").close()
         options = ["--output", said, "--record", self.recorded]
         with open(error, "wb") as file:

@@ -10,7 +10,7 @@ import subprocess
 import time
 
 from inspecting import LONG, ROOT, Inspected
-from checks import COMES_UP, has_come, joined_tables, need
+from checks import COMES_UP, end, has_come, joined_tables, need
 import table_text
 
 # The status of the tool whose command has made no connection.
@@ -32,8 +32,8 @@ class RealClients(Inspected):
     # How clients end by SIGINT; of others it is not known.
     STATUS = {"weston-simple-shm": 0, "weston-flower": 128 + signal.SIGINT}
     # A line of WAYLAND_DEBUG: a time, an arrow where it is a request, and the message. Of an event for an
-    # object that the client has destroyed libwayland knows no names.
-    DEBUG = re.compile(r"\[ *[\d.]+\] (?:\{[^}]*\} )?(?:discarded )?( -> )?(?:(\w+)|\[\w+\])[@#](\d+)"
+    # object that the client has destroyed libwayland knows no names, and prints the id with a sign.
+    DEBUG = re.compile(r"\[ *[\d.]+\] (?:\{[^}]*\} )?(?:discarded )?( -> )?(?:(\w+)|\[\w+\])[@#](-?\d+)"
                        r"\.(\w+|\[event \d+\])\((?:(-?\d+)[.,)])?")
     LINE = re.compile(r"(->|<-) (\w+)@(\d+)\.(\w+)\((?:(-?\d+)[.,)])?")
 
@@ -57,22 +57,20 @@ class RealClients(Inspected):
 
     def end_all(self, programs):
         for it in programs:
-            it.terminate()
-            try:
-                it.wait(20)
-            except subprocess.TimeoutExpired:
-                it.kill()
-                it.wait()
+            end(it)
 
     def parted(self, lines, form):
         """The requests, and the events of wl_display and others."""
         requests, own, others = [], [], []
         for line in lines:
-            found = form.match(line)
-            if found and found[1] and "->" in found[1]:
-                requests.append(Told(*found.groups()[1:]))
-            elif found:
-                (own if found[2] == "wl_display" else others).append(Told(*found.groups()[1:]))
+            if not (found := form.match(line)):
+                continue
+            told = Told(*found.groups()[1:])
+            told = told._replace(id=str(int(told.id) % 2**32))
+            if found[1] and "->" in found[1]:
+                requests.append(told)
+            else:
+                (own if told.interface == "wl_display" else others).append(told)
         return requests, own, others
 
     def as_they_came(self, told, printed):
@@ -101,6 +99,11 @@ class RealClients(Inspected):
             if whole[at : at + 1] != [one]:
                 self.fail(f"{which}, number {at} on: {front[at:at + 5]}, not {whole[at:at + 5]}")
         self.assertLess(len(whole) - len(front), 1000, which)
+
+    def has_all(self, whole, part, which):
+        """A list has all of another, as often, and has not too much beside it."""
+        self.assertFalse(collections.Counter(part) - collections.Counter(whole), which)
+        self.assertLess(len(whole) - len(part), 1000, which)
 
     def start_at_files(self, *words, until=lambda said: len(said.splitlines()) > 40):
         """Starts the tool with files for what it says, and waits until a client has said so much. A
@@ -134,14 +137,19 @@ class RealClients(Inspected):
         """The messages that a client tells are those that the tool prints, each direction in order,
         but for the last: requests that it wrote and did not send, events that it did not act on.
         A client that has queues of its own acts on the events of one queue before those of another
-        that came earlier: of it, those for each object are in order. Returns how many are compared."""
+        that came earlier: of it, those for each object are in order. Each of its threads takes
+        events of wl_display off their queue and tells them a little later, so that two threads may
+        tell them the other way round: of it, they are counted. Returns how many are compared."""
         told = self.parted(error.splitlines(), self.DEBUG)
         printed = self.parted(said.splitlines(), self.LINE)
         # libwayland says nothing of an event for an object that nobody listens to.
         heard = {it[:2] for it in told[2]}
         others = [it for it in printed[2] if it[:2] in heard or (ZOMBIE, it.id) in heard]
         self.begins(told[0], printed[0], "requests")
-        self.begins(printed[1], told[1], "events of wl_display")
+        if has_queues:
+            self.has_all(printed[1], told[1], "events of wl_display")
+        else:
+            self.begins(printed[1], told[1], "events of wl_display")
         for one in {it.id for it in (*told[2], *others)} if has_queues else {None}:
             its = [[it for it in events if one in (None, it.id)] for events in (told[2], others)]
             self.begins(its[1], self.as_they_came(*its), f"events for {one or 'objects'}")
@@ -154,6 +162,7 @@ class RealClients(Inspected):
         self.env["WAYLAND_DEBUG"] = "1"
         paths = self.start_at_files("--record", self.recorded, *command, **kept)
         meanwhile(paths[0])
+        self.comes_true(lambda: self.read(paths[0]).count("-> ") > least or self.tool.poll() is not None)
         self.finish(signal.SIGINT, None)
         # The tool tells one again to end that has not ended after two seconds, and then kills it.
         usual, status = self.STATUS.get(command[0]), self.tool.returncode

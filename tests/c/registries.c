@@ -10,7 +10,6 @@
 #include "must.h"
 
 #include <string.h>
-#include <sys/resource.h>
 
 #define COUNT 100000
 #define TIMES 200
@@ -184,11 +183,19 @@ static void measure(const char *name, uint32_t open)
 	waywire_server_free(server);
 }
 
+/* The most memory that this program has had at once, in KB. That of getrusage begins with what was there before
+ * the program began. */
 static long kilobytes(void)
 {
-	struct rusage usage;
-	MUST(!getrusage(RUSAGE_SELF, &usage));
-	return usage.ru_maxrss;
+	char line[128];
+	long most = 0;
+	FILE *status = fopen("/proc/self/status", "r");
+	MUST(status);
+	while (!most && fgets(line, sizeof line, status))
+		sscanf(line, "VmHWM: %ld kB", &most);
+	fclose(status);
+	MUST(most);
+	return most;
 }
 
 static void take_little_memory(void)

@@ -118,7 +118,7 @@ ci)
     ;;
 ci\\ *)
     [ "$CI" != true ] || { echo "rt: rt ci with names is not the gate" && exit 2; }
-    "$0" of "$2"
+    exec "$0" of "$2"
     ;;
 *)
     [ "$2" != "$FAILS" ] || exit
