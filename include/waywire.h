@@ -10,8 +10,8 @@
  *             where `peek` points, and tell `sent` how much of it went.
  *  3. Feed.   `feed` moves what came from the socket into the end's inbox, cut anywhere. Or read to where
  *             `space` points, and tell `received` how much came.
- *  4. Next.   `next` reads one message and writes its report, which is valid until the end's next call.
- *             Repeat it until the report says WAYWIRE_NOTHING.
+ *  4. Next.   `next` reads one message and writes its report, which is valid until the next call that may
+ *             change the end. Repeat it until the report says WAYWIRE_NOTHING.
  *
  * Tokens.  File descriptors are not among the bytes. A token is a number of the caller's choice
  * that stands for one, say the descriptor itself. `take` returns it with the first byte of its
@@ -38,9 +38,9 @@
  * Threads.  Nothing is bound to the thread that made it. Tables never change: any threads may use them at
  * once, and make and free ends and inspectors over them. Only one call at a time may use an end, on any
  * thread: the caller orders these calls, as by a lock, or by joining the thread that made the last one. Any
- * thread may read where an end's pointers point, until the end's next call. Different ends may be used at
- * once. All of this holds for an inspector as for an end. No call may be made from a signal handler, nor from
- * the child of a `fork` in a process with threads.
+ * thread may read where an end's pointers point, until the next call that may change the end. Different ends may
+ * be used at once. All of this holds for an inspector as for an end. No call may be made from a signal handler,
+ * nor from the child of a `fork` in a process with threads.
  *
  * Statuses.  Each call that can refuse returns a waywire_status. Unless its own text says otherwise,
  * with a status other than WAYWIRE_OK nothing has changed and nothing was written to what the caller
@@ -322,11 +322,11 @@ typedef enum waywire_report_kind {
 	                        * stream at which the message begins. The end has failed */
 } waywire_report_kind;
 
-/* What `next` read. It points into the end, and is valid until the end's next call of any kind. That call
- * itself may be given its pointers, as the interface of a `global` to `bind`. Strings end with a NUL that their
- * length does not count. Only the first `arg_count` of `args` are written. `tokens` has the tokens of all
- * descriptors of the message, whatever the report's kind, in their order: the caller closes or keeps what they
- * stand for. Those of WAYWIRE_MESSAGE are the ones in its `args`, so close each once. */
+/* What `next` read. It points into the end, and is valid until the next call that takes the end without `const`.
+ * That call itself may still be given its pointers, as the interface of a `global` to `bind`. Strings end with a
+ * NUL that their length does not count. Only the first `arg_count` of `args` are written. `tokens` has the tokens
+ * of all descriptors of the message, whatever the report's kind, in their order: the caller closes or keeps what
+ * they stand for. Those of WAYWIRE_MESSAGE are the ones in its `args`, so close each once. */
 typedef struct waywire_report {
 	uint32_t kind; /* a waywire_report_kind */
 	uint32_t opcode;
@@ -634,7 +634,7 @@ waywire_status waywire_client_take_waiting_tokens(waywire_client *client, uint32
 	size_t token_count, size_t *taken);
 
 /* Reads the next message once it is whole; `report` says WAYWIRE_NOTHING before. The report is valid
- * until the client's next call of any kind. An event by which the server makes an object opens it.
+ * as waywire_report says. An event by which the server makes an object opens it.
  * With a status of WAYWIRE_FAULT_.. the report is written too (kind WAYWIRE_FAULT) and the client has
  * failed for good, as it has after a report WAYWIRE_ERROR. It writes nothing to the server about that; what
  * waited in the outbox can still be taken. WAYWIRE_NO_MEMORY if there is no memory for the object that an event
@@ -725,7 +725,7 @@ waywire_status waywire_server_post_error(waywire_server *server, waywire_object 
 	const char *text);
 
 /* Reads the next request once it is whole; `report` says WAYWIRE_NOTHING before. The report is valid
- * until the server's next call of any kind. A request that destroys an object closes it, and if the client
+ * as waywire_report says. A request that destroys an object closes it, and if the client
  * made that, writes its delete_id at once.
  * WAYWIRE_OUT_FULL if the outbox has no room for that, and WAYWIRE_NO_MEMORY if there is no memory for
  * the object that the request opens: the request stays, and can be read again. With a status of

@@ -1,6 +1,6 @@
 /* What passes through the library's pointers, at its edges: places, names, spellings, the last slot of a
- * report, sizes, tables over tables, a full outbox; an inspector's values and lines; and the numbers and texts
- * that the header makes itself. */
+ * report, sizes, tables over tables, a full outbox; an inspector's values and lines; a report behind calls that
+ * only ask; and the numbers and texts that the header makes itself. */
 #include "must.h"
 
 #include <limits.h>
@@ -451,6 +451,71 @@ static void lines(void)
 	close_pair(&pair);
 }
 
+/* Each call that only asks, to which its end is const. */
+static void ask_client(const waywire_client *client)
+{
+	waywire_object object;
+	waywire_amounts amounts;
+	waywire_part parts[2];
+	uint32_t tokens[WAYWIRE_MAX_ARGS];
+	size_t count;
+	bool is;
+	MUST(!waywire_client_display(client, &object) && !waywire_client_live(client, object, NULL, NULL));
+	MUST(!waywire_client_user(client, object) && !waywire_client_object_count(client, &count));
+	MUST(!waywire_client_object_after(client, 0, &object) && !waywire_client_made(client, &object));
+	MUST(!waywire_client_has_failed(client, &is) && !waywire_client_is_drained(client, &is));
+	MUST(!waywire_client_in_room(client, &amounts) && !waywire_client_goes(client, 99, 9, &amounts));
+	MUST(!waywire_client_peek(client, parts, tokens, WAYWIRE_MAX_ARGS, &count) && parts[0].length);
+}
+
+static void ask_server(const waywire_server *server)
+{
+	waywire_object object;
+	waywire_amounts amounts;
+	waywire_part parts[2];
+	uint32_t tokens[WAYWIRE_MAX_ARGS];
+	size_t count;
+	bool is;
+	MUST(!waywire_server_display(server, &object) && !waywire_server_live(server, object, NULL, NULL));
+	MUST(!waywire_server_user(server, object) && !waywire_server_object_count(server, &count));
+	MUST(!waywire_server_object_after(server, 0, &object));
+	MUST(!waywire_server_has_failed(server, &is) && !waywire_server_is_drained(server, &is));
+	MUST(!waywire_server_in_room(server, &amounts) && !waywire_server_goes(server, 99, 9, &amounts));
+	MUST(!waywire_server_peek(server, parts, tokens, WAYWIRE_MAX_ARGS, &count) && parts[0].length);
+}
+
+static bool names(const waywire_arg *arg, const char *interface)
+{
+	return arg->length == strlen(interface) && !memcmp(arg->bytes, interface, arg->length);
+}
+
+/* A report stays valid after calls that only ask. */
+static void asked(void)
+{
+	static const char seat[] = "wl_seat";
+	uint16_t place;
+	uint32_t name;
+	waywire_report report;
+	struct pair pair;
+	open_pair(&pair, tables);
+	MUST(!waywire_tables_interface(tables, seat, &place));
+	MUST(!waywire_server_add_global(pair.server, place, 1, &name));
+	MUST(!waywire_server_announce(pair.server, NULL));
+	to_client(&pair);
+	MUST(waywire_wl_display_sync(pair.client, pair.display, NULL).id);
+	MUST(!waywire_client_next(pair.client, &report) && report.arg_count == 3);
+	ask_client(pair.client);
+	MUST(names(&report.args[1], seat));
+	MUST(!waywire_client_bind(pair.client, pair.registry, name, seat, 1, NULL));
+	to_server(&pair);
+	MUST(!waywire_server_withdraw(pair.server, name) && !waywire_server_announce(pair.server, NULL));
+	MUST(!waywire_server_next(pair.server, &report) && report.arg_count == 1);
+	MUST(!waywire_server_next(pair.server, &report) && report.arg_count == 2);
+	ask_server(pair.server);
+	MUST(names(&report.args[1], seat));
+	close_pair(&pair);
+}
+
 static void numbers(void)
 {
 	MUST(waywire_fixed_from_double(2.5) == 640 && waywire_fixed_to_double(640) == 2.5);
@@ -478,6 +543,7 @@ int main(void)
 	long_message();
 	inspected();
 	lines();
+	asked();
 	numbers();
 	waywire_tables_free(tables);
 	printf("edges: ok\n");

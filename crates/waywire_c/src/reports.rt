@@ -29,8 +29,8 @@ const ERROR: u32 = 5;
 
 const FAULT: u32 = 6;
 
-/// A message that was read, or why none was. What it points to lies in the end, until the end's
-/// next call of any kind.
+/// A message that was read, or why none was. What it points to lies in the end, until the next
+/// call that may change that.
 #[repr(C)]
 #[derive(Clone, Copy)]
 pub struct Report {
