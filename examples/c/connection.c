@@ -166,11 +166,38 @@ static void learn(struct connection *connection, waywire_object object)
 
 /* ---- messages */
 
-/* Closes the descriptors of a message that nobody listens to. */
-static void drop(const waywire_report *report)
+/* Destroys the object that the last event has made, if nothing listens to it, by a destructor without arguments.
+ * It stays where its interface has none, or the outbox no room. */
+static void destroy_made(struct connection *connection)
+{
+	waywire_client *client = connection->link.client;
+	waywire_object made;
+	uint16_t interface;
+	uint32_t version;
+	waywire_message request;
+	if (waywire_client_made(client, &made)
+		|| waywire_client_live(client, made, &interface, &version))
+		return;
+	const struct known *it = find(connection, made);
+	if (it && it->listener.dispatch)
+		return;
+	for (uint16_t opcode = 0; !waywire_tables_message(connection->tables, interface,
+			WAYWIRE_FROM_CLIENT, opcode, &request, NULL, NULL); opcode++)
+		if (request.destroys == WAYWIRE_DESTROYS_TARGET && !request.arg_count
+			&& request.since <= version) {
+			waywire_client_send(client, made, opcode, NULL, 0, NULL, NULL);
+			return;
+		}
+}
+
+/* Closes the descriptors of a message that nobody listens to, and destroys what it has made in a client. */
+static void drop(struct connection *connection, const waywire_report *report)
 {
 	for (size_t each = 0; each < report->token_count; each++)
 		close((int)report->tokens[each]);
+	/* With nothing read, what the last event made may be a callback's. */
+	if (connection->link.client && report->kind != WAYWIRE_NOTHING)
+		destroy_made(connection);
 }
 
 /* Calls what a report is for, and forgets its object where that is gone with it. */
@@ -183,7 +210,7 @@ static void hear(struct connection *connection, const waywire_report *report)
 	struct known *it = find(connection, report->target);
 	if (!it || !it->listener.dispatch
 		|| !it->listener.dispatch(it->listener.calls, it->data, report))
-		drop(report);
+		drop(connection, report);
 	it = find(connection, report->target);
 	if (it && (report->kind == WAYWIRE_DELETED
 		|| (connection->link.server && !is_live(connection, report->target, NULL))))

@@ -1,6 +1,8 @@
 /* A connection: an end of waywire, its socket, and what is called for the messages to each object.
  *
- * A descriptor that came belongs to the callback that is given it, and is closed here where there is none.
+ * A descriptor that came belongs to the callback that is given it. Where a message has no callback, its
+ * descriptors are closed here. An object that the server made by such an event is destroyed, if nothing listens
+ * to it and its interface has a destructor without arguments.
  * Copy this file, or write your own. */
 #ifndef CONNECTION_H
 #define CONNECTION_H
