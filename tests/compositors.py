@@ -1,6 +1,9 @@
-"""Clients of the distribution at the example compositors in C and in Rust, which play a script of events."""
+"""Clients of the distribution at the example compositors in C and in Rust, which play a script of events; and sway
+without a screen."""
 
 import os
+import pwd
+import shutil
 import subprocess
 import tempfile
 
@@ -10,11 +13,27 @@ from checks import COMES_UP, LONG, Failed, Skipped, has_client, has_come, is_lis
 DRAWN = "motion 20 20\nbutton 272\nkey 30\nclose\n"
 # A motion, and the keys H, I and Return.
 TYPED = "motion 40 40\nkey 35\nkey 23\nkey 28\n"
+SWAY = "xwayland disable\noutput * bg #000000 solid_color\n"
 
 
-def started(words, path, said):
+def sway(room, env):
+    """How sway is started without a screen, in a folder that is its own: its words, where it listens, and its
+    environment and user. It does not run as root."""
+    user = pwd.getpwnam("nobody") if os.getuid() == 0 else None
+    with open(f"{room}/config", "w", encoding="ascii") as file:
+        file.write(SWAY)
+    if user:
+        shutil.chown(room, user.pw_uid, user.pw_gid)
+    env = {**env, "XDG_RUNTIME_DIR": room, "HOME": room, "WLR_BACKENDS": "headless",
+           "WLR_LIBINPUT_NO_DEVICES": "1", "WLR_RENDERER": "pixman"}
+    env.pop("WAYLAND_DISPLAY", None)
+    as_user = {"user": user.pw_uid, "group": user.pw_gid, "extra_groups": []} if user else {}
+    return ["sway", "--config", f"{room}/config"], f"{room}/wayland-1", {"env": env, **as_user}
+
+
+def started(words, path, said, **kept):
     """A compositor that listens at a path."""
-    process = subprocess.Popen(words, stdout=said, stderr=said)
+    process = subprocess.Popen(words, stdout=said, stderr=said, **kept)
     has_come(lambda: is_listening(path) or process.poll() is not None)
     return process
 

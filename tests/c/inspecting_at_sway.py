@@ -7,9 +7,7 @@ an object for each selection that it offers.
 The environment is that of tests/c/inspecting.py. `wtype` is the keyboard."""
 import functools
 import os
-import pwd
 import re
-import shutil
 import subprocess
 import sys
 import tempfile
@@ -20,8 +18,8 @@ sys.path.insert(0, os.path.dirname(os.path.realpath(__file__)))
 from inspecting import LONG, main  # noqa: E402
 import real_clients  # noqa: E402
 from checks import has_come, need  # noqa: E402
+import compositors  # noqa: E402
 
-CONFIGURATION = "xwayland disable\noutput * bg #000000 solid_color\n"
 # All of a text is selected, copied, and pasted twice.
 COPY_AND_PASTE = ["wtype", *"-s 500 -M ctrl -k a -s 100 -k c -s 300 -k v -s 100 -k v -m ctrl -s 200".split()]
 
@@ -32,20 +30,10 @@ class Sway(real_clients.RealClients):
     def setUp(self):
         super().setUp()
         need("sway", "wl-copy", "wl-paste")
-        # sway does not run as root.
         self.room = self.enterContext(tempfile.TemporaryDirectory(prefix="sway-"))
-        user = pwd.getpwnam("nobody") if os.getuid() == 0 else None
-        as_user = {"user": user.pw_uid, "group": user.pw_gid, "extra_groups": []} if user else {}
-        with open(f"{self.room}/config", "w", encoding="ascii") as file:
-            file.write(CONFIGURATION)
-        if user:
-            shutil.chown(self.room, user.pw_uid, user.pw_gid)
-        env = {**self.env, "XDG_RUNTIME_DIR": self.room, "HOME": self.room, "WLR_BACKENDS": "headless",
-               "WLR_LIBINPUT_NO_DEVICES": "1", "WLR_RENDERER": "pixman"}
-        env.pop("WAYLAND_DISPLAY")
-        self.env["WAYLAND_DISPLAY"] = f"{self.room}/wayland-1"
-        words = ["sway", "--config", f"{self.room}/config"]
-        self.start_compositor(words, self.env["WAYLAND_DISPLAY"], env, **as_user)
+        words, display, kept = compositors.sway(self.room, self.env)
+        self.env["WAYLAND_DISPLAY"] = display
+        self.start_compositor(words, display, **kept)
 
     def quiet(self):
         """How others run beside the inspected client, which alone says its messages."""

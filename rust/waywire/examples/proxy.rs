@@ -1,17 +1,19 @@
-//! A proxy: takes one client at a path, passes all on between it and the compositor, message by message,
-//! and prints each.
+//! A proxy: takes one client at a path, passes all on between it and the compositor, message by
+//! message, and prints the line of each.
 //!
-//!     proxy PATH
+//!     proxy PATH [TABLES..]
 //!
-//! It is a server towards the client and a client towards the compositor. Each object has a twin at the
-//! other end; globals whose interfaces the tables do not have are not offered.
+//! It is a server towards the client and a client towards the compositor. Each object has a twin at
+//! the other end; globals whose interfaces the tables do not have are not offered. The tables are
+//! those of the core and of xdg-shell, and the text of each file that is named.
 
 mod common;
 
 use common::xdg_shell;
-use common::{compositor_path, socket, Failure, Link};
+use common::{compositor_path, socket, End, Failure, Link};
 use std::collections::HashMap;
 use std::os::unix::net::{UnixListener, UnixStream};
+use std::path::{Path, PathBuf};
 use waywire::{
     event, request, Arg, Client, Destroys, Incoming, Object, SendError, Sender, Server, Sizes,
     Tables, Value,
@@ -37,6 +39,7 @@ struct Passed {
     target: Object,
     opcode: u16,
     args: Vec<Owned>,
+    tokens: Vec<u32>,
 }
 
 /// An argument that is passed on.
@@ -68,21 +71,18 @@ fn owned(value: Value<'_>) -> Owned {
 }
 
 impl Passed {
-    fn of(message: &waywire::Message<'_>) -> Passed {
-        println!("{:?}.{}{:?}", message.target(), message.opcode(), message.args());
+    fn of(message: &waywire::Message<'_>, tables: &Tables, sender: Sender) -> Passed {
+        println!("{}", message.line(tables, sender));
         Passed {
             target: message.target(),
             opcode: message.opcode(),
             args: message.args().map(owned).collect(),
+            tokens: message.tokens().to_vec(),
         }
     }
 
     /// The arguments of the call that passes it on, and the object that it makes here.
-    fn call(
-        &self,
-        twins: &HashMap<Object, Object>,
-        mut token: impl FnMut(u32) -> Option<u32>,
-    ) -> Option<(Vec<Arg<'_>>, Option<Object>)> {
+    fn call(&self, twins: &HashMap<Object, Object>) -> Option<(Vec<Arg<'_>>, Option<Object>)> {
         let mut made = None;
         let args = self.args.iter().map(|it| {
             Some(match it {
@@ -95,12 +95,21 @@ impl Passed {
                     made = Some(*object);
                     Arg::NewId
                 }
-                Owned::Token(given) => Arg::Fd(token(*given)?),
+                Owned::Token(token) => Arg::Fd(*token),
                 Owned::Bound(..) => return None,
             })
         });
         let args = args.collect::<Option<Vec<_>>>()?;
         Some((args, made))
+    }
+
+    /// Hands its descriptors over to the link that it is sent by. Their tokens stay the same.
+    fn hand_over<A: End, B: End>(&self, from: &mut Link<A>, to: &mut Link<B>) {
+        for &token in &self.tokens {
+            if let Some(descriptor) = from.descriptor(token) {
+                to.token(descriptor);
+            }
+        }
     }
 }
 
@@ -120,10 +129,9 @@ impl Proxy {
             self.twins(*object, bound);
             return Ok(());
         }
-        let Proxy { client_side, compositor_side, to_compositor, .. } = self;
-        let token = |it| Some(compositor_side.token(client_side.descriptor(it)?));
-        let (args, made) = passed.call(to_compositor, token).ok_or("an object without a twin")?;
+        let (args, made) = passed.call(&self.to_compositor).ok_or("an object without a twin")?;
         let twin = self.compositor_side.end.send(target, passed.opcode, &args)?;
+        passed.hand_over(&mut self.client_side, &mut self.compositor_side);
         if let (Some(here), Some(there)) = (made, twin) {
             self.twins(here, there);
         }
@@ -148,13 +156,12 @@ impl Proxy {
         let Some(&target) = self.to_client.get(&passed.target) else {
             return Ok(());
         };
-        let Proxy { client_side, compositor_side, to_client, .. } = self;
-        let token = |it| Some(client_side.token(compositor_side.descriptor(it)?));
-        let Some((args, made)) = passed.call(to_client, token) else {
+        let Some((args, made)) = passed.call(&self.to_client) else {
             return Ok(());
         };
         match self.client_side.end.send(target, passed.opcode, &args) {
             Ok(twin) => {
+                passed.hand_over(&mut self.compositor_side, &mut self.client_side);
                 if let (Some(there), Some(here)) = (made, twin) {
                     self.twins(here, there);
                 }
@@ -164,6 +171,13 @@ impl Proxy {
             // The registries of the client are told by `announce`.
             Err(SendError::NoSuchMessage) => Ok(()),
             Err(error) => Err(error.into()),
+        }
+    }
+
+    /// Closes the descriptors of an event that is not passed on.
+    fn close(&mut self, tokens: &[u32]) {
+        for &token in tokens {
+            drop(self.compositor_side.descriptor(token));
         }
     }
 
@@ -188,26 +202,33 @@ impl Proxy {
         Ok(())
     }
 
-    /// A global of the compositor is offered, if the tables have its interface.
+    /// A global of the compositor is offered, if the tables have its interface, or withdrawn. Its
+    /// name is kept, since a bind may be on its way.
     fn told(&mut self, passed: &Passed) -> Result<(), Failure> {
-        let [Owned::Plain(Arg::Uint(name)), Owned::Text(Some(text)), Owned::Plain(Arg::Uint(version))] =
-            &passed.args[..]
-        else {
-            return Ok(());
-        };
-        let Some(interface) = self.tables.interface(std::str::from_utf8(text)?) else {
-            return Ok(());
-        };
-        let version = self.tables.version(interface).unwrap_or(1).min(*version);
-        let own = self.client_side.end.add_global(interface, version)?;
-        self.names.insert(own, *name);
-        self.client_side.end.announce()?;
+        let server = &mut self.client_side.end;
+        match &passed.args[..] {
+            [Owned::Plain(Arg::Uint(name)), Owned::Text(Some(text)), Owned::Plain(Arg::Uint(version))] =>
+            {
+                let Some(interface) = self.tables.interface(std::str::from_utf8(text)?) else {
+                    return Ok(());
+                };
+                let version = self.tables.version(interface).unwrap_or(1).min(*version);
+                self.names.insert(server.add_global(interface, version)?, *name);
+            }
+            [Owned::Plain(Arg::Uint(name))] => {
+                if let Some((own, _)) = self.names.iter().find(|(_, it)| *it == name) {
+                    server.withdraw(*own)?;
+                }
+            }
+            _ => {}
+        }
+        server.announce()?;
         Ok(())
     }
 
     fn read_client(&mut self) -> Result<(), Failure> {
         while let Some(request) = self.client_side.end.next()? {
-            let passed = Passed::of(&request);
+            let passed = Passed::of(&request, &self.tables, Sender::Client);
             self.pass_request(&passed)?;
             self.client_side.end.announce()?;
         }
@@ -218,8 +239,13 @@ impl Proxy {
         while let Some(incoming) = self.compositor_side.end.next()? {
             match incoming {
                 Incoming::Event(event) => {
-                    let passed = Passed::of(&event);
+                    let passed = Passed::of(&event, &self.tables, Sender::Server);
                     self.pass_event(&passed)?;
+                    self.close(&passed.tokens);
+                }
+                Incoming::Discarded { tokens, .. } => {
+                    let tokens = tokens.to_vec();
+                    self.close(&tokens);
                 }
                 Incoming::Deleted(object) => self.forget(object),
                 Incoming::Error(error) => {
@@ -258,10 +284,19 @@ impl Proxy {
     }
 }
 
+/// These tables and those of a file's text.
+fn with_file(tables: &Tables, file: &Path) -> Result<Tables, Failure> {
+    Ok(tables.read(&std::fs::read(file)?)?)
+}
+
 fn main() -> Result<(), Failure> {
-    let path = std::env::args().nth(1).ok_or("the socket's path is wanted")?;
+    let mut words = std::env::args_os().skip(1);
+    let path = words.next().ok_or("the socket's path is wanted")?;
+    let mut tables = Tables::core()?.read(xdg_shell::TABLES)?;
+    for file in words.map(PathBuf::from) {
+        tables = with_file(&tables, &file).map_err(|why| format!("{}: {why}", file.display()))?;
+    }
     let listener = UnixListener::bind(&path)?;
-    let tables = Tables::core()?.read(xdg_shell::TABLES)?;
     let server = Server::new(&tables, &Sizes::default())?;
     let mut client = Client::new(&tables, &Sizes::default())?;
     let registry = client
