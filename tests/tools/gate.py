@@ -63,7 +63,7 @@ class TimedGate(unittest.TestCase):
         """The commands that are run with these words, where `rt` is this script."""
         found = []
 
-        def measured(command):
+        def measured(command, _env):
             found.append(" ".join(command))
             return 1, {}, (0, 0)
 
@@ -94,16 +94,28 @@ class TimedGate(unittest.TestCase):
         self.assertIsNone(self.tool.part_of(f"/proc/{os.getpid()}"))
 
     def test_a_crate_is_proved_in_one_process(self):
-        """As many at once as there are processors. Where memory may be short, rt decides."""
-        number = self.tool.processors()
-        for free, given in ((number * self.tool.MEMORY_EACH, str(number)), (1, None)):
+        """As many at once as there are processors, or as RT_JOBS says. Where memory may be short, rt
+        decides."""
+        most = self.tool.processors()
+        enough = most * self.tool.MEMORY_EACH
+        for free, before, jobs in ((enough, {}, str(most)), (enough - 1, {}, None),
+                                   (enough, {"RT_JOBS": "7"}, "7")):
             with (
-                unittest.mock.patch.object(self.tool, "free", lambda free=free: free),
-                unittest.mock.patch.dict(os.environ),
+                unittest.mock.patch.object(self.tool, "free", return_value=free),
+                unittest.mock.patch.dict(os.environ, before),
             ):
-                os.environ.pop("RT_JOBS", None)
-                found = self.tool.one_process_each()
-                self.assertEqual(found and found["RT_JOBS"], given)
+                if not before:
+                    os.environ.pop("RT_JOBS", None)
+                self.assertEqual(self.tool.in_lanes().get("RT_JOBS"), jobs)
+
+    def test_free_memory(self):
+        """It is what the system has, or less by the limit of a control group."""
+        told = {"/proc/meminfo": b"MemTotal: 9 kB\nMemAvailable:   5 kB\n"}
+        group = {"/sys/fs/cgroup/memory.max": b"4000\n", "/sys/fs/cgroup/memory.stat": b"file 7\nanon 1000\n"}
+        for files, free in ((told, 5120), ({**told, **group}, 3000),
+                            ({**told, **group, "/sys/fs/cgroup/memory.max": b"max\n"}, 5120)):
+            with unittest.mock.patch.object(self.tool, "read", lambda path, files=files: files.get(path, b"")):
+                self.assertEqual(self.tool.free(), free)
 
     def test_no_row_without_a_figure(self):
         """A crate of which a part was not timed is named, and the page has the marks of the figures."""
