@@ -167,7 +167,7 @@ fn is_clipboard(tables: &Tables, compositor: &Server<'_>, object: Object) -> boo
     }
 }
 
-/// A client's end and a server's, which are not those of one connection.
+/// A client and a server, of two different connections.
 fn ends<'t>(alloc: Global, tables: &'t Tables) -> Result<(Client<'t>, Server<'t>)> {
     let client = Client::new(alloc, tables, SIZES)?;
     Ok((client, Server::new(alloc, tables, SIZES)?))

@@ -129,6 +129,15 @@ struct Passing<'a> {
     others: &'a [Passed],
 }
 
+/// What came of refusing one allocation of a piece.
+enum Refused {
+    /// The inspector says what one says that the piece was never passed to.
+    Forgotten,
+    /// The piece asks for fewer, and has passed.
+    NoMore,
+    Wrong,
+}
+
 /// Refuses each allocation of a piece in turn, and goes on with other pieces each time. Whether
 /// each refused inspector says of these what one says that the piece was never passed to.
 fn forgets(
@@ -138,34 +147,34 @@ fn forgets(
     passing: Passing<'_>,
 ) -> Result<bool, AllocError> {
     for number in 0u64..1000 {
-        if let Some(forgets_all) = forgets_at(alloc, memory, tables, passing, number)? {
-            return Ok(forgets_all);
+        match refuse_nth(alloc, memory, tables, passing, number)? {
+            Refused::Forgotten => {}
+            Refused::NoMore => return Ok(true),
+            Refused::Wrong => return Ok(false),
         }
     }
     Ok(false)
 }
 
-/// Refuses one allocation of the piece. None where that leaves nothing behind, so that the next
-/// one is to be refused.
-fn forgets_at(
+fn refuse_nth(
     alloc: Global,
     memory: &RefusingAllocator,
     tables: &Tables,
     passing: Passing<'_>,
     number: u64,
-) -> Result<Option<bool>, AllocError> {
+) -> Result<Refused, AllocError> {
     let mut refused = after(memory.clone()?, tables, passing.before)?;
     let mut other = after(alloc, tables, passing.before)?;
     memory.refuse_nth(number);
-    is_forgotten(memory, &mut refused, &mut other, passing)
+    refuse(memory, &mut refused, &mut other, passing)
 }
 
-fn is_forgotten(
+fn refuse(
     memory: &RefusingAllocator,
     refused: &mut Inspector<'_, RefusingAllocator>,
     other: &mut Inspector<'_>,
     passing: Passing<'_>,
-) -> Result<Option<bool>, AllocError> {
+) -> Result<Refused, AllocError> {
     let piece = passing.piece;
     let passed = refused.pass(
         piece.direction,
@@ -174,11 +183,15 @@ fn is_forgotten(
     );
     let has_refused = memory.has_refused();
     memory.refuse_none();
-    if passed.is_ok() {
-        return Ok(Some(!has_refused));
+    if passed.is_ok() && !has_refused {
+        return Ok(Refused::NoMore);
     }
-    let is_forgotten = has_refused && agree(refused, other, passing.others)?;
-    Ok(if is_forgotten { None } else { Some(false) })
+    let is_forgotten = passed.is_err() && has_refused && agree(refused, other, passing.others)?;
+    Ok(if is_forgotten {
+        Refused::Forgotten
+    } else {
+        Refused::Wrong
+    })
 }
 
 /// Whether a refused piece leaves nothing behind, for whatever piece comes next: the pieces behind

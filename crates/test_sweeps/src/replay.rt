@@ -26,7 +26,7 @@ pub const SIZES: Sizes = Sizes {
     limit: Limit::USUAL,
 };
 
-/// The objects of every end, but where two kinds of tables are compared.
+/// The objects of every end, except where two kinds of tables are compared.
 pub type Objects = SlotTable<Global>;
 
 /// What every sweep is played with.
