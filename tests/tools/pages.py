@@ -153,7 +153,7 @@ class FrontPage(unittest.TestCase):
     def test_readme_shows_what_is_stored(self):
         with open(f"{TOP}/README.md", encoding="utf-8") as file:
             readme = file.read()
-        self.assertLessEqual(len(readme.encode()), 10_496)
+        self.assertLessEqual(len(readme.encode()), 10_000)
         for case in ("trace_surface", "check_bad_new_id"):
             with open(f"{TOP}/tests/runs/{case}.run", encoding="utf-8") as file:
                 run = file.read()
