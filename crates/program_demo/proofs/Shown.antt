@@ -1,9 +1,8 @@
 -- The text of a demonstration.
-use Rattle.std.proofs.Common.{◌≡◌, ℕ, Bool, false, List, ◌++◌, ap, ◌∙◌, subst, IfOk}
+use Rattle.std.proofs.Common.{◌≡◌, ℕ, Bool, List, ◌++◌, ap, ◌∙◌, subst, IfOk}
 use Rattle.std.specs.declared.result.Result.{Result}
 use Rattle.std.specs.declared.result.Result.TheVariants.{Ok, Err}
 use Rattle.wl_sigs.specs.Tables.{Interface}
-use Rattle.wl_sigs.specs.Rules.{has_server_objects}
 use Rattle.wl_recording.specs.Piece.{Piece}
 use Rattle.wl_message.specs.Cut.{usual_limit}
 use Rattle.wl_check.specs.Session.{session_of}
@@ -33,12 +32,12 @@ whole_text tables lent pieces lines text agree counted objects traced same numbe
 -- what tells of a pair that a new one leads to
 pub shown_from_new : {X E : Type 0} (items : X → List ℕ) (tables : List Interface) (piece : ℕ) (pair last : PairState)
     (result : Result X E) → pair ≡ new_pair tables sizes sizes
-    → (has_server_objects tables ≡ false → Stands pair opening_world)
+    → Stands pair opening_world
     → Plays (demo_steps tables piece) pair last → IfOk result (λ x. TellsOfPair tables last (items x))
     → IfOk result (λ x. IsShown tables piece (items x))
 shown_from_new items tables piece pair last (Ok x) begins standing played told = record {
   last = last;
-  begins = λ none. subst (λ (p : PairState). Stands p opening_world) begins (standing none);
+  begins = subst (λ (p : PairState). Stands p opening_world) begins standing;
   played = subst (λ (p : PairState). Plays (demo_steps tables piece) p last) begins played;
   told = told;
 }

@@ -1,7 +1,6 @@
 -- What a demonstration prints.
-use Rattle.std.specs.Prelude.{◌≡◌, ◌↔◌, ℕ, Bool, false, IsTrue, List, ◌++◌}
+use Rattle.std.specs.Prelude.{◌≡◌, ◌↔◌, ℕ, Bool, IsTrue, List, ◌++◌}
 use Rattle.wl_sigs.specs.Tables.{Interface}
-use Rattle.wl_sigs.specs.Rules.{has_server_objects}
 use Rattle.wl_message.specs.Cut.{usual_limit}
 use Rattle.wl_check.specs.Session.{session_of}
 use Rattle.wl_check.specs.Trace.{trace_of}
@@ -24,11 +23,9 @@ pub record TellsOfPair (tables : List Interface) (pair : PairState) (text : List
       ++ agreement_line agree (object_count pair.client.core.view pair.server.core.view)
 
 -- The text tells of two ends that began new, after the session of both, of which each carry moved
--- at most `piece` bytes. Where no event of the tables has a new object of the server, those ends
--- stand for the opening world.
+-- at most `piece` bytes. Those ends stand for the opening world.
 pub record IsShown (tables : List Interface) (piece : ℕ) (text : List ℕ) : Type 0 where
   pub last : PairState
-  pub begins : has_server_objects tables ≡ false
-      → Stands (new_pair tables sizes sizes) opening_world
+  pub begins : Stands (new_pair tables sizes sizes) opening_world
   pub played : Plays (demo_steps tables piece) (new_pair tables sizes sizes) last
   pub told : TellsOfPair tables last text

@@ -1,5 +1,5 @@
 -- The server announces globals.
-use Rattle.std.proofs.Common.{◌≡◌, ℕ, zero, suc, ◌+◌, ◌≤◌, Bool, true, false, cond, List, [], ◌∷◌}
+use Rattle.std.proofs.Common.{◌≡◌, ◌≢◌, ℕ, zero, suc, ◌+◌, ◌<◌, ◌≤◌, ◌^◌, Bool, true, false, cond, List, [], ◌∷◌}
 use Rattle.std.proofs.Common.{◌++◌, map, take, length, refl, sym, ap, subst, ◌∙◌, inl, inr, arith}
 use Rattle.std.specs.Prelude.{option_map, nat_eq, ◌&&◌, slice_get, codes}
 use Rattle.std.specs.declared.option.Option.{Option}
@@ -19,7 +19,6 @@ use Rattle.wl_sigs.specs.Valid.{Valid}
 use Rattle.wl_message.specs.Outgoing.{queued}
 use Rattle.wl_objects.specs.declared.error.SendError.{SendError}
 use Rattle.wl_object_map.specs.declared.object.Object.{Object}
-use Rattle.wl_object_map.specs.View.{max_ids}
 use Rattle.wl_object_map.specs.Objects.{Objects}
 use Rattle.wl_objects.specs.Writing.{message_bytes, message_len}
 use Rattle.wl_connection.specs.Core.{Core}
@@ -33,7 +32,7 @@ use Rattle.wl_server.specs.Announcing.{name_at, owed_opcode, values_of, with_due
 use Rattle.wl_server.specs.Announcing.{all_marked}
 use Rattle.wl_server.specs.Registries.{IsAmong, IsRegistry}
 use Rattle.wl_server.proofs.Registries.{has_marked}
-use Rattle.theory_connection.specs.Meant.{client_birth, Born, Known, Message, Coming, Event, Arg, renamed, rearg}
+use Rattle.theory_connection.specs.Meant.{Born, Known, Message, Coming, Event, Arg, renamed, rearg}
 use Rattle.theory_connection.specs.Meant.{born_of, birth_of, wire, tokens, made_in, objects, born_of_entry}
 use Rattle.theory_connection.specs.World.{World, Each, event_written}
 use Rattle.theory_connection.specs.Pair.{PairState, Announce, with_server, with_server_core}
@@ -46,7 +45,17 @@ use Rattle.theory_connection.specs.Stands.{StandsBy, TellsFitly, IsGlobal}
 use Rattle.wl_connection.specs.Core.{max_globals}
 use Rattle.theory_connection.proofs.WholeInFlight.{ThereRow, each_more}
 use Rattle.theory_connection.proofs.RowsAfterMessage.{there_row, made_map, Aged}
-use Rattle.theory_connection.proofs.MadeByClient.{row_low}
+use Rattle.theory_connection.proofs.TwoRanges.{row_word}
+use Rattle.wl_objects.specs.Messages.{opens as opens_view}
+use Rattle.std.proofs.lemmas.Bool.{cases_Bool}
+use Rattle.wl_object_map.specs.Ranges.{is_of_server}
+use Rattle.theory_connection.specs.Meant.{same_birth}
+use Rattle.theory_connection.specs.Meant.{IsAmongFirst}
+use Rattle.theory_connection.specs.World.{IfThere}
+use Rattle.theory_connection.specs.Flight.{births_in}
+use Rattle.theory_connection.proofs.ReadAsMeant.{made_of}
+use Rattle.theory_connection.proofs.RequestRead.{test_of}
+use Rattle.theory_connection.proofs.WholeInFlight.{FreshTold}
 use Rattle.theory_connection.proofs.EndedObject.{born_ends}
 use Rattle.theory_connection.proofs.EventWritten.{CanTell, told_core, tell_stands}
 use Rattle.theory_connection.proofs.ServerSendMoves.{tells_world}
@@ -106,8 +115,8 @@ dues_of tables given v o (x ∷ os) a i h = (
   record {
     version = i.entry.version;
     some = a o.id i.entry i.row;
-    there = ap (option_map born_of_entry) i.row ∙ (λ j. Some
-        (record { birth = client_birth (i.birth j); iface = i.iface j; version = i.entry.version }));
+    there = ap (option_map (born_of_entry o.id)) i.row ∙ (λ j. Some
+        (record { birth = birth_at (record { id = o.id; birth = i.birth j }); iface = i.iface j; version = i.entry.version }));
     owing = h.0;
   },
   dues_of tables given v o os a i h.1,
@@ -160,10 +169,20 @@ pick true (Removal name) r = refl
 pick true (Telling name g) r = refl
 pick false o r = refl
 
-pub marks_marked : (d : Due) (rs : List Registry)
+-- births of objects of the client's range are the same where their numbers are
+same_numbers : (a b : Object) → is_of_server a.id ≡ false → is_of_server b.id ≡ false
+    → nat_eq a.birth b.birth ≡ same_birth (birth_at a) (birth_at b)
+same_numbers a b h k = rw (h, k) refl
+
+-- marking goes by births: all registries are the client's
+pub marks_marked : (d : Due) (rs : List Registry) → is_of_server d.object.id ≡ false
+    → ((o : Object) → IsAmong o rs → is_of_server o.id ≡ false)
     → map marks_of (marked_in d rs) ≡ mark_in (owed_of d) (map marks_of rs)
-marks_marked d [] = refl
-marks_marked d (r ∷ rs) = λ i. pick (nat_eq r.object.birth d.object.birth) d.owing r i ∷ marks_marked d rs i
+marks_marked d [] l f = refl
+marks_marked d (r ∷ rs) l f =
+    (λ i. pick (nat_eq r.object.birth d.object.birth) d.owing r i ∷ marks_marked d rs l (λ o a. f o (inr a)) i)
+    ∙ (λ i. cond (same_numbers r.object d.object (f r.object (inl refl)) l i) (mark_one d.owing (marks_of r)) (marks_of r)
+    ∷ mark_in (owed_of d) (map marks_of rs))
 
 -- ---- the event
 
@@ -238,7 +257,7 @@ named tables v g h =
     }
 
 pub due_fits : (tables : List Interface) → Valid tables → (given : List Global) (d : Due) (version : ℕ) → 1 ≤ version
-    → d.object.id ≤ max_ids → (o : Owing) → IsOwing tables given o → d.owing ≡ o
+    → d.object.id < 2 ^ 32 → (o : Owing) → IsOwing tables given o → d.owing ≡ o
     → TellsFitly tables given (record {
       target = record {
         id = d.object.id;
@@ -266,7 +285,6 @@ due_fits tables v given d version w low (Removal name) h e = record {
     new_is = (tt, tt);
     no_error = refl;
   };
-  makes_none = refl;
   no_delete_id = refl;
   tells = λ a b. absurd (omega (arith, b));
 }
@@ -286,7 +304,6 @@ due_fits tables v given d version w low (Telling name g) h e =
         new_is = (tt, (tt, (tt, tt)));
         no_error = refl;
       };
-      makes_none = refl;
       no_delete_id = refl;
       tells = λ a b. record {
         name = name;
@@ -316,11 +333,14 @@ due_can p w asked told s d i =
           record { birth = birth_at d.object; iface = registry; version = i.version };
     } in
     let r = there_row p.server.core.view x i.there in
-    let low = (row_low p.server.core.view d.object.id r.entry s.server.sound r.there).1 in
+    let low = (row_word p.server.core.view d.object.id r.entry s.server.sound r.there).1 in
     record {
       fitly = due_fits p.server.core.tables s.terms.valid p.server.globals d i.version i.some low d.owing i.owing refl;
       target = i.there;
       args = no_objects p.server.core.tables d.owing;
+      new = subst (IfThere (FreshTold (server_rows p.server.core.view))) (sym (due_none p.server.core.tables d.owing)) tt;
+      new_plain = subst (IfThere (λ x. test_of p x.born ≡ false)) (sym (due_none p.server.core.tables d.owing)) tt;
+      new_other = subst (IfThere (λ x. x.born.iface ≢ registry)) (sym (due_none p.server.core.tables d.owing)) tt;
       ends = tt;
       short = let l = due_short p.server.core.tables s.terms.valid p.server.globals d.owing i.owing
           in omega (arith, l, p.server.core.outbox.limit.in_range.0);
@@ -341,6 +361,7 @@ one_told st d = record st {
 core_is : (c : Core) (d : Due) (version : ℕ) → told_core c (due_message c.tables d version)
     ≡ with_sent c d.object.id (owed_opcode d.owing) (values_of c.tables d.owing) []
 core_is c d version = λ i. record c {
+  view = opens_view c.view (option_map made_of (due_none c.tables d.owing i));
   outbox = record c.outbox {
     messages = (append-nil (c.outbox.messages ++ queued
         (message_bytes d.object.id (owed_opcode d.owing) (map wire (due_args c.tables d.owing)))
@@ -350,21 +371,41 @@ core_is c d version = λ i. record c {
   };
 }
 
+-- a registry is the client's
+registry_client : (p : PairState) (w : World) (asked : List (Message Known)) (told : List (Coming Known))
+    → StandsBy p w asked told → (o : Object) → IsRegistry p.server.core.view o → is_of_server o.id ≡ false
+registry_client p w asked told s o r = elim (cases_Bool (is_of_server o.id)) [
+  | inl l ↦ absurd ((s.plain o.id (born_of_entry o.id r.entry) l (ap (option_map (born_of_entry o.id)) r.row)).1 r.iface)
+  | inr l ↦ l
+]
+
+due_client : (p : PairState) (w : World) (asked : List (Message Known)) (told : List (Coming Known))
+    → StandsBy p w asked told → (d : Due) → IsDue p.server.core.tables p.server.globals
+    (server_rows p.server.core.view) d → is_of_server d.object.id ≡ false
+due_client p w asked told s d i = elim (cases_Bool (is_of_server d.object.id)) [
+  | inl l ↦ absurd ((s.plain d.object.id _ l i.there).1 refl)
+  | inr l ↦ l
+]
+
 marked_stands : (p : PairState) (w : World) (asked : List (Message Known)) (told : List (Coming Known))
-    (s : StandsBy p w asked told) (d : Due)
+    (s : StandsBy p w asked told) (d : Due) → is_of_server d.object.id ≡ false
     → StandsBy (with_server p (record p.server { registries = marked_in d p.server.registries }))
     (record w { registries = mark_in (owed_of d) w.registries }) asked told
-marked_stands p w asked told s d = record {
+marked_stands p w asked told s d range = record {
   terms = s.terms;
   client = s.client;
   server = s.server;
+  plain = s.plain;
+  none_made = s.none_made;
   requests = s.requests;
   events = s.events;
+  asks_counted = s.asks_counted;
   deletes_follow = s.deletes_follow;
   meet = s.meet;
   globals = s.globals;
   registries = record {
-    told = ap (mark_in (owed_of d)) s.registries.told ∙ sym (marks_marked d p.server.registries);
+    told = ap (mark_in (owed_of d)) s.registries.told ∙ sym (marks_marked d p.server.registries range
+        (λ o a. registry_client p w asked told s o (s.registries.open_registries.only o a)));
     open_registries = has_marked p.server.core.view d p.server.registries s.registries.open_registries;
   };
 }
@@ -375,7 +416,7 @@ pub record Told (p : PairState) (w : World) (asked : List (Message Known)) (earl
   pub told : List (Coming Known)
   pub news : List (Coming Known)
   pub added : told ≡ earlier ++ news
-  pub below : Each (IsBelow p.server.core.view.client.births) (all_tells news)
+  pub below : Each (IsBelow (births_in (server_rows p.server.core.view))) (all_tells news)
   pub not_ended : NotEnded after_all world
   pub announces : AnnouncesThose p.server.core.tables w (map owed_of ds) world
   pub stands_by : StandsBy after_all world asked told
@@ -396,7 +437,7 @@ one_stands p w asked told s d i =
     (values_of p.server.core.tables d.owing) [])) (event_written w (renamed born_of m)) asked
     (told ++ (Event m ∷ []))
     (subst (λ (x : Core). StandsBy (with_server_core p x) (event_written w (renamed born_of m)) asked
-    (told ++ (Event m ∷ []))) c t) d
+    (told ++ (Event m ∷ []))) c t) d (due_client p w asked told s d i)
 
 writes_due : (p : PairState) (w : World) (asked : List (Message Known)) (told : List (Coming Known))
     (s : StandsBy p w asked told) (d : Due) (i : IsDue p.server.core.tables p.server.globals
@@ -447,9 +488,11 @@ tell_all p w asked told s z (d ∷ ds) i =
       told = r.told;
       news = Event m ∷ r.news;
       added = r.added ∙ append_assoc told (Event m ∷ []) r.news;
-      below = each_more (IsBelow p.server.core.view.client.births) (tells (Event m)) (all_tells r.news)
-          (event_below (server_rows p.server.core.view) p.server.core.view.client.births s.server.sets.below m can.target
-          can.args tt) r.below;
+      below = each_more (IsBelow (births_in (server_rows p.server.core.view))) (tells (Event m)) (all_tells r.news)
+          (event_below (server_rows p.server.core.view) (births_in (server_rows p.server.core.view))
+          s.server.sets.below m can.target can.args
+          (subst (IfThere (λ x. IsAmongFirst (births_in (server_rows p.server.core.view)) x.born.birth))
+          (sym (due_none p.server.core.tables d.owing)) tt) tt) r.below;
       not_ended = r.not_ended;
       announces = more (writes_due p w asked told s d i.0) r.announces;
       stands_by = r.stands_by;
@@ -485,6 +528,6 @@ announce_keeps p w asked told s z reply p' (announced {count = count} l f) =
           (with_server p (record p.server { core = c; registries = all_marked ds p.server.registries })) asked
           (told ++ r.news)) (sym (only_sent p.server.core ds))
           (telling p.server.core.view (with_dues p.server.core ds).outbox
-          (all_marked ds p.server.registries) r.news refl r.below)));
+          (all_marked ds p.server.registries) r.news (λ k. omega arith) r.below)));
     }
 announce_keeps p w asked told s z reply p' (refused l) = absurd (cc (l, s.server.lives))

@@ -1,12 +1,12 @@
 -- Births: when two are one, what is put at one, and which are counted.
-use Rattle.std.proofs.Common.{◌≡◌, ◌≢◌, ℕ, ◌+◌, ◌<◌, ◌≤◌, Bool, true, false, cond, ◌⊎◌, inl, inr, refl, sym, ◌∙◌}
+use Rattle.std.proofs.Common.{◌≡◌, ◌≢◌, ℕ, ◌+◌, ◌<◌, ◌≤◌, Bool, true, false, cond, ◌⊎◌, inl, inr, refl, sym}
 use Rattle.std.proofs.Common.{ap, subst, arith, eqb-true, eq-eqb}
 use Rattle.std.proofs.lemmas.Bool.{and_parts}
 use Rattle.std.specs.Prelude.{nat_eq}
 use Rattle.std.specs.declared.option.Option.{Option}
 use Rattle.wl_object_map.specs.declared.object.Maker.{Maker}
 use Rattle.wl_object_map.specs.declared.object.Maker.TheVariants.{Client, Server}
-use Rattle.theory_connection.specs.Meant.{Birth, client_birth, same_maker, same_birth, IsAmongFirst}
+use Rattle.theory_connection.specs.Meant.{Birth, same_maker, same_birth, IsAmongFirst}
 use Rattle.theory_connection.specs.World.{put}
 
 -- ---- the test
@@ -17,7 +17,8 @@ maker_same Server Server h = refl
 maker_same Client Server h = absurd (cc h)
 maker_same Server Client h = absurd (cc h)
 
-maker_itself : (m : Maker) → same_maker m m ≡ true
+-- a maker is the same as itself
+pub maker_itself : (m : Maker) → same_maker m m ≡ true
 maker_itself Client = refl
 maker_itself Server = refl
 
@@ -32,10 +33,6 @@ birth_same b c h =
 -- and one birth is the same as itself
 pub birth_itself : (b : Birth) → same_birth b b ≡ true
 birth_itself b = rw (maker_itself b.maker) (eq-eqb b.number b.number refl)
-
--- a birth of the client is told by its number
-pub client_birth_is : (b : Birth) → b.maker ≡ Client → client_birth b.number ≡ b
-client_birth_is b h = λ i. record { maker = sym h i; number = b.number }
 
 -- ---- what is put
 
@@ -64,25 +61,16 @@ module _ {X : Type 0} where
 -- ---- what is counted
 
 -- what is counted is so when more are
-pub counted_more : (b : Birth) (n m : ℕ) → IsAmongFirst n b → n ≤ m → IsAmongFirst m b
-counted_more b n m c l = record { maker = c.maker; number = omega (arith, c.number, l) }
+pub counted_more : (b : Birth) (n m : Maker → ℕ) → IsAmongFirst n b → ((k : Maker) → n k ≤ m k) → IsAmongFirst m b
+counted_more b n m c l = let k = l b.maker in omega (arith, c, k)
 
--- the next birth is counted by one more
-pub next_counted : (b : Birth) (n : ℕ) → b ≡ client_birth n → IsAmongFirst (n + 1) b
-next_counted b n e =
-    let k = ap (λ (x : Birth). x.number) e in
-    record { maker = ap (λ (x : Birth). x.maker) e; number = omega (arith, k) }
+-- the next birth of a maker is counted by one more
+pub next_counted : (b : Birth) (k : Maker) (n : ℕ) (m : Maker → ℕ) → b ≡ record { maker = k; number = n } → n + 1 ≤ m k
+    → IsAmongFirst m b
+next_counted b k n m e l = subst (IsAmongFirst m) (sym e) (omega (arith, l))
 
 -- and not before
-pub next_uncounted : (b : Birth) (n : ℕ) → b ≡ client_birth n → IsAmongFirst n b → ⊥
-next_uncounted b n e c = let k = ap (λ (x : Birth). x.number) e in absurd (omega (arith, k, c.number))
-
--- one more counts the next birth alone
-pub next_or_counted : (b : Birth) (n : ℕ) → IsAmongFirst (n + 1) b → IsAmongFirst n b ⊎ (b ≡ client_birth n)
-next_or_counted b n c = elim (less_or b.number n c.number) [
-  | inl l ↦ inl (record { maker = c.maker; number = l })
-  | inr e ↦ inr (sym (client_birth_is b c.maker) ∙ ap client_birth e)
-]
-  where
-    less_or : (a m : ℕ) → a < m + 1 → (a < m) ⊎ (a ≡ m)
-    less_or a m l = grind (arith, l)
+pub next_uncounted : (b : Birth) (k : Maker) (n : Maker → ℕ) → b ≡ record { maker = k; number = n k }
+    → IsAmongFirst n b → ⊥
+next_uncounted b k n e c =
+    let c' : n k < n k = subst (IsAmongFirst n) e c in absurd (omega (arith, c'))

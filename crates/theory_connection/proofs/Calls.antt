@@ -1,12 +1,12 @@
 -- The message that a call writes.
-use Rattle.std.proofs.Common.{◌≡◌, ◌≢◌, ℕ, suc, ◌<◌, ◌≤◌, ◌^◌, Bool, true, false, cond, List, []}
+use Rattle.std.proofs.Common.{◌≡◌, ◌≢◌, ℕ, suc, ◌+◌, ◌<◌, ◌≤◌, ◌^◌, Bool, true, false, cond, List, []}
 use Rattle.std.proofs.Common.{◌∷◌, map, length, ◌⊎◌, inl, inr, refl, sym, ap, subst, ◌∙◌, arith}
 use Rattle.std.specs.Prelude.{nat_eq, nat_lt}
 use Rattle.std.specs.List.{All, list_any}
 use Rattle.std.specs.declared.option.Option.{Option}
 use Rattle.std.specs.declared.option.Option.TheVariants.{None, Some}
 use Rattle.std.specs.declared.result.Result.TheVariants.{Ok, Err}
-use Rattle.std.proofs.lemmas.Bool.{both_ways, eqb-true, eq-eqb, ltb-false, and_parts, or_parts, not-true}
+use Rattle.std.proofs.lemmas.Bool.{both_ways, eqb-true, eq-eqb, ltb-false, and_parts, not-true}
 use Rattle.std.proofs.lemmas.List.Folds.{list_any_at}
 use Rattle.std.proofs.lemmas.List.Elements.{All-tail}
 use Rattle.wl_wire.specs.declared.kind.Kind.{Kind}
@@ -15,7 +15,7 @@ use Rattle.wl_wire.specs.declared.kind.Iface.{Iface}
 use Rattle.wl_wire.specs.Argument.{reshaped, Int, Uint, Fixed, Str, Obj, New, NewNamed, Array, Fd}
 use Rattle.wl_wire.specs.Spelling.{Suits, spelled_len}
 use Rattle.wl_sigs.specs.declared.signature.Side.{Side}
-use Rattle.wl_sigs.specs.Tables.{Interface, signature_at, new_objects, is_by_server}
+use Rattle.wl_sigs.specs.Tables.{Interface, signature_at, new_objects, server_objects}
 use Rattle.wl_sigs.specs.Tables as sigs
 use Rattle.wl_object_map.specs.declared.object.Object.{Object}
 use Rattle.wl_object_map.specs.declared.object.Entry.{Entry}
@@ -23,22 +23,20 @@ use Rattle.wl_object_map.specs.declared.object.State.{State}
 use Rattle.wl_object_map.specs.declared.object.State.TheVariants as states
 use Rattle.wl_objects.specs.declared.error.SendError.{SendError}
 use Rattle.wl_object_map.specs.declared.object.Maker.{Maker}
-use Rattle.wl_object_map.specs.Objects.{Objects, look, next_id, next_birth}
+use Rattle.wl_object_map.specs.Objects.{Objects, ObjectsAreSound, look, next_id, next_birth}
 use Rattle.wl_objects.specs.Reading.{is_of}
 use Rattle.wl_message.specs.Cut.{greatest_limit}
 use Rattle.wl_objects.specs.Writing.{Given, suits, has_no_nul, wrong_place, lost_place}
 use Rattle.wl_objects.specs.Writing.{is_live_as, row_is_of, can_name, wired, tokens_of, message_len}
 use Rattle.wl_objects.specs.Messages.{NewObject, made, live_row, checked, checked_by, checked_as}
 use Rattle.wl_objects.specs.Messages.{unless_hidden, unless_wrong, is_hidden}
-use Rattle.theory_connection.specs.Stands.{MadeByClient}
 use Rattle.theory_connection.specs.Meant.{Birth, client_birth, Born, Known, Arg, rearg, born_of, birth_of, wire}
 use Rattle.theory_connection.specs.Meant.{tokens, new_object_in, made_in, objects, born_of_entry, live_entry}
 use Rattle.theory_connection.specs.World.{Each, IfThere}
-use Rattle.theory_connection.specs.Answers.{handed}
+use Rattle.theory_connection.specs.Answers.{birth_at, handed}
 use Rattle.theory_connection.specs.Stands.{SuitKinds, NamesRightly}
 use Rattle.theory_connection.specs.Runs.{FitsWords}
-use Rattle.theory_connection.proofs.MadeByClient.{row_low}
-use Rattle.theory_connection.proofs.NoneByServer.{NoneByServer}
+use Rattle.theory_connection.proofs.TwoRanges.{row_word}
 use Rattle.wl_object_map.specs.View.{lives}
 use Rattle.wl_objects.specs.Messages.{or_else}
 
@@ -158,27 +156,27 @@ is_checked limit tables side view target opcode given s h =
 -- ---- the message
 
 -- what an object was born as, by its entry
-abbrev pub born_at : Option Entry → Born
-born_at None = record { birth = client_birth 0; iface = record { 0 = 0 }; version = 0 }
-born_at (Some e) = born_of_entry e
+abbrev pub born_at : ℕ → Option Entry → Born
+born_at id None = record { birth = client_birth 0; iface = record { 0 = 0 }; version = 0 }
+born_at id (Some e) = born_of_entry id e
 
 abbrev pub resolve : Objects → Option Object → Option Known
 resolve view None = None
-resolve view (Some object) = Some (record { id = object.id; born = born_at (look view object.id) })
+resolve view (Some object) = Some (record { id = object.id; born = born_at object.id (look view object.id) })
 
 -- what a given argument means, with this new object
 abbrev pub meant : Objects → Known → Given → Arg Known
 meant view new a = reshaped (resolve view) (λ _. new) (λ t. t) a
 
--- the new object of a call that makes this maker's objects, which the world has as the client's
+-- the new object of a call that makes this maker's objects
 abbrev pub new_known : Maker → Objects → Option NewObject → Known
 new_known maker view None = record {
   id = next_id maker view;
-  born = record { birth = client_birth (next_birth maker view); iface = record { 0 = 0 }; version = 0 };
+  born = record { birth = record { maker = maker; number = next_birth maker view }; iface = record { 0 = 0 }; version = 0 };
 }
 new_known maker view (Some m) = record {
   id = next_id maker view;
-  born = record { birth = client_birth (next_birth maker view); iface = m.iface; version = m.version };
+  born = record { birth = record { maker = maker; number = next_birth maker view }; iface = m.iface; version = m.version };
 }
 
 wire_one : (view : Objects) (new : Known) (a : Given) → wire (meant view new a) ≡ wired new.id a
@@ -227,26 +225,27 @@ all_right view place (k ∷ ks) (a ∷ given) w l =
 
 -- ---- it names what was handed
 
-handed_one : (view : Objects) (new : Known) (births : ℕ) (k : Kind) (a : Given)
-    → new.born.birth ≡ client_birth births → Right view k a
-    → rearg birth_of (rearg born_of (meant view new a)) ≡ handed births a
-handed_one view new births k (Obj None) e r = refl
-handed_one view new births k (Obj (Some x)) e r =
+handed_one : (view : Objects) (new : Known) (next : Birth) (k : Kind) (a : Given)
+    → new.born.birth ≡ next → Right view k a
+    → rearg birth_of (rearg born_of (meant view new a)) ≡ handed next a
+handed_one view new next k (Obj None) e r = refl
+handed_one view new next k (Obj (Some x)) e r =
     let l = live_as x.birth (look view x.id) (and_parts _ _ r.named).0 in
-    ap (λ (b : Birth). Obj (Some b)) (ap (λ o. (born_at o).birth) l.there ∙ ap client_birth l.birth_is)
-handed_one view new births k (New x) e r = ap (λ (b : Birth). New b) e
-handed_one view new births k (NewNamed name own x) e r = ap (λ (b : Birth). NewNamed name own b) e
-handed_one view new births k a e r = refl
+    ap (λ (b : Birth). Obj (Some b)) (ap (λ o. (born_at x.id o).birth) l.there
+    ∙ ap (λ (n : ℕ). birth_at (record { id = x.id; birth = n })) l.birth_is)
+handed_one view new next k (New x) e r = ap (λ (b : Birth). New b) e
+handed_one view new next k (NewNamed name own x) e r = ap (λ (b : Birth). NewNamed name own b) e
+handed_one view new next k a e r = refl
 
--- what is meant, by births, is what was handed
-pub handed_all : (view : Objects) (new : Known) (births : ℕ) (ks : List Kind) (given : List Given)
-    → new.born.birth ≡ client_birth births → AllRight view ks given
-    → map (rearg birth_of) (map (rearg born_of) (map (meant view new) given)) ≡ map (handed births) given
-handed_all view new births [] [] e r = refl
-handed_all view new births [] (a ∷ given) e r = absurd r
-handed_all view new births (k ∷ ks) [] e r = absurd r
-handed_all view new births (k ∷ ks) (a ∷ given) e r =
-    rw (handed_one view new births k a e r.0, handed_all view new births ks given e r.1) refl
+-- what is meant, by next, is what was handed
+pub handed_all : (view : Objects) (new : Known) (next : Birth) (ks : List Kind) (given : List Given)
+    → new.born.birth ≡ next → AllRight view ks given
+    → map (rearg birth_of) (map (rearg born_of) (map (meant view new) given)) ≡ map (handed next) given
+handed_all view new next [] [] e r = refl
+handed_all view new next [] (a ∷ given) e r = absurd r
+handed_all view new next (k ∷ ks) [] e r = absurd r
+handed_all view new next (k ∷ ks) (a ∷ given) e r =
+    rw (handed_one view new next k a e r.0, handed_all view new next ks given e r.1) refl
 
 -- ---- its objects
 
@@ -254,13 +253,13 @@ handed_all view new births (k ∷ ks) (a ∷ given) e r =
 pub record LiveAt (view : Objects) (x : Known) : Type 0 where
   pub entry : Entry
   pub there : look view x.id ≡ Some entry
-  pub same : born_of_entry entry ≡ x.born
+  pub same : born_of_entry x.id entry ≡ x.born
   pub live : entry.state ≡ states.Live
 
 pub live_at : (view : Objects) (k : Kind) (x : Object) → can_name (look view) k (Obj (Some x)) ≡ true
-    → LiveAt view (record { id = x.id; born = born_at (look view x.id) })
+    → LiveAt view (record { id = x.id; born = born_at x.id (look view x.id) })
 live_at view k x h = let l = live_as x.birth (look view x.id) (and_parts _ _ h).0
-    in record { entry = l.entry; there = l.there; same = ap born_at (sym l.there); live = l.live }
+    in record { entry = l.entry; there = l.there; same = ap (born_at x.id) (sym l.there); live = l.live }
 
 -- each object that is meant is live
 pub all_live : (view : Objects) (new : Known) (ks : List Kind) (given : List Given) → AllRight view ks given
@@ -276,12 +275,18 @@ all_live view new (k ∷ ks) (a ∷ given) r = all_live view new ks given r.1
 
 abbrev pub Matches : Known → ℕ → Kind → Type 0
 Matches new version (kinds.New (Some iface)) = (new.born.iface ≡ iface) × (new.born.version ≡ version)
+Matches new version (kinds.NewByServer iface) = (new.born.iface ≡ iface) × (new.born.version ≡ version)
 Matches new version (kinds.New None) = ⊥
 Matches new version _ = Unit {0}
 
-none_new : (new : Known) (version : ℕ) (ks : List Kind) → length (new_objects ks) ≤ 0 → Each (Matches new version) ks
+-- how many objects kinds make
+abbrev pub makings : List Kind → ℕ
+makings ks = length (new_objects ks) + length (server_objects ks)
+
+none_new : (new : Known) (version : ℕ) (ks : List Kind) → makings ks ≤ 0 → Each (Matches new version) ks
 none_new new version [] h = tt
 none_new new version (kinds.New i ∷ ks) h = absurd (omega arith)
+none_new new version (kinds.NewByServer i ∷ ks) h = absurd (omega arith)
 none_new new version (kind ∷ ks) h = (tt, none_new new version ks h)
 
 unnamed_first : (k : Kind) (ks : List Kind) → All (λ x. x ≢ kinds.New None) (k ∷ ks) → k ≢ kinds.New None
@@ -292,34 +297,38 @@ unnamed_rest k ks h = All-tail (λ (x : Kind). x ≢ kinds.New None) k ks h
 
 -- each kind that makes an object makes just the new one
 pub matches : (tables : List Interface) (maker : Maker) (view : Objects) (version id : ℕ) (ks : List Kind) (given : List Given)
-    → NoneByServer ks → AllRight view ks given → length (new_objects ks) ≤ 1 → All (λ x. x ≢ kinds.New None) ks
+    → AllRight view ks given → makings ks ≤ 1 → All (λ x. x ≢ kinds.New None) ks
     → Each (Matches (new_known maker view (made tables version ks (map (wired id) given))) version) ks
-matches tables maker view version id [] [] n r h u = tt
-matches tables maker view version id [] (a ∷ given) n r h u = absurd r
-matches tables maker view version id (k ∷ ks) [] n r h u = absurd r
-matches tables maker view version id (kinds.Int ∷ ks) (Int z ∷ given) n r h u =
-    (tt, matches tables maker view version id ks given n r.1 h (unnamed_rest kinds.Int ks u))
-matches tables maker view version id (kinds.Uint ∷ ks) (Uint z ∷ given) n r h u =
-    (tt, matches tables maker view version id ks given n r.1 h (unnamed_rest kinds.Uint ks u))
-matches tables maker view version id (kinds.Fixed ∷ ks) (Fixed z ∷ given) n r h u =
-    (tt, matches tables maker view version id ks given n r.1 h (unnamed_rest kinds.Fixed ks u))
-matches tables maker view version id (kinds.Str null ∷ ks) (Str z ∷ given) n r h u =
-    (tt, matches tables maker view version id ks given n r.1 h (unnamed_rest (kinds.Str null) ks u))
-matches tables maker view version id (kinds.Obj null i ∷ ks) (Obj z ∷ given) n r h u =
-    (tt, matches tables maker view version id ks given n r.1 h (unnamed_rest (kinds.Obj null i) ks u))
-matches tables maker view version id (kinds.New (Some iface) ∷ ks) (New x ∷ given) n r h u = (
+matches tables maker view version id [] [] r h u = tt
+matches tables maker view version id [] (a ∷ given) r h u = absurd r
+matches tables maker view version id (k ∷ ks) [] r h u = absurd r
+matches tables maker view version id (kinds.Int ∷ ks) (Int z ∷ given) r h u =
+    (tt, matches tables maker view version id ks given r.1 h (unnamed_rest kinds.Int ks u))
+matches tables maker view version id (kinds.Uint ∷ ks) (Uint z ∷ given) r h u =
+    (tt, matches tables maker view version id ks given r.1 h (unnamed_rest kinds.Uint ks u))
+matches tables maker view version id (kinds.Fixed ∷ ks) (Fixed z ∷ given) r h u =
+    (tt, matches tables maker view version id ks given r.1 h (unnamed_rest kinds.Fixed ks u))
+matches tables maker view version id (kinds.Str null ∷ ks) (Str z ∷ given) r h u =
+    (tt, matches tables maker view version id ks given r.1 h (unnamed_rest (kinds.Str null) ks u))
+matches tables maker view version id (kinds.Obj null i ∷ ks) (Obj z ∷ given) r h u =
+    (tt, matches tables maker view version id ks given r.1 h (unnamed_rest (kinds.Obj null i) ks u))
+matches tables maker view version id (kinds.New (Some iface) ∷ ks) (New x ∷ given) r h u = (
   (refl, refl),
   none_new (new_known maker view (Some (record { id = id; iface = iface; version = version }))) version ks
       (omega arith),
 )
-matches tables maker view version id (kinds.New None ∷ ks) (NewNamed name own x ∷ given) n r h u =
+matches tables maker view version id (kinds.New None ∷ ks) (NewNamed name own x ∷ given) r h u =
     absurd (unnamed_first (kinds.New None) ks u refl)
-matches tables maker view version id (kinds.Array ∷ ks) (Array z ∷ given) n r h u =
-    (tt, matches tables maker view version id ks given n r.1 h (unnamed_rest kinds.Array ks u))
-matches tables maker view version id (kinds.Fd ∷ ks) (Fd z ∷ given) n r h u =
-    (tt, matches tables maker view version id ks given n r.1 h (unnamed_rest kinds.Fd ks u))
-matches tables maker view version id (kinds.NewByServer iface ∷ ks) (x ∷ given) n r h u = absurd (cc n)
-matches tables maker view version id (_ ∷ ks) (_ ∷ given) n r h u = absurd (cc r.0.suit)
+matches tables maker view version id (kinds.Array ∷ ks) (Array z ∷ given) r h u =
+    (tt, matches tables maker view version id ks given r.1 h (unnamed_rest kinds.Array ks u))
+matches tables maker view version id (kinds.Fd ∷ ks) (Fd z ∷ given) r h u =
+    (tt, matches tables maker view version id ks given r.1 h (unnamed_rest kinds.Fd ks u))
+matches tables maker view version id (kinds.NewByServer iface ∷ ks) (New x ∷ given) r h u = (
+  (refl, refl),
+  none_new (new_known maker view (Some (record { id = id; iface = iface; version = version }))) version ks
+      (omega arith),
+)
+matches tables maker view version id (_ ∷ ks) (_ ∷ given) r h u = absurd (cc r.0.suit)
 
 -- ---- it fits its signature
 
@@ -328,49 +337,49 @@ no_nul text e k d h z =
     let f : list_any (λ b. nat_eq b 0) text ≡ false = not-true (list_any (λ b. nat_eq b 0) text) e in
     both_ways _ f (list_any_at (λ (b : ℕ). nat_eq b 0) text k d h (eq-eqb _ 0 z))
 
-fit_one : (tables : List Interface) (view : Objects) (new : Known) (version : ℕ) (k : Kind) (a : Given) → MadeByClient view
-    → new.id < 2 ^ 32 → is_by_server k ≡ false → Right view k a → Matches new version k → FitsWords a → spelled_len (wired 0 a) ≤ greatest_limit
+fit_one : (tables : List Interface) (view : Objects) (new : Known) (version : ℕ) (k : Kind) (a : Given) → ObjectsAreSound view
+    → new.id < 2 ^ 32 → Right view k a → Matches new version k → FitsWords a → spelled_len (wired 0 a) ≤ greatest_limit
     → Suits k (wire (meant view new a)) × NamesRightly tables version k (meant view new a)
-fit_one tables view new version kinds.Int (Int z) s n c r m g l = (g, tt)
-fit_one tables view new version kinds.Uint (Uint z) s n c r m g l = (g, tt)
-fit_one tables view new version kinds.Fixed (Fixed z) s n c r m g l = (g, tt)
-fit_one tables view new version (kinds.Str null) (Str None) s n c r m g l = (r.suit, tt)
-fit_one tables view new version (kinds.Str null) (Str (Some text)) s n c r m g l =
+fit_one tables view new version kinds.Int (Int z) s n r m g l = (g, tt)
+fit_one tables view new version kinds.Uint (Uint z) s n r m g l = (g, tt)
+fit_one tables view new version kinds.Fixed (Fixed z) s n r m g l = (g, tt)
+fit_one tables view new version (kinds.Str null) (Str None) s n r m g l = (r.suit, tt)
+fit_one tables view new version (kinds.Str null) (Str (Some text)) s n r m g l =
     (record { no_nul = no_nul text r.suit; len = omega arith }, tt)
-fit_one tables view new version (kinds.Obj null iface) (Obj None) s n c r m g l = ((omega arith, λ _. r.suit), tt)
-fit_one tables view new version (kinds.Obj null iface) (Obj (Some x)) s n c r m g l =
+fit_one tables view new version (kinds.Obj null iface) (Obj None) s n r m g l = ((omega arith, λ _. r.suit), tt)
+fit_one tables view new version (kinds.Obj null iface) (Obj (Some x)) s n r m g l =
     let b = and_parts _ _ r.named in
     let v = live_as x.birth (look view x.id) b.0 in
-    let low = row_low view x.id v.entry s v.there in
+    let low = row_word view x.id v.entry s v.there in
     let of : row_is_of iface (Some v.entry) ≡ true = ap (row_is_of iface) (sym v.there) ∙ b.1 in (
       (omega (arith, low.1), λ z. absurd (omega (arith, low.0, z))),
-      (low.0, ap (λ o. is_of iface (live_entry (born_at o))) v.there ∙ same_of iface v.entry ∙ of),
+      (low.0, ap (λ o. is_of iface (live_entry (born_at x.id o))) v.there ∙ same_of iface v.entry ∙ of),
     )
   where
-    same_of : (i : Option Iface) (e : Entry) → is_of i (live_entry (born_of_entry e)) ≡ is_of i e
+    same_of : (i : Option Iface) (e : Entry) → is_of i (live_entry (born_of_entry x.id e)) ≡ is_of i e
     same_of None e = refl
     same_of (Some i) e = refl
-fit_one tables view new version (kinds.New (Some iface)) (New x) s n c r m g l =
+fit_one tables view new version (kinds.New (Some iface)) (New x) s n r m g l =
     (n, λ j. Some (record { id = new.id; iface = sym m.0 j; version = sym m.1 j }))
-fit_one tables view new version (kinds.New None) (NewNamed name own x) s n c r m g l = absurd m
-fit_one tables view new version kinds.Array (Array z) s n c r m g l = (omega arith, tt)
-fit_one tables view new version kinds.Fd (Fd z) s n c r m g l = (tt, tt)
-fit_one tables view new version (kinds.NewByServer iface) a s n c r m g l = absurd (cc c)
-fit_one tables view new version _ _ s n c r m g l = absurd (cc r.suit)
+fit_one tables view new version (kinds.New None) (NewNamed name own x) s n r m g l = absurd m
+fit_one tables view new version kinds.Array (Array z) s n r m g l = (omega arith, tt)
+fit_one tables view new version kinds.Fd (Fd z) s n r m g l = (tt, tt)
+fit_one tables view new version (kinds.NewByServer iface) (New x) s n r m g l =
+    (n, λ j. Some (record { id = new.id; iface = sym m.0 j; version = sym m.1 j }))
+fit_one tables view new version _ _ s n r m g l = absurd (cc r.suit)
 
 -- what is meant fits the kinds
 pub fit_all : (tables : List Interface) (view : Objects) (new : Known) (version : ℕ) (ks : List Kind) (given : List Given)
-    → MadeByClient view → new.id < 2 ^ 32 → NoneByServer ks → AllRight view ks given → Each (Matches new version) ks
+    → ObjectsAreSound view → new.id < 2 ^ 32 → AllRight view ks given → Each (Matches new version) ks
     → Each FitsWords given → message_len (map (wired 0) given) ≤ greatest_limit
     → SuitKinds tables version ks (map (meant view new) given)
-fit_all tables view new version [] [] s n c r m g l = tt
-fit_all tables view new version [] (a ∷ given) s n c r m g l = absurd r
-fit_all tables view new version (k ∷ ks) [] s n c r m g l = absurd r
-fit_all tables view new version (k ∷ ks) (a ∷ given) s n c r m g l =
-    let none = or_parts (is_by_server k) (list_any is_by_server ks) c in (
-      fit_one tables view new version k a s n none.0 r.0 m.0 g.0 (omega (arith, l)),
-      fit_all tables view new version ks given s n none.1 r.1 m.1 g.1 (omega (arith, l)),
-    )
+fit_all tables view new version [] [] s n r m g l = tt
+fit_all tables view new version [] (a ∷ given) s n r m g l = absurd r
+fit_all tables view new version (k ∷ ks) [] s n r m g l = absurd r
+fit_all tables view new version (k ∷ ks) (a ∷ given) s n r m g l = (
+  fit_one tables view new version k a s n r.0 m.0 g.0 (omega (arith, l)),
+  fit_all tables view new version ks given s n r.1 m.1 g.1 (omega (arith, l)),
+)
 
 -- ---- it makes at most one object
 
@@ -421,63 +430,19 @@ one_new new args h = elim (made_new new args h) [ inl p ↦ none_in args args p 
 
 -- a new object has the version that its kind asks for
 pub version_of : (view : Objects) (new : Known) (version : ℕ) (ks : List Kind) (given : List Given)
-    → NoneByServer ks → AllRight view ks given → Each (Matches new version) ks → (made_in (map (meant view new) given) ≡ None → ⊥)
+    → AllRight view ks given → Each (Matches new version) ks → (made_in (map (meant view new) given) ≡ None → ⊥)
     → new.born.version ≡ version
-version_of view new version [] [] n r m h = absurd (h refl)
-version_of view new version [] (a ∷ given) n r m h = absurd r
-version_of view new version (k ∷ ks) [] n r m h = absurd r
-version_of view new version (kinds.Int ∷ ks) (Int z ∷ given) n r m h = version_of view new version ks given n r.1 m.1 h
-version_of view new version (kinds.Uint ∷ ks) (Uint z ∷ given) n r m h = version_of view new version ks given n r.1 m.1 h
-version_of view new version (kinds.Fixed ∷ ks) (Fixed z ∷ given) n r m h = version_of view new version ks given n r.1 m.1 h
-version_of view new version (kinds.Str null ∷ ks) (Str z ∷ given) n r m h = version_of view new version ks given n r.1 m.1 h
-version_of view new version (kinds.Obj null i ∷ ks) (Obj z ∷ given) n r m h = version_of view new version ks given n r.1 m.1 h
-version_of view new version (kinds.New (Some iface) ∷ ks) (New x ∷ given) n r m h = m.0.1
-version_of view new version (kinds.New None ∷ ks) (NewNamed name own x ∷ given) n r m h = absurd m.0
-version_of view new version (kinds.Array ∷ ks) (Array z ∷ given) n r m h = version_of view new version ks given n r.1 m.1 h
-version_of view new version (kinds.Fd ∷ ks) (Fd z ∷ given) n r m h = version_of view new version ks given n r.1 m.1 h
-version_of view new version (kinds.NewByServer iface ∷ ks) (x ∷ given) n r m h = absurd (cc n)
-version_of view new version (_ ∷ ks) (_ ∷ given) n r m h = absurd (cc r.0.suit)
-
--- ---- a call that makes no object
-
--- kinds that make nothing make no object
-pub no_made : (view : Objects) (new : Known) (ks : List Kind) (given : List Given)
-    → NoneByServer ks → AllRight view ks given → length (new_objects ks) ≤ 0 → made_in (map (meant view new) given) ≡ None
-no_made view new [] [] n r h = refl
-no_made view new [] (a ∷ given) n r h = absurd r
-no_made view new (k ∷ ks) [] n r h = absurd r
-no_made view new (kinds.Int ∷ ks) (Int z ∷ given) n r h = no_made view new ks given n r.1 h
-no_made view new (kinds.Uint ∷ ks) (Uint z ∷ given) n r h = no_made view new ks given n r.1 h
-no_made view new (kinds.Fixed ∷ ks) (Fixed z ∷ given) n r h = no_made view new ks given n r.1 h
-no_made view new (kinds.Str null ∷ ks) (Str z ∷ given) n r h = no_made view new ks given n r.1 h
-no_made view new (kinds.Obj null i ∷ ks) (Obj z ∷ given) n r h = no_made view new ks given n r.1 h
-no_made view new (kinds.New (Some iface) ∷ ks) (New x ∷ given) n r h = absurd (omega arith)
-no_made view new (kinds.New None ∷ ks) (NewNamed name own x ∷ given) n r h = absurd (omega arith)
-no_made view new (kinds.Array ∷ ks) (Array z ∷ given) n r h = no_made view new ks given n r.1 h
-no_made view new (kinds.Fd ∷ ks) (Fd z ∷ given) n r h = no_made view new ks given n r.1 h
-no_made view new (kinds.NewByServer iface ∷ ks) (x ∷ given) n r h = absurd (cc n)
-no_made view new (_ ∷ ks) (_ ∷ given) n r h = absurd (cc r.0.suit)
-
-none_rest : (a : Arg Known) (args : List (Arg Known)) → made_in (a ∷ args) ≡ None → made_in args ≡ None
-none_rest a args h = (or_none (new_object_in a) (made_in args) h).1
-
-handed_if : (view : Objects) (new : Known) (births : ℕ) (k : Kind) (a : Given) → new_object_in (meant view new a) ≡ None
-    → Right view k a → rearg birth_of (rearg born_of (meant view new a)) ≡ handed births a
-handed_if view new births k (Obj None) e r = refl
-handed_if view new births k (Obj (Some x)) e r =
-    let l = live_as x.birth (look view x.id) (and_parts _ _ r.named).0 in
-    ap (λ (b : Birth). Obj (Some b)) (ap (λ o. (born_at o).birth) l.there ∙ ap client_birth l.birth_is)
-handed_if view new births k (New x) e r = absurd (cc e)
-handed_if view new births k (NewNamed name own x) e r = absurd (cc e)
-handed_if view new births k a e r = refl
-
--- where nothing is made, no argument hands a new object
-pub handed_none : (view : Objects) (new : Known) (births : ℕ) (ks : List Kind) (given : List Given)
-    → made_in (map (meant view new) given) ≡ None → AllRight view ks given
-    → map (rearg birth_of) (map (rearg born_of) (map (meant view new) given)) ≡ map (handed births) given
-handed_none view new births [] [] e r = refl
-handed_none view new births [] (a ∷ given) e r = absurd r
-handed_none view new births (k ∷ ks) [] e r = absurd r
-handed_none view new births (k ∷ ks) (a ∷ given) e r =
-    let n = or_none (new_object_in (meant view new a)) (made_in (map (meant view new) given)) e in
-    rw (handed_if view new births k a n.0 r.0, handed_none view new births ks given n.1 r.1) refl
+version_of view new version [] [] r m h = absurd (h refl)
+version_of view new version [] (a ∷ given) r m h = absurd r
+version_of view new version (k ∷ ks) [] r m h = absurd r
+version_of view new version (kinds.Int ∷ ks) (Int z ∷ given) r m h = version_of view new version ks given r.1 m.1 h
+version_of view new version (kinds.Uint ∷ ks) (Uint z ∷ given) r m h = version_of view new version ks given r.1 m.1 h
+version_of view new version (kinds.Fixed ∷ ks) (Fixed z ∷ given) r m h = version_of view new version ks given r.1 m.1 h
+version_of view new version (kinds.Str null ∷ ks) (Str z ∷ given) r m h = version_of view new version ks given r.1 m.1 h
+version_of view new version (kinds.Obj null i ∷ ks) (Obj z ∷ given) r m h = version_of view new version ks given r.1 m.1 h
+version_of view new version (kinds.New (Some iface) ∷ ks) (New x ∷ given) r m h = m.0.1
+version_of view new version (kinds.New None ∷ ks) (NewNamed name own x ∷ given) r m h = absurd m.0
+version_of view new version (kinds.Array ∷ ks) (Array z ∷ given) r m h = version_of view new version ks given r.1 m.1 h
+version_of view new version (kinds.Fd ∷ ks) (Fd z ∷ given) r m h = version_of view new version ks given r.1 m.1 h
+version_of view new version (kinds.NewByServer iface ∷ ks) (New x ∷ given) r m h = m.0.1
+version_of view new version (_ ∷ ks) (_ ∷ given) r m h = absurd (cc r.0.suit)

@@ -37,6 +37,8 @@ to_server_stands p w asked told most s = record {
   terms = s.terms;
   client = s.client;
   server = s.server;
+  plain = s.plain;
+  none_made = s.none_made;
   requests = record {
     in_world = s.requests.in_world;
     in_boxes = flies p.client.core.outbox p.server.core.inbox (map spelled_meant asked)
@@ -45,6 +47,7 @@ to_server_stands p w asked told most s = record {
         s.requests.fit;
   };
   events = s.events;
+  asks_counted = s.asks_counted;
   deletes_follow = s.deletes_follow;
   meet = s.meet;
   globals = s.globals;
@@ -59,6 +62,8 @@ to_client_stands p w asked told most s = record {
   terms = s.terms;
   client = s.client;
   server = s.server;
+  plain = s.plain;
+  none_made = s.none_made;
   requests = s.requests;
   events = record {
     in_world = s.events.in_world;
@@ -66,6 +71,7 @@ to_client_stands p w asked told most s = record {
         (min most (in_room p.client.core).bytes) (in_room p.client.core).tokens s.events.in_boxes;
     fit = s.events.fit;
   };
+  asks_counted = s.asks_counted;
   deletes_follow = s.deletes_follow;
   meet = s.meet;
   globals = s.globals;

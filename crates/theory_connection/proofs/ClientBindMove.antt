@@ -48,7 +48,10 @@ use Rattle.theory_connection.proofs.EndedObject.{born_ends}
 use Rattle.theory_connection.proofs.Registries.{registry_plain}
 use Rattle.theory_connection.proofs.RequestRead.{test_of}
 use Rattle.theory_connection.proofs.Calls.{live_as}
-use Rattle.theory_connection.proofs.MadeByClient.{row_low}
+use Rattle.theory_connection.proofs.TwoRanges.{row_word}
+use Rattle.theory_connection.proofs.Bridges.{by_client}
+use Rattle.wl_object_map.specs.Objects.{maker_of}
+use Rattle.wl_object_map.specs.ObjectsLaws.{next_of_client}
 use Rattle.theory_connection.proofs.Written.{opens}
 use Rattle.theory_connection.proofs.Places.{place_there, name_text, bytes_same, bytes_self}
 use Rattle.theory_connection.proofs.Announces.{each_get}
@@ -172,7 +175,7 @@ the_bound v version place = record {
 
 abbrev pub bind_message : Objects → Entry → Object → ℕ → List ℕ → ℕ → Iface → Message Known
 bind_message v entry target name iface version place = record {
-  target = record { id = target.id; born = born_of_entry entry };
+  target = record { id = target.id; born = born_of_entry target.id entry };
   opcode = 0;
   args = Uint name ∷ NewNamed iface version (the_bound v version place) ∷ [];
   ends = None;
@@ -182,8 +185,8 @@ same_is : (a b : Iface) → same_iface a b ≡ true → a ≡ b
 same_is a b h = let e : a.0 ≡ b.0 = eqb-true a.0 b.0 h in λ i. record { 0 = e i }
 
 open_row : (v : Objects) (id : ℕ) (e : Entry) → look v id ≡ Some e → e.state ≡ states.Live
-    → (client_rows v).rows id ≡ Some (Open (born_of_entry e))
-open_row v id e h l = ap (option_map row_of_entry) h ∙ ap (λ s. Some (as_row s (born_of_entry e))) l
+    → (client_rows v).rows id ≡ Some (Open (born_of_entry id e))
+open_row v id e h l = ap (option_map (row_of_entry id)) h ∙ ap (λ s. Some (as_row s (born_of_entry id e))) l
 
 pub bind_can : (p : PairState) (w : World) (asked : List (Message Known)) (told : List (Coming Known))
     (s : StandsBy p w asked told) (target : Object) (name : ℕ) (iface : List ℕ) (version : ℕ) (new : Option Object)
@@ -211,11 +214,11 @@ bind_can p w asked told s target name iface version new b n can =
       born =
           record { birth = client_birth v.client.births; iface = n.global.iface; version = version };
     } in
-    let fresh = next_fresh v x s.client.sound.tables can refl refl in
+    let fresh = next_fresh v x s.client.sound can refl refl in
     let fits_name : name_fits iface (interface_at tables given.global.iface.0) ≡ true =
     ap (λ (i : Iface). name_fits iface (interface_at tables i.0)) given.iface_is ∙ ap (name_fits iface) n.place
     ∙ ap (λ (l : List ℕ). bytes_eq l iface) n.named ∙ bytes_self iface in
-    let low = row_low v target.id b.entry s.client.sound b.there in
+    let low = row_word v target.id b.entry s.client.sound b.there in
     let bind_there : signature_at tables b.entry.iface.0 Request 0
     ≡ Some (fixed.message (codes "bind") 1 (fixed.uint ∷ fixed.new None ∷ []) Nothing) =
     ap (λ (i : Iface). signature_at tables i.0 Request 0) reg ∙ registry_bind tables s.terms.valid in
@@ -257,7 +260,7 @@ bind_can p w asked told s target name iface version new b n can =
       };
       target = open_row v target.id b.entry b.there b.live;
       target_plain = ap (λ (i : Iface). test_of p
-          (record { birth = client_birth b.entry.birth; iface = i; version = b.entry.version })) reg
+          (record { birth = record { maker = maker_of target.id; number = b.entry.birth }; iface = i; version = b.entry.version })) reg
           ∙ registry_plain tables s.terms.valid;
       args = tt;
       args_plain = tt;
@@ -322,10 +325,12 @@ client_bind_keeps p w asked told s z target name iface version reply p' (accepte
           there = sig_there;
           ends = born_ends m can.fitly.fits.signature.destroys can.fitly.fits.ends;
         };
-        target_is = ap client_birth b.birth;
+        target_is = ap (λ (n : ℕ). birth_at (record { id = target.id; birth = n })) b.birth;
         opcode_is = refl;
         args_are = ap (λ (k : ℕ). answers.bind_args name iface version k) (sym s.client.births);
-        new_is = ap (option_map birth_at) (sym o.is);
+        new_is = ap Some (sym (by_client (next_id Client p.client.core.view) p.client.core.view.client.births
+            (next_of_client p.client.core.view s.client.sound)))
+            ∙ ap (option_map birth_at) (sym o.is);
         steps = asks_world p w asked told s m can;
       });
       outcome = subst (λ (x : client.State). Outcome p asked told (with_client p x)

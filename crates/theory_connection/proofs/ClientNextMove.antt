@@ -18,7 +18,12 @@ use Rattle.wl_connection.specs.Receiving.{Found, found, found_at, reported}
 use Rattle.wl_client.specs.Reports.{Report, report, needs_memory, plain_report, next_answer, after_next, state_past}
 use Rattle.wl_client.specs.Reports.{made_by_event, opens_row, event_opens}
 use Rattle.wl_client.specs.Reports as reports
-use Rattle.theory_connection.specs.Meant.{client_birth, Known, Born, Message, Coming, Event, Delete, renamed}
+use Rattle.std.proofs.Common.{inl, inr, is_some}
+use Rattle.std.specs.Prelude.{option_map}
+use Rattle.wl_sigs.specs.Tables.{Interface}
+use Rattle.wl_objects.specs.Messages.{NewObject}
+use Rattle.theory_connection.specs.Answers.{birth_at}
+use Rattle.theory_connection.specs.Meant.{Known, Born, Message, Coming, Event, Delete, renamed, made_in}
 use Rattle.theory_connection.specs.Meant.{recoming, rearg, born_of, birth_of, tokens, live_entry}
 use Rattle.theory_connection.specs.World.{World, event_read, delete_read, reads_event, reads_delete}
 use Rattle.theory_connection.specs.World as world
@@ -28,8 +33,9 @@ use Rattle.theory_connection.specs.Answers.{NotEnded, before, ReportsArgs, Repor
 use Rattle.theory_connection.specs.Flight.{as_row}
 use Rattle.theory_connection.specs.Stands.{StandsBy}
 use Rattle.theory_connection.proofs.Channels.{pops, never_bad}
-use Rattle.theory_connection.proofs.RowsAfterMessage.{tokens_map}
-use Rattle.theory_connection.proofs.ReadAsMeant.{reports_right, tokens_taken}
+use Rattle.theory_connection.proofs.EndedObject.{some_map}
+use Rattle.theory_connection.proofs.RowsAfterMessage.{tokens_map, made_map}
+use Rattle.theory_connection.proofs.ReadAsMeant.{AllMet, made_of, reports_right, tokens_taken}
 use Rattle.theory_connection.proofs.FoundInFront.{the_found, the_message}
 use Rattle.theory_connection.proofs.Moves.{Moves, goes_on, stays, reading_event, reading_delete}
 use Rattle.theory_connection.proofs.EventRead.{InEvent, in_event, after_event, teaches}
@@ -50,6 +56,15 @@ answer_is p f l r = record { answer = rw (l, r) refl; leaves = rw (l, r) refl }
 -- whether what stands in front opens an object at an id without a row
 abbrev opens_in : PairState → Bool
 opens_in p = event_opens p.client.core (found p.client.core event_side)
+
+-- what opens an object makes one
+some_opens : (p : PairState) (f : Found) (o : Option NewObject) → found p.client.core event_side ≡ Ok (Some f)
+    → made_by_event p.client.core f.message ≡ o → opens_in p ≡ true → is_some o ≡ true
+some_opens p f o e made h = by_made o (sym (ap (event_opens p.client.core) e ∙ ap (opens_row p.client.core.view) made) ∙ h)
+  where
+    by_made : (n : Option NewObject) → opens_row p.client.core.view n ≡ true → is_some n ≡ true
+    by_made None k = absurd (cc k)
+    by_made (Some n) k = refl
 
 opens_none : (p : PairState) (f : Found) → found p.client.core event_side ≡ Ok (Some f)
     → made_by_event p.client.core f.message ≡ None → opens_in p ≡ false
@@ -73,7 +88,7 @@ idle p l e =
 is_some_event : (w : World) (m : Message Born) (r : Report) → ReportsComing w (Event m) r → needs_memory r ≡ true
     → NeedsMemory w (Event m)
 is_some_event w m (reports.Event target opcode []) t h = absurd (cc h)
-is_some_event w m (reports.Event target opcode (a ∷ args)) t h = (t.0, λ e. cc (t.3, e))
+is_some_event w m (reports.Event target opcode (a ∷ args)) t h = inl (t.0, λ e. cc (t.3, e))
 is_some_event w m (reports.Discarded target opcode own) t h = absurd (cc h)
 is_some_event w m (reports.Deleted object) t h = absurd (cc h)
 is_some_event w m (reports.Stray id) t h = absurd (cc h)
@@ -84,7 +99,7 @@ is_some_event w m (reports.Error id named code text) t h = absurd t
 reports_as : (p : PairState) (w : World) (m : Message Known) (more : List ℕ) (entry : Entry)
     (signature : sigs.MessageSignature)
     (s : State) → w.client m.target.born.birth ≡ Some (as_row s m.target.born)
-    → client_birth entry.birth ≡ m.target.born.birth
+    → birth_at (record { id = m.target.id; birth = entry.birth }) ≡ m.target.born.birth
     → p.client.core.inbox.tokens ≡ tokens m.args ++ more → descriptors signature.kinds ≡ length (tokens m.args)
     → ReportsArgs w.client (map (rearg born_of) m.args) (reported p.client.core event_side (the_message m entry signature))
     → ReportsComing w (Event (renamed born_of m))
@@ -105,26 +120,30 @@ reports_it : (p : PairState) (w : World) (m : Message Known) (cs : List (Coming 
 reports_it p w m cs asked s n i =
     let f = s.events.fit.0.fits in
     let a = event_answer p m n i.target.entry p.server.core.tables f s.terms.valid s.terms.same_tables
-    s.events.fit.0.makes_none s.events.fit.0.no_delete_id
+    s.events.fit.0.no_delete_id
     i.target.same in
+    let met = subst (λ (t : List Interface). AllMet t event_side p.client.core.view w.client m.args)
+    (sym s.terms.same_tables) i.met in
     let count : descriptors f.signature.kinds ≡ length (tokens m.args) =
     tokens_taken p.server.core.tables m.target.born.version f.signature.kinds m.args f.args in
     let shown = i.target.shown ∙ ap (λ (b : Born). Some (as_row i.target.entry.state b)) i.target.same in
     subst (ReportsComing w (Event (renamed born_of m))) (sym a.tells_it)
     (reports_as p w m i.more i.target.entry f.signature i.target.entry.state shown
     (ap birth_of i.target.same) i.tokens_are count
-    (rw i.tokens_are (reports_right p.client.core.tables event_side p.client.core.view w.client m.args i.more i.met)))
+    (rw i.tokens_are (reports_right p.client.core.tables event_side p.client.core.view w.client m.args i.more met)))
 
 keeps_event : (p : PairState) (w : World) (m : Message Known) (cs : List (Coming Known)) (asked : List (Message Known))
     (s : StandsBy p w asked (Event m ∷ cs)) (n : ℕ) → NotEnded p w
     → in_front p.client.core.inbox ≡ Whole n → (i : InEvent p w m cs asked s n)
     → (reply : Result (Option Report) NextError) (p' : PairState)
     → (Nexts needs_memory (opens_in p) (next_answer p.client) p (with_client p (after_next p.client)) reply p')
-    → Nexts needs_memory false (Ok (Some (report p.client.core (the_found n m i.target.entry s.events.fit.0.fits.signature))))
+    → Nexts needs_memory (opens_in p)
+    (Ok (Some (report p.client.core (the_found n m i.target.entry s.events.fit.0.fits.signature))))
     p
     (with_client p (after_event p.client m n (teaches m i.target.entry))) reply p'
+    → (opens_in p ≡ true → is_some (made_in m.args) ≡ true)
     → Moves p w asked (Event m ∷ cs) ClientNext (ClientNext reply) p'
-keeps_event p w m cs asked s n z e i reply p' d answered = record {
+keeps_event p w m cs asked s n z e i reply p' d answered opened = record {
   world = event_read p.client.core.tables w (renamed born_of m) (map (recoming born_of) cs);
   answers = before z d (record {
     waits = subst HasMessage (sym e) tt;
@@ -136,8 +155,20 @@ keeps_event p w m cs asked s n z e i reply p' d answered = record {
   outcome = goes_on asked cs z (event_stands p w m cs asked s n i (event_mortal p w m cs asked s n i))
       (reading_event m cs n i.target.entry refl e);
 }
-keeps_event p w m cs asked s n z e i reply p' d (no_memory_to_open q h) = absurd (cc h)
-keeps_event p w m cs asked s n z e i reply p' d (no_memory {report = r} q h) =
+keeps_event p w m cs asked s n z e i reply p' d (no_memory_to_open q h) opened =
+    record {
+      world = w;
+      answers = before z d (record {
+        waits = subst HasMessage (sym e) tt;
+        coming = Event (renamed born_of m);
+        rest = map (recoming born_of) cs;
+        first = s.events.in_world;
+        because = inr (ap is_some (made_map born_of m.args) ∙ some_map born_of (made_in m.args) ∙ opened h);
+        same = refl;
+      });
+      outcome = goes_on asked (Event m ∷ cs) z s stays;
+    }
+keeps_event p w m cs asked s n z e i reply p' d (no_memory {report = r} q h) opened =
     let same : report p.client.core (the_found n m i.target.entry s.events.fit.0.fits.signature) ≡ r = cc q in
     let needs = is_some_event w (renamed born_of m) _ (reports_it p w m cs asked s n i) (ap needs_memory same ∙ h) in
     record {
@@ -164,12 +195,13 @@ at_event p w m cs asked s n z e reply p' d =
     let f = the_found n m i.target.entry sig in
     let a = answer_is p f s.client.lives i.finds_it in
     let b = event_answer p m n i.target.entry p.server.core.tables s.events.fit.0.fits s.terms.valid
-    s.terms.same_tables s.events.fit.0.makes_none s.events.fit.0.no_delete_id i.target.same in
+    s.terms.same_tables s.events.fit.0.no_delete_id i.target.same in
     keeps_event p w m cs asked s n z e i reply p' d
-    (subst (λ st. Nexts needs_memory false (Ok (Some (report p.client.core f))) p (with_client p st) reply p')
+    (subst (λ st. Nexts needs_memory (opens_in p) (Ok (Some (report p.client.core f))) p (with_client p st) reply p')
     (a.leaves ∙ b.leaves)
-    (subst (λ x. Nexts needs_memory false x p (with_client p (after_next p.client)) reply p') a.answer
-    (nexts_none p reply p' (opens_none p f i.finds_it b.makes_none) d)))
+    (subst (λ x. Nexts needs_memory (opens_in p) x p (with_client p (after_next p.client)) reply p') a.answer d))
+    (λ h. sym (some_map made_of (made_in m.args)) ∙ some_opens p f (option_map made_of (made_in m.args)) i.finds_it
+    b.makes h)
 
 -- ---- a delete
 
@@ -205,7 +237,7 @@ at_delete p w x cs asked s n z e reply p' d =
     let i = in_delete p w x cs asked s n e in
     let f = the_found n (deleting x) (live_entry world.display_born) i.signature in
     let a = answer_is p f s.client.lives i.finds_it in
-    let b = delete_answer p x n i.entry i.signature s.client.sound i.deletes_it.mortal i.there i.count in
+    let b = delete_answer p x n i.entry i.signature i.deletes_it.range i.deletes_it.mortal i.there i.count in
     keeps_delete p w x cs asked s n z e i reply p' d
     (subst (λ st. Nexts needs_memory false (Ok (Some (reports.Deleted (record { id = x.id; birth = i.entry.birth })))) p
     (with_client p st) reply p') (a.leaves ∙ b.leaves)

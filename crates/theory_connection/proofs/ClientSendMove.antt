@@ -13,7 +13,6 @@ use Rattle.wl_sigs.specs.Tables as sigs
 use Rattle.wl_sigs.specs.declared.signature.Destroys.{Destroys}
 use Rattle.wl_sigs.specs.declared.signature.Destroys.TheVariants.{Nothing, Target, Arg as ends_arg}
 use Rattle.wl_wire.specs.Argument.{Obj}
-use Rattle.wl_sigs.specs.Rules.{has_server_objects}
 use Rattle.wl_sigs.specs.Valid.{Valid}
 use Rattle.wl_message.specs.Outgoing.{queued}
 use Rattle.wl_object_map.specs.declared.object.Object.{Object}
@@ -25,7 +24,6 @@ use Rattle.wl_objects.specs.Writing.{Given, wired, message_bytes}
 use Rattle.wl_objects.specs.Messages.{NewObject, made, maker_by, ended_id, after, checked}
 use Rattle.wl_connection.specs.Core.{Core}
 use Rattle.wl_connection.specs.Sending.{send_answer, after_send, after_checked, made_at, version_at, opens_object}
-use Rattle.theory_connection.specs.Stands.{MadeByClient}
 use Rattle.theory_connection.specs.Meant.{client_birth, Born, Known, Arg, object_at, ended_by, tokens, wire}
 use Rattle.theory_connection.specs.Meant.{Message, Coming, renamed, born_of, birth_of, made_in, objects}
 use Rattle.theory_connection.specs.Meant.{born_of_entry, live_entry}
@@ -37,7 +35,9 @@ use Rattle.theory_connection.specs.Flight.{Fresh, client_rows, row_of_entry, as_
 use Rattle.theory_connection.specs.Stands.{StandsBy, FitsSignature, SuitKinds}
 use Rattle.theory_connection.specs.Runs.{FitsWords}
 use Rattle.theory_connection.proofs.WholeInFlight.{OpenRow, each_by}
-use Rattle.theory_connection.proofs.Bridges.{next_fresh}
+use Rattle.theory_connection.proofs.Bridges.{next_fresh, by_client}
+use Rattle.wl_object_map.specs.Objects.{ObjectsAreSound}
+use Rattle.wl_object_map.specs.ObjectsLaws.{next_of_client}
 use Rattle.theory_connection.proofs.RowsAfterMessage.{made_map, objects_map, each_map}
 use Rattle.theory_connection.proofs.ReadAsMeant.{made_of}
 use Rattle.theory_connection.proofs.Calls.{Checked, is_checked, LiveAt, handed_all, tokens_all}
@@ -67,16 +67,18 @@ moved t u side m e f = record {
 }
 
 open_live : (v : Objects) (x : Known) → LiveAt v x → OpenRow (client_rows v) x
-open_live v x l = ap (option_map row_of_entry) l.there ∙ ap (λ s. Some (as_row s (born_of_entry l.entry))) l.live
+open_live v x l = ap (option_map (row_of_entry x.id)) l.there
+    ∙ ap (λ s. Some (as_row s (born_of_entry x.id l.entry))) l.live
     ∙ ap (λ (b : Born). Some (Open b)) l.same
 
-if_map : {X Y : Type 0} (P : Type 0) (f : X → Y) (o : Option X) → IfThere (λ (y : Y). P) (option_map f o)
+-- what holds of something's image holds of it
+pub if_map : {X Y : Type 0} (P : Type 0) (f : X → Y) (o : Option X) → IfThere (λ (y : Y). P) (option_map f o)
     → IfThere (λ (x : X). P) o
 if_map P f None h = tt
 if_map P f (Some x) h = h
 
 -- what the new object is, where there is one
-new_fits : (v : Objects) (new : Known) (o : Option Known) → MadeByClient v → new.id ≡ next_id Client v
+new_fits : (v : Objects) (new : Known) (o : Option Known) → ObjectsAreSound v → new.id ≡ next_id Client v
     → new.born.birth ≡ client_birth v.client.births
     → (o ≡ None) ⊎ (o ≡ Some new) → IfThere (λ (x : Known). can_open Client v ≡ true) o
     → IfThere (Fresh (client_rows v)) o × IfThere (λ x. x.id ≡ next_id Client v) o
@@ -85,7 +87,7 @@ new_fits v new (Some x) s i b h c =
     let e : x ≡ new = elim h [ inl p ↦ absurd (cc p) | inr p ↦ cc ] in
     let id : x.id ≡ next_id Client v = ap (λ (k : Known). k.id) e ∙ i in
     let birth : x.born.birth ≡ client_birth v.client.births = ap (λ (k : Known). k.born.birth) e ∙ b in
-    (next_fresh v x s.tables c id birth, id)
+    (next_fresh v x s c id birth, id)
 
 -- wl_display stays
 pub not_display : (p : PairState) (w : World) (asked : List (Message Known)) (told : List (Coming Known))
@@ -104,10 +106,6 @@ not_display p w asked told s id opcode entry signature l h d one =
 pub valid_client : (p : PairState) (w : World) (asked : List (Message Known)) (told : List (Coming Known))
     → StandsBy p w asked told → Valid p.client.core.tables
 valid_client p w asked told s = subst Valid (sym s.terms.same_tables) s.terms.valid
-
-pub none_client : (p : PairState) (w : World) (asked : List (Message Known)) (told : List (Coming Known))
-    → StandsBy p w asked told → has_server_objects p.client.core.tables ≡ false
-none_client p w asked told s = ap has_server_objects s.terms.same_tables ∙ s.terms.none_by_server
 
 -- what a call makes, by the entry of its target
 pub made_same : (core : Core) (side : Side) (target : Object) (given : List Given) (signature : sigs.MessageSignature)
@@ -132,7 +130,7 @@ registry_mortal p w asked told s x l h one =
     let e : Some l.entry ≡ Some (live_entry display_born) =
     sym l.there ∙ ap (look p.client.core.view) one ∙ s.client.display in
     let same : l.entry ≡ live_entry display_born = cc e in
-    let no : 1 ≡ 0 = sym h ∙ ap (λ (b : Born). b.iface.0) (sym l.same ∙ ap born_of_entry same) in
+    let no : 1 ≡ 0 = sym h ∙ ap (λ (b : Born). b.iface.0) (sym l.same ∙ ap (born_of_entry x.id) same) in
     cc no
 
 -- what a call destroys is not wl_display
@@ -186,7 +184,7 @@ client_can p w asked told s target opcode given signature new c k o =
     record {
       fitly = record { fits = f; binds = λ h. absurd (cc (h, c.hidden)) };
       target = open_live v m.target (record { entry = c.entry; there = c.there; same = refl; live = c.live });
-      target_plain = target_plain tables s.terms.valid (born_of_entry c.entry) opcode signature there;
+      target_plain = target_plain tables s.terms.valid (born_of_entry target.id c.entry) opcode signature there;
       args = each_by (LiveAt v) (OpenRow (client_rows v)) (open_live v) (objects m.args) k.live;
       args_plain = objects_plain tables v (the_new core Request c.entry given signature) signature.kinds given k.right
           (s.terms.valid.no_any_in_requests c.entry.iface.0 opcode signature there)
@@ -228,11 +226,19 @@ left_by core target opcode given signature v e c k =
       };
     }))
 
-new_births : (o : Option Known) (births id : ℕ) → IfThere (λ x. x.born.birth ≡ client_birth births) o
+-- the births of what a call makes
+pub new_births : (o : Option Known) (object : Object)
+    → IfThere (λ x. x.born.birth ≡ birth_at object) o
     → option_map birth_of (option_map born_of o) ≡ option_map birth_at
-    (option_map (λ (m : NewObject). record { id = id; birth = births }) (option_map made_of o))
-new_births None births id h = refl
-new_births (Some x) births id h = ap Some h
+    (option_map (λ (m : NewObject). object) (option_map made_of o))
+new_births None object h = refl
+new_births (Some x) object h = ap Some h
+
+next_births : (v : Objects) (o : Option Known) → ObjectsAreSound v
+    → IfThere (λ x. x.born.birth ≡ client_birth v.client.births) o
+    → IfThere (λ x. x.born.birth ≡ birth_at (record { id = next_id Client v; birth = v.client.births })) o
+next_births v None s h = tt
+next_births v (Some x) s h = h ∙ sym (by_client (next_id Client v) v.client.births (next_of_client v s))
 
 fresh_births : (v : Objects) (o : Option Known) → IfThere (Fresh (client_rows v)) o
     → IfThere (λ x. x.born.birth ≡ client_birth v.client.births) o
@@ -265,7 +271,7 @@ pub sends_that : (p : PairState) (w : World) (asked : List (Message Known)) (tol
     signature) (k : CallIs p.client.core Request target opcode given signature c.entry)
     → (o : Opens p.client.core Client (made_at p.client.core Request target signature given) new)
     → CanAsk p (the_call p.client.core Request c.entry target opcode given signature)
-    → WritesThat p.client.core.tables Request w (birth_at target) opcode (map (handed w.births) given) new
+    → WritesThat p.client.core.tables Request w (birth_at target) opcode (map (handed (client_birth w.births)) given) new
     (request_written w (renamed born_of (the_call p.client.core Request c.entry target opcode given signature)))
 sends_that p w asked told s target opcode given signature new c k o can =
     let core = p.client.core in
@@ -275,12 +281,13 @@ sends_that p w asked told s target opcode given signature new c k o can =
     record {
       message = renamed born_of m;
       is = record { signature = signature; there = c.signed; ends = born_ends m signature.destroys refl };
-      target_is = ap client_birth c.birth;
+      target_is = ap (λ (n : ℕ). birth_at (record { id = target.id; birth = n })) c.birth;
       opcode_is = refl;
-      args_are = handed_all v (the_new core Request c.entry given signature) w.births signature.kinds given
+      args_are = handed_all v (the_new core Request c.entry given signature) (client_birth w.births) signature.kinds given
           (new_birth Client v (the_made core Request c.entry given signature) ∙ ap client_birth (sym s.client.births)) k.right;
       new_is = ap (option_map birth_of) (made_map born_of m.args)
-          ∙ new_births (made_in m.args) v.client.births (next_id Client v) births
+          ∙ new_births (made_in m.args) (record { id = next_id Client v; birth = v.client.births })
+          (next_births v (made_in m.args) s.client.sound births)
           ∙ ap (option_map birth_at) (ap (option_map (λ (y : NewObject). record { id = next_id Client v; birth = v.client.births }))
           (sym (made_same core Request target given signature c.entry c.there ∙ k.made_is)) ∙ sym o.is);
       steps = asks_world p w asked told s m can;
@@ -301,7 +308,7 @@ client_send_keeps p w asked told s z target opcode given g reply p' (accepted {n
     let a = accepted_call core Request target opcode given new s.client.lives h in
     let c = is_checked core.outbox.limit.bytes core.tables Request core.view target opcode given a.signature a.checks in
     let k = call_is core Request target opcode given a.signature (valid_client p w asked told s)
-    (none_client p w asked told s) s.client.sound g c in
+    s.client.sound g c in
     let o = opens core Client (made_at core Request target a.signature given) new a.opens_it in
     let can = client_can p w asked told s target opcode given a.signature new c k o in
     let m = the_call core Request c.entry target opcode given a.signature in

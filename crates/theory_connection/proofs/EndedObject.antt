@@ -77,10 +77,6 @@ pub both_if : {X : Type 0} {P Q R : X → Type 0} (f : (x : X) → P x → Q x �
 both_if f None h k = tt
 both_if f (Some x) h k = f x h k
 
-pub if_all : {X : Type 0} {P : X → Type 0} (f : (x : X) → P x) (o : Option X) → IfThere P o
-if_all f None = tt
-if_all f (Some x) = f x
-
 -- a function keeps something
 pub some_map : {A B : Type 0} (f : A → B) (o : Option A) → is_some (option_map f o) ≡ is_some o
 some_map f None = refl

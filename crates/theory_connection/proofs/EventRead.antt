@@ -23,32 +23,38 @@ use Rattle.wl_object_map.specs.declared.object.State.{State}
 use Rattle.wl_object_map.specs.declared.object.State.TheVariants as states
 use Rattle.wl_object_map.specs.Objects.{Objects, look, closed}
 use Rattle.wl_objects.specs.Reading.{descriptors}
-use Rattle.wl_objects.specs.Messages.{is_error, is_delete_id, same_iface, made, made_by}
+use Rattle.wl_objects.specs.Messages.{is_error, is_delete_id, same_iface, made, made_by, opens}
 use Rattle.wl_objects.specs.Messages.{after, ended_id, after_delete_id}
 use Rattle.wl_connection.specs.Core.{Core}
 use Rattle.wl_connection.specs.Receiving.{found, is_none}
 use Rattle.wl_client.specs.declared.globals.Global.{Global as Remembered}
 use Rattle.wl_client.specs.State as client
-use Rattle.wl_client.specs.Reports.{state_past, globals_told, report}
+use Rattle.wl_client.specs.Reports.{state_past, globals_told, report, object_made}
 use Rattle.wl_client.specs.Reports as reports
 use Rattle.theory_connection.specs.Meant.{Birth, Born, Known, Message, Coming, Event, Delete, renamed, recoming}
 use Rattle.theory_connection.specs.Meant.{rearg, born_of, birth_of, wire, tokens, spelled_meant, spelled_coming}
 use Rattle.theory_connection.specs.Meant.{objects, made_in, born_of_entry, live_entry}
-use Rattle.theory_connection.specs.World.{World, display_born, Row, event_read, delete_read}
+use Rattle.theory_connection.specs.World.{World, display_born, Row, Each, event_read, delete_read}
 use Rattle.theory_connection.specs.World.{is_open_row, is_registry, learned, nameless, IfThere}
 use Rattle.theory_connection.specs.Pair.{PairState, with_client}
 use Rattle.theory_connection.specs.Flight.{Rows, IsHeldInRows, ReadsInFlight, all_tells, client_rows, row_of_entry}
-use Rattle.theory_connection.specs.Flight.{as_row}
-use Rattle.theory_connection.proofs.MadeByClient.{row_of_client}
-use Rattle.theory_connection.proofs.NoneByServer.{none_by_server}
-use Rattle.theory_connection.specs.Stands.{MadeByClient, StandsBy, SuitKinds, FitsSignature, WasGiven, InFlight, ShowsBirths, birth_in}
+use Rattle.theory_connection.specs.Flight.{IsAskedBelow, all_asks}
+use Rattle.wl_object_map.specs.declared.object.Maker.{Maker}
+use Rattle.theory_connection.proofs.Sets.{at_count}
+use Rattle.theory_connection.proofs.AskedCounted.{below_told}
+use Rattle.theory_connection.specs.Flight.{as_row, births_in}
+use Rattle.theory_connection.proofs.TwoRanges.{row_of_client}
+use Rattle.theory_connection.proofs.MadeFor.{made_for}
+use Rattle.theory_connection.specs.Stands.{StandsBy, SuitKinds, FitsSignature, WasGiven, InFlight, ShowsBirths, birth_in}
+use Rattle.theory_connection.specs.Stands.{IsEndingOfServer}
 use Rattle.wl_object_map.specs.View.{lives}
-use Rattle.theory_connection.proofs.WholeInFlight.{client_ends, TellsAt, tells_at, DeletesAt, deletes_at}
+use Rattle.theory_connection.proofs.WholeInFlight.{client_ends, client_told, OfClient, held_told_if, TellsAt}
+use Rattle.theory_connection.proofs.WholeInFlight.{tells_at, DeletesAt, deletes_at}
 use Rattle.theory_connection.proofs.Bridges.{client_closed}
-use Rattle.theory_connection.proofs.RowsAfterMessage.{held_row, client_after}
-use Rattle.theory_connection.proofs.Stands.{client_message, client_delete, first_read}
+use Rattle.theory_connection.proofs.RowsAfterMessage.{held_row, client_after_event, made_map}
+use Rattle.theory_connection.proofs.Stands.{client_event, client_delete, first_read}
 use Rattle.theory_connection.proofs.ReadAsMeant.{HeldAt, AllMet, tokens_taken, made_of, made_read}
-use Rattle.theory_connection.proofs.FoundInFront.{the_found, the_message, finds, all_met, news_none}
+use Rattle.theory_connection.proofs.FoundInFront.{the_found, the_message, finds, all_met, news_told}
 use Rattle.theory_connection.proofs.ClientGlobals.{told_same, learns}
 use Rattle.theory_connection.proofs.RequestRead.{test_of}
 use Rattle.theory_connection.proofs.EndedObject.{Mortal, ended_view, after_is, ends_as, ends_have, if_by, both_if}
@@ -62,20 +68,23 @@ birth_bare states.Zombie b = refl
 pub record SeenAt (v : Objects) (sets : Birth → Option Row) (x : Known) : Type 0 where
   pub entry : Entry
   pub there : look v x.id ≡ Some entry
-  pub same : born_of_entry entry ≡ x.born
-  pub shown : sets x.born.birth ≡ Some (row_of_entry entry)
+  pub same : born_of_entry x.id entry ≡ x.born
+  pub shown : sets x.born.birth ≡ Some (row_of_entry x.id entry)
 
-pub seen_at : (v : Objects) (sets : Birth → Option Row)
-    → ShowsBirths birth_in (client_rows v).rows v.client.births sets → (x : Known)
+-- the births that are open or ending at the client
+abbrev pub Showing : Objects → (Birth → Option Row) → Type 0
+Showing v sets = ShowsBirths birth_in IsEndingOfServer (client_rows v).rows (births_in (client_rows v)) sets
+
+pub seen_at : (v : Objects) (sets : Birth → Option Row) → Showing v sets → (x : Known)
     → IsHeldInRows (client_rows v) x → SeenAt v sets x
 seen_at v sets s x h =
     let r = held_row v x h in
-    let shown = s.shown x.id (row_of_entry r.entry) (ap (option_map row_of_entry) r.there) in
-    let b : birth_in (row_of_entry r.entry) ≡ x.born.birth = birth_bare r.entry.state (born_of_entry r.entry)
+    let shown = s.shown x.id (row_of_entry x.id r.entry) (ap (option_map (row_of_entry x.id)) r.there) in
+    let b : birth_in (row_of_entry x.id r.entry) ≡ x.born.birth = birth_bare r.entry.state (born_of_entry x.id r.entry)
     ∙ ap birth_of r.same in
     record { entry = r.entry; there = r.there; same = r.same; shown = ap sets (sym b) ∙ shown }
 
-pub held_at_client : (v : Objects) (sets : Birth → Option Row) → ShowsBirths birth_in (client_rows v).rows v.client.births sets
+pub held_at_client : (v : Objects) (sets : Birth → Option Row) → Showing v sets
     → (x : Known) → 0 < x.id → IsHeldInRows (client_rows v) x → HeldAt v sets x
 held_at_client v sets s x some h = let r = seen_at v sets s x h
     in record { some = some; entry = r.entry; there = r.there; same = r.same; shown = r.shown }
@@ -86,18 +95,14 @@ held_at_client v sets s x some h = let r = seen_at v sets s x h
 pub record InEvent (p : PairState) (w : World) (m : Message Known) (cs : List (Coming Known))
     (asked : List (Message Known)) (s : StandsBy p w asked (Event m ∷ cs)) (n : ℕ) : Type 0 where
   pub target : SeenAt p.client.core.view w.client m.target
-  pub met : AllMet event_side p.client.core.view w.client m.args
+  pub met : AllMet p.server.core.tables event_side p.client.core.view w.client m.args
   pub finds_it : found p.client.core event_side ≡ Ok (Some (the_found n m target.entry s.events.fit.0.fits.signature))
   pub tells_it : TellsAt (test_of p) (all_tells cs) (client_rows p.client.core.view) s.meet.middle m.target
-      (objects m.args) m.ends
+      (objects m.args) (made_in m.args) m.ends
   pub down : InFlight p.server.core.outbox (without_first p.client.core.inbox n (length (tokens m.args)))
       (map spelled_coming cs)
   pub more : List ℕ
   pub tokens_are : p.client.core.inbox.tokens ≡ tokens m.args ++ more
-
-fits_at : (t u : List Interface) (m : Message Known) → t ≡ u → FitsSignature t event_side m
-    → FitsSignature u event_side m
-fits_at t u m e f = subst (λ (x : List Interface). FitsSignature x event_side m) e f
 
 -- the first of what comes, where it is an event and whole
 pub in_event : (p : PairState) (w : World) (m : Message Known) (cs : List (Coming Known)) (asked : List (Message Known))
@@ -106,14 +111,14 @@ pub in_event : (p : PairState) (w : World) (m : Message Known) (cs : List (Comin
 in_event p w m cs asked s n e =
     let q = first_read p.server.core.outbox p.client.core.inbox (spelled_meant m)
     (map spelled_coming cs) n s.events.in_boxes e in
-    let t = tells_at m.target (objects m.args) m.ends s.meet.reads in
+    let t = tells_at m.target (objects m.args) (made_in m.args) m.ends s.meet.reads in
     let r = seen_at p.client.core.view w.client s.client.sets m.target t.target in
     let f = s.events.fit.0.fits in
-    let none = none_by_server p.server.core.tables s.terms.valid s.terms.none_by_server m.target.born.iface.0 event_side
+    let none = made_for p.server.core.tables s.terms.valid m.target.born.iface.0 event_side
     m.opcode f.signature f.there in
     let met = all_met p.server.core.tables m.target.born.version event_side p.client.core.view w.client
     (IsHeldInRows (client_rows p.client.core.view)) (held_at_client p.client.core.view w.client s.client.sets)
-    f.signature.kinds m.args f.args t.args (news_none event_side p.client.core.view m.args m.args s.events.fit.0.makes_none
+    f.signature.kinds m.args f.args t.args (news_told p.server.core.tables p.client.core.view m.args m.args t.new
     f.new_is) in
     let core' : Core = record p.client.core { tables = p.server.core.tables } in
     let same_core : core' ≡ p.client.core = λ i. record p.client.core { tables = sym s.terms.same_tables i } in
@@ -132,13 +137,13 @@ in_event p w m cs asked s n e =
 abbrev pub after_event : client.State → Message Known → ℕ → Bool → client.State
 after_event st m n teaches = record {
   core = record st.core {
-    view = ended_view request_side st.core.view m.ends;
+    view = ended_view request_side (opens st.core.view (option_map made_of (made_in m.args))) m.ends;
     inbox = without_first st.core.inbox n (length (tokens m.args));
     read = min (st.core.read + n) 18446744073709551615;
     failed = false;
   };
   globals = cond teaches (globals_told st.core.tables st.globals m.opcode (map wire m.args)) st.globals;
-  made = None;
+  made = object_made st.core.view (option_map made_of (made_in m.args));
 }
 
 -- an event of a live registry teaches the client
@@ -151,15 +156,15 @@ pub record EventAnswer (p : PairState) (m : Message Known) (n : ℕ) (entry : En
   pub tells_it : report p.client.core (the_found n m entry signature)
       ≡ reports.plain_report p.client.core m.opcode (the_message m entry signature) entry.state
   pub leaves : state_past p.client (the_found n m entry signature) ≡ after_event p.client m n (teaches m entry)
-  pub makes_none : reports.made_by_event p.client.core (the_message m entry signature) ≡ None
+  pub makes : reports.made_by_event p.client.core (the_message m entry signature) ≡ option_map made_of (made_in m.args)
 
 -- what the client says of an event, and how it leaves the client
 pub event_answer : (p : PairState) (m : Message Known) (n : ℕ) (entry : Entry) (tables : List Interface)
-    (f : FitsSignature tables event_side m) → Valid tables → p.client.core.tables ≡ tables → made_in m.args ≡ None
+    (f : FitsSignature tables event_side m) → Valid tables → p.client.core.tables ≡ tables
     → is_delete_id event_side m.target.born.iface m.opcode ≡ false
-    → born_of_entry entry ≡ m.target.born
+    → born_of_entry m.target.id entry ≡ m.target.born
     → EventAnswer p m n entry f.signature
-event_answer p m n entry tables f valid same makes d s =
+event_answer p m n entry tables f valid same d s =
     let error : is_error event_side entry.iface m.opcode ≡ false =
     ap (λ (b : Born). is_error event_side b.iface m.opcode) s ∙ f.no_error in
     let delete : is_delete_id event_side entry.iface m.opcode ≡ false =
@@ -168,23 +173,23 @@ event_answer p m n entry tables f valid same makes d s =
     tokens_taken tables m.target.born.version f.signature.kinds m.args f.args in
     let registers : same_iface entry.iface registry ≡ is_registry m.target.born = ap is_registry s in
     let v = p.client.core.view in
-    let a = after request_side v None f.signature.destroys
+    let new = option_map made_of (made_in m.args) in
+    let a = after request_side v new f.signature.destroys
     (ended_id f.signature.destroys m.target.id (map wire m.args)) in
-    let left : a ≡ ended_view request_side v m.ends =
-    after_is request_side v None f.signature.destroys _ m.ends (ends_as tables event_side m f valid) in
+    let left : a ≡ ended_view request_side (opens v new) m.ends =
+    after_is request_side v new f.signature.destroys _ m.ends (ends_as tables event_side m f valid) in
     let args : SuitKinds p.client.core.tables m.target.born.version f.signature.kinds m.args =
     subst (λ (t : List Interface). SuitKinds t m.target.born.version f.signature.kinds m.args) (sym same) f.args in
-    let none : reports.made_by_event p.client.core (the_message m entry f.signature) ≡ None =
+    let makes : reports.made_by_event p.client.core (the_message m entry f.signature) ≡ new =
     ap (λ (b : Born). made p.client.core.tables b.version f.signature.kinds (map wire m.args)) s
-    ∙ made_read p.client.core.tables m.target.born.version f.signature.kinds m.args args
-    ∙ ap (option_map made_of) makes in
+    ∙ made_read p.client.core.tables m.target.born.version f.signature.kinds m.args args in
     record {
       tells_it = rw (error, delete) refl;
       leaves = (λ i. record {
         core = record p.client.core {
           view = cond (error i) v (cond (delete i)
               (after_delete_id v (reports.deleted_id (the_found n m entry f.signature)))
-              (after request_side v (none i) f.signature.destroys
+              (after request_side v (makes i) f.signature.destroys
               (ended_id f.signature.destroys m.target.id (map wire m.args))));
           inbox = without_first p.client.core.inbox n (count i);
           read = min (p.client.core.read + n) 18446744073709551615;
@@ -192,7 +197,7 @@ event_answer p m n entry tables f valid same makes d s =
         };
         globals = cond (registers i && lives entry.state)
             (globals_told p.client.core.tables p.client.globals m.opcode (map wire m.args)) p.client.globals;
-        made = reports.object_made v (none i);
+        made = object_made v (makes i);
       })
           ∙ (λ i. record {
             core = record p.client.core {
@@ -203,9 +208,9 @@ event_answer p m n entry tables f valid same makes d s =
             };
             globals = cond (is_registry m.target.born && lives entry.state)
                 (globals_told p.client.core.tables p.client.globals m.opcode (map wire m.args)) p.client.globals;
-            made = None;
+            made = object_made v new;
           });
-      makes_none = none;
+      makes = makes;
     }
 
 -- ---- the pair stands again
@@ -221,7 +226,7 @@ learned_is : (p : PairState) (w : World) (m : Message Known) (asked : List (Mess
     p.client.globals
 learned_is p w m asked told s t =
     let live : is_open_row (w.client m.target.born.birth) ≡ lives t.entry.state =
-    ap is_open_row t.shown ∙ open_is t.entry.state (born_of_entry t.entry) in
+    ap is_open_row t.shown ∙ open_is t.entry.state (born_of_entry m.target.id t.entry) in
     let same : globals_told p.client.core.tables p.client.globals m.opcode (map nameless (map (rearg born_of) m.args))
     ≡ globals_told p.client.core.tables p.client.globals m.opcode (map wire m.args) =
     sym (told_same p.client.core.tables p.client.globals m.opcode m.args) in
@@ -242,14 +247,22 @@ event_stands p w m cs asked s n i y =
     let t = i.tells_it in
     let held : IfThere (IsHeldInRows (client_rows v)) m.ends =
     ends_have (IsHeldInRows (client_rows v)) p.server.core.tables event_side m f t.target t.args in
-    let rows : client_rows (ended_view request_side v m.ends) ≡ client_ends m.ends (client_rows v) =
-    client_after v None m.ends tt (if_by (held_row v) m.ends held) in
+    let new = made_in m.args in
+    let world_new : made_in (map (rearg born_of) m.args) ≡ option_map born_of new = made_map born_of m.args in
+    let rows : client_rows (ended_view request_side (opens v (option_map made_of new)) m.ends)
+    ≡ client_ends m.ends (client_told (client_rows v) new) =
+    client_after_event v new m.ends t.new (if_by (held_row v) m.ends held) t.range in
     record {
       terms = s.terms;
-      client = client_message s.client None m.ends s.client.sound tt tt held held y false refl;
+      client = rw world_new (client_event s.client new m.ends t.new f.new_version held t.range
+          (held_told_if (client_rows v) new m.ends t.new t.range held) y false refl);
       server = s.server;
+      plain = s.plain;
+      none_made = s.none_made;
       requests = s.requests;
       events = record { in_world = refl; in_boxes = i.down; fit = s.events.fit.1 };
+      asks_counted = subst (λ (x : Rows Row). Each (IsAskedBelow (births_in x)) (all_asks asked)) (sym rows)
+          (below_told (client_rows v) new m.ends (all_asks asked) s.asks_counted);
       deletes_follow = s.deletes_follow.1;
       meet = record {
         middle = s.meet.middle;
@@ -280,7 +293,8 @@ held_mortal p w asked told s x h d one =
     let e : Some r.entry ≡ Some (live_entry display_born) =
     sym r.there ∙ ap (look p.client.core.view) one ∙ s.client.display in
     let entry : r.entry ≡ live_entry display_born = cc e in
-    let born : x.born ≡ display_born = sym r.same ∙ ap born_of_entry entry in
+    let born : x.born ≡ display_born = sym r.same ∙ ap (born_of_entry x.id) entry
+    ∙ ap (λ (i : ℕ). born_of_entry i (live_entry display_born)) one in
     let plain_display : test_of p display_born ≡ false = rw s.terms.valid.fixed_four.display refl in
     let no : true ≡ false = sym d ∙ ap (test_of p) born ∙ plain_display in
     cc no
@@ -322,7 +336,7 @@ delete_signature tables e x h = record {
 pub record InDelete (p : PairState) (x : Known) (cs : List (Coming Known)) (middle : Rows Row) (n : ℕ) : Type 0 where
   pub entry : Entry
   pub there : look p.client.core.view x.id ≡ Some entry
-  pub same : born_of_entry entry ≡ x.born
+  pub same : born_of_entry x.id entry ≡ x.born
   pub signature : sigs.MessageSignature
   pub some_kinds : not (is_none signature.kinds) ≡ true
   pub finds_it : found p.client.core event_side ≡ Ok
@@ -355,7 +369,7 @@ in_delete p w x cs asked s n e =
       signature = f.signature;
       some_kinds = refl;
       finds_it = ap (λ (c : Core). found c event_side) (sym same_core)
-          ∙ finds core' event_side (deleting x) n w.client (live_entry display_born) f refl e q.bytes s.client.display refl
+          ∙ finds core' event_side (deleting x) n w.client (live_entry display_born) f (tt, tt) e q.bytes s.client.display refl
           (tt, tt) (omega arith);
       keeps_target = refl;
       count = refl;
@@ -401,12 +415,12 @@ pub record DeleteAnswer (p : PairState) (x : Known) (n : ℕ) (entry : Entry) (s
 
 -- what the client says of a delete, and how it leaves the client
 pub delete_answer : (p : PairState) (x : Known) (n : ℕ) (entry : Entry) (signature : sigs.MessageSignature)
-    → MadeByClient p.client.core.view → x.id ≢ 1
+    → OfClient x → x.id ≢ 1
     → look p.client.core.view x.id ≡ Some entry → descriptors signature.kinds ≡ 0 → DeleteAnswer p x n entry signature
-delete_answer p x n entry signature s y row c =
+delete_answer p x n entry signature range y row c =
     let b : nat_eq x.id 1 ≡ false = ne_eqb x.id 1 y in
     let v = p.client.core.view in
-    let l = row_of_client v x.id entry s row in
+    let l = row_of_client v x.id entry range row in
     let gone : after_delete_id v x.id ≡ closed v x.id = rw (l, b) refl in
     let none = number_makes_none p.client.core.tables 1 signature.kinds x.id in
     record {
@@ -431,10 +445,16 @@ delete_stands p w x cs asked s n i =
     let t = i.deletes_it in
     record {
       terms = s.terms;
-      client = client_delete s.client x t.held t.mortal false refl;
+      client = client_delete s.client x t.held t.mortal t.range false refl;
       server = s.server;
+      plain = s.plain;
+      none_made = s.none_made;
       requests = s.requests;
       events = record { in_world = refl; in_boxes = i.down; fit = s.events.fit.1 };
+      asks_counted = subst (λ (y : Rows Row). Each (IsAskedBelow (births_in y)) (all_asks asked))
+          (sym (client_closed p.client.core.view x.id))
+          (subst (λ (n : Maker → ℕ). Each (IsAskedBelow n) (all_asks asked))
+          (sym (at_count (client_rows p.client.core.view) x.id None)) s.asks_counted);
       deletes_follow = s.deletes_follow;
       meet = record {
         middle = s.meet.middle;

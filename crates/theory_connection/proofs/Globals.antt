@@ -82,7 +82,6 @@ module _ (given more : List Global) (grows : Grows given more) where
   comes_still : (tables : List Interface) (c : Coming Known) → ComesFitly tables given c → ComesFitly tables more c
   comes_still tables (Event m) h = record {
     fits = h.fits;
-    makes_none = h.makes_none;
     no_delete_id = h.no_delete_id;
     tells = λ e f. let t = h.tells e f in record {
       name = t.name;
@@ -103,8 +102,11 @@ given_stands p w asked told s more g e l = record {
   terms = s.terms;
   client = s.client;
   server = s.server;
+  plain = s.plain;
+  none_made = s.none_made;
   requests = travel_by (asks_still p.server.globals more g p.server.core.tables) s.requests;
   events = travel_by (comes_still p.server.globals more g p.server.core.tables) s.events;
+  asks_counted = s.asks_counted;
   deletes_follow = s.deletes_follow;
   meet = s.meet;
   globals = record {

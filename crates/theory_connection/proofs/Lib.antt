@@ -4,11 +4,13 @@ pub mod WholeInFlight
 pub mod Sets
 pub mod Channels
 pub mod Bridges
-pub mod MadeByClient
-pub mod NoneByServer
+pub mod TwoRanges
+pub mod MadeFor
 pub mod ReadAsMeant
 pub mod RowsAfterMessage
 pub mod Stands
+pub mod AskedCounted
+pub mod NoneMade
 pub mod Registries
 pub mod FoundInFront
 pub mod RequestRead
@@ -33,6 +35,10 @@ pub mod ClientBindMove
 pub mod Records
 pub mod Steps
 pub mod Plain
+pub mod OfServer
+pub mod MessageActions
 pub mod Worlds
+pub mod ServerObjects
+pub mod WithoutServerObjects
 pub mod Samples
 pub mod EndedObject

@@ -14,14 +14,16 @@ use Rattle.wl_client.specs.declared.globals.Global.{Global as Remembered}
 use Rattle.wl_client.specs.State as client
 use Rattle.wl_server.specs.State.{Global, Registry}
 use Rattle.theory_connection.specs.Meant.{IsAmongFirst, Known, Message, Coming, Event, Delete, Arg, objects, Born}
-use Rattle.theory_connection.specs.World.{World, Each, IfThere, delete}
+use Rattle.wl_object_map.specs.declared.object.Maker.{Maker}
+use Rattle.theory_connection.specs.World.{World, Each, IfThere, delete, answer}
 use Rattle.theory_connection.specs.Pair.{PairState, Move, Reply, with_client, with_server, carries}
 use Rattle.theory_connection.specs.Pair.{after_carry_to_server, after_carry_to_client}
-use Rattle.theory_connection.specs.Flight.{Rows, Name, ends, tells, all_tells, IsBelow}
+use Rattle.theory_connection.specs.Meant.{made_in}
+use Rattle.theory_connection.specs.Flight.{Rows, Name, make_tell, ends, tells, all_tells, IsBelow, births_in, server_rows}
 use Rattle.theory_connection.specs.Answers.{NotEnded, Answers}
 use Rattle.theory_connection.specs.Stands.{Stands, stands, ended, StandsBy}
 use Rattle.theory_connection.specs.Runs.{Keeps}
-use Rattle.theory_connection.proofs.WholeInFlight.{ThereRow, each_more}
+use Rattle.theory_connection.proofs.WholeInFlight.{ThereRow, id_maker, each_more}
 use Rattle.theory_connection.proofs.RequestRead.{left_state}
 use Rattle.theory_connection.proofs.EventRead.{after_event, after_delete, teaches}
 use Rattle.theory_connection.proofs.RequestWritten.{CanAsk, asked_pair}
@@ -41,34 +43,42 @@ pub record BindsRemembered (globals : List Remembered) (args : List (Arg Known))
   pub iface_is : new.born.iface ≡ global.iface
   pub most : new.born.version ≤ global.version
 
-abbrev Below : Rows Born → ℕ → Type 0
+abbrev Below : Rows Born → (Maker → ℕ) → Type 0
 Below s births = (id : ℕ) (x : Born) → s.rows id ≡ Some x → IsAmongFirst births x.birth
 
-names_below : (s : Rows Born) (births : ℕ) → Below s births → (xs : List Known) → Each (ThereRow s) xs
+names_below : (s : Rows Born) (births : Maker → ℕ) → Below s births → (xs : List Known) → Each (ThereRow s) xs
     → Each (IsBelow births) (map Name xs)
 names_below s births b [] h = tt
 names_below s births b (x ∷ xs) h = (b x.id x.born h.0, names_below s births b xs h.1)
 
-ends_below : (births : ℕ) (o : Option Known) → IfThere (λ x. IsAmongFirst births x.born.birth) o
+ends_below : (births : Maker → ℕ) (o : Option Known) → IfThere (λ x. IsAmongFirst births x.born.birth) o
     → Each (IsBelow births) (ends o)
 ends_below births None h = tt
 ends_below births (Some x) h = (h, tt)
 
+makes_below : (births : Maker → ℕ) (o : Option Known) → IfThere (λ x. IsAmongFirst births x.born.birth) o
+    → Each (IsBelow births) (make_tell o)
+makes_below births None h = tt
+makes_below births (Some x) h = (h, tt)
+
 -- a delete is of a birth that was counted
-pub delete_below : (births : ℕ) (o : Option Known) → IfThere (λ x. IsAmongFirst births x.born.birth) o
+pub delete_below : (births : Maker → ℕ) (o : Option Known) → IfThere (λ x. IsAmongFirst births x.born.birth) o
     → Each (IsBelow births) (all_tells (delete o))
 delete_below births None h = tt
 delete_below births (Some x) h = (h, tt)
 
--- an event that names what is there
-pub event_below : (s : Rows Born) (births : ℕ) → Below s births → (m : Message Known) → ThereRow s m.target
-    → Each (ThereRow s) (objects m.args) → IfThere (λ x. IsAmongFirst births x.born.birth) m.ends
+-- an event that names what is there, and makes what is counted
+pub event_below : (s : Rows Born) (births : Maker → ℕ) → Below s births → (m : Message Known) → ThereRow s m.target
+    → Each (ThereRow s) (objects m.args) → IfThere (λ x. IsAmongFirst births x.born.birth) (made_in m.args)
+    → IfThere (λ x. IsAmongFirst births x.born.birth) m.ends
     → Each (IsBelow births) (tells (Event m))
-event_below s births b m h hs e =
+event_below s births b m h hs n e =
     let t = b m.target.id m.target.born h in (
       t,
-      each_more (IsBelow births) (map Name (objects m.args)) (ends m.ends)
-          (names_below s births b (objects m.args) hs) (ends_below births m.ends e),
+      each_more (IsBelow births) (map Name (objects m.args)) (make_tell (made_in m.args) ++ ends m.ends)
+          (names_below s births b (objects m.args) hs)
+          (each_more (IsBelow births) (make_tell (made_in m.args)) (ends m.ends)
+          (makes_below births (made_in m.args) n) (ends_below births m.ends e)),
     )
 
 -- ---- what happens
@@ -88,16 +98,16 @@ pub data LeadsTo (p : PairState) (asked : List (Message Known)) (told : List (Co
   asking : (m : Message Known) (c : CanAsk p m) →
       (is_bind request_side m.target.born.iface m.opcode ≡ true → BindsRemembered p.client.globals m.args)
       → LeadsTo p asked told (asked_pair p m) (asked ++ m ∷ []) told
-  -- the server wrote events or deletes, of births that it has counted
+  -- the server wrote events or deletes, of births that it has counted then
   telling : (view : Objects) (outbox : Outgoing) (registries : List Registry) (news : List (Coming Known))
-      → view.client.births ≡ p.server.core.view.client.births
-      → Each (IsBelow p.server.core.view.client.births) (all_tells news)
+      → ((k : Maker) → births_in (server_rows p.server.core.view) k ≤ births_in (server_rows view) k)
+      → Each (IsBelow (births_in (server_rows view))) (all_tells news)
       → LeadsTo p asked told (told_pair p view outbox registries) asked (told ++ news)
-  -- the server read the first request, and wrote the delete of what it destroys
+  -- the server read the first request, and wrote the delete that answers it
   reading_request : (m : Message Known) (ms : List (Message Known)) (n : ℕ) → asked ≡ m ∷ ms
       → in_front p.server.core.inbox ≡ Whole n
-      → IfThere (λ x. IsAmongFirst p.server.core.view.client.births x.born.birth) m.ends
-      → LeadsTo p asked told (with_server p (left_state p.server m n)) ms (told ++ delete m.ends)
+      → IfThere (λ x. IsAmongFirst (births_in (server_rows p.server.core.view)) x.born.birth) m.ends
+      → LeadsTo p asked told (with_server p (left_state p.server m n)) ms (told ++ answer id_maker m.ends)
   -- the client read the first of what comes
   reading_event : (m : Message Known) (cs : List (Coming Known)) (n : ℕ) (entry : Entry) → told ≡ Event m ∷ cs
       → in_front p.client.core.inbox ≡ Whole n

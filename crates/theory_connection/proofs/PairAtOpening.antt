@@ -1,7 +1,8 @@
 -- The pair as it begins, drained ends, and runs.
 use Rattle.std.proofs.Common.{◌≡◌, ℕ, ◌≤◌, Bool, true, false, cond, List, [], ◌∷◌, ◌++◌, map, refl}
 use Rattle.std.proofs.Common.{sym, ap, subst, ◌∙◌, arith, lit≤}
-use Rattle.std.proofs.lemmas.Bool.{and_parts}
+use Rattle.std.proofs.Common.{◌<◌, ◌-◌}
+use Rattle.std.proofs.lemmas.Bool.{and_parts, ne_eqb}
 use Rattle.std.specs.Prelude.{option_map, nat_eq, ◌&&◌, not, is_some, ltb}
 use Rattle.std.specs.declared.option.Option.{Option}
 use Rattle.std.specs.declared.option.Option.TheVariants.{None, Some}
@@ -15,26 +16,33 @@ use Rattle.wl_object_map.specs.declared.object.Entry.{Entry}
 use Rattle.wl_object_map.specs.declared.object.State.{State}
 use Rattle.wl_object_map.specs.declared.object.State.TheVariants as states
 use Rattle.wl_object_map.specs.Ranges.{is_of_server, table_id}
-use Rattle.wl_object_map.specs.View.{lives_in, times}
+use Rattle.wl_object_map.specs.View.{lives, lives_in, times}
 use Rattle.wl_object_map.specs.Views.{place_of_id, in_row, in_list, at_null, unused}
 use Rattle.wl_object_map.specs.Objects.{Objects, look, opening as opening_view}
-use Rattle.wl_object_map.specs.ObjectsLaws.{look-opening, is_from, in_range-server}
-use Rattle.theory_connection.proofs.MadeByClient.{made_opening}
+use Rattle.wl_object_map.specs.Objects.{ObjectsAreSound}
+use Rattle.wl_object_map.specs.View as table
+use Rattle.wl_object_map.specs.declared.object.Maker.{Maker}
+use Rattle.wl_object_map.specs.declared.object.Maker.TheVariants.{Client}
+use Rattle.wl_object_map.specs.ObjectsLaws.{look-opening, is_from, in_range-server, ObjectsAreSound-opening}
 use Rattle.wl_connection.specs.Core.{Core, is_drained}
 use Rattle.wl_server.proofs.Registries.{has_none}
-use Rattle.theory_connection.specs.Meant.{Birth, Known, Message, Coming, birth_of, spelled_meant, spelled_coming}
-use Rattle.theory_connection.specs.Meant.{born_of_entry, live_entry}
-use Rattle.theory_connection.specs.World.{World, Open, put, nothing, display_born, opening_world}
+use Rattle.theory_connection.specs.Meant.{Birth, server_birth, Known, Message, Coming, birth_of, spelled_meant}
+use Rattle.theory_connection.specs.Meant.{spelled_coming}
+use Rattle.theory_connection.specs.Meant.{IsAmongFirst, born_of_entry, live_entry}
+use Rattle.theory_connection.specs.World.{World, Row, Open, put, nothing, display_born, opening_world}
 use Rattle.theory_connection.specs.Pair.{PairState, Move, Reply, new_pair, drained}
 use Rattle.theory_connection.specs.Answers.{Answers}
 use Rattle.theory_connection.specs.Flight.{put_row, client_rows, server_rows, row_of_entry, as_row, at_client}
-use Rattle.theory_connection.specs.Flight.{ReadsInFlight, done, Tied, drained as nothing_left, all_asks}
+use Rattle.theory_connection.specs.Flight.{Counts, births_in, only_open, ReadsInFlight, done, Tied, drained as nothing_left, all_asks}
 use Rattle.theory_connection.specs.Flight.{all_tells}
 use Rattle.theory_connection.specs.Stands.{Stands, stands, ended, StandsBy, InFlight, ShowsBirths, birth_in, by_event}
-use Rattle.theory_connection.specs.Stands.{MadeByClient}
+use Rattle.theory_connection.specs.Stands.{IsEndingOfServer, NoneIsGone}
 use Rattle.theory_connection.specs.Runs.{Runs, Agree, Keeps, is_freed, is_zombie}
-use Rattle.wl_sigs.specs.Rules.{is_empty, has_server_objects}
-use Rattle.theory_connection.proofs.WholeInFlight.{same_rows}
+use Rattle.wl_sigs.specs.Rules.{is_empty}
+use Rattle.theory_connection.proofs.WholeInFlight.{drained_rows}
+use Rattle.theory_connection.proofs.Flight.{open_of}
+use Rattle.theory_connection.proofs.Bridges.{map_put}
+use Rattle.theory_connection.proofs.RowsAfterMessage.{map_some}
 use Rattle.theory_connection.proofs.Sets.{shows_make, no_object}
 use Rattle.theory_connection.proofs.Channels.{none_in_flight}
 
@@ -42,28 +50,28 @@ is_nothing : {X : Type 0} (i : ℕ) → nothing {K = ℕ} {X = X} i ≡ None
 unfolding nothing
 is_nothing i = refl
 
-opening_rows : {X : Type 0} (f : Entry → X) (q : ℕ)
-    → option_map f (look (opening_view display) q) ≡ put_row nothing 1 (Some (f (live_entry display_born))) q
+opening_rows : {X : Type 0} (f : ℕ → Entry → X) (q : ℕ)
+    → option_map (f q) (look (opening_view display) q) ≡ put_row nothing 1 (Some (f 1 (live_entry display_born))) q
 unfolding put_row nothing
-opening_rows f q = ap (option_map f) (look-opening display q) ∙ pushed (nat_eq q 1)
-  where
-    pushed : (b : Bool) → option_map f (cond b (Some (live_entry display_born)) None)
-        ≡ cond b (Some (f (live_entry display_born))) None
-    pushed true = refl
-    pushed false = refl
+opening_rows f q = map_put f (look (opening_view display)) (λ i. None) 1 (Some (live_entry display_born))
+    (look-opening display) q
 
-shows_opening : {X : Type 0} (birth : X → Birth) (f : Entry → X)
-    → birth (f (live_entry display_born)) ≡ display_born.birth
-    → ShowsBirths birth (λ q. option_map f (look (opening_view display) q)) 1
-    (put nothing display_born.birth (Some (f (live_entry display_born))))
-shows_opening birth f e =
-    let k = shows_make birth nothing 0 nothing 1 (f (live_entry display_born)) (no_object birth) (is_nothing 1) e in
-    let rows : (λ (q : ℕ). option_map f (look (opening_view display) q))
-    ≡ put_row nothing 1 (Some (f (live_entry display_born))) = λ i q. opening_rows f q i in
-    subst (λ (g : ℕ → Option _). ShowsBirths birth g 1
-    (put nothing display_born.birth (Some (f (live_entry display_born))))) (sym rows)
-    (subst (λ (b : Birth). ShowsBirths birth (put_row nothing 1 (Some (f (live_entry display_born)))) 1
-    (put nothing b (Some (f (live_entry display_born))))) e k)
+shows_opening : {X : Type 0} (birth : X → Birth) (Gone : X → Type 0) (f : ℕ → Entry → X) (n : Maker → ℕ)
+    → birth (f 1 (live_entry display_born)) ≡ display_born.birth → 0 < n Client
+    → ShowsBirths birth Gone (λ q. option_map (f q) (look (opening_view display) q)) n
+    (put nothing display_born.birth (Some (f 1 (live_entry display_born))))
+shows_opening birth Gone f n e l =
+    let first = f 1 (live_entry display_born) in
+    let zero : Maker → ℕ = λ k. 0 in
+    let k = shows_make birth Gone nothing zero n nothing 1 first (no_object birth Gone zero)
+    (λ z h. absurd (cc (is_nothing 1, h))) (λ k. omega arith) (subst (IsAmongFirst n) (sym e) l)
+    (λ c. absurd (omega (arith, c))) in
+    let rows : (λ (q : ℕ). option_map (f q) (look (opening_view display) q))
+    ≡ put_row nothing 1 (Some first) = λ i q. opening_rows f q i in
+    subst (λ (g : ℕ → Option _). ShowsBirths birth Gone g n
+    (put nothing display_born.birth (Some first))) (sym rows)
+    (subst (λ (b : Birth). ShowsBirths birth Gone (put_row nothing 1 (Some first)) n
+    (put nothing b (Some first))) e k)
 
 opening_live : (b : Bool) (e : Entry) → cond b (Some (live_entry display_born)) None ≡ Some e → e.state ≡ states.Live
 opening_live true e h = let q : live_entry display_born ≡ e = cc h in ap (λ (x : Entry). x.state) (sym q)
@@ -78,63 +86,87 @@ nothing_flies : (from : Outgoing) (to : Arrived) → from.left ≡ [] → from.m
     → InFlight from to []
 nothing_flies from to a b c d = record { begun = []; all = sym b; bytes = rw (c, a) refl; tokens = d; whole = tt }
 
+-- at the beginning the client holds nothing that the server made
+opening_holds : (number : ℕ)
+    → is_some (put nothing display_born.birth (Some (Open display_born)) (server_birth number)) ≡ false
+unfolding put nothing
+opening_holds number = refl
+
 -- a new pair stands, with nothing in flight
 pub new_stands_by : (tables : List Interface) (client_sizes server_sizes : Sizes)
-    → client_sizes.limit.bytes ≡ server_sizes.limit.bytes → Valid tables → has_server_objects tables ≡ false
+    → client_sizes.limit.bytes ≡ server_sizes.limit.bytes → Valid tables
     → StandsBy (new_pair tables client_sizes server_sizes) opening_world [] []
-new_stands_by tables client_sizes server_sizes one v none = record {
+new_stands_by tables client_sizes server_sizes one v = record {
   terms = record {
     same_tables = refl;
     valid = v;
     up_limit = one;
     down_limit = sym one;
     one_limit = one;
-    none_by_server = none;
   };
   client = record {
-    sets = shows_opening birth_in row_of_entry refl;
+    sets = shows_opening birth_in IsEndingOfServer row_of_entry (births_in (client_rows (opening_view display))) refl
+        (omega arith);
     births = refl;
-    sound = made_opening;
+    holds_counted = λ number. (λ h. absurd (let k = opening_holds number in cc (h, k)), λ h. absurd (omega (arith, h.0, h.1)));
+    sound = ObjectsAreSound-opening display;
+    never_freed = refl;
     display = look-opening display 1;
     versions = λ id e h. opening_aged (nat_eq id 1) e (sym (look-opening display id) ∙ h);
     lives = refl;
   };
   server = record {
-    sets = shows_opening birth_of born_of_entry refl;
-    sound = made_opening;
+    sets = shows_opening birth_of NoneIsGone born_of_entry (births_in (server_rows (opening_view display))) refl
+        (omega arith);
+    births = refl;
+    sound = ObjectsAreSound-opening display;
     display = look-opening display 1;
     versions = λ id e h. opening_aged (nat_eq id 1) e (sym (look-opening display id) ∙ h);
     live = λ id e h. opening_live (nat_eq id 1) e (sym (look-opening display id) ∙ h);
     lives = refl;
   };
+  plain = λ id x range h. absurd (let low = is_from id range in
+      let other : nat_eq id 1 ≡ false = ne_eqb id 1 (λ e. omega (arith, low, e)) in
+      let gone : look (opening_view display) id ≡ None = look-opening display id ∙ rw other refl in
+      let none = ap (option_map (born_of_entry id)) gone in cc (none, h));
+  none_made = λ none. refl;
   requests = record { in_world = refl; in_boxes = nothing_flies _ _ refl refl refl refl; fit = tt };
   events = record { in_world = refl; in_boxes = nothing_flies _ _ refl refl refl refl; fit = tt };
+  asks_counted = tt;
   deletes_follow = tt;
   meet = record {
     middle = client_rows (opening_view display);
     reads = done;
-    tied = nothing_left (λ id. both (look (opening_view display) id)
-        (λ e h. opening_live (nat_eq id 1) e (sym (look-opening display id) ∙ h))) refl refl;
+    tied = nothing_left (λ id. opened id (look (opening_view display) id)
+        (λ e h. opening_live (nat_eq id 1) e (sym (look-opening display id) ∙ h)))
+        (λ id range. both id (look (opening_view display) id)
+        (λ e h. opening_live (nat_eq id 1) e (sym (look-opening display id) ∙ h))) refl refl refl;
   };
   globals = record { remembered = refl; given = refl; remembers = tt; globals = tt; few_globals = lit≤ tt };
   registries = record { told = refl; open_registries = has_none };
 }
   where
-    live_row : (e : Entry) (s : State) → s ≡ states.Live → as_row s (born_of_entry e) ≡ Open (born_of_entry e)
-    live_row e states.Live h = refl
-    live_row e states.Zombie h = absurd (cc h)
+    live_row : (id : ℕ) (e : Entry) (s : State) → s ≡ states.Live
+        → as_row s (born_of_entry id e) ≡ Open (born_of_entry id e)
+    live_row id e states.Live h = refl
+    live_row id e states.Zombie h = absurd (cc h)
 
-    both : (o : Option Entry) → ((e : Entry) → o ≡ Some e → e.state ≡ states.Live)
-        → option_map row_of_entry o ≡ at_client (option_map born_of_entry o)
-    both None h = refl
-    both (Some e) h = ap Some (live_row e e.state (h e refl))
+    both : (id : ℕ) (o : Option Entry) → ((e : Entry) → o ≡ Some e → e.state ≡ states.Live)
+        → option_map (row_of_entry id) o ≡ at_client (option_map (born_of_entry id) o)
+    both id None h = refl
+    both id (Some e) h = ap Some (live_row id e e.state (h e refl))
+
+    opened : (id : ℕ) (o : Option Entry) → ((e : Entry) → o ≡ Some e → e.state ≡ states.Live)
+        → only_open (option_map (row_of_entry id) o) ≡ option_map (born_of_entry id) o
+    opened id None h = refl
+    opened id (Some e) h = ap (λ (r : Row). only_open (Some r)) (live_row id e e.state (h e refl))
 
 -- a new pair stands for the opening world
 pub new_stands : (tables : List Interface) (client_sizes server_sizes : Sizes)
-    → client_sizes.limit.bytes ≡ server_sizes.limit.bytes → Valid tables → has_server_objects tables ≡ false
+    → client_sizes.limit.bytes ≡ server_sizes.limit.bytes → Valid tables
     → Stands (new_pair tables client_sizes server_sizes) opening_world
-new_stands tables client_sizes server_sizes one v none =
-    stands [] [] (refl, refl) (new_stands_by tables client_sizes server_sizes one v none)
+new_stands tables client_sizes server_sizes one v =
+    stands [] [] (refl, refl) (new_stands_by tables client_sizes server_sizes one v)
 
 -- ---- drained ends
 
@@ -158,38 +190,106 @@ none_of : {A B : Type 0} (f : A → B) (l : List A) → map f l ≡ [] → l ≡
 none_of f [] h = refl
 none_of f (x ∷ xs) h = absurd (cc h)
 
-entry_of : (d e : Entry) → e.state ≡ states.Live → row_of_entry d ≡ Open (born_of_entry e) → d ≡ e
-entry_of d e l h = same d.state h
+entry_of : (id : ℕ) (d e : Entry) → e.state ≡ states.Live → row_of_entry id d ≡ Open (born_of_entry id e) → d ≡ e
+entry_of id d e l h = same d.state h
   where
-    same : (s : State) → as_row s (born_of_entry d) ≡ Open (born_of_entry e)
+    same : (s : State) → as_row s (born_of_entry id d) ≡ Open (born_of_entry id e)
         → record { birth = d.birth; iface = d.iface; version = d.version; state = s } ≡ e
-    same states.Live k = let q : born_of_entry d ≡ born_of_entry e = cc k
+    same states.Live k = let q : born_of_entry id d ≡ born_of_entry id e = cc k
         in λ i. record { birth = (q i).birth.number; iface = (q i).iface; version = (q i).version; state = sym l i }
     same states.Zombie k = absurd (cc k)
 
-rows_same : (c o : Option Entry) → ((e : Entry) → o ≡ Some e → e.state ≡ states.Live)
-    → option_map row_of_entry c ≡ at_client (option_map born_of_entry o) → c ≡ o
-rows_same None None l h = refl
-rows_same None (Some e) l h = absurd (cc h)
-rows_same (Some d) None l h = absurd (cc h)
-rows_same (Some d) (Some e) l h = ap Some (entry_of d e (l e refl) (cc h))
+rows_same : (id : ℕ) (c o : Option Entry) → ((e : Entry) → o ≡ Some e → e.state ≡ states.Live)
+    → option_map (row_of_entry id) c ≡ at_client (option_map (born_of_entry id) o) → c ≡ o
+rows_same id None None l h = refl
+rows_same id None (Some e) l h = absurd (cc h)
+rows_same id (Some d) None l h = absurd (cc h)
+rows_same id (Some d) (Some e) l h = ap Some (entry_of id d e (l e refl) (cc h))
 
--- an id without a row is no zombie's
-no_zombie : (view : Objects) (id : ℕ) → look view id ≡ None → is_zombie view id ≡ false
-no_zombie view id h = ap (λ (o : Option Entry). is_some o && not (lives_in o)) h
+-- what the server has is open at the client
+open_there : (id : ℕ) (c o : Option Entry) → only_open (option_map (row_of_entry id) c) ≡ option_map (born_of_entry id) o
+    → (e : Entry) → e.state ≡ states.Live → o ≡ Some e → c ≡ Some e
+open_there id c o h e l k =
+    let row = open_of (option_map (row_of_entry id) c) (born_of_entry id e) (h ∙ ap (option_map (born_of_entry id)) k) in
+    let m = map_some (row_of_entry id) c (Open (born_of_entry id e)) row in
+    m.1 ∙ ap Some (entry_of id m.0 e l m.2)
 
--- where no id of the server's range was used, none is freed
-never_freed : (view : Objects) (id : ℕ) → MadeByClient view → is_of_server id ≡ true → is_freed view id ≡ false
-never_freed view id s range =
-    let low = is_from id range in
-    let none = s.unused in
-    in_range-server (λ table place. ltb 0 (times place table.freed)) view id range
-    ∙ (elim (place_of_id view.server s.tables.server (table_id id)) [
-      | in_row e l t a b ↦ absurd (omega (arith, low, none, b))
-      | in_list l t a b ↦ absurd (omega (arith, low, none, b))
-      | at_null l t e ↦ ap (λ (n : ℕ). ltb 0 n) t
-      | unused l t a ↦ ap (λ (n : ℕ). ltb 0 n) t
-    ])
+-- and what is open at the client the server has
+open_here : (id : ℕ) (c o : Option Entry) → only_open (option_map (row_of_entry id) c) ≡ option_map (born_of_entry id) o
+    → ((e : Entry) → o ≡ Some e → e.state ≡ states.Live) → (e : Entry) → e.state ≡ states.Live → c ≡ Some e → o ≡ Some e
+open_here id c o h live e l k =
+    let row : row_of_entry id e ≡ Open (born_of_entry id e) = ap (λ (s : State). as_row s (born_of_entry id e)) l in
+    let there = sym h ∙ ap (λ (q : Option Entry). only_open (option_map (row_of_entry id) q)) k
+    ∙ ap (λ (r : Row). only_open (Some r)) row in
+    let m = map_some (born_of_entry id) o (born_of_entry id e) there in
+    m.1 ∙ ap Some (sym (entry_of id e m.0 (live m.0 m.1) (row ∙ ap Open (sym m.2))))
+
+-- In the server's range of drained ends an id has a zombie at the client exactly where the server has
+-- freed it.
+freed_so : (client there : Objects) (id : ℕ) → ObjectsAreSound client → ObjectsAreSound there
+    → client.server.freed ≡ [] → client.server.used ≡ there.server.used → is_of_server id ≡ true
+    → ((e : Entry) → look there id ≡ Some e → e.state ≡ states.Live)
+    → only_open (option_map (row_of_entry id) (look client id)) ≡ option_map (born_of_entry id) (look there id)
+    → is_zombie client id ≡ is_freed there id
+freed_so client there id s t none used range live h =
+    elim (place_of_id client.server s.server (table_id id)) [
+      | in_row d l a b c ↦ by_state d.state d (in_range-server table.look client id range ∙ l) refl (omega (arith, c, used))
+      | in_list l a b c ↦ absurd (let k = ap (times (table_id id)) none in omega (arith, a, k))
+      | at_null l a e ↦ absurd (let low = is_from id range in omega (arith, low, e))
+      | unused l a b ↦ no_zombie client id (in_range-server table.look client id range ∙ l)
+          ∙ sym (freed ∙ not_used (omega (arith, b, used)))
+    ]
+  where
+    freed : is_freed there id ≡ ltb 0 (times (table_id id) there.server.freed)
+    freed = in_range-server (λ view place. ltb 0 (times place view.freed)) there id range
+
+    not_used : there.server.used < table_id id → ltb 0 (times (table_id id) there.server.freed) ≡ false
+    not_used far = elim (place_of_id there.server t.server (table_id id)) [
+      | in_row d l a b c ↦ absurd (omega (arith, far, c))
+      | in_list l a b c ↦ absurd (omega (arith, far, c))
+      | at_null l a e ↦ ap (λ (n : ℕ). ltb 0 n) a
+      | unused l a b ↦ ap (λ (n : ℕ). ltb 0 n) a
+    ]
+
+    row_not_freed : (e : Entry) → look there id ≡ Some e → ltb 0 (times (table_id id) there.server.freed) ≡ false
+    row_not_freed e k = elim (place_of_id there.server t.server (table_id id)) [
+      | in_row d l a b c ↦ ap (λ (n : ℕ). ltb 0 n) a
+      | in_list l a b c ↦ absurd (let q = sym (in_range-server table.look there id range) ∙ k in cc (l, q))
+      | at_null l a e ↦ ap (λ (n : ℕ). ltb 0 n) a
+      | unused l a b ↦ ap (λ (n : ℕ). ltb 0 n) a
+    ]
+
+    no_row_freed : look there id ≡ None → table_id id ≤ there.server.used
+        → ltb 0 (times (table_id id) there.server.freed) ≡ true
+    no_row_freed k near = elim (place_of_id there.server t.server (table_id id)) [
+      | in_row d l a b c ↦ absurd (let q = sym (in_range-server table.look there id range) ∙ k in cc (l, q))
+      | in_list l a b c ↦ ap (λ (n : ℕ). ltb 0 n) a
+      | at_null l a e ↦ absurd (let low = is_from id range in omega (arith, low, e))
+      | unused l a b ↦ absurd (omega (arith, near, b))
+    ]
+
+    not_there : (d : Entry) → look client id ≡ Some d → d.state ≡ states.Zombie → look there id ≡ None
+    not_there d l z = by_row (look there id) refl
+      where
+        by_row : (o : Option Entry) → look there id ≡ o → o ≡ None
+        by_row None k = refl
+        by_row (Some e) k =
+            let c = open_there id (look client id) (look there id) h e (live e k) k in
+            let same : d ≡ e = cc (l, c) in
+            let st : states.Zombie ≡ states.Live = sym z ∙ ap (λ (x : Entry). x.state) same ∙ live e k in
+            absurd (cc st)
+
+    by_state : (st : State) (d : Entry) → look client id ≡ Some d → d.state ≡ st → table_id id ≤ there.server.used
+        → is_zombie client id ≡ is_freed there id
+    by_state states.Live d l z near =
+        ap (λ (o : Option Entry). is_some o && not (lives_in o)) l ∙ ap (λ (x : State). not (lives x)) z
+        ∙ sym (freed ∙ row_not_freed d (open_here id (look client id) (look there id) h live d z l))
+    by_state states.Zombie d l z near =
+        ap (λ (o : Option Entry). is_some o && not (lives_in o)) l ∙ ap (λ (x : State). not (lives x)) z
+        ∙ sym (freed ∙ no_row_freed (not_there d l z) near)
+
+    no_zombie : (view : Objects) (id : ℕ) → look view id ≡ None → is_zombie view id ≡ false
+    no_zombie view id h = ap (λ (o : Option Entry). is_some o && not (lives_in o)) h
 
 agree_by : (p : PairState) (w : World) (asked : List (Message Known)) (told : List (Coming Known))
     → StandsBy p w asked told → drained p → Agree p.client.core.view p.server.core.view
@@ -200,27 +300,34 @@ agree_by p w asked told s d =
     (map spelled_meant asked) s.requests.in_boxes v.inbox c.outbox) in
     let t = none_of spelled_coming told (none_in_flight p.server.core.outbox p.client.core.inbox
     (map spelled_coming told) s.events.in_boxes c.inbox v.outbox) in
-    let rows = same_rows (subst (λ (l : List (Coming Known)). ReadsInFlight (by_event p.server.core.tables)
+    let rows = drained_rows (subst (λ (l : List (Coming Known)). ReadsInFlight (by_event p.server.core.tables)
     (all_tells l)
     (client_rows p.client.core.view) s.meet.middle) t s.meet.reads)
     (subst (λ (l : List (Message Known)). Tied (by_event p.server.core.tables) (all_asks l)
     (server_rows p.server.core.view) s.meet.middle) a s.meet.tied) in
-    let same : (id : ℕ) → look p.client.core.view id ≡ look p.server.core.view id =
-    λ id. rows_same (look p.client.core.view id) (look p.server.core.view id) (s.server.live id) (rows id) in
-    let here = s.client.sound in
-    let there = s.server.sound in
+    let client = p.client.core.view in
+    let there = p.server.core.view in
+    let same : (id : ℕ) → is_of_server id ≡ false → look client id ≡ look there id =
+    λ id range. rows_same id (look client id) (look there id) (s.server.live id) (rows.of_client id range) in
+    let next = ap (λ (c : Counts). c.next) rows.counts in
+    let used : client.server.used ≡ there.server.used = omega (arith, next) in
     record {
       by_client = record {
-        same = λ id range. same id;
-        live = λ id e range h. s.server.live id e (sym (same id) ∙ h);
+        same = same;
+        live = λ id e range h. s.server.live id e (sym (same id range) ∙ h);
       };
       by_server = record {
-        same = λ id e range.
-            (λ h. absurd (cc (there.none id range, h)), λ h. absurd (cc (here.none id range, h.0)));
-        freed = λ id range. no_zombie p.client.core.view id (here.none id range)
-            ∙ sym (never_freed p.server.core.view id there range);
-        used = here.unused ∙ sym there.unused;
-        births = here.births ∙ sym there.births;
+        same = λ id e range. (
+          λ h. (
+            open_there id (look client id) (look there id) (rows.same id) e (s.server.live id e h) h,
+            s.server.live id e h,
+          ),
+          λ h. open_here id (look client id) (look there id) (rows.same id) (s.server.live id) e h.1 h.0,
+        );
+        freed = λ id range. freed_so client there id s.client.sound s.server.sound s.client.never_freed used range
+            (s.server.live id) (rows.same id);
+        used = ap (λ (n : ℕ). n - 1) used;
+        births = ap (λ (c : Counts). c.births) rows.counts;
       };
     }
 
@@ -231,9 +338,6 @@ agree_drained p w (ended e) z d = absurd (cc (e, z))
 agree_drained p w (stands asked told e s) z d = agree_by p w asked told s d
 
 -- ---- runs
-
-pub run_stops : (p : PairState) (w : World) → Runs p w [] [] p
-run_stops p w = refl
 
 -- one step more at the end of a run
 pub record Extended (p : PairState) (w : World) (moves : List Move) (replies : List Reply)

@@ -5,8 +5,7 @@ use Rattle.std.specs.Prelude.{nat_eq, nat_lt, option_map, if◌then◌else◌}
 use Rattle.std.specs.declared.option.Option.{Option}
 use Rattle.std.specs.declared.option.Option.TheVariants.{None, Some}
 use Rattle.std.specs.declared.result.Result.TheVariants.{Ok}
-use Rattle.std.specs.List.{list_any}
-use Rattle.std.proofs.lemmas.Bool.{ne_eqb, le-ltb, or_parts}
+use Rattle.std.proofs.lemmas.Bool.{ne_eqb, le-ltb}
 use Rattle.std.proofs.lemmas.List.{append_assoc, drop_at}
 use Rattle.std.proofs.lemmas.List.Sums.{sum_by-cons}
 use Rattle.wl_wire.specs.declared.kind.Kind.{Kind}
@@ -19,30 +18,30 @@ use Rattle.wl_wire.specs.Spelling.{Suits, canonical, spelled_len}
 use Rattle.wl_wire.specs.Reading.{reading}
 use Rattle.wl_wire.proofs.Canonicals.{reading-canonical, canonical-len, header_at-bytes}
 use Rattle.wl_sigs.specs.declared.signature.Side.{Side}
-use Rattle.wl_sigs.specs.Tables.{Interface, signature_at, is_by_server}
+use Rattle.wl_sigs.specs.declared.signature.Side.TheVariants.{Request, Event}
+use Rattle.wl_sigs.specs.Tables.{Interface, signature_at}
 use Rattle.wl_message.specs.Cut.{greatest_limit}
 use Rattle.wl_object_map.specs.declared.object.Object.{Object}
 use Rattle.wl_object_map.specs.declared.object.Entry.{Entry}
 use Rattle.wl_object_map.specs.declared.object.State.{State}
 use Rattle.wl_object_map.specs.declared.object.State.TheVariants as states
-use Rattle.wl_object_map.specs.View.{free_or_next, has_room}
-use Rattle.wl_object_map.specs.Objects.{Objects, look, next_birth}
+use Rattle.wl_object_map.specs.Objects.{Objects, look, next_birth, maker_of}
 use Rattle.wl_objects.specs.declared.lookup.NewId.{NewId}
 use Rattle.wl_objects.specs.declared.lookup.NewId.TheVariants.{Free}
 use Rattle.wl_objects.specs.Reading.{Reader, value_fault, iface_of, is_of, arguments_at, value_or_fault}
 use Rattle.wl_objects.specs.Reading.{descriptors, is_descriptor_kind, in_state, reported_argument}
-use Rattle.wl_objects.specs.Reading.{reports_of, head_or, tokens_after, by_maker}
+use Rattle.wl_objects.specs.Reading.{reports_of, head_or, tokens_after, new_fault}
 use Rattle.wl_objects.specs.Writing.{spelled as spelled_values, message_len, message_bytes}
 use Rattle.wl_objects.specs.Messages.{reader_of, maker_by, received, is_error, NewObject, made_by, made}
 use Rattle.wl_objects.specs.Messages.{or_else as made_or_else}
-use Rattle.theory_connection.specs.Meant.{Birth, client_birth, Born, Known, Message, Arg, rearg, born_of}
+use Rattle.theory_connection.specs.Meant.{Birth, Born, Known, Message, Arg, rearg, born_of}
 use Rattle.theory_connection.specs.Meant.{birth_of, wire, tokens, token_in, new_object_in, made_in}
 use Rattle.theory_connection.specs.Meant.{born_of_entry, live_entry}
 use Rattle.theory_connection.specs.World.{Row, Each}
 use Rattle.theory_connection.specs.Flight.{row_of_entry, as_row}
 use Rattle.theory_connection.specs.Answers.{Seen, Live, Dead, seen_named, seen_by, by_row, birth_at}
 use Rattle.theory_connection.specs.Stands.{FitsSignature, SuitKinds, NamesRightly}
-use Rattle.theory_connection.proofs.NoneByServer.{NoneByServer}
+use Rattle.theory_connection.proofs.MadeFor.{MadeFor}
 use Rattle.wl_objects.specs.Messages.{or_else}
 
 -- the object of an argument is held where its reader stands, and the rows of the world show it
@@ -50,25 +49,29 @@ pub record HeldAt (view : Objects) (rows : Birth → Option Row) (x : Known) : T
   pub some : 0 < x.id
   pub entry : Entry
   pub there : look view x.id ≡ Some entry
-  pub same : born_of_entry entry ≡ x.born
-  pub shown : rows x.born.birth ≡ Some (row_of_entry entry)
+  pub same : born_of_entry x.id entry ≡ x.born
+  pub shown : rows x.born.birth ≡ Some (row_of_entry x.id entry)
 
--- a new object of a message of this side fits, as one of the client's
-pub record FreeAt (side : Side) (view : Objects) (x : Known) : Type 0 where
-  pub free : free_or_next view.client x.id ≡ true
-  pub room : has_room view.client x.id ≡ true
-  pub birth : x.born.birth ≡ client_birth (next_birth (maker_by side) view)
+-- what an id is to a reader as that of a new object in a message of this side
+abbrev pub new_id_for : Side → Reader → ℕ → NewId
+new_id_for Request r id = r.new_id id
+new_id_for Event r id = r.new_server_id id
 
-abbrev pub Met : Side → Objects → (Birth → Option Row) → Arg Known → Type 0
-Met side view rows (Obj (Some x)) = HeldAt view rows x
-Met side view rows (New x) = FreeAt side view x
-Met side view rows (NewNamed name own x) = FreeAt side view x
-Met side view rows _ = Unit {0}
+-- a new object of a message of this side fits, as one of the side's maker
+pub record FreeAt (tables : List Interface) (side : Side) (view : Objects) (x : Known) : Type 0 where
+  pub free : new_id_for side (reader_of tables side view) x.id ≡ Free
+  pub birth : x.born.birth ≡ record { maker = maker_of x.id; number = next_birth (maker_by side) view }
+
+abbrev pub Met : List Interface → Side → Objects → (Birth → Option Row) → Arg Known → Type 0
+Met tables side view rows (Obj (Some x)) = HeldAt view rows x
+Met tables side view rows (New x) = FreeAt tables side view x
+Met tables side view rows (NewNamed name own x) = FreeAt tables side view x
+Met tables side view rows _ = Unit {0}
 
 -- each argument of a message of this side meets its object or a free id
-abbrev pub AllMet : Side → Objects → (Birth → Option Row) → List (Arg Known) → Type 0
-AllMet side view rows [] = Unit {0}
-AllMet side view rows (a ∷ args) = Met side view rows a × AllMet side view rows args
+abbrev pub AllMet : List Interface → Side → Objects → (Birth → Option Row) → List (Arg Known) → Type 0
+AllMet tables side view rows [] = Unit {0}
+AllMet tables side view rows (a ∷ args) = Met tables side view rows a × AllMet tables side view rows args
 
 -- ---- what a reader finds
 
@@ -80,11 +83,11 @@ pub record HasObject (r : Reader) (x : Known) : Type 0 where
   pub version : entry.version ≡ x.born.version
 
 -- it finds what an argument names
-abbrev pub Finds : Reader → Arg Known → Type 0
-Finds r (Obj (Some x)) = HasObject r x
-Finds r (New x) = r.new_id x.id ≡ Free
-Finds r (NewNamed name own x) = r.new_id x.id ≡ Free
-Finds r _ = Unit {0}
+abbrev pub Finds : Side → Reader → Arg Known → Type 0
+Finds side r (Obj (Some x)) = HasObject r x
+Finds side r (New x) = new_id_for side r x.id ≡ Free
+Finds side r (NewNamed name own x) = new_id_for side r x.id ≡ Free
+Finds side r _ = Unit {0}
 
 is_of_same : (iface : Option Iface) (e d : Entry) → e.iface ≡ d.iface → is_of iface d ≡ true → is_of iface e ≡ true
 is_of_same None e d h k = refl
@@ -94,25 +97,37 @@ is_of_same (Some iface) e d h k = rw h k
 abbrev strict : Reader → Reader
 strict r = record r { forgives = false }
 
--- an object that an argument makes is one of the client
-by_client : (kind : Kind) (of_client of_server : NewId) → is_by_server kind ≡ false
-    → by_maker kind of_client of_server ≡ of_client
-by_client (kinds.NewByServer iface) of_client of_server e = absurd (cc e)
-by_client kind of_client of_server e = refl
+-- the id of a new object is free where its kind is of the side's maker
+new_right : (tables : List Interface) (version place : ℕ) (side : Side) (r : Reader) (kind : Kind) (x : Known)
+    → MadeFor side kind → NamesRightly tables version kind (New x) → new_id_for side r x.id ≡ Free
+    → value_fault (strict r) place kind (wire (New x)) ≡ None
+new_right tables version place Request r (kinds.NewByServer iface) x b n m = absurd b
+new_right tables version place Request r kind x b n m = ap (new_fault place) m
+new_right tables version place Event r (kinds.NewByServer iface) x b n m = ap (new_fault place) m
+new_right tables version place Event r (kinds.New iface) x b n m = absurd b
+new_right tables version place Event r kind x b n m = absurd (cc n)
 
-right : (tables : List Interface) (version place : ℕ) (r : Reader) (kind : Kind) (a : Arg Known)
-    → is_by_server kind ≡ false → NamesRightly tables version kind a → Finds r a
+named_right : (tables : List Interface) (version place : ℕ) (side : Side) (r : Reader) (kind : Kind) (name : List ℕ)
+    (own : ℕ) (x : Known)
+    → MadeFor side kind → NamesRightly tables version kind (NewNamed name own x) → new_id_for side r x.id ≡ Free
+    → value_fault (strict r) place kind (wire (NewNamed name own x)) ≡ None
+named_right tables version place Request r kind name own x b n m = ap (new_fault place) m
+named_right tables version place Event r (kinds.New iface) name own x b n m = absurd b
+named_right tables version place Event r kind name own x b n m = absurd (cc n)
+
+right : (tables : List Interface) (version place : ℕ) (side : Side) (r : Reader) (kind : Kind) (a : Arg Known)
+    → MadeFor side kind → NamesRightly tables version kind a → Finds side r a
     → value_fault (strict r) place kind (wire a) ≡ None
-right tables version place r kind (Obj None) b n m = refl
-right tables version place r kind (Obj (Some x)) b n m =
+right tables version place side r kind (Obj None) b n m = refl
+right tables version place side r kind (Obj (Some x)) b n m =
     let some : nat_eq x.id 0 ≡ false = ne_eqb x.id 0 (λ h. omega (arith, n.0)) in
     let of : is_of (iface_of kind) m.entry ≡ true =
     is_of_same (iface_of kind) m.entry (live_entry x.born) m.iface n.1 in
     rw (some, m.there, of) refl
-right tables version place r kind (New x) b n m =
-    rw (by_client kind (r.new_id x.id) (r.new_server_id x.id) b, m) refl
-right tables version place r kind (NewNamed name own x) b n m = rw m refl
-right tables version place r kind a b n m = refl
+right tables version place side r kind (New x) b n m = new_right tables version place side r kind x b n m
+right tables version place side r kind (NewNamed name own x) b n m =
+    named_right tables version place side r kind name own x b n m
+right tables version place side r kind a b n m = refl
 
 read_one : (r : Reader) (place : ℕ) (kind : Kind) (ks : List Kind) (v : Argument) (rest : List ℕ) (vs : List Argument)
     → Suits kind v → value_fault (strict r) place kind v ≡ None
@@ -125,17 +140,17 @@ read_one r place kind ks v rest vs s g h =
     rw (reading-canonical kind v rest s, value_or_fault, g) refl in
     rw (found, back, h) refl
 
-values_read : (tables : List Interface) (version place : ℕ) (r : Reader) (ks : List Kind) (args : List (Arg Known))
-    → NoneByServer ks → SuitKinds tables version ks args → Each (Finds r) args
+values_read : (tables : List Interface) (version place : ℕ) (side : Side) (r : Reader) (ks : List Kind)
+    (args : List (Arg Known))
+    → Each (MadeFor side) ks → SuitKinds tables version ks args → Each (Finds side r) args
     → arguments_at (strict r) place ks (spelled_values (map wire args)) ≡ Ok (map wire args, [])
-values_read tables version place r [] [] n f m = refl
-values_read tables version place r (kind ∷ ks) [] n f m = absurd f
-values_read tables version place r [] (a ∷ args) n f m = absurd f
-values_read tables version place r (kind ∷ ks) (a ∷ args) n f m =
-    let none = or_parts (is_by_server kind) (list_any is_by_server ks) n in
+values_read tables version place side r [] [] n f m = refl
+values_read tables version place side r (kind ∷ ks) [] n f m = absurd f
+values_read tables version place side r [] (a ∷ args) n f m = absurd f
+values_read tables version place side r (kind ∷ ks) (a ∷ args) n f m =
     read_one r place kind ks (wire a) (spelled_values (map wire args)) (map wire args) f.0.0
-    (right tables version place r kind a none.0 f.0.1 m.0)
-    (values_read tables version (suc place) r ks args none.1 f.1 m.1)
+    (right tables version place side r kind a n.0 f.0.1 m.0)
+    (values_read tables version (suc place) side r ks args n.1 f.1 m.1)
 
 -- ---- tokens
 
@@ -178,8 +193,8 @@ tokens_taken tables version (kind ∷ ks) (a ∷ args) f =
 
 -- by any reader that knows what it names
 pub received_by_any : (tables : List Interface) (side : Side) (r : Reader) (m : Message Known) (header : Header)
-    (waiting : ℕ) (o : HasObject r m.target) (f : FitsSignature tables side m) → NoneByServer f.signature.kinds
-    → header.object ≡ m.target.id → header.opcode ≡ m.opcode → Each (Finds r) m.args → length (tokens m.args) ≤ waiting
+    (waiting : ℕ) (o : HasObject r m.target) (f : FitsSignature tables side m) → Each (MadeFor side) f.signature.kinds
+    → header.object ≡ m.target.id → header.opcode ≡ m.opcode → Each (Finds side r) m.args → length (tokens m.args) ≤ waiting
     → received tables side r header (spelled_values (map wire m.args)) waiting
     ≡ Ok (record {
       target = record { id = m.target.id; birth = o.entry.birth };
@@ -205,7 +220,7 @@ received_by_any tables side r m header waiting o f none ho hp k w =
       sig,
       old,
       forgives,
-      values_read tables m.target.born.version 0 r f.signature.kinds m.args none f.args k,
+      values_read tables m.target.born.version 0 side r f.signature.kinds m.args none f.args k,
       enough,
       ho,
     ) refl
@@ -219,23 +234,24 @@ module _ (tables : List Interface) (side : Side) (view : Objects) (rows : Birth 
     version = ap (λ (b : Born). b.version) h.same;
   }
 
-  one_found : (a : Arg Known) → Met side view rows a → Finds (reader_of tables side view) a
+  one_found : (a : Arg Known) → Met tables side view rows a → Finds side (reader_of tables side view) a
   one_found (Obj None) m = tt
   one_found (Obj (Some x)) m = object_held x m
-  one_found (New x) m = rw (m.free, m.room) refl
-  one_found (NewNamed name own x) m = rw (m.free, m.room) refl
+  one_found (New x) m = m.free
+  one_found (NewNamed name own x) m = m.free
   one_found a m = tt
 
-  all_found : (args : List (Arg Known)) → AllMet side view rows args → Each (Finds (reader_of tables side view)) args
+  all_found : (args : List (Arg Known)) → AllMet tables side view rows args
+      → Each (Finds side (reader_of tables side view)) args
   all_found [] m = tt
   all_found (a ∷ args) m = (one_found a m.0, all_found args m.1)
 
 -- by an end
 pub received_right : (tables : List Interface) (side : Side) (view : Objects) (rows : Birth → Option Row)
     (m : Message Known) (header : Header) (waiting : ℕ) (entry : Entry) (f : FitsSignature tables side m)
-    → NoneByServer f.signature.kinds
+    → Each (MadeFor side) f.signature.kinds
     → header.object ≡ m.target.id → header.opcode ≡ m.opcode → look view m.target.id ≡ Some entry
-    → born_of_entry entry ≡ m.target.born → AllMet side view rows m.args → length (tokens m.args) ≤ waiting
+    → born_of_entry m.target.id entry ≡ m.target.born → AllMet tables side view rows m.args → length (tokens m.args) ≤ waiting
     → received tables side (reader_of tables side view) header (spelled_values (map wire m.args)) waiting
     ≡ Ok (record {
       target = record { id = m.target.id; birth = entry.birth };
@@ -257,7 +273,7 @@ received_right tables side view rows m header waiting entry f none ho hp l s k w
 -- ---- the report
 
 module _ (tables : List Interface) (side : Side) (view : Objects) (rows : Birth → Option Row) where
-  pub report_one : (a : Arg Known) (args : List (Arg Known)) (more : List ℕ) → Met side view rows a
+  pub report_one : (a : Arg Known) (args : List (Arg Known)) (more : List ℕ) → Met tables side view rows a
       → reshaped seen_named birth_at (λ t. t)
       (reported_argument (reader_of tables side view) (head_or (tokens (a ∷ args) ++ more) 0) (wire a))
       ≡ reshaped (seen_by rows) birth_of (λ t. t) (rearg born_of a)
@@ -265,7 +281,7 @@ module _ (tables : List Interface) (side : Side) (view : Objects) (rows : Birth 
   report_one (Obj (Some x)) args more m =
       let some : nat_eq x.id 0 ≡ false = ne_eqb x.id 0 (λ h. omega (arith, m.some)) in
       rw (some, m.there, m.shown) (ap (λ (s : Seen). Obj s)
-      (by_state m.entry.state (record { id = x.id; birth = m.entry.birth }) (born_of_entry m.entry) x.born.birth
+      (by_state m.entry.state (record { id = x.id; birth = m.entry.birth }) (born_of_entry x.id m.entry) x.born.birth
       (ap (λ (b : Born). b.birth) m.same)))
     where
       by_state : (s : State) (object : Object) (b : Born) (birth : Birth) → birth_at object ≡ birth
@@ -283,7 +299,7 @@ tokens_left a args more = refl
 
 -- the reports of arguments, by births
 pub reports_right : (tables : List Interface) (side : Side) (view : Objects) (rows : Birth → Option Row)
-    (args : List (Arg Known)) (more : List ℕ) → AllMet side view rows args
+    (args : List (Arg Known)) (more : List ℕ) → AllMet tables side view rows args
     → map (reshaped seen_named birth_at (λ t. t))
     (reports_of (reader_of tables side view) (tokens args ++ more) (map wire args))
     ≡ map (reshaped (seen_by rows) birth_of (λ t. t)) (map (rearg born_of) args)

@@ -1,8 +1,7 @@
 -- The open registries, by ids and by births.
 use Rattle.std.proofs.Common.{◌≡◌, ◌≢◌, Bool, true, false, cond, List, [], ◌∷◌, ◌++◌, map, refl, sym, ap, ◌∙◌}
-use Rattle.std.proofs.Common.{arith, inl, inr}
-use Rattle.std.proofs.lemmas.Bool.{eqb-true, eqb-false}
-use Rattle.std.specs.Prelude.{option_map, nat_eq, is_some}
+use Rattle.std.proofs.Common.{ℕ, ◌⊎◌, subst, inl, inr}
+use Rattle.std.specs.Prelude.{option_map, is_some}
 use Rattle.std.specs.declared.option.Option.{Option}
 use Rattle.std.specs.declared.option.Option.TheVariants.{None, Some}
 use Rattle.wl_wire.specs.declared.kind.Iface.{Iface}
@@ -20,23 +19,29 @@ use Rattle.wl_server.specs.State.{untold}
 use Rattle.wl_server.specs.Registries.{without_registry, same_object, without_object, IsAmong, IsFreshId}
 use Rattle.wl_server.specs.Registries.{HasRegistries}
 use Rattle.wl_server.specs.Requests.{registries_after}
-use Rattle.wl_server.proofs.OneObject.{births-differ, same-one}
-use Rattle.wl_server.proofs.Registries.{among_after, has_opened, has_closed, has_fewer, row_kept}
+use Rattle.wl_server.proofs.OneObject.{differ, same-one}
+use Rattle.wl_server.proofs.Registries.{has_opened, has_closed, has_fewer, row_kept}
 use Rattle.wl_sigs.specs.Rules.{is_ended_by_event}
-use Rattle.theory_connection.specs.Stands.{MadeByClient}
-use Rattle.theory_connection.specs.Meant.{Birth, client_birth, same_birth, Born, Known, born_of, born_of_entry}
+use Rattle.wl_object_map.specs.declared.object.Maker.TheVariants.{Client}
+use Rattle.wl_object_map.specs.Objects.{maker_of}
+use Rattle.theory_connection.specs.Meant.{Birth, same_birth, Born, Known, born_of, birth_of, born_of_entry}
 use Rattle.theory_connection.specs.World.{Marks, IfThere, marks_birth, without_marks}
 use Rattle.theory_connection.specs.World.{marks_after}
-use Rattle.theory_connection.specs.Flight.{server_rows, Fresh}
-use Rattle.theory_connection.specs.Answers.{marks_of}
-use Rattle.theory_connection.specs.Stands.{by_event}
-use Rattle.theory_connection.proofs.WholeInFlight.{ThereRow}
+use Rattle.theory_connection.specs.Flight.{server_rows, births_in, Fresh}
+use Rattle.theory_connection.specs.Answers.{birth_at, marks_of}
+use Rattle.theory_connection.specs.Stands.{by_event, ShowsBirths, NoneIsGone}
+use Rattle.theory_connection.proofs.WholeInFlight.{ThereRow, FreshTold}
 use Rattle.theory_connection.proofs.ReadAsMeant.{made_of}
 use Rattle.theory_connection.proofs.RowsAfterMessage.{HeldRow, there_row}
 use Rattle.theory_connection.proofs.EndedObject.{ended_view}
-use Rattle.theory_connection.proofs.Births.{client_birth_is}
-use Rattle.theory_connection.proofs.Bridges.{fresh_range}
-use Rattle.theory_connection.proofs.MadeByClient.{born, one_birth}
+use Rattle.theory_connection.proofs.Births.{birth_same, birth_itself, next_uncounted}
+use Rattle.theory_connection.proofs.Flight.{fresh_range}
+use Rattle.theory_connection.proofs.Bridges.{by_client, told_client}
+use Rattle.wl_object_map.specs.View.{View}
+use Rattle.wl_object_map.specs.ObjectsLaws.{look-opened_at, row-opened_at}
+use Rattle.wl_server.specs.State.{RiseFrom}
+use Rattle.std.proofs.Common.{eqb}
+use Rattle.std.proofs.lemmas.Bool.{ne_eqb}
 
 -- ---- the marks
 
@@ -51,7 +56,7 @@ marks_cond false xs ys = refl
 
 -- the marks of the registries, with one that is made
 pub marks_with : (c : Core) (rs : List server.Registry) (n : Option Known)
-    → IfThere (λ x. x.born.birth ≡ client_birth c.view.client.births) n
+    → IfThere (λ x. x.born.birth ≡ birth_at (record { id = x.id; birth = c.view.client.births })) n
     → map marks_of (registries_after c rs (option_map made_of n)) ≡ marks_after (option_map born_of n) (map marks_of rs)
 marks_with c rs None h = refl
 marks_with c rs (Some x) h =
@@ -65,37 +70,80 @@ marks_with c rs (Some x) h =
 abbrev pub object_of : Known → Object
 object_of x = record { id = x.id; birth = x.born.birth.number }
 
+-- it has the birth that it is known by
+pub object_birth : (v : Objects) (x : Known) → ThereRow (server_rows v) x → birth_at (object_of x) ≡ x.born.birth
+object_birth v x h =
+    let r = there_row v x h in
+    let maker : maker_of x.id ≡ x.born.birth.maker = ap (λ (b : Born). b.birth.maker) r.same in
+    λ i. record { maker = maker i; number = x.born.birth.number }
+
 -- The marks go by the birth: each registry of the object's birth is the object.
 marks_without : (object : Object) (rs : List server.Registry)
-    → ((o : Object) → IsAmong o rs → o.birth ≡ object.birth → o ≡ object)
+    → ((o : Object) → IsAmong o rs → birth_at o ≡ birth_at object → o ≡ object)
     → map marks_of (without_object true object rs)
-    ≡ without_registry same_birth marks_birth true (client_birth object.birth) (map marks_of rs)
+    ≡ without_registry same_birth marks_birth true (birth_at object) (map marks_of rs)
 marks_without object [] f = refl
 marks_without object (r ∷ rs) f =
     let more = marks_without object rs (λ o a. f o (inr a)) in
-    let test = by_birth (nat_eq r.object.birth object.birth) refl in
+    let test = by_birth (same_birth (birth_at r.object) (birth_at object)) refl in
     marks_cond (same_object r.object object) (without_object true object rs) (r ∷ without_object true object rs)
     ∙ (λ i. cond (test i) (more i) (marks_of r ∷ more i))
   where
-    by_birth : (b : Bool) → nat_eq r.object.birth object.birth ≡ b
-        → same_object r.object object ≡ nat_eq r.object.birth object.birth
-    by_birth true e = same-one r.object object (f r.object (inl refl) (eqb-true r.object.birth object.birth e)) ∙ sym e
-    by_birth false e = births-differ r.object object (eqb-false r.object.birth object.birth e) ∙ sym e
+    by_birth : (b : Bool) → same_birth (birth_at r.object) (birth_at object) ≡ b
+        → same_object r.object object ≡ same_birth (birth_at r.object) (birth_at object)
+    by_birth true e = same-one r.object object
+        (f r.object (inl refl) (birth_same (birth_at r.object) (birth_at object) e)) ∙ sym e
+    by_birth false e = differ r.object object (λ q. (let t : same_birth (birth_at r.object) (birth_at object) ≡ true =
+        subst (λ (o : Object). same_birth (birth_at r.object) (birth_at o) ≡ true) q (birth_itself (birth_at r.object)) in
+        cc (e, t))) ∙ sym e
+
+-- what stands in a longer list
+among_more : (o : Object) (rs : List server.Registry) (r : server.Registry) → IsAmong o (rs ++ r ∷ [])
+    → IsAmong o rs ⊎ (r.object ≡ o)
+among_more o [] r h = elim h [ inl p ↦ inr p | inr p ↦ absurd p ]
+among_more o (x ∷ rs) r h = elim h [
+  | inl p ↦ inl (inl p)
+  | inr p ↦ elim (among_more o rs r p) [ inl q ↦ inl (inr q) | inr q ↦ inr q ]
+]
+
+among_new : (c : Core) (rs : List server.Registry) (n : Option Known) (o : Object)
+    → IsAmong o (registries_after c rs (option_map made_of n))
+    → IsAmong o rs ⊎ ((x : Known) × ((n ≡ Some x) × (o ≡ record { id = x.id; birth = c.view.client.births })))
+among_new c rs None o h = inl h
+among_new c rs (Some x) o h = elim (by_test (same_iface x.born.iface registry) h)
+    [ inl p ↦ inl p | inr p ↦ inr (x, (refl, p)) ]
+  where
+    new : server.Registry
+    new = untold (record { id = x.id; birth = c.view.client.births })
+
+    by_test : (b : Bool) → IsAmong o (cond b (rs ++ new ∷ []) rs)
+        → IsAmong o rs ⊎ (o ≡ record { id = x.id; birth = c.view.client.births })
+    by_test true a = elim (among_more o rs new a) [ inl p ↦ inl p | inr p ↦ inr (sym p) ]
+    by_test false a = inl a
+
+-- the births that are open at the server
+abbrev pub Shown : Objects → (Birth → Option Born) → Type 0
+Shown v there = ShowsBirths birth_of NoneIsGone (server_rows v).rows (births_in (server_rows v)) there
 
 -- a registry of the birth of an object that has a row is that object
-one_of_birth : (c : Core) (rs : List server.Registry) (n : Option Known) (x : Known) → MadeByClient c.view
-    → HeldRow c.view x → HasRegistries c.view rs
-    → (o : Object) → IsAmong o (registries_after c rs (option_map made_of n)) → o.birth ≡ x.born.birth.number
+one_of_birth : (c : Core) (rs : List server.Registry) (n : Option Known) (x : Known) (there : Birth → Option Born)
+    → Shown c.view there → IfThere (Fresh (server_rows c.view)) n
+    → ThereRow (server_rows c.view) x → HasRegistries c.view rs
+    → (o : Object) → IsAmong o (registries_after c rs (option_map made_of n)) → birth_at o ≡ x.born.birth
     → o ≡ object_of x
-one_of_birth c rs n x s held h o a e =
-    let number : held.entry.birth ≡ x.born.birth.number = ap (λ (b : Born). b.birth.number) held.same in
-    elim (among_after c rs (option_map made_of n) o a) as (λ _. o ≡ object_of x) [
-      | inl there ↦ (let r = h.only o there in
-          let id : o.id ≡ x.id =
-          one_birth c.view o.id x.id r.entry held.entry s r.row held.there (r.birth ∙ (e ∙ sym number)) in
-          λ i. record { id = id i; birth = e i })
-      | inr next ↦ (let low = born c.view x.id held.entry s held.there in absurd (omega (arith, low, number, next, e)))
-    ]
+one_of_birth c rs n x there s g held h o a e = elim (among_new c rs n o a) [
+  | inl p ↦ (let r = h.only o p in
+      let row = ap (option_map (born_of_entry o.id)) r.row in
+      let number : o.birth ≡ x.born.birth.number = ap (λ (b : Birth). b.number) e in
+      let birth : (born_of_entry o.id r.entry).birth ≡ x.born.birth =
+      ap (λ (n : ℕ). birth_at (record { id = o.id; birth = n })) r.birth ∙ e in
+      let id : o.id ≡ x.id = s.one o.id x.id (born_of_entry o.id r.entry) x.born row held birth in
+      λ i. record { id = id i; birth = number i })
+  | inr p ↦ (let f : Fresh (server_rows c.view) p.0 = subst (IfThere (Fresh (server_rows c.view))) p.1.0 g in
+      absurd (next_uncounted x.born.birth Client (births_in (server_rows c.view))
+      (sym e ∙ ap birth_at p.1.1 ∙ by_client p.0.id c.view.client.births (fresh_range f))
+      (s.below x.id x.born held)))
+]
 
 -- the open registries after a message that destroys this
 abbrev pub registries_left : Option Known → List server.Registry → List server.Registry
@@ -103,20 +151,21 @@ registries_left None rs = rs
 registries_left (Some x) rs = without_object true (object_of x) rs
 
 -- the marks without those of a registry that is closed
-pub marks_left : (c : Core) (rs : List server.Registry) (n o : Option Known) → MadeByClient c.view
-    → IfThere (HeldRow c.view) o → HasRegistries c.view rs
+pub marks_left : (c : Core) (rs : List server.Registry) (n o : Option Known) (there : Birth → Option Born)
+    → Shown c.view there → IfThere (Fresh (server_rows c.view)) n
+    → IfThere (ThereRow (server_rows c.view)) o → HasRegistries c.view rs
     → map marks_of (registries_left o (registries_after c rs (option_map made_of n)))
     ≡ without_marks (option_map born_of o) (map marks_of (registries_after c rs (option_map made_of n)))
-marks_left c rs n None s held h = refl
-marks_left c rs n (Some x) s held h =
+marks_left c rs n None there s g held h = refl
+marks_left c rs n (Some x) there s g held h =
     let after = registries_after c rs (option_map made_of n) in
-    marks_without (object_of x) after (one_of_birth c rs n x s held h)
-    ∙ ap (λ (b : Birth). without_registry same_birth marks_birth true b (map marks_of after))
-    (client_birth_is x.born.birth (ap (λ (b : Born). b.birth.maker) (sym held.same)))
+    let birth : birth_at (object_of x) ≡ x.born.birth = object_birth c.view x held in
+    marks_without (object_of x) after (λ o a e. one_of_birth c rs n x there s g held h o a (e ∙ birth))
+    ∙ ap (λ (b : Birth). without_registry same_birth marks_birth true b (map marks_of after)) birth
 
 -- the registries without what ends
 pub left_are : (b : Bool) (object : Object) (o : Option Known) (rs : List server.Registry) → b ≡ is_some o
-    → IfThere (λ x. x.id ≡ object.id) o → IfThere (λ x. x.born.birth ≡ client_birth object.birth) o
+    → IfThere (λ x. x.id ≡ object.id) o → IfThere (λ x. x.born.birth ≡ birth_at object) o
     → without_object b object rs ≡ registries_left o rs
 left_are b object None rs f d h = ap (λ (c : Bool). without_object c object rs) f
 left_are b object (Some x) rs f d h =
@@ -144,14 +193,14 @@ no_registry tables valid v x t e d row is =
 
 -- ---- the list after a request and after an event
 
-fresh_look : (o : Option Entry) → option_map born_of_entry o ≡ None → o ≡ None
-fresh_look None h = refl
-fresh_look (Some e) h = absurd (cc h)
+fresh_look : (id : ℕ) (o : Option Entry) → option_map (born_of_entry id) o ≡ None → o ≡ None
+fresh_look id None h = refl
+fresh_look id (Some e) h = absurd (cc h)
 
 -- what is fresh has no row
 pub fresh_row : (v : Objects) (n : Option Known) → IfThere (Fresh (server_rows v)) n → IsFreshId v (option_map made_of n)
 fresh_row v None f = tt
-fresh_row v (Some x) f = (fresh_look (look v x.id) f.free, fresh_range (server_rows v) x f)
+fresh_row v (Some x) f = (fresh_look x.id (look v x.id) f.free, fresh_range f)
 
 -- the registries stand after a request is read
 pub has_read : (c : Core) (rs : List server.Registry) (n o : Option Known)
@@ -164,9 +213,43 @@ has_read c rs n (Some x) f r h =
     has_closed (opens c.view made) (registries_after c rs made) (object_of x) r.entry
     (row_kept c.view made x.id r.entry f r.there) (ap (λ (b : Born). b.birth.number) r.same) (has_opened c rs made f h)
 
--- the registries stand after an event that ends no registry
-pub has_told_one : (v : Objects) (rs : List server.Registry) (o : Option Known)
+-- the registries stand where the server makes an object that is none
+has_more : (v : Objects) (rs : List server.Registry) (n : Option Known) → IfThere (FreshTold (server_rows v)) n
+    → IfThere (λ x. x.born.iface ≢ registry) n → HasRegistries v rs → HasRegistries (opens v (option_map made_of n)) rs
+has_more v rs None f o h = h
+has_more v rs (Some x) f o h =
+    let none = fresh_look x.id (look v x.id) f.free in
+    record {
+      rising = subst (λ (n : ℕ). RiseFrom 0 n rs)
+          (sym (ap (λ (t : View). t.births) (told_client v x f.range))) h.rising;
+      all = λ id e there is. elim (row-opened_at v x.id x.born.iface x.born.version id e there) [
+        | inl p ↦ absurd (o (sym (ap (λ (d : Entry). d.iface) p.1) ∙ is))
+        | inr p ↦ h.all id e p.1 is
+      ];
+      only = λ object a. (let r = h.only object a in
+          let other : eqb object.id x.id ≡ false = ne_eqb object.id x.id
+          (λ q. (let d = sym r.row ∙ ap (look v) q ∙ none in cc d)) in
+          record {
+            entry = r.entry;
+            row = look-opened_at v x.id x.born.iface x.born.version object.id ∙ rw other r.row;
+            birth = r.birth;
+            iface = r.iface;
+          });
+    }
+
+-- the registries stand after an event that makes and ends no registry
+pub has_told : (v : Objects) (rs : List server.Registry) (n o : Option Known) → IfThere (FreshTold (server_rows v)) n
+    → IfThere (λ x. x.born.iface ≢ registry) n
     → IfThere (λ (x : Known). (d : Entry) → look v x.id ≡ Some d → d.iface ≢ registry) o → HasRegistries v rs
-    → HasRegistries (ended_view Event v o) rs
-has_told_one v rs None f h = h
-has_told_one v rs (Some x) f h = has_fewer v rs x.id f h
+    → HasRegistries (ended_view Event (opens v (option_map made_of n)) o) rs
+has_told v rs n None f g i h = has_more v rs n f g h
+has_told v rs n (Some x) f g i h =
+    has_fewer (opens v (option_map made_of n)) rs x.id (λ d row. none_more n f g d row) (has_more v rs n f g h)
+  where
+    none_more : (k : Option Known) → IfThere (FreshTold (server_rows v)) k → IfThere (λ y. y.born.iface ≢ registry) k
+        → (d : Entry) → look (opens v (option_map made_of k)) x.id ≡ Some d → d.iface ≢ registry
+    none_more None u t d row = i d row
+    none_more (Some y) u t d row = elim (row-opened_at v y.id y.born.iface y.born.version x.id d row) [
+      | inl p ↦ (λ is. t (sym (ap (λ (e : Entry). e.iface) p.1) ∙ is))
+      | inr p ↦ i d p.1
+    ]

@@ -1,6 +1,6 @@
 -- The server reads.
 use Rattle.std.proofs.Common.{◌≡◌, ℕ, ◌+◌, ◌<◌, ◌≤◌, Bool, true, false, List, [], ◌∷◌, ◌++◌, map}
-use Rattle.std.proofs.Common.{length, refl, sym, ap, subst, ◌∙◌, arith, min}
+use Rattle.std.proofs.Common.{◌≢◌, length, refl, sym, ap, subst, ◌∙◌, arith, min, cond, inl, inr}
 use Rattle.std.proofs.lemmas.Bool.{ne_eqb}
 use Rattle.std.specs.Prelude.{option_map, not, ◌&&◌, is_some, slice_get}
 use Rattle.std.specs.declared.option.Option.{Option}
@@ -11,6 +11,7 @@ use Rattle.wl_sigs.specs.declared.signature.Side.TheVariants.{Request as request
 use Rattle.wl_sigs.specs.declared.signature.Destroys.{Destroys}
 use Rattle.wl_sigs.specs.declared.signature.Destroys.TheVariants.{Nothing, Target, Arg as ends_arg}
 use Rattle.wl_sigs.specs.Tables.{destroys_one}
+use Rattle.wl_sigs.specs.Fixed.{registry}
 use Rattle.wl_sigs.specs.Valid.{Valid}
 use Rattle.wl_message.specs.declared.limit.Limit.{Limit}
 use Rattle.wl_message.specs.Arrived.{without_first, in_front}
@@ -19,7 +20,9 @@ use Rattle.wl_message.specs.Outgoing as boxes
 use Rattle.wl_wire.specs.Argument.{Uint, Obj}
 use Rattle.wl_object_map.specs.declared.object.Entry.{Entry}
 use Rattle.wl_object_map.specs.Ranges.{is_of_server}
-use Rattle.wl_object_map.specs.Objects.{Objects, look}
+use Rattle.wl_object_map.specs.declared.object.Maker.{Maker}
+use Rattle.wl_object_map.specs.declared.object.Maker.TheVariants.{Client, Server}
+use Rattle.wl_object_map.specs.Objects.{Objects, ObjectsAreSound, look, maker_of}
 use Rattle.wl_objects.specs.Messages.{opens, made as made_message, is_bind, reader_of, after}
 use Rattle.wl_objects.specs.Reading.{descriptors, reports_of}
 use Rattle.wl_connection.specs.Core.{Core, past, with_view}
@@ -30,28 +33,32 @@ use Rattle.wl_server.specs.Requests.{unless_bad_bind, request, is_good_bind, mad
 use Rattle.wl_server.specs.Requests.{state_past, registries_after, reported_object, ended_object, ended}
 use Rattle.wl_server.specs.Requests.{report, owes_delete_id}
 use Rattle.wl_server.specs.Registries.{without_object}
-use Rattle.theory_connection.specs.Stands.{MadeByClient}
-use Rattle.theory_connection.specs.Meant.{client_birth, Event, Delete, Born, Known, Message, Coming, Arg}
+use Rattle.theory_connection.specs.Meant.{Event, Delete, Born, Known, Message, Coming, Arg}
 use Rattle.theory_connection.specs.Meant.{renamed, recoming, rearg, born_of, birth_of, wire, tokens}
 use Rattle.theory_connection.specs.Meant.{spelled_meant, spelled_coming, made_in, objects, born_of_entry}
 use Rattle.theory_connection.specs.Meant.{ended_by}
-use Rattle.theory_connection.specs.World.{World, Open, Each, IfThere, delete, request_read}
+use Rattle.theory_connection.specs.World.{World, Open, Each, IfThere, delete, answer, answer_by, born_maker}
+use Rattle.theory_connection.specs.World.{request_read}
 use Rattle.theory_connection.specs.World.{without_marks, marks_after}
 use Rattle.theory_connection.specs.Pair.{PairState, with_server}
 use Rattle.theory_connection.specs.Answers.{birth_at, rows_of_server}
 use Rattle.theory_connection.specs.Flight.{Rows, Fresh, Tied, all_asks, server_rows, as_row}
+use Rattle.theory_connection.specs.Flight.{births_in, IsAskedBelow, client_rows, asks}
+use Rattle.theory_connection.proofs.WholeInFlight.{each_rest}
 use Rattle.theory_connection.specs.Stands.{DeletesFollow, BeginsWithDelete, StandsBy, FitsSignature}
-use Rattle.theory_connection.specs.Stands.{ComesFitly, InFlight, by_event}
-use Rattle.theory_connection.proofs.Flight.{reads_more}
-use Rattle.theory_connection.proofs.WholeInFlight.{ThereRow, asks_at, AsksAt, all_tells_more}
+use Rattle.theory_connection.specs.Stands.{ComesFitly, InFlight, by_event, MadePlain}
+use Rattle.theory_connection.proofs.Flight.{reads_more, fresh_range, range_apart, put_row_tells, put_row_other}
+use Rattle.theory_connection.proofs.Bridges.{by_client}
+use Rattle.theory_connection.proofs.WholeInFlight.{ThereRow, OfClient, asks_at, AsksAt, id_maker, all_tells_more}
+use Rattle.theory_connection.proofs.WholeInFlight.{server_makes, server_told, server_ends}
 use Rattle.theory_connection.proofs.RowsAfterMessage.{there_row, server_after, made_map}
 use Rattle.theory_connection.proofs.Stands.{server_message, first_read, travel_more}
 use Rattle.theory_connection.proofs.Registries.{marks_with, marks_left, left_are, registries_left, fresh_row, has_read}
 use Rattle.theory_connection.proofs.ReadAsMeant.{HeldAt, AllMet, made_of, made_read, tokens_taken}
 use Rattle.wl_object_map.specs.declared.object.Object.{Object}
 use Rattle.wl_connection.proofs.Messages.{whole_within}
-use Rattle.theory_connection.proofs.MadeByClient.{row_low, range_of_row}
-use Rattle.theory_connection.proofs.NoneByServer.{none_by_server}
+use Rattle.theory_connection.proofs.TwoRanges.{row_low}
+use Rattle.theory_connection.proofs.MadeFor.{made_for}
 use Rattle.theory_connection.proofs.FoundInFront.{the_found, the_message, finds, all_met, news_free}
 use Rattle.theory_connection.proofs.EndedObject.{EndsAs, ended_view, after_is, argument_is, ends_have, if_by}
 use Rattle.wl_server.proofs.Fronts.{named_object}
@@ -62,8 +69,8 @@ use Rattle.wl_server.proofs.Fronts.{named_object}
 pub record InFront (p : PairState) (w : World) (m : Message Known) (n : ℕ) : Type 0 where
   pub entry : Entry
   pub there : look p.server.core.view m.target.id ≡ Some entry
-  pub same_target : born_of_entry entry ≡ m.target.born
-  pub met : AllMet request_side p.server.core.view (rows_of_server w) m.args
+  pub same_target : born_of_entry m.target.id entry ≡ m.target.born
+  pub met : AllMet p.server.core.tables request_side p.server.core.view (rows_of_server w) m.args
 
 held_at_server : (p : PairState) (w : World) (asked : List (Message Known)) (told : List (Coming Known))
     → StandsBy p w asked told → (x : Known) → 0 < x.id → ThereRow (server_rows p.server.core.view) x
@@ -78,7 +85,7 @@ held_at_server p w asked told s x some h =
       there = r.there;
       same = r.same;
       shown = ap (option_map Open) shown ∙ ap (λ (b : Born). Some (Open b)) (sym r.same)
-          ∙ ap (λ st. Some (as_row st (born_of_entry r.entry))) (sym live);
+          ∙ ap (λ st. Some (as_row st (born_of_entry x.id r.entry))) (sym live);
     }
 
 -- the test for a destroying event, by the pair's tables
@@ -98,7 +105,7 @@ request_front p w m ms told s n a =
       same_target = r.same;
       met = all_met p.server.core.tables m.target.born.version request_side p.server.core.view (rows_of_server w)
           (ThereRow (server_rows p.server.core.view)) (held_at_server p w (m ∷ ms) told s)
-          f.signature.kinds m.args f.args a.args (news_free p.server.core.view m.args m.args s.server.sound a.new
+          f.signature.kinds m.args f.args a.args (news_free p.server.core.tables p.server.core.view m.args m.args s.server.sound a.new
           f.new_is);
     }
 
@@ -108,15 +115,39 @@ no_bad_bind true g h = rw (h refl) refl
 
 -- ---- the end after it
 
+-- whether a delete answers the end of this
+abbrev pub is_owed : Option Known → Bool
+is_owed None = false
+is_owed (Some x) = not (is_of_server x.id)
+
+-- what answers the end of an object: its delete where the client made it, else nothing
+pub answer_is : (P : List (Coming Known) → Type 0) (o : Option Known) → P []
+    → ((x : Known) → o ≡ Some x → OfClient x → P (Delete x ∷ [])) → P (answer id_maker o)
+answer_is P None none some = none
+answer_is P (Some x) none some = by_range (is_of_server x.id) refl
+  where
+    by_range : (b : Bool) → is_of_server x.id ≡ b → P (answer_by (cond b Server Client) x)
+    by_range true t = none
+    by_range false t = some x refl t
+
 -- the delete of what ends follows in the outbox
-pub followed : (b : Bool) (id : ℕ) (o : Option Known) (c : Core) → b ≡ is_some o → IfThere (λ x. x.id ≡ id) o
+pub followed : (b : Bool) (id : ℕ) (o : Option Known) (c : Core) → b ≡ is_owed o → IfThere (λ x. x.id ≡ id) o
     → with_following b id c ≡ record c {
       outbox =
-          record c.outbox { messages = c.outbox.messages ++ map spelled_coming (delete o) };
+          record c.outbox { messages = c.outbox.messages ++ map spelled_coming (answer id_maker o) };
     }
 followed b id None c f h = ap (λ (k : Bool). with_following k id c) f
     ∙ (λ i. record c { outbox = record c.outbox { messages = sym (append-nil c.outbox.messages) i } })
-followed b id (Some x) c f h = λ i. with_following (f i) (sym h i) c
+followed b id (Some x) c f h = by_range (is_of_server x.id) refl
+  where
+    by_range : (t : Bool) → is_of_server x.id ≡ t → with_following b id c ≡ record c {
+      outbox = record c.outbox {
+        messages = c.outbox.messages ++ map spelled_coming (answer_by (cond t Server Client) x);
+      };
+    }
+    by_range true t = ap (λ (k : Bool). with_following k id c) (f ∙ ap not t)
+        ∙ (λ i. record c { outbox = record c.outbox { messages = sym (append-nil c.outbox.messages) i } })
+    by_range false t = λ i. with_following ((f ∙ ap not t) i) (sym h i) c
 
 -- a delete is a whole message within the limit
 pub delete_whole : (limit : Limit) (o : Option Known)
@@ -128,15 +159,34 @@ delete_whole limit (Some x) = (
   tt,
 )
 
+answer_whole : (limit : Limit) (o : Option Known)
+    → Each (λ (m : boxes.QueuedMessage). IsMessage limit.bytes m.bytes) (map spelled_coming (answer id_maker o))
+answer_whole limit o =
+    answer_is (λ l. Each (λ (m : boxes.QueuedMessage). IsMessage limit.bytes m.bytes) (map spelled_coming l)) o tt
+    (λ x e r. delete_whole limit (Some x))
+
 -- the delete of what ends, by births
 pub map_delete : (o : Option Known) → map (recoming born_of) (delete o) ≡ delete (option_map born_of o)
 map_delete None = refl
 map_delete (Some x) = refl
 
+answer_born : (k : Maker) (x : Known) → map (recoming born_of) (answer_by k x) ≡ answer_by k x.born
+answer_born Client x = refl
+answer_born Server x = refl
+
+-- the answer to the end of what the server has, by births
+pub map_answer : (v : Objects) (o : Option Known) → IfThere (ThereRow (server_rows v)) o
+    → map (recoming born_of) (answer id_maker o) ≡ answer born_maker (option_map born_of o)
+map_answer v None h = refl
+map_answer v (Some x) h =
+    let r = there_row v x h in
+    answer_born (maker_of x.id) x
+    ∙ ap (λ (k : Maker). answer_by k x.born) (ap (λ (b : Born). b.birth.maker) r.same)
+
 births_of : (v : Objects) (n : Option Known) → IfThere (Fresh (server_rows v)) n
-    → IfThere (λ x. x.born.birth ≡ client_birth v.client.births) n
+    → IfThere (λ x. x.born.birth ≡ birth_at (record { id = x.id; birth = v.client.births })) n
 births_of v None g = tt
-births_of v (Some x) g = g.birth
+births_of v (Some x) g = g.birth ∙ sym (by_client x.id v.client.births (fresh_range g))
 
 -- a delete of a low id fits
 pub delete_fits : (p : PairState) (o : Option Known) → IfThere (λ x. x.id ≤ 1048576) o
@@ -149,7 +199,7 @@ abbrev pub left_core : Core → Message Known → ℕ → Core
 left_core c m n = record c {
   view = ended_view event_side (opens c.view (option_map made_of (made_in m.args))) m.ends;
   inbox = without_first c.inbox n (length (tokens m.args));
-  outbox = record c.outbox { messages = c.outbox.messages ++ map spelled_coming (delete m.ends) };
+  outbox = record c.outbox { messages = c.outbox.messages ++ map spelled_coming (answer id_maker m.ends) };
   read = min (c.read + n) 18446744073709551615;
 }
 
@@ -185,7 +235,7 @@ ends_named c target args k x waiting z e some h =
 
 ends_rightly : (st : server.State) (m : Message Known) (n : ℕ) (entry : Entry)
     (f : FitsSignature st.core.tables request_side m)
-    → Valid st.core.tables → born_of_entry entry ≡ m.target.born
+    → Valid st.core.tables → born_of_entry m.target.id entry ≡ m.target.born
     → ThereRow (server_rows st.core.view) m.target → Each (ThereRow (server_rows st.core.view)) (objects m.args)
     → EndsRightly f.signature.destroys (ended st.core (the_found n m entry f.signature)) m.ends
 ends_rightly st m n entry f v s h hs = subst (EndsRightly f.signature.destroys
@@ -204,32 +254,27 @@ ends_rightly st m n entry f v s h hs = subst (EndsRightly f.signature.destroys
         ends_named st.core m.target m.args k a.1.object st.core.inbox.tokens a.0 a.1.are a.1.some there
 
 owed_by : (b : Bool) (id : ℕ) (o : Option Known) → b ≡ is_some o → IfThere (λ x. x.id ≡ id) o
-    → IfThere (λ x. is_of_server x.id ≡ false) o → (b && not (is_of_server id)) ≡ b
-owed_by b id None f h k = (λ i. f i && not (is_of_server id)) ∙ sym f
-owed_by b id (Some x) f h k = (λ i. f i && not (is_of_server (sym h i))) ∙ ap not k ∙ sym f
+    → (b && not (is_of_server id)) ≡ is_owed o
+owed_by b id None f h = λ i. f i && not (is_of_server id)
+owed_by b id (Some x) f h = λ i. f i && not (is_of_server (sym h i))
 
--- a request is answered by a delete_id where it destroys an object
+-- a request is answered by a delete_id where it destroys an object of the client
 pub owes_is : (st : server.State) (m : Message Known) (n : ℕ) (entry : Entry)
     (f : FitsSignature st.core.tables request_side m)
-    → Valid st.core.tables → MadeByClient st.core.view → born_of_entry entry ≡ m.target.born
+    → Valid st.core.tables → born_of_entry m.target.id entry ≡ m.target.born
     → ThereRow (server_rows st.core.view) m.target → Each (ThereRow (server_rows st.core.view)) (objects m.args)
-    → owes_delete_id st.core (the_found n m entry f.signature) ≡ destroys_one f.signature.destroys
-owes_is st m n entry f v made s h hs =
+    → owes_delete_id st.core (the_found n m entry f.signature) ≡ is_owed m.ends
+owes_is st m n entry f v s h hs =
     let e = (ends_rightly st m n entry f v s h hs).ends in
     owed_by (destroys_one f.signature.destroys) (ended st.core (the_found n m entry f.signature)).id m.ends e.flag e.same
-    (if_by (of_client st.core.view made) m.ends
-    (ends_have (ThereRow (server_rows st.core.view)) st.core.tables request_side m f h hs))
-  where
-    of_client : (v : Objects) → MadeByClient v → (x : Known) → ThereRow (server_rows v) x → is_of_server x.id ≡ false
-    of_client v s x h = let r = there_row v x h in range_of_row v x.id r.entry s r.there
 
 -- reading a request leaves the server so
 pub left_is : (st : server.State) (m : Message Known) (n : ℕ) (entry : Entry)
     (f : FitsSignature st.core.tables request_side m)
-    → Valid st.core.tables → MadeByClient st.core.view → born_of_entry entry ≡ m.target.born
+    → Valid st.core.tables → born_of_entry m.target.id entry ≡ m.target.born
     → ThereRow (server_rows st.core.view) m.target → Each (ThereRow (server_rows st.core.view)) (objects m.args)
     → state_past st (the_found n m entry f.signature) ≡ left_state st m n
-left_is st m n entry f v by_client s h hs =
+left_is st m n entry f v s h hs =
     let what = f.signature.destroys in
     let made : made_by_message st.core (the_message m entry f.signature) ≡ option_map made_of (made_in m.args) =
     ap (λ (b : Born). made_message st.core.tables b.version f.signature.kinds (map wire m.args)) s
@@ -240,7 +285,7 @@ left_is st m n entry f v by_client s h hs =
     let e = ends_rightly st m n entry f v s h hs in
     let new = option_map made_of (made_in m.args) in
     let view = after_is event_side st.core.view new what object.id m.ends e.ends in
-    let owes = owes_is st m n entry f v by_client s h hs in
+    let owes = owes_is st m n entry f v s h hs in
     (λ i. record st {
       core = with_following (owes i) object.id
           (with_view (past st.core n (count i)) (after event_side st.core.view (made i) what object.id));
@@ -248,7 +293,7 @@ left_is st m n entry f v by_client s h hs =
           (registries_after st.core st.registries (made i));
     })
     ∙ ((λ i. record st {
-      core = with_following (destroys_one what) object.id
+      core = with_following (is_owed m.ends) object.id
           (with_view (past st.core n (length (tokens m.args))) (view i));
       registries = left_are (destroys_one what) object m.ends (registries_after st.core st.registries new)
           e.ends.flag e.ends.same e.birth i;
@@ -258,9 +303,9 @@ left_is st m n entry f v by_client s h hs =
       registries = registries_left m.ends
           (registries_after st.core st.registries new);
     })
-    (followed (destroys_one what) object.id m.ends
+    (followed (is_owed m.ends) object.id m.ends
     (with_view (past st.core n (length (tokens m.args))) (ended_view event_side (opens st.core.view new) m.ends))
-    e.ends.flag e.ends.same))
+    refl e.ends.same))
 
 -- ---- deletes follow
 
@@ -280,6 +325,10 @@ pub follow_delete : (o : Option Known) → DeletesFollow (delete o)
 follow_delete None = tt
 follow_delete (Some x) = tt
 
+-- nor in an answer
+pub follow_answer : (o : Option Known) → DeletesFollow (answer id_maker o)
+follow_answer o = answer_is DeletesFollow o tt (λ x e r. tt)
+
 -- what ends is followed by its delete
 pub begins_delete : (o : Option Known) → IfThere (λ x. BeginsWithDelete x (delete o)) o
 begins_delete None = tt
@@ -287,9 +336,41 @@ begins_delete (Some x) = refl
 
 -- ---- the pair stands again
 
--- an id that has a row is no more than the greatest
-pub low_there : (v : Objects) → MadeByClient v → (x : Known) → ThereRow (server_rows v) x → x.id ≤ 1048576
-low_there v s x h = let r = there_row v x h in (row_low v x.id r.entry s r.there).1
+-- an id of the client's that has a row is no more than the greatest
+pub low_there : (v : Objects) → ObjectsAreSound v → (x : Known) → ThereRow (server_rows v) x → OfClient x
+    → x.id ≤ 1048576
+low_there v s x h l = let r = there_row v x h in (row_low v x.id r.entry s l r.there).1
+
+-- what the server made still does not end by an event
+plain_ends : (test : Born → Bool) (s : Rows Born) (o : Option Known) → MadePlain test s → MadePlain test (server_ends o s)
+plain_ends test s None p = p
+plain_ends test s (Some y) p = λ id x l h. elim (put_row_tells s.rows y.id None id) [
+  | inl q ↦ absurd (cc (q.1, h))
+  | inr q ↦ p id x l (sym q.1 ∙ h)
+]
+
+plain_makes : (test : Born → Bool) (s : Rows Born) (n : Option Known) → IfThere (Fresh s) n → MadePlain test s
+    → MadePlain test (server_makes s n)
+plain_makes test s None f p = p
+plain_makes test s (Some y) f p = λ id x l h. p id x l
+    (sym (put_row_other s.rows y.id _ id (range_apart y.id id (fresh_range f) l)) ∙ h)
+
+pub plain_after : (test : Born → Bool) (s : Rows Born) (n o : Option Known) → IfThere (Fresh s) n → MadePlain test s
+    → MadePlain test (server_ends o (server_makes s n))
+plain_after test s n o f p = plain_ends test (server_makes s n) o (plain_makes test s n f p)
+
+plain_tells : (test : Born → Bool) (s : Rows Born) (n : Option Known) → IfThere (λ x. test x.born ≡ false) n
+    → IfThere (λ x. x.born.iface ≢ registry) n → MadePlain test s → MadePlain test (server_told s n)
+plain_tells test s None f g p = p
+plain_tells test s (Some y) f g p = λ id x l h. elim (put_row_tells s.rows y.id (Some y.born) id) [
+  | inl q ↦ (let e : y.born ≡ x = cc (q.1, h) in
+      (sym (ap test e) ∙ f, λ is. g (ap (λ (b : Born). b.iface) e ∙ is)))
+  | inr q ↦ p id x l (sym q.1 ∙ h)
+]
+
+pub plain_event : (test : Born → Bool) (s : Rows Born) (n o : Option Known) → IfThere (λ x. test x.born ≡ false) n
+    → IfThere (λ x. x.born.iface ≢ registry) n → MadePlain test s → MadePlain test (server_ends o (server_told s n))
+plain_event test s n o f g p = plain_ends test (server_told s n) o (plain_tells test s n f g p)
 
 -- a pair stands again after the server has read a request
 pub server_read_stands : (p : PairState) (w : World) (m : Message Known) (ms : List (Message Known))
@@ -299,7 +380,7 @@ pub server_read_stands : (p : PairState) (w : World) (m : Message Known) (ms : L
     → InFlight p.client.core.outbox (without_first p.server.core.inbox n (length (tokens m.args)))
     (map spelled_meant ms)
     → StandsBy (with_server p (left_state p.server m n))
-    (request_read w (renamed born_of m) (map (renamed born_of) ms)) ms (told ++ delete m.ends)
+    (request_read w (renamed born_of m) (map (renamed born_of) ms)) ms (told ++ answer id_maker m.ends)
 server_read_stands p w m ms told s n a up =
     let f = s.requests.fit.0.fits in
     let v = p.server.core.view in
@@ -308,19 +389,26 @@ server_read_stands p w m ms told s n a up =
     let world_new : made_in (map (rearg born_of) m.args) ≡ option_map born_of new = made_map born_of m.args in
     let there : IfThere (ThereRow (server_rows v)) m.ends =
     ends_have (ThereRow (server_rows v)) p.server.core.tables request_side m f a.target a.args in
-    let low : IfThere (λ x. x.id ≤ 1048576) m.ends = if_by (low_there v s.server.sound) m.ends there in
     record {
       terms = s.terms;
       client = s.client;
       server = rw world_new (server_message s.server new m.ends a.new f.new_version there a.mortal);
+      plain = subst (MadePlain (test_of p)) (sym rows)
+          (plain_after (test_of p) (server_rows v) new m.ends a.new s.plain);
+      none_made = s.none_made;
       requests = record { in_world = refl; in_boxes = up; fit = s.requests.fit.1 };
       events = travel_more p.server.core.outbox (left_core p.server.core m n).outbox p.client.core.inbox w.events _ told
-          (delete m.ends) s.events (ap (λ (l : List (Coming Born)). w.events ++ l) (sym (map_delete m.ends)))
-          refl refl (delete_whole p.client.core.inbox.limit m.ends) (delete_fits p m.ends low);
-      deletes_follow = follow_more told (delete m.ends) s.deletes_follow (follow_delete m.ends);
+          (answer id_maker m.ends) s.events
+          (ap (λ (l : List (Coming Born)). w.events ++ l) (sym (map_answer v m.ends there)))
+          refl refl (answer_whole p.client.core.inbox.limit m.ends)
+          (answer_is (Each (ComesFitly p.server.core.tables p.server.globals)) m.ends tt
+          (λ x e l. (low_there v s.server.sound x (subst (IfThere (ThereRow (server_rows v))) e there) l, tt)));
+      asks_counted = each_rest (IsAskedBelow (births_in (client_rows p.client.core.view))) (asks m) (all_asks ms)
+          s.asks_counted;
+      deletes_follow = follow_more told (answer id_maker m.ends) s.deletes_follow (follow_answer m.ends);
       meet = record {
         middle = a.past.middle;
-        reads = rw (all_tells_more told (delete m.ends)) (reads_more s.meet.reads a.past.reads);
+        reads = rw (all_tells_more told (answer id_maker m.ends)) (reads_more s.meet.reads a.past.reads);
         tied = subst (λ (r : Rows Born). Tied (test_of p) (all_asks ms) r a.past.middle) (sym rows) a.past.tied;
       };
       globals = s.globals;
@@ -329,8 +417,8 @@ server_read_stands p w m ms told s n a up =
             (marks_after (option_map born_of new) l)) s.registries.told
             ∙ ap (without_marks (option_map born_of m.ends))
             (sym (marks_with p.server.core p.server.registries new (births_of v new a.new)))
-            ∙ sym (marks_left p.server.core p.server.registries new m.ends s.server.sound
-            (if_by (there_row v) m.ends there) s.registries.open_registries));
+            ∙ sym (marks_left p.server.core p.server.registries new m.ends w.server s.server.sets a.new
+            there s.registries.open_registries));
         open_registries = has_read p.server.core p.server.registries new m.ends (fresh_row v new a.new)
             (if_by (there_row v) m.ends there) s.registries.open_registries;
       };
@@ -342,8 +430,8 @@ server_read_stands p w m ms told s n a up =
 pub record InRequest (p : PairState) (w : World) (m : Message Known) (ms : List (Message Known))
     (told : List (Coming Known)) (s : StandsBy p w (m ∷ ms) told) (n : ℕ) : Type 0 where
   pub entry : Entry
-  pub same_target : born_of_entry entry ≡ m.target.born
-  pub met : AllMet request_side p.server.core.view (rows_of_server w) m.args
+  pub same_target : born_of_entry m.target.id entry ≡ m.target.born
+  pub met : AllMet p.server.core.tables request_side p.server.core.view (rows_of_server w) m.args
   pub finds_it : request p.server ≡ Ok (Some (the_found n m entry s.requests.fit.0.fits.signature))
   pub asks_it : AsksAt (test_of p) (all_asks ms) (server_rows p.server.core.view) s.meet.middle m.target
       (objects m.args) (made_in m.args) m.ends
@@ -367,7 +455,7 @@ in_request p w m ms told s n e =
     let a = asks_at m.target (objects m.args) (made_in m.args) m.ends s.meet.tied in
     let i = request_front p w m ms told s n a in
     let f = s.requests.fit.0.fits in
-    let none = none_by_server p.server.core.tables s.terms.valid s.terms.none_by_server m.target.born.iface.0 request_side
+    let none = made_for p.server.core.tables s.terms.valid m.target.born.iface.0 request_side
     m.opcode f.signature f.there in
     let there = finds p.server.core request_side m n
     (rows_of_server w) i.entry f none e q.bytes i.there i.same_target i.met q.enough in

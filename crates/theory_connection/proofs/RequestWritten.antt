@@ -5,20 +5,19 @@ use Rattle.std.specs.declared.option.Option.{Option}
 use Rattle.std.specs.declared.option.Option.TheVariants.{None, Some}
 use Rattle.wl_objects.specs.Writing.{message_len}
 use Rattle.wl_object_map.specs.View.{next_id, can_open}
-use Rattle.wl_object_map.specs.Objects.{Objects, opened_at}
+use Rattle.wl_object_map.specs.Objects.{Objects, ObjectsAreSound, opened_at}
 use Rattle.wl_object_map.specs.declared.object.Maker.TheVariants.{Client}
-use Rattle.wl_object_map.specs.Views.{free_or_next-next_id}
-use Rattle.wl_object_map.specs.ObjectsLaws.{free_is, ObjectsAreSound-opened}
-use Rattle.theory_connection.proofs.MadeByClient.{made_opened}
+use Rattle.wl_object_map.specs.ObjectsLaws.{ObjectsAreSound-opened}
 use Rattle.wl_objects.specs.Messages.{opens as opens_view}
 use Rattle.wl_connection.specs.Core.{Core}
 use Rattle.wl_connection.proofs.Messages.{whole_within}
-use Rattle.theory_connection.specs.Stands.{MadeByClient}
 use Rattle.theory_connection.specs.Meant.{Known, Message, Coming, renamed, rearg, born_of, wire}
 use Rattle.theory_connection.specs.Meant.{spelled_meant, made_in, objects}
 use Rattle.theory_connection.specs.World.{World, Row, Each, IfThere, request_written}
 use Rattle.theory_connection.specs.Pair.{PairState, with_client_core}
 use Rattle.theory_connection.specs.Flight.{Rows, Fresh, MeetInMiddle, asks, all_asks, all_tells, client_rows}
+use Rattle.theory_connection.specs.Flight.{births_in, IsAskedBelow}
+use Rattle.theory_connection.proofs.AskedCounted.{below_asked}
 use Rattle.theory_connection.specs.Flight.{server_rows}
 use Rattle.theory_connection.specs.Stands.{StandsBy, AsksFitly}
 use Rattle.theory_connection.proofs.WholeInFlight.{OpenRow, client_makes, client_ends, ask_meets}
@@ -56,14 +55,12 @@ asked_core c m = record c {
 abbrev pub asked_pair : PairState → Message Known → PairState
 asked_pair p m = with_client_core p (asked_core p.client.core m)
 
-opens_sound : (v : Objects) (n : Option Known) → MadeByClient v → IfThere (λ x. x.id ≡ next_id v.client) n
-    → IfThere (λ (x : Known). can_open v.client ≡ true) n → MadeByClient (opens_view v (option_map made_of n))
+opens_sound : (v : Objects) (n : Option Known) → ObjectsAreSound v → IfThere (λ x. x.id ≡ next_id v.client) n
+    → IfThere (λ (x : Known). can_open v.client ≡ true) n → ObjectsAreSound (opens_view v (option_map made_of n))
 opens_sound v None s e c = s
 opens_sound v (Some x) s e c =
-    let next = free_is v (next_id v.client) s.tables (free_or_next-next_id v.client) in
-    subst (λ (i : ℕ). MadeByClient (opened_at v i x.born.iface x.born.version)) (sym e)
-    (made_opened v (next_id v.client) x.born.iface x.born.version next.range s
-    (ObjectsAreSound-opened Client v x.born.iface x.born.version s.tables c))
+    subst (λ (i : ℕ). ObjectsAreSound (opened_at v i x.born.iface x.born.version)) (sym e)
+    (ObjectsAreSound-opened Client v x.born.iface x.born.version s c)
 
 -- a pair stands again after the client has written a request
 pub ask_stands : (p : PairState) (w : World) (asked : List (Message Known)) (told : List (Coming Known))
@@ -90,6 +87,8 @@ ask_stands p w asked told s m c =
       terms = s.terms;
       client = rw world_new objects_stand;
       server = s.server;
+      plain = s.plain;
+      none_made = s.none_made;
       requests = travel_more p.client.core.outbox
           (asked_core p.client.core m).outbox p.server.core.inbox w.requests _ asked (m ∷ []) s.requests refl refl refl (
             whole_within p.server.core.inbox.limit m.target.id m.opcode (map wire m.args) f.opcode
@@ -97,6 +96,9 @@ ask_stands p w asked told s m c =
             tt,
           ) (c.fitly, tt);
       events = s.events;
+      asks_counted = rw (all_asks_more asked m) (subst (λ (x : Rows Row). Each (IsAskedBelow (births_in x))
+          (all_asks asked ++ asks m)) (sym rows)
+          (below_asked (client_rows v) s.client.sets m c.target c.args c.new opened (all_asks asked) s.asks_counted));
       deletes_follow = s.deletes_follow;
       meet = rw (all_asks_more asked m) (subst (λ (x : Rows Row). MeetInMiddle (test_of p) (all_tells told)
           (all_asks asked ++ asks m) x (server_rows p.server.core.view)) (sym rows)

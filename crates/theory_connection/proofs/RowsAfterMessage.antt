@@ -12,22 +12,27 @@ use Rattle.wl_object_map.specs.declared.object.State.{State}
 use Rattle.wl_object_map.specs.declared.object.State.TheVariants as states
 use Rattle.wl_object_map.specs.View.{zombie}
 use Rattle.wl_object_map.specs.Objects.{Objects, look, opened_at, closed}
+use Rattle.wl_object_map.specs.Objects.{ObjectsAreSound}
 use Rattle.wl_object_map.specs.ObjectsLaws.{look-opened_at, row-opened_at, row-closed, row-zombied}
-use Rattle.wl_object_map.specs.ObjectsLaws.{births-closed, births-rise, free_of_client, room_of_client}
-use Rattle.wl_object_map.specs.ObjectsLaws.{ObjectsAreSound-opened_at}
+use Rattle.wl_object_map.specs.ObjectsLaws.{free_of_client, room_of_client}
+use Rattle.wl_object_map.specs.ObjectsLaws.{ObjectsAreSound-opened_at, ObjectsAreSound-closed}
+use Rattle.wl_object_map.specs.ObjectsLaws.{ObjectsAreSound-zombied}
 use Rattle.wl_objects.specs.Messages.{opens}
-use Rattle.theory_connection.specs.Stands.{MadeByClient}
 use Rattle.theory_connection.specs.Meant.{Born, Known, Arg, rearg, objects_in_arg, objects, new_object_in}
 use Rattle.theory_connection.specs.Meant.{made_in, token_in, tokens, born_of_entry}
 use Rattle.theory_connection.specs.World.{Row, Open, Ending, IfThere, Each}
 use Rattle.theory_connection.specs.Flight.{Rows, at, row_of_entry, as_row, client_rows, server_rows, Fresh}
-use Rattle.theory_connection.specs.Flight.{IsHeldInRows}
+use Rattle.theory_connection.specs.Flight.{IsHeldInRows, NextTold}
 use Rattle.wl_objects.specs.Messages.{or_else}
 use Rattle.theory_connection.proofs.WholeInFlight.{ThereRow, client_makes, client_ends, server_makes, server_ends}
+use Rattle.theory_connection.proofs.WholeInFlight.{client_told, server_told, FreshTold, OfClient, there_told_if}
+use Rattle.theory_connection.proofs.Flight.{fresh_range, range_apart}
+use Rattle.std.proofs.lemmas.Bool.{ne_eqb}
 use Rattle.theory_connection.proofs.Sets.{there_kept}
 use Rattle.theory_connection.proofs.Bridges.{map_none, client_opened, server_opened, server_closed}
-use Rattle.theory_connection.proofs.Bridges.{client_zombied, fresh_free, fresh_range, fresh_room}
-use Rattle.theory_connection.proofs.MadeByClient.{made_opened, made_closed, made_zombied}
+use Rattle.theory_connection.proofs.Bridges.{client_zombied, fresh_free, fresh_room, client_told_rows}
+use Rattle.theory_connection.proofs.Bridges.{server_told_rows}
+use Rattle.theory_connection.proofs.TwoRanges.{told_sound, freed_opened, freed_zombied}
 use Rattle.theory_connection.proofs.ReadAsMeant.{made_of}
 use Rattle.theory_connection.proofs.EndedObject.{Mortal, ended_view}
 
@@ -50,20 +55,20 @@ row_born states.Zombie b x h = elim h [ inl p ↦ absurd (cc p) | inr p ↦ cc ]
 pub record HeldRow (v : Objects) (x : Known) : Type 0 where
   pub entry : Entry
   pub there : look v x.id ≡ Some entry
-  pub same : born_of_entry entry ≡ x.born
+  pub same : born_of_entry x.id entry ≡ x.born
 
 -- the entry of what the client holds
 pub held_row : (v : Objects) (x : Known) → IsHeldInRows (client_rows v) x → HeldRow v x
 held_row v x h = elim h [
-  | inl p ↦ (let m = map_some row_of_entry (look v x.id) (Open x.born) p
-      in record { entry = m.0; there = m.1; same = row_born m.0.state (born_of_entry m.0) x.born (inl m.2) })
-  | inr p ↦ (let m = map_some row_of_entry (look v x.id) (Ending x.born) p
-      in record { entry = m.0; there = m.1; same = row_born m.0.state (born_of_entry m.0) x.born (inr m.2) })
+  | inl p ↦ (let m = map_some (row_of_entry x.id) (look v x.id) (Open x.born) p
+      in record { entry = m.0; there = m.1; same = row_born m.0.state (born_of_entry x.id m.0) x.born (inl m.2) })
+  | inr p ↦ (let m = map_some (row_of_entry x.id) (look v x.id) (Ending x.born) p
+      in record { entry = m.0; there = m.1; same = row_born m.0.state (born_of_entry x.id m.0) x.born (inr m.2) })
 ]
 
 -- the entry of what is open at the server
 pub there_row : (v : Objects) (x : Known) → ThereRow (server_rows v) x → HeldRow v x
-there_row v x h = let m = map_some born_of_entry (look v x.id) x.born h
+there_row v x h = let m = map_some (born_of_entry x.id) (look v x.id) x.born h
     in record { entry = m.0; there = m.1; same = m.2 }
 
 -- ---- the rows
@@ -81,7 +86,7 @@ server_after v (Some y) (Some x) g = server_closed (opened_at v y.id y.born.ifac
 apart : (v : Objects) (y : Known) (id : ℕ) (e : Entry) → (client_rows v).rows y.id ≡ None → look v id ≡ Some e
     → look (opened_at v y.id y.born.iface y.born.version) id ≡ Some e
 apart v y id e f h =
-    let n = map_none row_of_entry (look v y.id) f in
+    let n = map_none (row_of_entry y.id) (look v y.id) f in
     let ne : id ≢ y.id = λ s. (let k = sym h ∙ ap (look v) s ∙ n in cc) in
     let b : eqb id y.id ≡ false = grind (arith, nat_tests) in
     look-opened_at v y.id y.born.iface y.born.version id ∙ rw b h
@@ -99,50 +104,109 @@ client_after v (Some y) (Some x) g h =
     ∙ ap (λ (b : Born). at (client_rows (opened_at v y.id y.born.iface y.born.version)) x.id (Some (Ending b))) h.same
     ∙ ap (λ (r : Rows Row). at r x.id (Some (Ending x.born))) (client_opened v y g)
 
--- ---- the count of births
+-- the server's rows after an event that makes this and ends that
+pub server_after_event : (v : Objects) (n o : Option Known) → IfThere (FreshTold (server_rows v)) n
+    → server_rows (ended_view Event (opens v (option_map made_of n)) o)
+    ≡ server_ends o (server_told (server_rows v) n)
+server_after_event v None None g = refl
+server_after_event v None (Some x) g = server_closed v x.id
+server_after_event v (Some y) None g = server_told_rows v y g.range g.birth
+server_after_event v (Some y) (Some x) g = server_closed (opened_at v y.id y.born.iface y.born.version) x.id
+    ∙ ap (λ (r : Rows Born). at r x.id None) (server_told_rows v y g.range g.birth)
 
--- what is made is counted, and no count falls
-pub births_kept : (v : Objects) (n o : Option Known)
-    → v.client.births ≤ (ended_view Event (opens v (option_map made_of n)) o).client.births
-births_kept v None None = omega arith
-births_kept v None (Some x) = let same = births-closed v x.id in omega (arith, same)
-births_kept v (Some y) None = births-rise v y.id y.born.iface y.born.version
-births_kept v (Some y) (Some x) =
-    let more = births-rise v y.id y.born.iface y.born.version in
-    let same = births-closed (opened_at v y.id y.born.iface y.born.version) x.id in omega (arith, more, same)
+-- the client's rows after an event that makes this and ends that, where what ends has the row of
+-- another id
+pub client_after_event : (v : Objects) (n o : Option Known) → IfThere (NextTold (client_rows v)) n
+    → IfThere (HeldRow v) o → IfThere OfClient o
+    → client_rows (ended_view Request (opens v (option_map made_of n)) o)
+    ≡ client_ends o (client_told (client_rows v) n)
+client_after_event v None None g h l = refl
+client_after_event v None (Some x) g h l = client_zombied v x.id h.entry h.there
+    ∙ ap (λ (b : Born). at (client_rows v) x.id (Some (Ending b))) h.same
+client_after_event v (Some y) None g h l = client_told_rows v y g.range g.birth
+client_after_event v (Some y) (Some x) g h l =
+    let ne : eqb x.id y.id ≡ false = ne_eqb x.id y.id (range_apart x.id y.id l g.range) in
+    let there = look-opened_at v y.id y.born.iface y.born.version x.id ∙ rw ne h.there in
+    client_zombied (opened_at v y.id y.born.iface y.born.version) x.id h.entry there
+    ∙ ap (λ (b : Born). at (client_rows (opened_at v y.id y.born.iface y.born.version)) x.id (Some (Ending b))) h.same
+    ∙ ap (λ (r : Rows Row). at r x.id (Some (Ending x.born))) (client_told_rows v y g.range g.birth)
 
 -- ---- soundness
 
-server_opens_sound : (v : Objects) (n : Option Known) → MadeByClient v → IfThere (Fresh (server_rows v)) n
-    → MadeByClient (opens v (option_map made_of n))
+server_opens_sound : (v : Objects) (n : Option Known) → ObjectsAreSound v → IfThere (Fresh (server_rows v)) n
+    → ObjectsAreSound (opens v (option_map made_of n))
 server_opens_sound v None s g = s
 server_opens_sound v (Some y) s g =
-    let range = fresh_range (server_rows v) y g in
-    made_opened v y.id y.born.iface y.born.version range s
-    (ObjectsAreSound-opened_at v y.id y.born.iface y.born.version s.tables
-    (free_of_client v y.id range ∙ fresh_free v y s.tables g) (room_of_client v y.id range ∙ fresh_room v y g))
+    let range = fresh_range g in
+    ObjectsAreSound-opened_at v y.id y.born.iface y.born.version s
+    (free_of_client v y.id range ∙ fresh_free v y s g) (room_of_client v y.id range ∙ fresh_room v y g)
 
 server_opens_rows : (v : Objects) (n : Option Known) → IfThere (Fresh (server_rows v)) n
     → server_rows (opens v (option_map made_of n)) ≡ server_makes (server_rows v) n
 server_opens_rows v None g = refl
 server_opens_rows v (Some y) g = server_opened v y g
 
--- the server's view stays sound
-pub server_sound : (v : Objects) (n o : Option Known) → MadeByClient v → IfThere (Fresh (server_rows v)) n
-    → IfThere (ThereRow (server_rows v)) o → IfThere Mortal o
-    → MadeByClient (ended_view Event (opens v (option_map made_of n)) o)
-server_sound v n None s g h y = server_opens_sound v n s g
-server_sound v n (Some x) s g h y =
-    let k = there_kept (server_rows v) n x g h in
-    let r = there_row (opens v (option_map made_of n)) x
-    (subst (λ (r : Rows Born). ThereRow r x) (sym (server_opens_rows v n g)) k) in
-    made_closed (opens v (option_map made_of n)) x.id (server_opens_sound v n s g) (some_is _ r.entry r.there) y
+-- closing what has a row keeps an end sound
+closed_sound : (v : Objects) (o : Option Known) → ObjectsAreSound v → IfThere (ThereRow (server_rows v)) o
+    → IfThere Mortal o → ObjectsAreSound (ended_view Event v o)
+closed_sound v None s h y = s
+closed_sound v (Some x) s h y = let r = there_row v x h in ObjectsAreSound-closed v x.id s (some_is _ r.entry r.there) y
 
--- a new object at the client is free to the tests: it is the next
-pub client_sound : (v : Objects) (n o : Option Known) → MadeByClient (opens v (option_map made_of n)) → IfThere Mortal o
-    → MadeByClient (ended_view Request (opens v (option_map made_of n)) o)
-client_sound v n None s y = s
-client_sound v n (Some x) s y = made_zombied (opens v (option_map made_of n)) x.id s y
+there_then : (s t : Rows Born) (o : Option Known) → s ≡ t → IfThere (ThereRow t) o → IfThere (ThereRow s) o
+there_then s t o e h = subst (λ (r : Rows Born). IfThere (ThereRow r) o) (sym e) h
+
+there_kept_if : (s : Rows Born) (n o : Option Known) → IfThere (Fresh s) n → IfThere (ThereRow s) o
+    → IfThere (ThereRow (server_makes s n)) o
+there_kept_if s n None g h = tt
+there_kept_if s n (Some x) g h = there_kept s n x g h
+
+-- the server's view stays sound at a request
+pub server_sound : (v : Objects) (n o : Option Known) → ObjectsAreSound v → IfThere (Fresh (server_rows v)) n
+    → IfThere (ThereRow (server_rows v)) o → IfThere Mortal o
+    → ObjectsAreSound (ended_view Event (opens v (option_map made_of n)) o)
+server_sound v n o s g h y =
+    closed_sound (opens v (option_map made_of n)) o (server_opens_sound v n s g)
+    (there_then _ _ o (server_opens_rows v n g) (there_kept_if (server_rows v) n o g h)) y
+
+server_tells_sound : (v : Objects) (n : Option Known) → ObjectsAreSound v → IfThere (FreshTold (server_rows v)) n
+    → ObjectsAreSound (opens v (option_map made_of n))
+server_tells_sound v None s g = s
+server_tells_sound v (Some y) s g = told_sound v y.id y.born.iface y.born.version s g.range g.next g.low g.left
+
+server_tells_rows : (v : Objects) (n : Option Known) → IfThere (FreshTold (server_rows v)) n
+    → server_rows (opens v (option_map made_of n)) ≡ server_told (server_rows v) n
+server_tells_rows v None g = refl
+server_tells_rows v (Some y) g = server_told_rows v y g.range g.birth
+
+-- and at an event
+pub server_event_sound : (v : Objects) (n o : Option Known) → ObjectsAreSound v
+    → IfThere (FreshTold (server_rows v)) n → IfThere (ThereRow (server_rows v)) o → IfThere Mortal o
+    → ObjectsAreSound (ended_view Event (opens v (option_map made_of n)) o)
+server_event_sound v n o s g h y =
+    closed_sound (opens v (option_map made_of n)) o (server_tells_sound v n s g)
+    (there_then _ _ o (server_tells_rows v n g) (there_told_if (server_rows v) n o g h)) y
+
+-- a client stays sound where something ends
+pub client_sound : (v : Objects) (o : Option Known) → ObjectsAreSound v → IfThere Mortal o
+    → ObjectsAreSound (ended_view Request v o)
+client_sound v None s y = s
+client_sound v (Some x) s y = ObjectsAreSound-zombied v x.id s y
+
+-- what an event makes keeps a client sound
+pub client_event_sound : (v : Objects) (n : Option Known) → ObjectsAreSound v → IfThere (NextTold (client_rows v)) n
+    → ObjectsAreSound (opens v (option_map made_of n))
+client_event_sound v None s g = s
+client_event_sound v (Some y) s g = told_sound v y.id y.born.iface y.born.version s g.range g.next g.low g.left
+
+-- no id of the server's is freed at a client where a message makes this and ends that
+pub never_freed : (v : Objects) (n o : Option Known) → v.server.freed ≡ []
+    → (ended_view Request (opens v (option_map made_of n)) o).server.freed ≡ []
+never_freed v None None h = h
+never_freed v None (Some x) h = freed_zombied v x.id h
+never_freed v (Some y) None h = freed_opened v y.id y.born.iface y.born.version h
+never_freed v (Some y) (Some x) h =
+    freed_zombied (opened_at v y.id y.born.iface y.born.version) x.id
+    (freed_opened v y.id y.born.iface y.born.version h)
 
 -- ---- the server's rows are live
 
@@ -159,9 +223,6 @@ pub server_live : (v : Objects) (n o : Option Known) → AllLive v
     → AllLive (ended_view Event (opens v (option_map made_of n)) o)
 server_live v n None l = opens_live v n l
 server_live v n (Some x) l = λ id e h. opens_live v n l id e (row-closed (opens v (option_map made_of n)) x.id id e h).1
-
-pub closed_live : (v : Objects) (x : ℕ) → AllLive v → AllLive (closed v x)
-closed_live v x l = λ id e h. l id e (row-closed v x id e h).1
 
 -- ---- messages with their objects named otherwise
 

@@ -1,4 +1,4 @@
--- The three histories are histories.
+-- The four histories are histories.
 use Rattle.std.proofs.Common.{List, [], ◌∷◌, refl}
 use Rattle.wl_sigs.specs.Tables.{Interface}
 use Rattle.theory_connection.specs.Meant.{Delete}
@@ -6,7 +6,8 @@ use Rattle.theory_connection.specs.World.{put, nothing, writes_request, reads_re
 use Rattle.theory_connection.specs.World.{reads_event, reads_delete}
 use Rattle.theory_connection.specs.Samples.{CallbackLives, sync, done, sample_callback, DeadArgument, enter}
 use Rattle.theory_connection.specs.Samples.{destroy, DeadRegistry, tell, destroy_registry}
-use Rattle.theory_connection.specs.Samples.{registered}
+use Rattle.theory_connection.specs.Samples.{registered, ServerObjectLives, make_offer, show_offer}
+use Rattle.theory_connection.specs.Samples.{destroy_offer, first_offer, second_offer}
 
 -- the steps of a callback from its making to its delete, in any tables
 pub callback_lives : (tables : List Interface) → CallbackLives tables
@@ -14,7 +15,7 @@ unfolding put nothing
 callback_lives tables = record {
   asks = writes_request sync refl tt refl;
   reads = reads_request sync [] refl;
-  tells = writes_event done refl tt;
+  tells = writes_event done refl tt tt;
   sees = reads_event done (Delete sample_callback ∷ []) refl;
   forgets = reads_delete sample_callback [] refl;
   ends_here = refl;
@@ -29,7 +30,7 @@ callback_lives tables = record {
 pub dead_argument : (tables : List Interface) → DeadArgument tables
 unfolding put nothing
 dead_argument tables = record {
-  tells = writes_event enter refl (refl, tt);
+  tells = writes_event enter refl (refl, tt) tt;
   asks = writes_request destroy refl tt tt;
   sees = reads_event enter [] refl;
   reports = (refl, refl, refl, refl);
@@ -41,7 +42,7 @@ dead_argument tables = record {
 pub dead_registry : (tables : List Interface) → DeadRegistry tables
 unfolding put nothing
 dead_registry tables = record {
-  tells = writes_event tell refl tt;
+  tells = writes_event tell refl tt tt;
   asks = writes_request destroy_registry refl (refl, tt) tt;
   sees = reads_event tell [] refl;
   reports = (refl, refl, refl, refl);
@@ -52,4 +53,29 @@ dead_registry tables = record {
   forgets = reads_delete registered [] refl;
   not_at_client = refl;
   not_at_server = refl;
+}
+
+-- the steps of two offers that the server makes at one id, in any tables
+pub server_object_lives : (tables : List Interface) → ServerObjectLives tables
+unfolding put nothing
+server_object_lives tables = record {
+  makes = writes_event (make_offer first_offer) refl tt refl;
+  sees = reads_event (make_offer first_offer) [] refl;
+  reports_new = (refl, refl, refl, refl);
+  asks = writes_request destroy_offer refl tt tt;
+  shows = writes_event show_offer refl (refl, tt) tt;
+  sees_dead = reads_event show_offer [] refl;
+  reports_dead = (refl, refl, refl, refl);
+  reads = reads_request destroy_offer [] refl;
+  writes_nothing = refl;
+  makes_again = writes_event (make_offer second_offer) refl tt refl;
+  sees_again = reads_event (make_offer second_offer) [] refl;
+  reports_again = (refl, refl, refl, refl);
+  no_requests = refl;
+  no_events = refl;
+  first_at_client = refl;
+  first_at_server = refl;
+  second_at_client = refl;
+  second_at_server = refl;
+  next = refl;
 }

@@ -8,7 +8,6 @@ use Rattle.std.specs.declared.result.Result.{Result}
 use Rattle.std.specs.declared.result.Result.TheVariants.{Ok, Err}
 use Rattle.std.proofs.lemmas.Bool.{ltb-true, ltb-false, and_parts}
 use Rattle.wl_sigs.specs.declared.signature.Side.TheVariants.{Request as request_side}
-use Rattle.wl_sigs.specs.Tables.{destroys_one}
 use Rattle.wl_message.specs.Arrived.{in_front}
 use Rattle.wl_message.specs.Cut.{Front, More, Bad, Whole, HasMessage}
 use Rattle.wl_objects.specs.declared.error.NextError.{NextError}
@@ -18,7 +17,16 @@ use Rattle.wl_connection.specs.Receiving.{Found, found_at, is_none}
 use Rattle.wl_server.specs.Requests.{Report, unless_bad_bind, request, report, needs_memory, is_out_full}
 use Rattle.wl_server.specs.Requests.{next_answer, after_next, state_past, owes_delete_id}
 use Rattle.theory_connection.specs.Meant.{Known, Born, Message, Coming, renamed, born_of, birth_of}
-use Rattle.theory_connection.specs.World.{World, IfThere, request_read, reads_request, delete}
+use Rattle.std.specs.Prelude.{option_map}
+use Rattle.std.proofs.Common.{cond}
+use Rattle.wl_object_map.specs.declared.object.Maker.TheVariants.{Client, Server}
+use Rattle.wl_object_map.specs.Ranges.{is_of_server}
+use Rattle.wl_object_map.specs.Objects.{Objects}
+use Rattle.theory_connection.specs.Meant.{same_maker}
+use Rattle.theory_connection.specs.Answers.{is_answered}
+use Rattle.theory_connection.proofs.RequestRead.{is_owed}
+use Rattle.theory_connection.proofs.RowsAfterMessage.{there_row}
+use Rattle.theory_connection.specs.World.{World, IfThere, request_read, reads_request, answer}
 use Rattle.theory_connection.specs.Pair.{PairState, ServerNext, with_server, Nexts, answered, no_memory}
 use Rattle.theory_connection.specs.Pair.{no_memory_to_open}
 use Rattle.theory_connection.specs.Answers.{NotEnded, before, ReportsRequest, rows_of_server, IsOutFull}
@@ -26,8 +34,8 @@ use Rattle.theory_connection.specs.Stands.{StandsBy}
 use Rattle.theory_connection.proofs.Channels.{pops, never_bad}
 use Rattle.theory_connection.proofs.ReadAsMeant.{reports_right}
 use Rattle.theory_connection.proofs.FoundInFront.{the_found}
-use Rattle.theory_connection.proofs.EndedObject.{ends_as, some_map, ends_have, if_by}
-use Rattle.theory_connection.proofs.WholeInFlight.{ThereRow}
+use Rattle.theory_connection.proofs.EndedObject.{ends_have, if_by}
+use Rattle.theory_connection.proofs.WholeInFlight.{ThereRow, id_maker}
 use Rattle.theory_connection.specs.Flight.{server_rows}
 use Rattle.theory_connection.proofs.RequestRead.{InRequest, in_request, left_state, left_is, owes_is}
 use Rattle.theory_connection.proofs.RequestRead.{server_read_stands}
@@ -127,7 +135,7 @@ keeps_read p w m ms told s n z e i reply p' d room answered = record {
         reports p w m ms told s n i;
     has_room = room;
   });
-  outcome = goes_on ms (told ++ delete m.ends) z (server_read_stands p w m ms told s n i.asks_it i.up)
+  outcome = goes_on ms (told ++ answer id_maker m.ends) z (server_read_stands p w m ms told s n i.asks_it i.up)
       (reading_request m ms n refl e (if_by (λ x h. s.server.sets.below x.id x.born h) m.ends
       (request_there p w m ms told s n i)));
 }
@@ -148,12 +156,26 @@ keeps_read p w m ms told s n z e i reply p' d room (no_memory {report = r} q h) 
       outcome = goes_on (m ∷ ms) told z s stays;
     }
 
+is_client : (b : Bool) → same_maker (cond b Server Client) Client ≡ not b
+is_client true = refl
+is_client false = refl
+
+-- a request is answered in the world where it is at the end
+owed_so : (v : Objects) (o : Option Known) → IfThere (ThereRow (server_rows v)) o
+    → is_answered (option_map born_of o) ≡ is_owed o
+owed_so v None h = refl
+owed_so v (Some x) h =
+    let r = there_row v x h in
+    ap (λ (b : Born). same_maker b.birth.maker Client) (sym r.same) ∙ is_client (is_of_server x.id)
+
 owes_in : (p : PairState) (w : World) (m : Message Known) (ms : List (Message Known)) (told : List (Coming Known))
     (s : StandsBy p w (m ∷ ms) told) (n : ℕ) (i : InRequest p w m ms told s n)
-    → owes_delete_id p.server.core (the_found n m i.entry s.requests.fit.0.fits.signature)
-    ≡ destroys_one s.requests.fit.0.fits.signature.destroys
-owes_in p w m ms told s n i = owes_is p.server m n i.entry s.requests.fit.0.fits s.terms.valid s.server.sound
-    i.same_target i.asks_it.target i.asks_it.args
+    → is_answered (option_map born_of m.ends)
+    ≡ owes_delete_id p.server.core (the_found n m i.entry s.requests.fit.0.fits.signature)
+owes_in p w m ms told s n i =
+    owed_so p.server.core.view m.ends (request_there p w m ms told s n i)
+    ∙ sym (owes_is p.server m n i.entry s.requests.fit.0.fits s.terms.valid
+    i.same_target i.asks_it.target i.asks_it.args)
 
 at_request : (p : PairState) (w : World) (m : Message Known) (ms : List (Message Known)) (told : List (Coming Known))
     (s : StandsBy p w (m ∷ ms) told) (n : ℕ) → NotEnded p w
@@ -166,21 +188,17 @@ at_request p w m ms told s n z e i reply p' d true h =
     let a = answer_is p m (the_found n m i.entry s.requests.fit.0.fits.signature) true s.server.lives i.finds_it h in
     let k = and_parts _ _ h in
     let owes = owes_in p w m ms told s n i in
-    let flag = some_map born_of m.ends ∙ sym (ends_as p.server.core.tables request_side m s.requests.fit.0.fits
-    s.terms.valid).flag in
-    keeps_out_full p w m ms told s n z e i reply p' d (flag ∙ sym owes ∙ k.0, ltb-true _ _ k.1)
+    keeps_out_full p w m ms told s n z e i reply p' d (owes ∙ k.0, ltb-true _ _ k.1)
     (subst (λ st. Nexts needs_memory false (Err errors.OutFull) p (with_server p st) reply p') a.leaves
     (subst (λ x. Nexts needs_memory false x p (with_server p (after_next p.server)) reply p') a.answer d))
 at_request p w m ms told s n z e i reply p' d false h =
     let f = the_found n m i.entry s.requests.fit.0.fits.signature in
     let a = answer_is p m f false s.server.lives i.finds_it h in
     let owes = owes_in p w m ms told s n i in
-    let flag = some_map born_of m.ends ∙ sym (ends_as p.server.core.tables request_side m s.requests.fit.0.fits
-    s.terms.valid).flag in
     keeps_read p w m ms told s n z e i reply p' d
-    (λ full. (let no = ltb-false _ _ (and_not _ _ h (owes ∙ sym flag ∙ full.0)) in absurd (omega (arith, no, full.1))))
+    (λ full. (let no = ltb-false _ _ (and_not _ _ h (sym owes ∙ full.0)) in absurd (omega (arith, no, full.1))))
     (subst (λ st. Nexts needs_memory false (Ok (Some (report p.server.core f))) p (with_server p st) reply p')
-    (a.leaves ∙ left_is p.server m n i.entry s.requests.fit.0.fits s.terms.valid s.server.sound i.same_target i.asks_it.target
+    (a.leaves ∙ left_is p.server m n i.entry s.requests.fit.0.fits s.terms.valid i.same_target i.asks_it.target
     i.asks_it.args)
     (subst (λ x. Nexts needs_memory false x p (with_server p (after_next p.server)) reply p') a.answer d))
 

@@ -1,5 +1,5 @@
 -- How a move changes each part of what stands.
-use Rattle.std.proofs.Common.{◌≡◌, ◌≢◌, ℕ, Bool, false, List, ◌∷◌, ◌++◌, map, length, take, ◌≤◌}
+use Rattle.std.proofs.Common.{◌≡◌, ◌≢◌, ℕ, Bool, true, false, cond, List, ◌∷◌, ◌++◌, map, length, take, ◌≤◌, ◌<◌}
 use Rattle.std.proofs.Common.{refl, sym, ap, subst, ◌∙◌, arith}
 use Rattle.std.specs.Prelude.{option_map, nat_eq, is_some}
 use Rattle.std.specs.declared.option.Option.{Option}
@@ -13,23 +13,38 @@ use Rattle.wl_message.specs.Cut.{Whole, IsMessage}
 use Rattle.wl_message.specs.Outgoing as boxes
 use Rattle.wl_message.specs.Outgoing.{Outgoing}
 use Rattle.wl_object_map.specs.declared.object.Entry.{Entry}
-use Rattle.wl_object_map.specs.Objects.{Objects, look, closed}
+use Rattle.wl_object_map.specs.declared.object.Maker.{Maker}
+use Rattle.wl_object_map.specs.declared.object.Maker.TheVariants.{Client, Server}
+use Rattle.wl_object_map.specs.declared.object.State.{State}
+use Rattle.wl_object_map.specs.declared.object.State.TheVariants as states
+use Rattle.wl_object_map.specs.Ranges.{is_of_server}
+use Rattle.wl_object_map.specs.Objects.{Objects, ObjectsAreSound, look, closed, maker_of}
 use Rattle.wl_object_map.specs.ObjectsLaws.{look-opened_at, look-closed, look-zombied}
-use Rattle.wl_object_map.specs.ObjectsLaws.{births-closed}
-use Rattle.theory_connection.proofs.MadeByClient.{made_closed}
+use Rattle.wl_object_map.specs.ObjectsLaws.{births-closed, ObjectsAreSound-closed}
+use Rattle.theory_connection.proofs.Flight.{range_apart}
+use Rattle.theory_connection.proofs.TwoRanges.{freed_closed}
 use Rattle.wl_objects.specs.Messages.{opens}
-use Rattle.theory_connection.specs.Stands.{MadeByClient}
 use Rattle.theory_connection.specs.Meant.{Birth, Born, Known, born_of, birth_of, born_of_entry}
 use Rattle.theory_connection.specs.World.{Row, Open, Each, IfThere, born_into, same, ending, gone, put, births_counted}
-use Rattle.theory_connection.specs.Flight.{Rows, Fresh, IsHeldInRows, client_rows, server_rows, row_of_entry}
+use Rattle.theory_connection.specs.Flight.{Rows, at, as_row, births_in, Fresh, NextTold, IsHeldInRows, client_rows}
+use Rattle.theory_connection.specs.Flight.{server_rows, row_of_entry}
 use Rattle.theory_connection.specs.Stands.{ClientStands, ServerStands, Travel, InFlight, ShowsBirths, birth_in}
-use Rattle.theory_connection.proofs.WholeInFlight.{ThereRow, client_makes, server_makes, each_more, each_by}
+use Rattle.theory_connection.specs.Stands.{IsEndingOfServer, NoneIsGone, HoldsServerObjects}
+use Rattle.theory_connection.proofs.WholeInFlight.{ThereRow, client_makes, client_ends, client_told, server_makes}
+use Rattle.theory_connection.proofs.WholeInFlight.{server_ends, server_told, FreshTold, OfClient, there_told_if}
+use Rattle.theory_connection.proofs.WholeInFlight.{each_more, each_by}
 use Rattle.theory_connection.proofs.Sets.{births_ends, births_makes, client_made, client_ended}
-use Rattle.theory_connection.proofs.Sets.{client_deleted, server_made, server_ended, there_kept}
+use Rattle.theory_connection.proofs.Sets.{client_deleted, client_learns, server_made, server_tells, server_ended}
+use Rattle.theory_connection.proofs.Sets.{told_births, told_births_ends, told_births_makes, held_in, holds_ended}
+use Rattle.theory_connection.proofs.Sets.{holds_made, holds_told, holds_other}
+use Rattle.theory_connection.proofs.Sets.{there_kept, births_told, server_births_ends, server_births_makes}
+use Rattle.theory_connection.proofs.Sets.{server_births_told, ends_count, gone_count, at_count}
 use Rattle.theory_connection.proofs.Channels.{pops, pushed}
 use Rattle.theory_connection.proofs.Bridges.{client_closed}
 use Rattle.theory_connection.proofs.ReadAsMeant.{made_of}
-use Rattle.theory_connection.proofs.RowsAfterMessage.{held_row, client_after, client_sound}
+use Rattle.theory_connection.proofs.RowsAfterMessage.{map_some, held_row, client_after, client_after_event}
+use Rattle.theory_connection.proofs.RowsAfterMessage.{client_sound, client_event_sound, never_freed}
+use Rattle.theory_connection.proofs.RowsAfterMessage.{server_after_event, server_event_sound}
 use Rattle.theory_connection.proofs.RowsAfterMessage.{client_aged, server_after, server_sound}
 use Rattle.theory_connection.proofs.RowsAfterMessage.{server_live, server_aged, closed_aged}
 use Rattle.theory_connection.proofs.EndedObject.{Mortal, ended_view, if_by}
@@ -37,15 +52,22 @@ use Rattle.theory_connection.proofs.EndedObject.{Mortal, ended_view, if_by}
 -- ---- wl_display stays
 
 -- what is made gets an id that has no row, and that of wl_display has one
-display_opens : {X : Type 0} (f : Entry → X) (v : Objects) (n : Option Known) (e : Entry)
-    → IfThere (λ x. option_map f (look v x.id) ≡ None) n → look v 1 ≡ Some e
+display_opens : {X : Type 0} (f : ℕ → Entry → X) (v : Objects) (n : Option Known) (e : Entry)
+    → IfThere (λ x. option_map (f x.id) (look v x.id) ≡ None) n → look v 1 ≡ Some e
     → look (opens v (option_map made_of n)) 1 ≡ Some e
 display_opens f v None e g h = h
 display_opens {X = X} f v (Some x) e g h = look-opened_at v x.id x.born.iface x.born.version 1 ∙ rw (other x.id g) h
   where
-    other : (i : ℕ) → option_map f (look v i) ≡ None → nat_eq 1 i ≡ false
-    other i g = ne_eqb 1 i (λ k. (let q : ◌≡◌ {A = Option X} (Some (f e)) None = ap (option_map f)
+    other : (i : ℕ) → option_map (f i) (look v i) ≡ None → nat_eq 1 i ≡ false
+    other i g = ne_eqb 1 i (λ k. (let q : ◌≡◌ {A = Option X} (Some (f i e)) None = ap (option_map (f i))
         (sym h ∙ ap (look v) k) ∙ g in cc q))
+
+-- what an event makes has another id than wl_display
+display_told : (v : Objects) (n : Option Known) (e : Entry) → IfThere (λ (x : Known). is_of_server x.id ≡ true) n
+    → look v 1 ≡ Some e → look (opens v (option_map made_of n)) 1 ≡ Some e
+display_told v None e g h = h
+display_told v (Some x) e g h =
+    look-opened_at v x.id x.born.iface x.born.version 1 ∙ rw (ne_eqb 1 x.id (range_apart 1 x.id refl g)) h
 
 display_ends : (side : Side) (v : Objects) (o : Option Known) (e : Entry) → IfThere Mortal o → look v 1 ≡ Some e
     → look (ended_view side v o) 1 ≡ Some e
@@ -61,10 +83,24 @@ counted_map : (f : Known → Born) (n : Option Known) (b : ℕ) → births_count
 counted_map f None b = refl
 counted_map f (Some x) b = refl
 
+-- a row's birth is of its id's maker
+row_maker : (s : State) (b : Born) → (birth_in (as_row s b)).maker ≡ b.birth.maker
+row_maker states.Live b = refl
+row_maker states.Zombie b = refl
+
+pub by_makers : (v : Objects) (id : ℕ) (r : Row) → (client_rows v).rows id ≡ Some r → (birth_in r).maker ≡ maker_of id
+by_makers v id r h =
+    let m = map_some (row_of_entry id) (look v id) r h in
+    ap (λ (x : Row). (birth_in x).maker) (sym m.2) ∙ row_maker m.0.state (born_of_entry id m.0)
+
+-- an end's first birth of the server's range is that of the row which stands for nothing
+pub some_births : (view : Objects) → ObjectsAreSound view → 0 < view.server.births
+some_births view sound = sound.server.born 1 _ sound.server.display.1
+
 module _ {view : Objects} {failed : Bool} {births : ℕ} {held : Birth → Option Row}
     (s : ClientStands view failed births held) where
-  -- A message makes this at the client, and ends that: the client's objects stand again.
-  pub client_message : (new ends : Option Known) → MadeByClient (opens view (option_map made_of new))
+  -- A request makes this at the client, and ends that: the client's objects stand again.
+  pub client_message : (new ends : Option Known) → ObjectsAreSound (opens view (option_map made_of new))
       → IfThere (Fresh (client_rows view)) new → IfThere (λ x. 1 ≤ x.born.version) new
       → IfThere (IsHeldInRows (client_rows view)) ends
       → IfThere (IsHeldInRows (client_makes (client_rows view) new)) ends
@@ -76,26 +112,81 @@ module _ {view : Objects} {failed : Bool} {births : ℕ} {held : Birth → Optio
       let made = client_makes (client_rows view) new in
       let rows = client_after view new ends fresh (if_by (held_row view) ends there) in
       record {
-        sets = subst (λ (x : Rows Row). ShowsBirths birth_in x.rows x.births
+        sets = subst (λ (x : Rows Row). ShowsBirths birth_in IsEndingOfServer x.rows (births_in x)
             (ending (option_map born_of ends) (born_into Open (option_map born_of new) held))) (sym rows)
-            (client_ended made _ ends (client_made (client_rows view) held new s.sets fresh) still);
+            (subst (λ (n : Maker → ℕ). ShowsBirths birth_in IsEndingOfServer (client_ends ends made).rows n
+            (ending (option_map born_of ends) (born_into Open (option_map born_of new) held))) (sym (ends_count ends made))
+            (client_ended made _ ends (client_made (client_rows view) held new s.sets fresh) still));
         births = counted_map born_of new births ∙ ap (births_counted new) s.births
             ∙ sym (ap (λ (x : Rows Row). x.births) rows ∙ births_ends ends made ∙ births_makes (client_rows view) new);
-        sound = client_sound view new ends sound mortal;
+        holds_counted = subst (λ (n : ℕ). HoldsServerObjects n (ending (option_map born_of ends)
+            (born_into Open (option_map born_of new) held)))
+            (sym (ap (λ (x : Rows Row). x.by_server.births) rows ∙ told_births_ends ends made
+            ∙ told_births_makes (client_rows view) new))
+            (holds_ended _ _ ends (holds_made view.server.births held (client_rows view) new fresh s.holds_counted)
+            (held_in made _ ends (client_made (client_rows view) held new s.sets fresh) still));
+        sound = client_sound (opens view (option_map made_of new)) ends sound mortal;
+        never_freed = never_freed view new ends s.never_freed;
         display = display_ends Request (opens view (option_map made_of new)) ends _ mortal
             (display_opens row_of_entry view new _ (if_by (λ x f. f.free) new fresh) s.display);
         versions = client_aged view new ends version s.versions;
         lives = lives;
       }
 
+  -- An event makes this at the client, and ends that: the client's objects stand again.
+  pub client_event : (new ends : Option Known) → IfThere (NextTold (client_rows view)) new
+      → IfThere (λ x. 1 ≤ x.born.version) new
+      → IfThere (IsHeldInRows (client_rows view)) ends → IfThere OfClient ends
+      → IfThere (IsHeldInRows (client_told (client_rows view) new)) ends
+      → IfThere Mortal ends → (now : Bool) → now ≡ false
+      → ClientStands (ended_view Request (opens view (option_map made_of new)) ends) now
+      births (ending (option_map born_of ends)
+      (born_into Open (option_map born_of new) held))
+  client_event new ends follows version there range still mortal now lives =
+      let made = client_told (client_rows view) new in
+      let rows = client_after_event view new ends follows (if_by (held_row view) ends there) range in
+      record {
+        sets = subst (λ (x : Rows Row). ShowsBirths birth_in IsEndingOfServer x.rows (births_in x)
+            (ending (option_map born_of ends) (born_into Open (option_map born_of new) held))) (sym rows)
+            (subst (λ (n : Maker → ℕ). ShowsBirths birth_in IsEndingOfServer (client_ends ends made).rows n
+            (ending (option_map born_of ends) (born_into Open (option_map born_of new) held))) (sym (ends_count ends made))
+            (client_ended made _ ends (client_learns (client_rows view) held new s.sets follows (by_makers view)) still));
+        births = s.births
+            ∙ sym (ap (λ (x : Rows Row). x.births) rows ∙ births_ends ends made ∙ births_told (client_rows view) new);
+        holds_counted = subst (λ (n : ℕ). HoldsServerObjects n (ending (option_map born_of ends)
+            (born_into Open (option_map born_of new) held)))
+            (sym (ap (λ (x : Rows Row). x.by_server.births) rows ∙ told_births_ends ends made
+            ∙ told_births (client_rows view) new))
+            (holds_ended _ _ ends (holds_told held (client_rows view) new (some_births view s.sound) follows s.holds_counted)
+            (held_in made _ ends (client_learns (client_rows view) held new s.sets follows (by_makers view)) still));
+        sound = client_sound (opens view (option_map made_of new)) ends
+            (client_event_sound view new s.sound follows) mortal;
+        never_freed = never_freed view new ends s.never_freed;
+        display = display_ends Request (opens view (option_map made_of new)) ends _ mortal
+            (display_told view new _ (if_by (λ x f. f.range) new follows) s.display);
+        versions = client_aged view new ends version s.versions;
+        lives = lives;
+      }
+
   -- A delete of what the client holds: the client's objects stand again.
-  pub client_delete : (x : Known) → IsHeldInRows (client_rows view) x → x.id ≢ 1 → (now : Bool) → now ≡ false
+  pub client_delete : (x : Known) → IsHeldInRows (client_rows view) x → x.id ≢ 1 → OfClient x → (now : Bool)
+      → now ≡ false
       → ClientStands (closed view x.id) now births (put held x.born.birth None)
-  client_delete x there mortal now lives = record {
-    sets = subst (λ (y : Rows Row). ShowsBirths birth_in y.rows y.births (put held x.born.birth None))
-        (sym (client_closed view x.id)) (client_deleted (client_rows view) held x s.sets there);
+  client_delete x there mortal range now lives = record {
+    sets = subst (λ (y : Rows Row). ShowsBirths birth_in IsEndingOfServer y.rows (births_in y)
+        (put held x.born.birth None))
+        (sym (client_closed view x.id))
+        (subst (λ (n : Maker → ℕ). ShowsBirths birth_in IsEndingOfServer (at (client_rows view) x.id None).rows n
+        (put held x.born.birth None)) (sym (at_count (client_rows view) x.id None))
+        (client_deleted (client_rows view) held x s.sets there));
     births = s.births ∙ sym (births-closed view x.id);
-    sound = made_closed view x.id s.sound (ap is_some (held_row view x there).there) mortal;
+    holds_counted = subst (λ (n : ℕ). HoldsServerObjects n (put held x.born.birth None))
+        (sym (ap (λ (y : Rows Row). y.by_server.births) (client_closed view x.id)))
+        (holds_other view.server.births held x.born.birth None
+        (sym (ap (λ (b : Born). b.birth.maker) (held_row view x there).same)
+        ∙ ap (λ (b : Bool). cond b Server Client) range) s.holds_counted);
+    sound = ObjectsAreSound-closed view x.id s.sound (ap is_some (held_row view x there).there) mortal;
+    never_freed = freed_closed view x.id range s.never_freed;
     display = display_ends Event view (Some x) _ mortal s.display;
     versions = closed_aged view x.id s.versions;
     lives = lives;
@@ -103,26 +194,63 @@ module _ {view : Objects} {failed : Bool} {births : ℕ} {held : Birth → Optio
 
 -- ---- the server's objects
 
-module _ {view : Objects} {failed : Bool} {there : Birth → Option Born} (s : ServerStands view failed there) where
-  -- A message makes this at the server, and ends that: the server's objects stand again.
+module _ {view : Objects} {failed : Bool} {births : ℕ} {there : Birth → Option Born}
+    (s : ServerStands view failed births there) where
+  -- A request makes this at the server, and ends that: the server's objects stand again.
   pub server_message : (new ends : Option Known) → IfThere (Fresh (server_rows view)) new
       → IfThere (λ x. 1 ≤ x.born.version) new → IfThere (ThereRow (server_rows view)) ends → IfThere Mortal ends
-      → ServerStands (ended_view Event (opens view (option_map made_of new)) ends) failed
+      → ServerStands (ended_view Event (opens view (option_map made_of new)) ends) failed births
       (gone (option_map born_of ends) (born_into same (option_map born_of new) there))
-  server_message new ends fresh version has mortal = record {
-    sets = subst (λ (r : Rows Born). ShowsBirths birth_of r.rows r.births
-        (gone (option_map born_of ends) (born_into same (option_map born_of new) there)))
-        (sym (server_after view new ends fresh))
-        (server_ended (server_makes (server_rows view) new) _ ends
-        (server_made (server_rows view) there new s.sets fresh)
-        (if_by (λ x h. there_kept (server_rows view) new x fresh h) ends has));
-    sound = server_sound view new ends s.sound fresh has mortal;
-    display = display_ends Event (opens view (option_map made_of new)) ends _ mortal
-        (display_opens born_of_entry view new _ (if_by (λ x f. f.free) new fresh) s.display);
-    versions = server_aged view new ends version s.versions;
-    live = server_live view new ends s.live;
-    lives = s.lives;
-  }
+  server_message new ends fresh version has mortal =
+      let made = server_makes (server_rows view) new in
+      let rows = server_after view new ends fresh in
+      record {
+        sets = subst (λ (r : Rows Born). ShowsBirths birth_of NoneIsGone r.rows (births_in r)
+            (gone (option_map born_of ends) (born_into same (option_map born_of new) there)))
+            (sym rows)
+            (subst (λ (n : Maker → ℕ). ShowsBirths birth_of NoneIsGone (server_ends ends made).rows n
+            (gone (option_map born_of ends) (born_into same (option_map born_of new) there))) (sym (gone_count ends made))
+            (server_ended made _ ends
+            (server_made (server_rows view) there new s.sets fresh)
+            (if_by (λ x h. there_kept (server_rows view) new x fresh h) ends has)));
+        births = s.births ∙ sym (ap (λ (r : Rows Born). r.by_server.births) rows ∙ server_births_ends ends made
+            ∙ server_births_makes (server_rows view) new);
+        sound = server_sound view new ends s.sound fresh has mortal;
+        display = display_ends Event (opens view (option_map made_of new)) ends _ mortal
+            (display_opens born_of_entry view new _ (if_by (λ x f. f.free) new fresh) s.display);
+        versions = server_aged view new ends version s.versions;
+        live = server_live view new ends s.live;
+        lives = s.lives;
+      }
+
+  -- An event makes this at the server, and ends that: the server's objects stand again.
+  pub server_event : (new ends : Option Known) → IfThere (FreshTold (server_rows view)) new
+      → IfThere (λ x. 1 ≤ x.born.version) new → IfThere (ThereRow (server_rows view)) ends → IfThere Mortal ends
+      → ServerStands (ended_view Event (opens view (option_map made_of new)) ends) failed
+      (births_counted (option_map born_of new) births)
+      (gone (option_map born_of ends) (born_into same (option_map born_of new) there))
+  server_event new ends fresh version has mortal =
+      let made = server_told (server_rows view) new in
+      let rows = server_after_event view new ends fresh in
+      record {
+        sets = subst (λ (r : Rows Born). ShowsBirths birth_of NoneIsGone r.rows (births_in r)
+            (gone (option_map born_of ends) (born_into same (option_map born_of new) there)))
+            (sym rows)
+            (subst (λ (n : Maker → ℕ). ShowsBirths birth_of NoneIsGone (server_ends ends made).rows n
+            (gone (option_map born_of ends) (born_into same (option_map born_of new) there))) (sym (gone_count ends made))
+            (server_ended made _ ends
+            (server_tells (server_rows view) there new s.sets fresh)
+            (there_told_if (server_rows view) new ends fresh has)));
+        births = counted_map born_of new births ∙ ap (births_counted new) s.births
+            ∙ sym (ap (λ (r : Rows Born). r.by_server.births) rows ∙ server_births_ends ends made
+            ∙ server_births_told (server_rows view) new);
+        sound = server_event_sound view new ends s.sound fresh has mortal;
+        display = display_ends Event (opens view (option_map made_of new)) ends _ mortal
+            (display_told view new _ (if_by (λ x f. f.range) new fresh) s.display);
+        versions = server_aged view new ends version s.versions;
+        live = server_live view new ends s.live;
+        lives = s.lives;
+      }
 
 -- ---- what is in flight, either way
 

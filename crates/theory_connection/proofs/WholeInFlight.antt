@@ -4,16 +4,23 @@ use Rattle.std.proofs.Common.{sym, ◌∙◌, ap, subst, arith, ◌≢◌}
 use Rattle.std.proofs.lemmas.List.{append_assoc, append-nil}
 use Rattle.std.specs.declared.option.Option.{Option}
 use Rattle.std.specs.declared.option.Option.TheVariants.{None, Some}
-use Rattle.theory_connection.specs.Meant.{client_birth, Born, Known, Message, Coming}
-use Rattle.theory_connection.specs.World.{Row, Open, Ending, Each, IfThere, delete as following}
-use Rattle.theory_connection.specs.Flight.{put_row, Rows, at, with_made, Ask, Use, Tell, Name, Delete, make_ask}
-use Rattle.theory_connection.specs.Flight.{destroy_ask, ends, asks, tells, all_asks, all_tells, at_client}
-use Rattle.theory_connection.specs.Flight.{IsHeldInRows, Fresh, ReadsInFlight, done, name, end, delete, Tied}
-use Rattle.theory_connection.specs.Flight.{drained, use_, make, destroy, MeetInMiddle}
+use Rattle.std.specs.Prelude.{◌<◌, ◌≤◌}
+use Rattle.std.proofs.lemmas.Bool.{cases_Bool}
+use Rattle.wl_object_map.specs.declared.object.Maker.{Maker}
+use Rattle.wl_object_map.specs.View.{max_births}
+use Rattle.wl_object_map.specs.Ranges.{is_of_server, max_server_id}
+use Rattle.wl_object_map.specs.Objects.{maker_of}
+use Rattle.theory_connection.specs.Meant.{client_birth, server_birth, Born, Known, Message, Coming}
+use Rattle.theory_connection.specs.World.{Row, Open, Ending, Each, IfThere, delete as following, answer}
+use Rattle.theory_connection.specs.Flight.{put_row, Rows, Counts, at, with_made, with_told, Ask, Use, Tell, Name, Delete}
+use Rattle.theory_connection.specs.Flight.{make_ask, make_tell, destroy_ask, ends, asks, tells, all_asks, all_tells}
+use Rattle.theory_connection.specs.Flight.{at_client, only_open, IsHeldInRows, Fresh, NextTold, ReadsInFlight, done, name, made}
+use Rattle.theory_connection.specs.Flight.{end, delete, Tied, drained, use_, make, destroy, give_back, MeetInMiddle}
 use Rattle.theory_connection.proofs.EndedObject.{Mortal}
-use Rattle.theory_connection.proofs.Flight.{put_row_tells, put_row_over, live_after, free_after, counts_after}
+use Rattle.theory_connection.proofs.Flight.{put_row_tells, put_row_other, put_row_over, range_apart, fresh_range}
+use Rattle.theory_connection.proofs.Flight.{live_after, free_after, counts_after, counts_tied, freed_not_open}
 use Rattle.theory_connection.proofs.Flight.{make_before, destroy_before, reads_more, held_at_client, end_before}
-use Rattle.theory_connection.proofs.Flight.{use_more, make_more, destroy_more}
+use Rattle.theory_connection.proofs.Flight.{tell_before, use_more, make_more, destroy_more, give_more}
 
 -- it is open at the client
 abbrev pub OpenRow : Rows Row → Known → Type 0
@@ -38,6 +45,34 @@ abbrev pub server_makes : Rows Born → Option Known → Rows Born
 server_makes s None = s
 server_makes s (Some x) = with_made s x.id x.born
 
+-- the client's rows with what the server makes
+abbrev pub client_told : Rows Row → Option Known → Rows Row
+client_told v None = v
+client_told v (Some x) = with_told v x.id (Open x.born)
+
+-- the server's rows with what the server makes
+abbrev pub server_told : Rows Born → Option Known → Rows Born
+server_told s None = s
+server_told s (Some x) = with_told s x.id x.born
+
+-- it has an id of the client's range
+abbrev pub OfClient : Known → Type 0
+OfClient x = is_of_server x.id ≡ false
+
+-- a new object of the server fits the server's rows: its id is free or the next one, and it is the
+-- server's next birth
+pub record FreshTold (s : Rows Born) (x : Known) : Type 0 where
+  pub range : is_of_server x.id ≡ true
+  pub free : s.rows x.id ≡ None
+  pub next : x.id ≤ s.by_server.next
+  pub birth : x.born.birth ≡ server_birth s.by_server.births
+  pub low : x.id ≤ max_server_id
+  pub left : s.by_server.births < max_births
+
+-- who makes the objects of an object's id
+abbrev pub id_maker : Known → Maker
+id_maker x = maker_of x.id
+
 -- the server's rows without what ends
 abbrev pub server_ends : Option Known → Rows Born → Rows Born
 server_ends None s = s
@@ -57,6 +92,32 @@ live_made_if v n (Some x) c h = live_made v n x c h
 put_tells_same : (m : Rows Row) (x : Known) → put_row m.rows x.id (Some (Ending x.born)) x.id ≡ Some (Ending x.born)
 put_tells_same m x = grind (arith, put_row_tells)
 
+-- what is open at the server stays open when the server makes another
+pub there_told : (s : Rows Born) (n : Option Known) (x : Known) → IfThere (FreshTold s) n → ThereRow s x
+    → ThereRow (server_told s n) x
+there_told s None x c h = h
+there_told s (Some n) x c h =
+    put_row_other s.rows n.id _ x.id (λ q. (let d = sym c.free ∙ ap s.rows q ∙ h in cc d)) ∙ h
+
+-- what the client holds in its own range it holds when the server makes an object
+pub held_told : (v : Rows Row) (n : Option Known) (x : Known) → IfThere (NextTold v) n → OfClient x → IsHeldInRows v x
+    → IsHeldInRows (client_told v n) x
+held_told v None x g l h = h
+held_told v (Some n) x g l h =
+    let same = put_row_other v.rows n.id (Some (Open n.born)) x.id (λ q. range_apart x.id n.id l g.range (sym q)) in
+    elim h [ inl p ↦ inl (same ∙ p) | inr p ↦ inr (same ∙ p) ]
+
+pub held_told_if : (v : Rows Row) (n o : Option Known) → IfThere (NextTold v) n → IfThere OfClient o
+    → IfThere (IsHeldInRows v) o → IfThere (IsHeldInRows (client_told v n)) o
+held_told_if v n None g l h = tt
+held_told_if v n (Some x) g l h = held_told v n x g l h
+
+-- so is what ends
+pub there_told_if : (s : Rows Born) (n o : Option Known) → IfThere (FreshTold s) n → IfThere (ThereRow s) o
+    → IfThere (ThereRow (server_told s n)) o
+there_told_if s n None c h = tt
+there_told_if s n (Some x) c h = there_told s n x c h
+
 -- what the client reads next, and what is in flight after it
 pub record Past (test : Born → Bool) (qs : List Ask) (s : Rows Born) (m : Rows Row) (es : List Tell) : Type 0 where
   pub middle : Rows Row
@@ -69,20 +130,24 @@ pub record AsksAt (test : Born → Bool) (qs : List Ask) (s : Rows Born) (m : Ro
   pub target : ThereRow s x
   pub args : Each (ThereRow s) xs
   pub new : IfThere (Fresh s) n
-  pub past : Past test qs (server_ends o (server_makes s n)) m (all_tells (following o))
+  pub past : Past test qs (server_ends o (server_makes s n)) m (all_tells (answer id_maker o))
   pub mortal : IfThere Mortal o
 
 -- the first event, where its turn has come
 pub record TellsAt (test : Born → Bool) (es : List Tell) (v w : Rows Row) (x : Known) (xs : List Known)
-    (o : Option Known) : Type 0 where
+    (n o : Option Known) : Type 0 where
   pub target : IsHeldInRows v x
   pub args : Each (IsHeldInRows v) xs
-  pub rest : ReadsInFlight test es (client_ends o v) w
+  pub new : IfThere (NextTold v) n
+  pub plain : IfThere (λ x. test x.born ≡ false) n
+  pub rest : ReadsInFlight test es (client_ends o (client_told v n)) w
   pub ends_it : IfThere (λ x. test x.born ≡ true) o
+  pub range : IfThere OfClient o
 
 -- the first delete, where its turn has come
 pub record DeletesAt (test : Born → Bool) (es : List Tell) (v w : Rows Row) (x : Known) : Type 0 where
   pub mortal : x.id ≢ 1
+  pub range : OfClient x
   pub held : IsHeldInRows v x
   pub rest : ReadsInFlight test es (at v x.id None) w
 
@@ -111,9 +176,9 @@ module _ {test : Born → Bool} where
       let k = counts_after g.reads in
       record {
         middle = with_made g.middle n.id (Open n.born);
-        reads = make_before n.id (Open n.born) g.reads c.free;
+        reads = make_before n.id (Open n.born) g.reads (fresh_range c) c.free;
         tied = make_more n g.tied (record {
-          free = free_after n.id g.reads c.free;
+          free = free_after n.id g.reads (fresh_range c) c.free;
           some = c.some;
           next = grind (arith, c.next);
           birth = c.birth ∙ ap client_birth (sym k.1);
@@ -130,7 +195,10 @@ module _ {test : Born → Bool} where
   meets_ends (Some x) g h f y = record {
     middle = at g.middle x.id (Some (Ending x.born));
     reads = destroy_before x.id x.born g.reads h f;
-    tied = destroy_more x g.tied (live_after x.id x.born g.reads h f) f y;
+    tied = elim (cases_Bool (is_of_server x.id)) [
+      | inl l ↦ give_more x g.tied (live_after x.id x.born g.reads h f) f l
+      | inr l ↦ destroy_more x g.tied (live_after x.id x.born g.reads h f) f y l
+    ];
   }
 
   -- the ends still meet after a request is written
@@ -158,10 +226,12 @@ module _ {test : Born → Bool} where
   tied_uses (x ∷ xs) (use_ a b t) = let r = tied_uses xs t in ((a, r.0), r.1)
 
   past_ends : {qs : List Ask} {s : Rows Born} {m : Rows Row} (o : Option Known) → Tied test (destroy_ask o ++ qs) s m
-      → Past test qs (server_ends o s) m (all_tells (following o)) × IfThere Mortal o
+      → Past test qs (server_ends o s) m (all_tells (answer id_maker o)) × IfThere Mortal o
   past_ends {m = m} None t = (record { middle = m; reads = done; tied = t }, tt)
-  past_ends {m = m} (Some x) (destroy z a b c t) =
-      (record { middle = at m x.id None; reads = delete z (inr c) (inr c) done; tied = t }, z)
+  past_ends {m = m} (Some x) (destroy z l a b c t) =
+      (rw l (record { middle = at m x.id None; reads = delete z l (inr c) (inr c) done; tied = t }), z)
+  past_ends {m = m} (Some x) (give_back l a b c t) =
+      (rw l (record { middle = m; reads = done; tied = t }), λ e. range_apart 1 x.id refl l (sym e))
 
   asks_new : {qs : List Ask} {s : Rows Born} {m : Rows Row} (x : Known) (xs : List Known) (n : Option Known)
       (b : Option Known)
@@ -193,47 +263,74 @@ module _ {test : Born → Bool} where
   reads_names [] h r = r
   reads_names (x ∷ xs) h r = name h.0 (reads_names xs h.1 r)
 
-  reads_last : {f g : ℕ → Option Row} {u b : ℕ} → f ≡ g
-      → ReadsInFlight test [] (record { rows = f; used = u; births = b }) (record { rows = g; used = u; births = b })
-  reads_last {f} {g} {u} {b} e = subst (λ (h : ℕ → Option Row). ReadsInFlight test []
-      (record { rows = f; used = u; births = b }) (record { rows = h; used = u; births = b })) e done
+  reads_last : {f g : ℕ → Option Row} {u b : ℕ} {c : Counts} → f ≡ g
+      → ReadsInFlight test [] (record { rows = f; used = u; births = b; by_server = c })
+      (record { rows = g; used = u; births = b; by_server = c })
+  reads_last {f} {g} {u} {b} {c} e = subst (λ (h : ℕ → Option Row). ReadsInFlight test []
+      (record { rows = f; used = u; births = b; by_server = c })
+      (record { rows = h; used = u; births = b; by_server = c })) e done
+
+  -- the making of an event
+  makes_meet : {es : List Tell} {qs : List Ask} {v : Rows Row} {s : Rows Born} (n : Option Known)
+      → IfThere (FreshTold s) n → IfThere (λ x. test x.born ≡ false) n
+      → MeetInMiddle test es qs v s → MeetInMiddle test (es ++ make_tell n) qs v (server_told s n)
+  makes_meet {es} {qs} {v} {s} None c f g = subst (λ (l : List Tell). MeetInMiddle test l qs v s)
+      (sym (append-nil es)) g
+  makes_meet {es} {qs} {v} {s} (Some n) c f g =
+      let k = counts_tied g.tied in
+      record {
+        middle = with_told g.middle n.id (Open n.born);
+        reads = reads_more g.reads (made f (record {
+          range = c.range;
+          not_open = λ b. freed_not_open n.id b g.tied c.range c.free;
+          next = subst (λ (a : Counts). n.id ≤ a.next) (sym k) c.next;
+          birth = c.birth ∙ ap (λ (a : Counts). server_birth a.births) (sym k);
+          low = c.low;
+          left = subst (λ (a : Counts). a.births < max_births) (sym k) c.left;
+        }) done);
+        tied = tell_before n.id n.born g.tied c.range c.free;
+      }
 
   -- the last actions of an event, and the delete that follows
   ends_meets : {es : List Tell} {qs : List Ask} {v : Rows Row} {s : Rows Born} (o : Option Known)
-      → IfThere (λ x. test x.born ≡ true) o → IfThere Mortal o → IfThere (ThereRow s) o
+      → IfThere (λ x. test x.born ≡ true) o → IfThere Mortal o → IfThere OfClient o → IfThere (ThereRow s) o
       → MeetInMiddle test es qs v s → MeetInMiddle test (es ++ (ends o ++ all_tells (following o))) qs v
       (server_ends o s)
-  ends_meets {es} {qs} {v} {s} None f y h g = subst (λ (l : List Tell). MeetInMiddle test l qs v s)
+  ends_meets {es} {qs} {v} {s} None f y l h g = subst (λ (l : List Tell). MeetInMiddle test l qs v s)
       (sym (append-nil es)) g
-  ends_meets {es} {qs} {v} {s} (Some x) f y h g =
+  ends_meets {es} {qs} {v} {s} (Some x) f y l h g =
       let k = held_at_client x g.tied h in
       record {
         middle = at g.middle x.id None;
-        reads = reads_more g.reads (end f k (delete y (inr (put_tells_same g.middle x)) (inl f)
+        reads = reads_more g.reads (end f l k (delete y l (inr (put_tells_same g.middle x)) (inl f)
             (reads_last (put_row_over g.middle.rows x.id _ None))));
         tied = end_before x.id x.born g.tied h f;
       }
 
   -- the ends still meet after an event is written
   pub tell_meets : {es : List Tell} {qs : List Ask} {v : Rows Row} {s : Rows Born} (x : Known) (xs : List Known)
-      (o : Option Known)
-      → MeetInMiddle test es qs v s → ThereRow s x → Each (ThereRow s) xs → IfThere (λ x. test x.born ≡ true) o
-      → IfThere Mortal o → IfThere (ThereRow s) o
-      → MeetInMiddle test (es ++ ((Name x ∷ (map Name xs ++ ends o)) ++ all_tells (following o))) qs v (server_ends o s)
-  tell_meets {es} {qs} {v} {s} x xs o g h hs f y oh =
+      (n o : Option Known)
+      → MeetInMiddle test es qs v s → ThereRow s x → Each (ThereRow s) xs → IfThere (FreshTold s) n
+      → IfThere (λ x. test x.born ≡ false) n → IfThere (λ x. test x.born ≡ true) o
+      → IfThere Mortal o → IfThere OfClient o → IfThere (ThereRow s) o
+      → MeetInMiddle test (es ++ ((Name x ∷ (map Name xs ++ (make_tell n ++ ends o))) ++ all_tells (following o))) qs v
+      (server_ends o (server_told s n))
+  tell_meets {es} {qs} {v} {s} x xs n o g h hs c p f y l oh =
       let r = reads_more g.reads (reads_names (x ∷ xs) (all_held (x ∷ xs) g.tied (h, hs)) done) in
       let e : MeetInMiddle test (es ++ (map Name (x ∷ xs) ++ [])) qs v s =
       record { middle = g.middle; reads = r; tied = g.tied } in
-      let d = ends_meets o f y oh e in
-      subst (λ (l : List Tell). MeetInMiddle test l qs v (server_ends o s)) (simp (append_assoc, append-nil)) d
+      let k = makes_meet n c p e in
+      let d = ends_meets o f y l (there_told_if s n o c oh) k in
+      subst (λ (l : List Tell). MeetInMiddle test l qs v (server_ends o (server_told s n)))
+      (simp (append_assoc, append-nil)) d
 
   -- the ends still meet after an object is dropped
   pub drop_meets : {es : List Tell} {qs : List Ask} {v : Rows Row} {s : Rows Born} (x : Known)
-      → MeetInMiddle test es qs v s → x.id ≢ 1 → ThereRow s x → test x.born ≡ true
+      → MeetInMiddle test es qs v s → x.id ≢ 1 → OfClient x → ThereRow s x → test x.born ≡ true
       → MeetInMiddle test (es ++ Delete x ∷ []) qs v (at s x.id None)
-  drop_meets x g y h f = record {
+  drop_meets x g y l h f = record {
     middle = at g.middle x.id None;
-    reads = reads_more g.reads (delete y (held_at_client x g.tied h) (inl f) done);
+    reads = reads_more g.reads (delete y l (held_at_client x g.tied h) (inl f) done);
     tied = end_before x.id x.born g.tied h f;
   }
 
@@ -246,21 +343,30 @@ module _ {test : Born → Bool} where
   reads_all (x ∷ xs) (name h r) = let k = reads_all xs r in ((h, k.0), k.1)
 
   rest_ends : {es : List Tell} {v w : Rows Row} (o : Option Known) → ReadsInFlight test (ends o ++ es) v w
-      → ReadsInFlight test es (client_ends o v) w × IfThere (λ x. test x.born ≡ true) o
-  rest_ends None r = (r, tt)
-  rest_ends (Some x) (end a b r) = (r, a)
+      → ReadsInFlight test es (client_ends o v) w × (IfThere (λ x. test x.born ≡ true) o × IfThere OfClient o)
+  rest_ends None r = (r, (tt, tt))
+  rest_ends (Some x) (end a l b r) = (r, (a, l))
 
-  -- an event in front is about what the client holds
-  pub tells_at : {es : List Tell} {v w : Rows Row} (x : Known) (xs : List Known) (b : Option Known)
-      → ReadsInFlight test ((Name x ∷ (map Name xs ++ ends b)) ++ es) v w → TellsAt test es v w x xs b
-  tells_at {es} {v} {w} x xs b (name h r) =
+  rest_makes : {es : List Tell} {v w : Rows Row} (n : Option Known) → ReadsInFlight test (make_tell n ++ es) v w
+      → ReadsInFlight test es (client_told v n) w
+      × (IfThere (NextTold v) n × IfThere (λ x. test x.born ≡ false) n)
+  rest_makes None r = (r, (tt, tt))
+  rest_makes (Some x) (made b g r) = (r, (g, b))
+
+  -- an event in front is about what the client holds, and what it makes follows
+  pub tells_at : {es : List Tell} {v w : Rows Row} (x : Known) (xs : List Known) (n b : Option Known)
+      → ReadsInFlight test ((Name x ∷ (map Name xs ++ (make_tell n ++ ends b))) ++ es) v w
+      → TellsAt test es v w x xs n b
+  tells_at {es} {v} {w} x xs n b (name h r) =
       let k = reads_all xs (subst (λ (l : List Tell). ReadsInFlight test l v w) (simp append_assoc) r) in
-      let e = rest_ends b k.1 in record { target = h; args = k.0; rest = e.0; ends_it = e.1 }
+      let c = rest_makes n k.1 in
+      let e = rest_ends b c.0 in
+      record { target = h; args = k.0; new = c.1.0; plain = c.1.1; rest = e.0; ends_it = e.1.0; range = e.1.1 }
 
   -- a delete in front is of what the client holds
   pub deletes_at : {es : List Tell} {v w : Rows Row} (x : Known) → ReadsInFlight test (Delete x ∷ es) v w
       → DeletesAt test es v w x
-  deletes_at x (delete z h c r) = record { mortal = z; held = h; rest = r }
+  deletes_at x (delete z l h c r) = record { mortal = z; range = l; held = h; rest = r }
 
 -- ---- lists of messages
 
@@ -299,8 +405,13 @@ pub each_by : {X : Type 0} (P Q : X → Type 0) (f : (x : X) → P x → Q x) (x
 each_by P Q f [] h = tt
 each_by P Q f (x ∷ xs) h = (f x h.0, each_by P Q f xs h.1)
 
--- drained ends have the same objects
-pub same_rows : {test : Born → Bool} {v m : Rows Row} {s : Rows Born} → ReadsInFlight test [] v m → Tied test [] s m
-    → (id : ℕ)
-    → v.rows id ≡ at_client (s.rows id)
-same_rows done (drained rows u b) id = rows id
+-- drained ends: what is open at the client is what the server has, and in the client's range nothing
+-- else stands there
+pub record Drained (v : Rows Row) (s : Rows Born) : Type 0 where
+  pub same : (id : ℕ) → only_open (v.rows id) ≡ s.rows id
+  pub of_client : (id : ℕ) → is_of_server id ≡ false → v.rows id ≡ at_client (s.rows id)
+  pub counts : v.by_server ≡ s.by_server
+
+pub drained_rows : {test : Born → Bool} {v m : Rows Row} {s : Rows Born} → ReadsInFlight test [] v m
+    → Tied test [] s m → Drained v s
+drained_rows done (drained same rows u b c) = record { same = same; of_client = rows; counts = c }

@@ -1,257 +1,122 @@
 -- What a standing pair has in flight, in the words of its world.
-use Rattle.std.proofs.Common.{true, ◌++◌, ◌∷◌, [], ◌≡◌, ℕ, ◌+◌, ◌<◌, ◌≤◌, Bool, List, map, ◌⊎◌, inl}
-use Rattle.std.proofs.Common.{inr, refl, sym, ◌∙◌, ap, subst, arith, ◌≢◌}
+use Rattle.std.proofs.Common.{true, ◌++◌, ◌∷◌, [], ◌≡◌, ℕ, ◌+◌, ◌<◌, ◌≤◌, Bool, List, map, ◌⊎◌, inl, inr}
+use Rattle.std.proofs.Common.{refl, sym, ◌∙◌, ap, subst, arith, ◌≢◌, false, cond}
 use Rattle.std.specs.Prelude.{option_map, ◌↔◌}
-use Rattle.std.specs.declared.option.Option.{Option}
-use Rattle.std.specs.declared.option.Option.TheVariants.{None, Some}
+use Rattle.std.specs.declared.option.Option.TheVariants.{Some}
 use Rattle.std.proofs.lemmas.Bool.Decides.{nat_tests}
 use Rattle.wl_sigs.specs.Fixed.{registry}
 use Rattle.wl_object_map.specs.declared.object.Object.{Object}
 use Rattle.wl_server.specs.State as server
 use Rattle.wl_server.specs.Registries.{IsAmong}
-use Rattle.theory_connection.specs.Meant.{Birth, IsAmongFirst, Born, Known, Message, Coming, Event}
-use Rattle.theory_connection.specs.Meant.{Delete as delete_of, renamed, recoming, born_of, birth_of, known_id}
-use Rattle.theory_connection.specs.Meant.{objects, made_in, born_of_entry as plain_of}
-use Rattle.theory_connection.specs.World.{World, Row, Open, Ending, IsThere, Each, marks_birth}
-use Rattle.theory_connection.specs.Flight.{Rows, most, Ask, Use, Make, Destroy, Tell, Name, Delete}
-use Rattle.theory_connection.specs.Flight.{IsHeldInRows, ReadsInFlight, done, name, end, delete, Tied, drained}
-use Rattle.theory_connection.specs.Flight.{use_, make, destroy, client_rows, server_rows, asks}
-use Rattle.theory_connection.specs.Flight.{tells, all_asks, all_tells, make_ask, destroy_ask, ends}
+use Rattle.theory_connection.specs.Meant.{Birth, Born, Known, Message, Coming, Event, Delete as delete_of}
+use Rattle.theory_connection.specs.Meant.{renamed, recoming, born_of, birth_of, known_id, objects, made_in}
+use Rattle.theory_connection.specs.Meant.{born_of_entry as plain_of}
+use Rattle.theory_connection.specs.World.{World, Row, Open, Ending, IsOpen, IsEnding, IsThere, marks_birth}
+use Rattle.wl_object_map.specs.declared.object.Maker.{Maker}
+use Rattle.wl_object_map.specs.declared.object.Maker.TheVariants.{Client, Server}
+use Rattle.wl_object_map.specs.Ranges.{is_of_server}
+use Rattle.wl_object_map.specs.Objects.{maker_of}
+use Rattle.theory_connection.specs.Flight.{Rows, births_in, most, Ask, Make, Destroy, Tell, Name, Made}
+use Rattle.theory_connection.specs.Flight.{Delete, IsHeldInRows, ReadsInFlight, done, name, made, end, delete}
+use Rattle.theory_connection.specs.Flight.{Tied, drained, use_, make, destroy, give_back, client_rows}
+use Rattle.theory_connection.specs.Flight.{server_rows, make_tell, all_asks, all_tells, ends}
 use Rattle.theory_connection.specs.Pair.{PairState}
 use Rattle.theory_connection.specs.Answers.{birth_at, marks_of}
 use Rattle.theory_connection.specs.Stands.{Stands, stands, ended, StandsBy, by_event}
 use Rattle.theory_connection.specs.Plain.{In, IsHeldAtClient, DeleteComes, MakeComes, DestroyComes}
-use Rattle.theory_connection.specs.Plain.{IsSomewhere, NamesBirth, StandsIn, IsUnnamed, option_list, news}
-use Rattle.theory_connection.specs.Plain.{tell_id}
+use Rattle.theory_connection.specs.Plain.{IsSomewhere, NamesBirth, StandsIn, IsUnnamed, news, tell_id}
 use Rattle.theory_connection.proofs.Flight.{counts_after}
 use Rattle.theory_connection.proofs.WholeInFlight.{all_tells_more}
-use Rattle.theory_connection.proofs.RowsAfterMessage.{map_some, made_map, objects_map, there_row}
+use Rattle.theory_connection.proofs.RowsAfterMessage.{map_some, made_map, objects_map, held_row, there_row}
 use Rattle.theory_connection.proofs.Plain as plain
-use Rattle.theory_connection.proofs.Births.{counted_more, next_counted, next_or_counted}
-
--- ---- lists
-
-in_left : {X : Type 0} (x : X) (xs ys : List X) → In x xs → In x (xs ++ ys)
-in_left x [] ys h = absurd h
-in_left x (z ∷ xs) ys h = elim h [ inl p ↦ inl p | inr p ↦ inr (in_left x xs ys p) ]
-
-in_right : {X : Type 0} (x : X) (xs ys : List X) → In x ys → In x (xs ++ ys)
-in_right x [] ys h = h
-in_right x (z ∷ xs) ys h = inr (in_right x xs ys h)
-
-in_either : {X : Type 0} (x : X) (xs ys : List X) → In x (xs ++ ys) → In x xs ⊎ In x ys
-in_either x [] ys h = inr h
-in_either x (z ∷ xs) ys h = elim h [
-  | inl p ↦ inl (inl p)
-  | inr p ↦ elim
-      (in_either x xs ys p) [ inl q ↦ inl (inr q) | inr q ↦ inr q ]
-]
-
-in_map : {X Y : Type 0} (f : X → Y) (x : X) (xs : List X) → In x xs → In (f x) (map f xs)
-in_map f x [] h = absurd h
-in_map f x (z ∷ xs) h = elim h [ inl p ↦ inl (ap f p) | inr p ↦ inr (in_map f x xs p) ]
-
--- what stands under an image
-record From {X Y : Type 0} (f : X → Y) (y : Y) (xs : List X) : Type 0 where
-  item : X
-  there : In item xs
-  is : f item ≡ y
-
-from_map : {X Y : Type 0} (f : X → Y) (y : Y) (xs : List X) → In y (map f xs) → From f y xs
-from_map f y [] h = absurd h
-from_map f y (x ∷ xs) h = elim h [
-  | inl p ↦ record { item = x; there = inl refl; is = sym p }
-  | inr p ↦ (let k = from_map f y xs p in record { item = k.item; there = inr k.there; is = k.is })
-]
-
-each_in : {X : Type 0} (P : X → Type 0) (x : X) (xs : List X) → Each P xs → In x xs → P x
-each_in P x [] h i = absurd i
-each_in P x (z ∷ xs) h i = elim i [ inl p ↦ subst P (sym p) h.0 | inr p ↦ each_in P x xs h.1 p ]
-
--- a list whose image is parted at one of its items
-record Parted {X Y : Type 0} (f : X → Y) (xs : List X) (before : List Y) (y : Y) (after : List Y) : Type 0 where
-  front : List X
-  item : X
-  rest : List X
-  whole : xs ≡ front ++ item ∷ rest
-  item_is : f item ≡ y
-  rest_is : map f rest ≡ after
-
-parted : {X Y : Type 0} (f : X → Y) (xs : List X) (before : List Y) (y : Y) (after : List Y)
-    → map f xs ≡ before ++ y ∷ after → Parted f xs before y after
-parted f [] [] y after h = absurd (cc h)
-parted f [] (b ∷ before) y after h = absurd (cc h)
-parted f (x ∷ xs) [] y after h = record { front = []; item = x; rest = xs; whole = refl; item_is = cc h; rest_is = cc h }
-parted f (x ∷ xs) (b ∷ before) y after h =
-    let k = parted f xs before y after (cc h) in
-    record {
-      front = x ∷ k.front;
-      item = k.item;
-      rest = k.rest;
-      whole = ap (λ (l : List _). x ∷ l) k.whole;
-      item_is = k.item_is;
-      rest_is = k.rest_is;
-    }
-
--- ---- messages and their actions
-
-delete_of_tells : (k : Known) (told : List (Coming Known)) → In (Delete k) (all_tells told) → In (delete_of k) told
-delete_of_tells k [] h = absurd h
-delete_of_tells k (c ∷ told) h = elim (in_either (Delete k) (tells c) (all_tells told) h)
-    [ inl p ↦ inl (of_one c p) | inr p ↦ inr (delete_of_tells k told p) ]
-  where
-    of_names : (xs : List Known) → In (Delete k) (map Name xs) → ⊥
-    of_names [] i = i
-    of_names (x ∷ xs) i = elim i [ inl p ↦ cc p | inr p ↦ of_names xs p ]
-
-    of_ends : (o : Option Known) → In (Delete k) (ends o) → ⊥
-    of_ends None i = i
-    of_ends (Some x) i = elim i [ inl p ↦ cc p | inr p ↦ p ]
-
-    of_one : (d : Coming Known) → In (Delete k) (tells d) → delete_of k ≡ d
-    of_one (Event m) i = elim i [
-      | inl p ↦ absurd (cc p)
-      | inr p ↦ elim (in_either (Delete k) (map Name (objects m.args)) (ends m.ends) p)
-          [ inl q ↦ absurd (of_names (objects m.args) q) | inr q ↦ absurd (of_ends m.ends q) ]
-    ]
-    of_one (delete_of x) i = elim i [ inl p ↦ (let e : k ≡ x = cc p in ap delete_of e) | inr p ↦ absurd p ]
-
-tells_in : (t : Tell) (c : Coming Known) (told : List (Coming Known)) → In c told → In t (tells c)
-    → In t (all_tells told)
-tells_in t c [] h i = absurd h
-tells_in t c (d ∷ told) h i = elim h [
-  | inl p ↦ in_left t (tells d) (all_tells told) (subst (λ (e : Coming Known). In t (tells e)) p i)
-  | inr p ↦ in_right t (tells d) (all_tells told) (tells_in t c told p i)
-]
-
--- the message of an action
-record Asking (P : Message Known → Type 0) (asked : List (Message Known)) : Type 0 where
-  message : Message Known
-  there : In message asked
-  is : P message
-
-asks_in : (a : Ask) (P : Message Known → Type 0) → ((m : Message Known) → In a (asks m) → P m)
-    → (asked : List (Message Known)) → In a (all_asks asked) → Asking P asked
-asks_in a P f [] h = absurd h
-asks_in a P f (m ∷ asked) h = elim (in_either a (asks m) (all_asks asked) h) [
-  | inl p ↦ record { message = m; there = inl refl; is = f m p }
-  | inr p ↦ (let k = asks_in a P f asked p in record { message = k.message; there = inr k.there; is = k.is })
-]
-
-in_asks : (a : Ask) (m : Message Known) (asked : List (Message Known)) → In m asked → In a (asks m)
-    → In a (all_asks asked)
-in_asks a m [] h i = absurd h
-in_asks a m (n ∷ asked) h i = elim h [
-  | inl p ↦ in_left a (asks n) (all_asks asked) (subst (λ (e : Message Known). In a (asks e)) p i)
-  | inr p ↦ in_right a (asks n) (all_asks asked) (in_asks a m asked p i)
-]
-
--- neither a making nor a destroying is a use
-abbrev IsUse : Ask → Type 0
-IsUse (Use x) = Unit {0}
-IsUse _ = ⊥
-
-uses : (a : Ask) (xs : List Known) → In a (map Use xs) → IsUse a
-uses a [] i = absurd i
-uses a (x ∷ xs) i = elim i [ inl p ↦ subst IsUse (sym p) tt | inr p ↦ uses a xs p ]
-
-make_asked : (k : Known) (m : Message Known) → In (Make k) (asks m) → made_in m.args ≡ Some k
-make_asked k m i = elim i [
-  | inl p ↦ absurd (cc p)
-  | inr p ↦ elim (in_either (Make k) (map Use (objects m.args)) (make_ask (made_in m.args) ++ destroy_ask m.ends) p) [
-    | inl q ↦ absurd (uses (Make k) (objects m.args) q)
-    | inr q ↦ elim (in_either (Make k) (make_ask (made_in m.args)) (destroy_ask m.ends) q)
-        [ inl r ↦ of_made (made_in m.args) r | inr r ↦ absurd (of_destroyed m.ends r) ]
-  ]
-]
-  where
-    of_made : (o : Option Known) → In (Make k) (make_ask o) → o ≡ Some k
-    of_made None j = absurd j
-    of_made (Some x) j = elim j [ inl p ↦ (let e : k ≡ x = cc p in ap Some (sym e)) | inr p ↦ absurd p ]
-
-    of_destroyed : (o : Option Known) → In (Make k) (destroy_ask o) → ⊥
-    of_destroyed None j = j
-    of_destroyed (Some x) j = elim j [ inl p ↦ cc p | inr p ↦ p ]
-
-destroy_asked : (k : Known) (m : Message Known) → In (Destroy k) (asks m) → m.ends ≡ Some k
-destroy_asked k m i = elim i [
-  | inl p ↦ absurd (cc p)
-  | inr p ↦ elim (in_either (Destroy k) (map Use (objects m.args)) (make_ask (made_in m.args) ++ destroy_ask m.ends) p) [
-    | inl q ↦ absurd (uses (Destroy k) (objects m.args) q)
-    | inr q ↦ elim (in_either (Destroy k) (make_ask (made_in m.args)) (destroy_ask m.ends) q)
-        [ inl r ↦ absurd (of_made (made_in m.args) r) | inr r ↦ of_destroyed m.ends r ]
-  ]
-]
-  where
-    of_made : (o : Option Known) → In (Destroy k) (make_ask o) → ⊥
-    of_made None j = j
-    of_made (Some x) j = elim j [ inl p ↦ cc p | inr p ↦ p ]
-
-    of_destroyed : (o : Option Known) → In (Destroy k) (destroy_ask o) → o ≡ Some k
-    of_destroyed None j = absurd j
-    of_destroyed (Some x) j = elim j [ inl p ↦ (let e : k ≡ x = cc p in ap Some (sym e)) | inr p ↦ absurd p ]
-
-asked_make : (k : Known) (m : Message Known) → made_in m.args ≡ Some k → In (Make k) (asks m)
-asked_make k m e =
-    inr (in_right (Make k) (map Use (objects m.args)) (make_ask (made_in m.args) ++ destroy_ask m.ends)
-    (in_left (Make k) (make_ask (made_in m.args)) (destroy_ask m.ends)
-    (subst (λ (o : Option Known). In (Make k) (make_ask o)) (sym e) (inl refl))))
-
-asked_destroy : (k : Known) (m : Message Known) → m.ends ≡ Some k → In (Destroy k) (asks m)
-asked_destroy k m e =
-    inr (in_right (Destroy k) (map Use (objects m.args)) (make_ask (made_in m.args) ++ destroy_ask m.ends)
-    (in_right (Destroy k) (make_ask (made_in m.args)) (destroy_ask m.ends)
-    (subst (λ (o : Option Known). In (Destroy k) (destroy_ask o)) (sym e) (inl refl))))
+use Rattle.theory_connection.proofs.MessageActions.{in_left, in_right, in_map, from_map, each_in, parted}
+use Rattle.theory_connection.proofs.MessageActions.{delete_of_tells, tells_in, asks_in, in_asks, make_asked}
+use Rattle.theory_connection.proofs.MessageActions.{destroy_asked, asked_make, asked_destroy, made_news}
+use Rattle.theory_connection.proofs.MessageActions.{news_made, comes_news, news_comes}
 
 -- ---- more of what is read
 
 module _ {test : Born → Bool} where
-  -- what an event names the client holds
-  named_held : {es : List Tell} (x : Known) {v w : Rows Row} → ReadsInFlight test es v w → In (Name x) es
-      → IsHeldInRows v x
+  -- what an event names the client holds, or an event on the way makes it
+  pub named_held : {es : List Tell} (x : Known) {v w : Rows Row} → ReadsInFlight test es v w → In (Name x) es
+      → IsHeldInRows v x ⊎ In (Made x) es
   named_held x done i = absurd i
   named_held x (name {v = v} a r) i = elim i [
-    | inl p ↦
-        (let e : _ ≡ x = cc p in subst (IsHeldInRows v) e a)
-    | inr p ↦ named_held x r p
+    | inl p ↦ (let e : _ ≡ x = cc p in inl (subst (IsHeldInRows v) e a))
+    | inr p ↦ elim (named_held x r p) [ inl q ↦ inl q | inr q ↦ inr (inr q) ]
   ]
-  named_held x (end {v = v} {x = y} b a r) i = elim i
-      [ inl p ↦ absurd (cc p) | inr p ↦ plain.kept_end v x y a (named_held x r p) ]
-  named_held x (delete {v = v} {x = y} z a b r) i =
-      elim i [ inl p ↦ absurd (cc p) | inr p ↦ plain.kept_delete v x y.id (named_held x r p) ]
+  named_held x (made {v = v} {x = n} b g r) i = elim i [
+    | inl p ↦ absurd (cc p)
+    | inr p ↦ elim (named_held x r p) [
+      | inl q ↦ elim (plain.kept_told v n x q) [ inl k ↦ inl k | inr k ↦ inr (inl (ap Made k)) ]
+      | inr q ↦ inr (inr q)
+    ]
+  ]
+  named_held x (end {v = v} {x = y} b l a r) i = elim i [
+    | inl p ↦ absurd (cc p)
+    | inr p ↦ elim (named_held x r p) [ inl q ↦ inl (plain.kept_end v x y a q) | inr q ↦ inr (inr q) ]
+  ]
+  named_held x (delete {v = v} {x = y} z l a b r) i = elim i [
+    | inl p ↦ absurd (cc p)
+    | inr p ↦ elim (named_held x r p) [ inl q ↦ inl (plain.kept_delete v x y.id q) | inr q ↦ inr (inr q) ]
+  ]
 
-  -- the births and the ids of the client are those of the server and of what is made on the way
-  births_tied : {qs : List Ask} {s : Rows Born} {m : Rows Row} (b : Birth) → Tied test qs s m → IsAmongFirst m.births b
-      → IsAmongFirst s.births b ⊎ ((x : Known) × (In (Make x) qs × (x.born.birth ≡ b)))
-  births_tied b (drained r u n) h = inl (subst (λ (k : ℕ). IsAmongFirst k b) n h)
-  births_tied b (use_ o f t) h = elim (births_tied b t h) [ inl p ↦ inl p | inr p ↦ inr (p.0, (inr p.1.0, p.1.1)) ]
-  births_tied b (make {s = s} {x = x} f t) h = elim (births_tied b t h) [
-    | inl p ↦ elim (next_or_counted b s.births p) [ inl q ↦ inl q | inr q ↦ inr (x, (inl refl, f.birth ∙ sym q)) ]
+  -- what an event makes is of the server's making
+  pub made_maker : {es : List Tell} (x : Known) {v w : Rows Row} → ReadsInFlight test es v w → In (Made x) es
+      → x.born.birth.maker ≡ Server
+  made_maker x done i = absurd i
+  made_maker x (name a r) i = elim i [ inl p ↦ absurd (cc p) | inr p ↦ made_maker x r p ]
+  made_maker x (made {x = n} b g r) i = elim i [
+    | inl p ↦ (let e : x ≡ n = cc p in ap (λ (k : Known). k.born.birth.maker) e ∙ ap (λ (c : Birth). c.maker) g.birth)
+    | inr p ↦ made_maker x r p
+  ]
+  made_maker x (end b l a r) i = elim i [ inl p ↦ absurd (cc p) | inr p ↦ made_maker x r p ]
+  made_maker x (delete z l a b r) i = elim i [ inl p ↦ absurd (cc p) | inr p ↦ made_maker x r p ]
+
+  -- the births and the ids of the client's range at the client are those of the server and of what
+  -- is made on the way
+  births_tied : {qs : List Ask} {s : Rows Born} {m : Rows Row} (b : Birth) → Tied test qs s m → b.maker ≡ Client
+      → b.number < m.births
+      → (b.number < s.births) ⊎ ((x : Known) × (In (Make x) qs × (x.born.birth ≡ b)))
+  births_tied b (drained same r u n k) c h = inl (omega (arith, h, n))
+  births_tied b (use_ o f t) c h = elim (births_tied b t c h) [ inl p ↦ inl p | inr p ↦ inr (p.0, (inr p.1.0, p.1.1)) ]
+  births_tied b (make {s = s} {x = x} f t) c h = elim (births_tied b t c h) [
+    | inl p ↦ elim (less_or b.number s.births p) [
+      | inl q ↦ inl q
+      | inr q ↦ inr (x, (inl refl, f.birth ∙ (λ i. record { maker = sym c i; number = sym q i })))
+    ]
     | inr p ↦ inr (p.0, (inr p.1.0, p.1.1))
   ]
-  births_tied b (destroy z o f e t) h = elim (births_tied b t h)
+    where
+      less_or : (a n : ℕ) → a < n + 1 → (a < n) ⊎ (a ≡ n)
+      less_or a n l = grind (arith, l)
+  births_tied b (destroy z l o f e t) c h = elim (births_tied b t c h)
+      [ inl p ↦ inl p | inr p ↦ inr (p.0, (inr p.1.0, p.1.1)) ]
+  births_tied b (give_back l o f e t) c h = elim (births_tied b t c h)
       [ inl p ↦ inl p | inr p ↦ inr (p.0, (inr p.1.0, p.1.1)) ]
 
   tied_births : {qs : List Ask} {s : Rows Born} {m : Rows Row} → Tied test qs s m → s.births ≤ m.births
-  tied_births (drained r u n) = omega (arith, n)
+  tied_births (drained same r u n k) = omega (arith, n)
   tied_births (use_ o f t) = tied_births t
   tied_births (make f t) = let k = tied_births t in omega (arith, k)
-  tied_births (destroy z o f e t) = tied_births t
+  tied_births (destroy z l o f e t) = tied_births t
+  tied_births (give_back l o f e t) = tied_births t
 
   made_births : {qs : List Ask} {s : Rows Born} {m : Rows Row} (x : Known) → Tied test qs s m → In (Make x) qs
-      → IsAmongFirst m.births x.born.birth
-  made_births x (drained r u n) i = absurd i
+      → x.born.birth.number < m.births
+  made_births x (drained same r u n k) i = absurd i
   made_births x (use_ o f t) i = elim i [ inl p ↦ absurd (cc p) | inr p ↦ made_births x t p ]
   made_births x (make {s = s} {x = y} f t) i = elim i [
-    | inl p ↦ (let e : x ≡ y = cc p in counted_more x.born.birth (s.births + 1) _
-        (next_counted x.born.birth s.births (ap (λ (k : Known). k.born.birth) e ∙ f.birth)) (tied_births t))
+    | inl p ↦ (let e : x ≡ y = cc p in let b = ap (λ (k : Known). k.born.birth.number) e in
+        let c = ap (λ (k : Birth). k.number) f.birth in let l = tied_births t in omega (arith, b, c, l))
     | inr p ↦ made_births x t p
   ]
-  made_births x (destroy z o f e t) i = elim i [ inl p ↦ absurd (cc p) | inr p ↦ made_births x t p ]
+  made_births x (destroy z l o f e t) i = elim i [ inl p ↦ absurd (cc p) | inr p ↦ made_births x t p ]
+  made_births x (give_back l o f e t) i = elim i [ inl p ↦ absurd (cc p) | inr p ↦ made_births x t p ]
 
   used_tied : {qs : List Ask} {s : Rows Born} {m : Rows Row} (id : ℕ) → Tied test qs s m → id ≤ m.used
       → (id ≤ s.used) ⊎ ((x : Known) × (In (Make x) qs × (x.id ≡ id)))
-  used_tied id (drained r u n) h = inl (omega (arith, h, u))
+  used_tied id (drained same r u n k0) h = inl (omega (arith, h, u))
   used_tied id (use_ o f t) h = elim (used_tied id t h) [ inl p ↦ inl p | inr p ↦ inr (p.0, (inr p.1.0, p.1.1)) ]
   used_tied id (make {s = s} {x = x} f t) h = elim (used_tied id t h) [
     | inl p ↦ elim (most_or id s.used x.id p f.next) [ inl q ↦ inl q | inr q ↦ inr (x, (inl refl, sym q)) ]
@@ -260,20 +125,22 @@ module _ {test : Born → Bool} where
     where
       most_or : (a n i : ℕ) → a ≤ most n i → i ≤ n + 1 → (a ≤ n) ⊎ (a ≡ i)
       most_or a n i l k = grind (arith, nat_tests, l, k)
-  used_tied id (destroy z o f e t) h = elim (used_tied id t h) [ inl p ↦ inl p | inr p ↦ inr (p.0, (inr p.1.0, p.1.1)) ]
+  used_tied id (destroy z l0 o f e t) h = elim (used_tied id t h) [ inl p ↦ inl p | inr p ↦ inr (p.0, (inr p.1.0, p.1.1)) ]
+  used_tied id (give_back l0 o f e t) h = elim (used_tied id t h) [ inl p ↦ inl p | inr p ↦ inr (p.0, (inr p.1.0, p.1.1)) ]
 
   tied_used : {qs : List Ask} {s : Rows Born} {m : Rows Row} → Tied test qs s m → s.used ≤ m.used
-  tied_used (drained r u n) = omega (arith, u)
+  tied_used (drained same r u n k0) = omega (arith, u)
   tied_used (use_ o f t) = tied_used t
   tied_used (make {s = s} {x = x} f t) = let k = tied_used t in least s.used x.id k
     where
       least : (n i : ℕ) {u : ℕ} → most n i ≤ u → n ≤ u
       least n i {u} l = grind (arith, nat_tests, l)
-  tied_used (destroy z o f e t) = tied_used t
+  tied_used (destroy z l0 o f e t) = tied_used t
+  tied_used (give_back l0 o f e t) = tied_used t
 
   made_used : {qs : List Ask} {s : Rows Born} {m : Rows Row} (x : Known) → Tied test qs s m → In (Make x) qs
       → (0 < x.id) × (x.id ≤ m.used)
-  made_used x (drained r u n) i = absurd i
+  made_used x (drained same r u n k0) i = absurd i
   made_used x (use_ o f t) i = elim i [ inl p ↦ absurd (cc p) | inr p ↦ made_used x t p ]
   made_used x (make {s = s} {x = y} f t) i = elim i [
     | inl p ↦ (let e : x ≡ y = cc p in let b = ap (λ (k : Known). k.id) e in let k = least s.used y.id (tied_used t)
@@ -283,45 +150,8 @@ module _ {test : Born → Bool} where
     where
       least : (n i : ℕ) {u : ℕ} → most n i ≤ u → i ≤ u
       least n i {u} l = grind (arith, nat_tests, l)
-  made_used x (destroy z o f e t) i = elim i [ inl p ↦ absurd (cc p) | inr p ↦ made_used x t p ]
-
--- ---- what is made on the way
-
-one_listed : {O : Type 0} (x : O) (o : Option O) → In x (option_list o) → o ≡ Some x
-one_listed x None i = absurd i
-one_listed x (Some y) i = elim i [ inl a ↦ ap Some (sym a) | inr a ↦ absurd a ]
-
--- the message that makes it
-record Maker {O : Type 0} (x : O) (ms : List (Message O)) : Type 0 where
-  message : Message O
-  there : In message ms
-  makes_it : made_in message.args ≡ Some x
-
-maker : {O : Type 0} (x : O) (ms : List (Message O)) → In x (news ms) → Maker x ms
-maker x [] i = absurd i
-maker x (m ∷ ms) i = elim (in_either x (option_list (made_in m.args)) (news ms) i) [
-  | inl a ↦ record { message = m; there = inl refl; makes_it = one_listed x (made_in m.args) a }
-  | inr a ↦ (let k = maker x ms a in record { message = k.message; there = inr k.there; makes_it = k.makes_it })
-]
-
-made_news : {O : Type 0} (x : O) (m : Message O) (ms : List (Message O)) → In m ms → made_in m.args ≡ Some x
-    → In x (news ms)
-made_news x m [] i e = absurd i
-made_news x m (n ∷ ms) i e = elim i [
-  | inl a ↦ in_left x (option_list (made_in n.args)) (news ms)
-      (subst (λ k. In x (option_list k)) (sym e ∙ ap (λ k. made_in k.args) a) (inl refl))
-  | inr a ↦ in_right x (option_list (made_in n.args)) (news ms) (made_news x m ms a e)
-]
-
-news_made : (x : Known) (asked : List (Message Known)) → In x (news asked) → In (Make x) (all_asks asked)
-news_made x asked i = let k = maker x asked i in in_asks (Make x) k.message asked k.there
-    (asked_make x k.message k.makes_it)
-
-comes_news : {w : World} (x : Born) → MakeComes w x → In x (news w.requests)
-comes_news {w} x h = made_news x h.request w.requests h.there h.makes
-
-news_comes : {w : World} (x : Born) → In x (news w.requests) → MakeComes w x
-news_comes {w} x i = let k = maker x w.requests i in record { request = k.message; there = k.there; makes = k.makes_it }
+  made_used x (destroy z l0 o f e t) i = elim i [ inl p ↦ absurd (cc p) | inr p ↦ made_used x t p ]
+  made_used x (give_back l0 o f e t) i = elim i [ inl p ↦ absurd (cc p) | inr p ↦ made_used x t p ]
 
 -- ---- in the world
 
@@ -338,7 +168,7 @@ module _ (p : PairState) (w : World) (asked : List (Message Known)) (told : List
       (in_map (recoming born_of) (delete_of k) told (delete_of_tells k told h))
 
   -- the object whose delete is on the way, under its id
-  delete_known : (x : Born) → DeleteComes w x → (k : Known) × (In (Delete k) (all_tells told) × (k.born ≡ x))
+  pub delete_known : (x : Born) → DeleteComes w x → (k : Known) × (In (Delete k) (all_tells told) × (k.born ≡ x))
   delete_known x h =
       let f = from_map (recoming born_of) (delete_of x) told (subst (In (delete_of x)) s.events.in_world h) in
       by_coming f.item f.there f.is
@@ -351,7 +181,7 @@ module _ (p : PairState) (w : World) (asked : List (Message Known)) (told : List
   request_in : (m : Message Known) → In m asked → In (renamed born_of m) w.requests
   request_in m i = subst (In (renamed born_of m)) (sym s.requests.in_world) (in_map (renamed born_of) m asked i)
 
-  make_comes : (k : Known) → In (Make k) (all_asks asked) → MakeComes w k.born
+  pub make_comes : (k : Known) → In (Make k) (all_asks asked) → MakeComes w k.born
   make_comes k h =
       let a = asks_in (Make k) (λ m. made_in m.args ≡ Some k) (make_asked k) asked h in
       record {
@@ -360,7 +190,7 @@ module _ (p : PairState) (w : World) (asked : List (Message Known)) (told : List
         makes = made_map born_of a.message.args ∙ ap (option_map born_of) a.is;
       }
 
-  make_known : (x : Born) → MakeComes w x → (k : Known) × (In (Make k) (all_asks asked) × (k.born ≡ x))
+  pub make_known : (x : Born) → MakeComes w x → (k : Known) × (In (Make k) (all_asks asked) × (k.born ≡ x))
   make_known x h =
       let f = from_map (renamed born_of) h.request asked (subst (In h.request) s.requests.in_world h.there) in
       let m = f.item in
@@ -369,7 +199,7 @@ module _ (p : PairState) (w : World) (asked : List (Message Known)) (told : List
       let k = map_some born_of (made_in m.args) x e in
       (k.0, (in_asks (Make k.0) m asked f.there (asked_make k.0 m k.1), k.2))
 
-  destroy_comes : (k : Known) → In (Destroy k) (all_asks asked) → DestroyComes w k.born
+  pub destroy_comes : (k : Known) → In (Destroy k) (all_asks asked) → DestroyComes w k.born
   destroy_comes k h =
       let a = asks_in (Destroy k) (λ m. m.ends ≡ Some k) (destroy_asked k) asked h in
       record {
@@ -378,7 +208,7 @@ module _ (p : PairState) (w : World) (asked : List (Message Known)) (told : List
         ends = ap (option_map born_of) a.is;
       }
 
-  destroy_known : (x : Born) → DestroyComes w x → (k : Known) × (In (Destroy k) (all_asks asked) × (k.born ≡ x))
+  pub destroy_known : (x : Born) → DestroyComes w x → (k : Known) × (In (Destroy k) (all_asks asked) × (k.born ≡ x))
   destroy_known x h =
       let f = from_map (renamed born_of) h.request asked (subst (In h.request) s.requests.in_world h.there) in
       let m = f.item in
@@ -388,24 +218,55 @@ module _ (p : PairState) (w : World) (asked : List (Message Known)) (told : List
 
   -- ---- rows
 
-  held_known : (x : Born) → IsHeldAtClient w x → (k : Known) × (IsHeldInRows v k × (k.born ≡ x))
-  held_known x h = elim h [
-    | inl p ↦ (let r = (s.client.sets.only x.birth (Open x) p).1 in (record { id = r.0; born = x }, (inl r.1, refl)))
-    | inr p ↦ (let r = (s.client.sets.only x.birth (Ending x) p).1 in (record { id = r.0; born = x }, (inr r.1, refl)))
-  ]
+  -- a row's maker is that of its id
+  pub row_by : (k : Known) → IsHeldInRows v k → maker_of k.id ≡ k.born.birth.maker
+  row_by k h = let r = held_row p.client.core.view k h in ap (λ (b : Born). b.birth.maker) r.same
 
-  held_world : (k : Known) → IsHeldInRows v k → IsHeldAtClient w k.born
+  pub there_by : (k : Known) → o.rows k.id ≡ Some k.born → maker_of k.id ≡ k.born.birth.maker
+  there_by k h = let r = there_row p.server.core.view k h in ap (λ (b : Born). b.birth.maker) r.same
+
+  client_range : (id : ℕ) → maker_of id ≡ Client → is_of_server id ≡ false
+  client_range id h = by_range (is_of_server id) h
+    where
+      by_range : (b : Bool) → cond b Server Client ≡ Client → b ≡ false
+      by_range true e = absurd (cc e)
+      by_range false e = refl
+
+  -- what the client holds is an object of the client's or open, so it has a row
+  held_known : (x : Born) → IsHeldAtClient w x → (x.birth.maker ≡ Client) ⊎ IsOpen w.client x
+      → (k : Known) × (IsHeldInRows v k × (k.born ≡ x))
+  held_known x h c = elim h [
+    | inl p ↦ open_known x p
+    | inr p ↦ elim c [ inl q ↦ of_client p q | inr q ↦ open_known x q ]
+  ]
+    where
+      open_known : (x : Born) → IsOpen w.client x → (k : Known) × (IsHeldInRows v k × (k.born ≡ x))
+      open_known x p = elim (s.client.sets.only x.birth (Open x) p).1 [
+        | inl r ↦ (record { id = r.0; born = x }, (inl r.1, refl))
+        | inr g ↦ absurd g
+      ]
+
+      of_client : IsEnding w.client x → x.birth.maker ≡ Client → (k : Known) × (IsHeldInRows v k × (k.born ≡ x))
+      of_client p q = elim (s.client.sets.only x.birth (Ending x) p).1 [
+        | inl r ↦ (record { id = r.0; born = x }, (inr r.1, refl))
+        | inr g ↦ absurd (cc (g, q))
+      ]
+
+  pub held_world : (k : Known) → IsHeldInRows v k → IsHeldAtClient w k.born
   held_world k h = elim h [
     | inl p ↦ inl (s.client.sets.shown k.id (Open k.born) p)
     | inr p ↦ inr
         (s.client.sets.shown k.id (Ending k.born) p)
   ]
 
-  there_known : (x : Born) → IsThere w.server x → (k : Known) × ((o.rows k.id ≡ Some k.born) × (k.born ≡ x))
-  there_known x h = let r = (s.server.sets.only x.birth x h).1 in (record { id = r.0; born = x }, (r.1, refl))
+  pub there_known : (x : Born) → IsThere w.server x → (k : Known) × ((o.rows k.id ≡ Some k.born) × (k.born ≡ x))
+  there_known x h = elim (s.server.sets.only x.birth x h).1 [
+    | inl r ↦ (record { id = r.0; born = x }, (r.1, refl))
+    | inr g ↦ absurd g
+  ]
 
   -- an object that the client holds has one id
-  one_id : (j k : Known) → IsHeldInRows v j → IsHeldInRows v k → j.born ≡ k.born → j ≡ k
+  pub one_id : (j k : Known) → IsHeldInRows v j → IsHeldInRows v k → j.born ≡ k.born → j ≡ k
   one_id j k h i e =
       let b : j.born.birth ≡ k.born.birth = ap birth_of e in
       let q : j.id ≡ k.id = elim h [
@@ -424,11 +285,23 @@ module _ (p : PairState) (w : World) (asked : List (Message Known)) (told : List
 
   -- ---- the laws
 
-  -- what the client holds is somewhere on the way or at the server
-  pub where_held : (x : Born) → IsHeldAtClient w x → IsSomewhere w x
-  where_held x h =
-      let k = held_known x h in
-      elim (plain.held_where k.0 s.meet k.1.0) [
+  pub deleted_is_held : (k : Known) → In (Delete k) (all_tells told) → IsHeldInRows v k
+  deleted_is_held k a = plain.held_back_here k s.meet (plain.deleted_client k s.meet.reads a) (inl a)
+
+  -- a delete on the way is of an object of the client's
+  pub deleted_by : (x : Born) → DeleteComes w x → x.birth.maker ≡ Client
+  deleted_by x h =
+      let k = delete_known x h in
+      let l = plain.deleted_client k.0 s.meet.reads k.1.0 in
+      sym (ap (λ (b : Born). b.birth.maker) k.1.1) ∙ sym (row_by k.0 (deleted_is_held k.0 k.1.0))
+      ∙ ap (λ (b : Bool). cond b Server Client) l
+
+  -- what the client holds of its own making is somewhere on the way or at the server
+  pub where_held : (x : Born) → x.birth.maker ≡ Client → IsHeldAtClient w x → IsSomewhere w x
+  where_held x c h =
+      let k = held_known x h (inl c) in
+      let l = client_range k.0.id (row_by k.0 k.1.0 ∙ ap (λ (b : Born). b.birth.maker) k.1.1 ∙ c) in
+      elim (plain.held_where k.0 s.meet l k.1.0) [
         | inl a ↦ inl (subst (DeleteComes w) k.1.1 (delete_comes k.0 a))
         | inr a ↦ elim a [
           | inl b ↦ inr (inl (subst (IsThere w.server) k.1.1 (s.server.sets.shown k.0.id k.0.born b)))
@@ -436,18 +309,20 @@ module _ (p : PairState) (w : World) (asked : List (Message Known)) (told : List
         ]
       ]
 
-  deleted_is_held : (k : Known) → In (Delete k) (all_tells told) → IsHeldInRows v k
-  deleted_is_held k a = plain.held_back k s.meet (inl a)
+  make_client : (k : Known) → In (Make k) (all_asks asked) → is_of_server k.id ≡ false
+  make_client k a = (plain.make_new k s.meet.tied a).1
 
-  -- and what is there the client holds
-  pub back_held : (x : Born) → IsSomewhere w x → IsHeldAtClient w x
-  back_held x h = elim h [
+  -- and what is there of the client's making the client holds
+  pub back_held : (x : Born) → x.birth.maker ≡ Client → IsSomewhere w x → IsHeldAtClient w x
+  back_held x c h = elim h [
     | inl a ↦ (let k = delete_known x a in subst (IsHeldAtClient w) k.1.1 (held_world k.0 (deleted_is_held k.0 k.1.0)))
     | inr a ↦ elim a [
-      | inl b ↦ (let k = there_known x b in subst (IsHeldAtClient w) k.1.1
-          (held_world k.0 (plain.held_back k.0 s.meet (inr (inl k.1.0)))))
+      | inl b ↦ (let k = there_known x b in
+          let l = client_range k.0.id (there_by k.0 k.1.0 ∙ ap (λ (b : Born). b.birth.maker) k.1.1 ∙ c) in
+          subst (IsHeldAtClient w) k.1.1
+          (held_world k.0 (plain.held_back_here k.0 s.meet l (inr (inl k.1.0)))))
       | inr b ↦ (let k = make_known x b in subst (IsHeldAtClient w) k.1.1
-          (held_world k.0 (plain.held_back k.0 s.meet (inr (inr k.1.0)))))
+          (held_world k.0 (plain.held_back_here k.0 s.meet (make_client k.0 k.1.0) (inr (inr k.1.0)))))
     ]
   ]
 
@@ -456,7 +331,8 @@ module _ (p : PairState) (w : World) (asked : List (Message Known)) (told : List
   open_not_deleted x h i =
       let j = there_known x h in
       let k = delete_known x i in
-      let e = one_id k.0 j.0 (deleted_is_held k.0 k.1.0) (plain.held_back j.0 s.meet (inr (inl j.1.0)))
+      let l = client_range j.0.id (there_by j.0 j.1.0 ∙ ap (λ (b : Born). b.birth.maker) j.1.1 ∙ deleted_by x i) in
+      let e = one_id k.0 j.0 (deleted_is_held k.0 k.1.0) (plain.held_back_here j.0 s.meet l (inr (inl j.1.0)))
       (k.1.1 ∙ sym j.1.1) in
       plain.not_open_deleted j.0 s.meet j.1.0 (subst (λ (n : Known). In (Delete n) (all_tells told)) e k.1.0)
 
@@ -465,17 +341,27 @@ module _ (p : PairState) (w : World) (asked : List (Message Known)) (told : List
   made_not_deleted x h i =
       let j = make_known x h in
       let k = delete_known x i in
-      let e = one_id k.0 j.0 (deleted_is_held k.0 k.1.0) (plain.held_back j.0 s.meet (inr (inr j.1.0)))
-      (k.1.1 ∙ sym j.1.1) in
+      let e = one_id k.0 j.0 (deleted_is_held k.0 k.1.0)
+      (plain.held_back_here j.0 s.meet (make_client j.0 j.1.0) (inr (inr j.1.0))) (k.1.1 ∙ sym j.1.1) in
       plain.not_made_deleted j.0 s.meet j.1.0 (subst (λ (n : Known). In (Delete n) (all_tells told)) e k.1.0)
+
+  -- a request makes objects of the client
+  pub made_by : (x : Born) → MakeComes w x → x.birth.maker ≡ Client
+  made_by x h =
+      let j = make_known x h in
+      let l = make_client j.0 j.1.0 in
+      let held = plain.held_back_here j.0 s.meet l (inr (inr j.1.0)) in
+      sym (ap (λ (b : Born). b.birth.maker) j.1.1) ∙ sym (row_by j.0 held) ∙ ap (λ (b : Bool). cond b Server Client) l
 
   -- what is made on the way is not yet open at the server
   pub made_not_open : (x : Born) → MakeComes w x → IsThere w.server x → ⊥
   made_not_open x h i =
       let j = make_known x h in
       let k = there_known x i in
+      let maker : k.0.born.birth.maker ≡ Client = ap (λ (b : Born). b.birth.maker) k.1.1 ∙ made_by x h in
       plain.not_made_counted j.0 s.meet j.1.0 (let l = s.server.sets.below k.0.id k.0.born k.1.0
-      in let b = ap (λ (x : Born). x.birth.number) (j.1.1 ∙ sym k.1.1) in omega (arith, l.number, b))
+      in let c = subst (λ (m : Maker). k.0.born.birth.number < births_in o m) maker l
+      in let b = ap (λ (x : Born). x.birth.number) (j.1.1 ∙ sym k.1.1) in omega (arith, c, b))
 
   -- what is made on the way was not counted by the server
   pub made_not_counted : (x : Born) → MakeComes w x → x.birth.number < p.server.core.view.client.births → ⊥
@@ -484,41 +370,59 @@ module _ (p : PairState) (w : World) (asked : List (Message Known)) (told : List
       plain.not_made_counted k.0 s.meet k.1.0
       (subst (λ (b : Born). b.birth.number < p.server.core.view.client.births) (sym k.1.1) l)
 
-  -- what is ending at the client is deleted or destroyed on the way
-  pub where_ending : (x : Born) → w.client x.birth ≡ Some (Ending x) → DeleteComes w x ⊎ DestroyComes w x
-  where_ending x h =
-      let r = (s.client.sets.only x.birth (Ending x) h).1 in
-      let k : Known = record { id = r.0; born = x } in
-      elim (plain.ending_where k s.meet r.1) [ inl a ↦ inl (delete_comes k a) | inr a ↦ inr (destroy_comes k a) ]
+  -- what is ending at the client, of its own making, is deleted or destroyed on the way
+  pub where_ending : (x : Born) → x.birth.maker ≡ Client → w.client x.birth ≡ Some (Ending x)
+      → DeleteComes w x ⊎ DestroyComes w x
+  where_ending x c h = elim (s.client.sets.only x.birth (Ending x) h).1 [
+    | inl r ↦ (let k : Known = record { id = r.0; born = x } in
+        let l = client_range k.id (row_by k (inr r.1) ∙ c) in
+        elim (plain.ending_where k s.meet l r.1) [ inl a ↦ inl (delete_comes k a) | inr a ↦ inr (destroy_comes k a) ])
+    | inr g ↦ absurd (cc (g, c))
+  ]
+
+  pub open_row : (x : Born) → w.client x.birth ≡ Some (Open x) → (k : Known) × ((v.rows k.id ≡ Some (Open k.born)) × (k.born ≡ x))
+  open_row x h = elim (s.client.sets.only x.birth (Open x) h).1 [
+    | inl r ↦ (record { id = r.0; born = x }, (r.1, refl))
+    | inr g ↦ absurd g
+  ]
+
+  -- no request on the way destroys what is open at the client
+  pub open_not_destroyed : (x : Born) → w.client x.birth ≡ Some (Open x) → DestroyComes w x → ⊥
+  open_not_destroyed x h i =
+      let k = destroy_known x i in
+      let r = open_row x h in
+      elim (plain.destroyed_before k.0 s.meet k.1.0) [
+        | inl held ↦ (let e = one_id r.0 k.0 (inl r.1.0) held (r.1.1 ∙ sym k.1.1) in
+            plain.open_unasked k.0 s.meet (subst (λ (n : Known). v.rows n.id ≡ Some (Open n.born)) e r.1.0) k.1.0)
+        | inr told_so ↦ (let below = s.client.sets.below r.0.id (Open r.0.born) r.1.0 in
+            let maker = ap (λ (b : Born). b.birth.maker) (r.1.1 ∙ sym k.1.1) ∙ made_maker k.0 s.meet.reads told_so in
+            let c = subst (λ (m : Maker). r.0.born.birth.number < births_in v m) maker below in
+            let later = plain.made_later k.0 s.meet.reads told_so in
+            let b = ap (λ (y : Born). y.birth.number) (r.1.1 ∙ sym k.1.1) in absurd (omega (arith, c, later, b)))
+      ]
 
   -- nothing is both deleted and destroyed on the way
   pub not_both : (x : Born) → DeleteComes w x → DestroyComes w x → ⊥
   not_both x h i =
       let j = delete_known x h in
       let k = destroy_known x i in
-      let e = one_id j.0 k.0 (deleted_is_held j.0 j.1.0) (plain.destroyed_held k.0 s.meet k.1.0) (j.1.1 ∙ sym k.1.1) in
-      plain.not_destroyed_deleted k.0 s.meet k.1.0 (subst (λ (n : Known). In (Delete n) (all_tells told)) e j.1.0)
-
-  open_row : (x : Born) → w.client x.birth ≡ Some (Open x) → (k : Known) → IsHeldInRows v k → k.born ≡ x
-      → v.rows k.id ≡ Some (Open k.born)
-  open_row x h k i e =
-      let r = (s.client.sets.only x.birth (Open x) h).1 in
-      let n : Known = record { id = r.0; born = x } in
-      subst (λ (m : Known). v.rows m.id ≡ Some (Open m.born)) (one_id n k (inl r.1) i (sym e)) r.1
-
-  -- no request on the way destroys what is open at the client
-  pub open_not_destroyed : (x : Born) → w.client x.birth ≡ Some (Open x) → DestroyComes w x → ⊥
-  open_not_destroyed x h i =
-      let k = destroy_known x i in
-      plain.open_unasked k.0 s.meet (open_row x h k.0 (plain.destroyed_held k.0 s.meet k.1.0) k.1.1) k.1.0
+      elim (plain.destroyed_before k.0 s.meet k.1.0) [
+        | inl held ↦ (let e = one_id j.0 k.0 (deleted_is_held j.0 j.1.0) held (j.1.1 ∙ sym k.1.1) in
+            plain.not_destroyed_deleted k.0 s.meet k.1.0
+            (subst (λ (n : Known). In (Delete n) (all_tells told)) e j.1.0))
+        | inr told_so ↦ (let c = ap (λ (b : Born). b.birth.maker) k.1.1 ∙ deleted_by x h in
+            let d = made_maker k.0 s.meet.reads told_so in absurd (cc (c, d)))
+      ]
 
   -- what is open at the client and deleted on the way has a destroying event
   pub open_deleted : (x : Born) → w.client x.birth ≡ Some (Open x) → DeleteComes w x
       → by_event p.server.core.tables x ≡ true
   open_deleted x h i =
       let k = delete_known x i in
+      let r = open_row x h in
+      let e = one_id r.0 k.0 (inl r.1.0) (deleted_is_held k.0 k.1.0) (r.1.1 ∙ sym k.1.1) in
       subst (λ (b : Born). by_event p.server.core.tables b ≡ true) k.1.1
-      (plain.open_deleted k.0 s.meet.reads (open_row x h k.0 (deleted_is_held k.0 k.1.0) k.1.1) k.1.0)
+      (plain.open_deleted k.0 s.meet.reads (subst (λ (n : Known). v.rows n.id ≡ Some (Open n.born)) e r.1.0) k.1.0)
 
   -- nothing is about an id behind its delete
   pub last_of_id : (k : Known) (front rest : List (Coming Known)) → told ≡ front ++ delete_of k ∷ rest
@@ -548,7 +452,13 @@ module _ (p : PairState) (w : World) (asked : List (Message Known)) (told : List
           subst (In (Delete k)) (sym all)
           (in_right (Delete k) (all_tells front) (Delete k ∷ all_tells rest) (inl refl)) in
           let held : IsHeldInRows v j = elim is [
-            | inl a ↦ named_held j s.meet.reads (subst (λ (u : Tell). In u (all_tells told)) a later)
+            | inl a ↦ elim (named_held j s.meet.reads (subst (λ (u : Tell). In u (all_tells told)) a later)) [
+              | inl p ↦ p
+              | inr p ↦ (let l = plain.deleted_client k s.meet.reads first in
+                  let c = ap (λ (b : Born). b.birth.maker) (same ∙ sym b) ∙ sym (row_by k (deleted_is_held k first))
+                  ∙ ap (λ (b : Bool). cond b Server Client) l in
+                  let d = made_maker j s.meet.reads p in absurd (cc (c, d)))
+            ]
             | inr a ↦ deleted_is_held j (subst (λ (u : Tell). In u (all_tells told)) a later)
           ] in
           let one : j ≡ k = one_id j k held (deleted_is_held k first) (same ∙ sym b) in
@@ -564,7 +474,7 @@ module _ (p : PairState) (w : World) (asked : List (Message Known)) (told : List
         | inr a ↦ (let f = from_map born_of x (objects m.args) (subst (In x) (objects_map born_of m.args) a) in
             at_name front rest k e b (Name f.item) f.item (inl refl)
             (tells_in (Name f.item) (Event m) rest i
-            (inr (in_left (Name f.item) (map Name (objects m.args)) (ends m.ends)
+            (inr (in_left (Name f.item) (map Name (objects m.args)) (make_tell (made_in m.args) ++ ends m.ends)
             (in_map Name f.item (objects m.args) f.there)))) f.is)
       ]
       at_coming front rest k e b (delete_of y) i n =
@@ -600,23 +510,25 @@ module _ (p : PairState) (w : World) (asked : List (Message Known)) (told : List
         ],
       )
 
-  -- the births counted at the client are those counted at the server and those made on the way
-  pub births_counted : (birth : Birth) → IsAmongFirst p.client.core.view.client.births birth ↔
-      (IsAmongFirst p.server.core.view.client.births birth ⊎ In birth (map birth_of (news w.requests)))
-  births_counted birth =
-      let c = (counts_after s.meet.reads).1 in (
-        λ h. elim (births_tied birth s.meet.tied (subst (λ (n : ℕ). IsAmongFirst n birth) (sym c) h)) [
+  -- the births of the client counted at the client are those counted at the server and those made on
+  -- the way
+  pub births_counted : (birth : Birth) → birth.maker ≡ Client
+      → (birth.number < p.client.core.view.client.births) ↔
+      ((birth.number < p.server.core.view.client.births) ⊎ In birth (map birth_of (news w.requests)))
+  births_counted birth c =
+      let n = (counts_after s.meet.reads).1 in (
+        λ h. elim (births_tied birth s.meet.tied c (omega (arith, h, n))) [
           | inl a ↦ inl a
           | inr a ↦ inr (subst (λ (b : Birth). In b (map birth_of (news w.requests))) a.1.1
               (in_map birth_of a.0.born (news w.requests) (comes_news a.0.born (make_comes a.0 a.1.0))))
         ],
         λ h. elim h [
-          | inl a ↦ (let k = tied_births s.meet.tied in counted_more birth _ _ a (omega (arith, k, c)))
+          | inl a ↦ (let k = tied_births s.meet.tied in omega (arith, a, k, n))
           | inr a ↦ (let f = from_map birth_of birth (news w.requests) a
               in let k = make_known f.item (news_comes f.item f.there) in
               let made = made_births k.0 s.meet.tied k.1.0 in
-              subst (λ (n : ℕ). IsAmongFirst n birth) c (subst (IsAmongFirst s.meet.middle.births)
-              (ap birth_of k.1.1 ∙ f.is) made))
+              let e = ap (λ (b : Born). b.birth.number) k.1.1 in let g = ap (λ (b : Birth). b.number) f.is in
+              omega (arith, made, n, e, g))
         ],
       )
 
@@ -636,7 +548,7 @@ module _ (p : PairState) (w : World) (asked : List (Message Known)) (told : List
   registry_told x h i =
       let k = there_known x h in
       let r = there_row p.server.core.view k.0 k.1.0 in
-      let same : plain_of r.entry ≡ x = r.same ∙ k.1.1 in
+      let same : plain_of k.0.id r.entry ≡ x = r.same ∙ k.1.1 in
       let at = s.registries.open_registries.all k.0.id r.entry r.there (ap (λ (b : Born). b.iface) same ∙ i) in
       subst (λ (l : List _). In x.birth (map marks_birth l)) (sym s.registries.told)
       (subst (λ (b : Birth). In b (map marks_birth (map marks_of p.server.registries))) (ap birth_of same)

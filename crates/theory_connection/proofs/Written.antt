@@ -14,10 +14,8 @@ use Rattle.wl_sigs.specs.declared.signature.Destroys.{Destroys}
 use Rattle.wl_sigs.specs.declared.signature.Destroys.TheVariants.{Nothing, Target, Arg as ends_arg}
 use Rattle.std.proofs.lemmas.Option.{slice_get-map}
 use Rattle.wl_wire.specs.Argument.{Int, Uint, Fixed, Str, Obj, New, NewNamed, Array, Fd}
-use Rattle.theory_connection.specs.Stands.{MadeByClient}
 use Rattle.theory_connection.proofs.EndedObject.{EndsAs, ends_as}
 use Rattle.wl_sigs.specs.Tables as sigs
-use Rattle.wl_sigs.specs.Rules.{has_server_objects}
 use Rattle.wl_sigs.specs.Valid.{Valid}
 use Rattle.wl_object_map.specs.declared.object.Object.{Object}
 use Rattle.wl_object_map.specs.declared.object.Entry.{Entry}
@@ -35,7 +33,7 @@ use Rattle.wl_objects.specs.Messages.{is_hidden, is_error, is_delete_id, same_if
 use Rattle.wl_objects.proofs.Calls.{len-any}
 use Rattle.wl_connection.specs.Core.{Core}
 use Rattle.wl_connection.specs.Sending.{opening_answer, answer_of, send_answer, made_at}
-use Rattle.theory_connection.specs.Meant.{client_birth, Known, Message, Arg, wire, made_in, objects}
+use Rattle.theory_connection.specs.Meant.{Known, Message, Arg, wire, made_in, objects}
 use Rattle.theory_connection.specs.Meant.{born_of_entry, ended_by}
 use Rattle.theory_connection.specs.World.{Each, IfThere}
 use Rattle.theory_connection.specs.Stands.{FitsSignature}
@@ -43,10 +41,9 @@ use Rattle.theory_connection.specs.Runs.{FitsWords}
 use Rattle.theory_connection.proofs.ReadAsMeant.{made_of, made_read}
 use Rattle.theory_connection.proofs.Calls.{Checked, AllRight, all_right, meant, new_known, wire_all}
 use Rattle.theory_connection.proofs.Calls.{LiveAt, all_live, matches, fit_all, new_all}
-use Rattle.theory_connection.proofs.MadeByClient.{row_low}
-use Rattle.theory_connection.proofs.NoneByServer.{none_by_server}
+use Rattle.theory_connection.proofs.TwoRanges.{row_word}
 use Rattle.theory_connection.proofs.Calls.{one_new, made_new, version_of}
-use Rattle.theory_connection.proofs.Rules.{opcode_low, few_new, unnamed_none}
+use Rattle.theory_connection.proofs.Rules.{opcode_low, few_made, unnamed_none}
 
 -- what a call of this side makes
 abbrev pub the_made : Core → Side → Entry → List Given → sigs.MessageSignature → Option NewObject
@@ -65,10 +62,10 @@ the_args core side entry given signature = map (meant core.view (the_new core si
 -- the message of a call
 abbrev pub the_call : Core → Side → Entry → Object → ℕ → List Given → sigs.MessageSignature → Message Known
 the_call core side entry target opcode given signature = record {
-  target = record { id = target.id; born = born_of_entry entry };
+  target = record { id = target.id; born = born_of_entry target.id entry };
   opcode = opcode;
   args = the_args core side entry given signature;
-  ends = ended_by signature.destroys (record { id = target.id; born = born_of_entry entry })
+  ends = ended_by signature.destroys (record { id = target.id; born = born_of_entry target.id entry })
       (the_args core side entry given signature);
 }
 
@@ -80,7 +77,7 @@ new_id maker view (Some m) = refl
 
 -- a new object gets the next birth
 pub new_birth : (maker : Maker) (view : Objects) (o : Option NewObject)
-    → (new_known maker view o).born.birth ≡ client_birth (next_birth maker view)
+    → (new_known maker view o).born.birth ≡ record { maker = maker; number = next_birth maker view }
 new_birth maker view None = refl
 new_birth maker view (Some m) = refl
 
@@ -126,23 +123,22 @@ if_made P (Some y) x h f = elim h [ inl p ↦ absurd (cc p) | inr p ↦ subst (I
 -- the message of a call that nothing stands against is so
 pub call_is : (core : Core) (side : Side) (target : Object) (opcode : ℕ) (given : List Given)
     (signature : sigs.MessageSignature)
-    → Valid core.tables → has_server_objects core.tables ≡ false → MadeByClient core.view → Each FitsWords given
+    → Valid core.tables → ObjectsAreSound core.view → Each FitsWords given
     → (c : Checked core.outbox.limit.bytes core.tables side core.view target opcode given signature)
     → CallIs core side target opcode given signature c.entry
-call_is core side target opcode given signature v z s g c =
-    let none = none_by_server core.tables v z c.entry.iface.0 side opcode signature c.signed in
+call_is core side target opcode given signature v s g c =
     let r = all_right core.view 0 signature.kinds given c.suit c.found in
     let mk = the_made core side c.entry given signature in
     let new = the_new core side c.entry given signature in
     let args = the_args core side c.entry given signature in
     let id = new_id (maker_by side) core.view mk in
-    let below = next_low (maker_by side) core.view s.tables in
+    let below = next_low (maker_by side) core.view s in
     let low : new.id < 2 ^ 32 = omega (arith, id, below) in
     let m = matches core.tables (maker_by side) core.view c.entry.version (next_id (maker_by side) core.view) signature.kinds given
-    none r
-    (few_new core.tables v c.entry.iface.0 side opcode signature c.signed)
+    r
+    (few_made core.tables v c.entry.iface.0 side opcode signature c.signed)
     (unnamed_none core.tables v c.entry.iface side opcode signature c.signed c.hidden) in
-    let a = fit_all core.tables core.view new c.entry.version signature.kinds given s low none r m g
+    let a = fit_all core.tables core.view new c.entry.version signature.kinds given s low r m g
     (omega (arith, c.len, core.outbox.limit.in_range.1)) in
     let w : map wire args ≡ map (wired (next_id (maker_by side) core.view)) given =
     wire_all core.view new given ∙ ap (λ (n : ℕ). map (wired n) given) id in
@@ -159,10 +155,10 @@ call_is core side target opcode given signature v z s g c =
         args = a;
         ends = refl;
         len = omega (arith, short, core.outbox.limit.in_range.1);
-        low = (row_low core.view target.id c.entry s c.there).1;
+        low = (row_word core.view target.id c.entry s c.there).1;
         opcode = opcode_low core.tables v c.entry.iface.0 side opcode signature c.signed;
         new_version = if_made (λ x. 1 ≤ x.born.version) (made_in args) new (made_new new args n)
-            (λ h. (let e = version_of core.view new c.entry.version signature.kinds given none r m h
+            (λ h. (let e = version_of core.view new c.entry.version signature.kinds given r m h
             in omega (arith, e, since, c.old_enough)));
         new_is = one_new new args n;
         no_error = no_error side c.entry.iface opcode c.hidden;

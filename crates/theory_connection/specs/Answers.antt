@@ -1,5 +1,6 @@
 -- The reply that each move gets in the world, and what it does there.
-use Rattle.std.specs.Prelude.{◌≡◌, ◌≢◌, ℕ, ◌+◌, ◌<◌, true, false, List, [], ◌∷◌, ◌++◌, length, map}
+use Rattle.std.specs.Prelude.{◌≡◌, ◌≢◌, ◌⊎◌, ℕ, ◌+◌, ◌<◌, Bool, true, false, List, [], ◌∷◌, ◌++◌}
+use Rattle.std.specs.Prelude.{length, map}
 use Rattle.std.specs.Prelude.{take, if◌then◌else◌, Option, Some, None, is_some, option_map}
 use Rattle.std.specs.declared.result.Result.{Result}
 use Rattle.std.specs.declared.result.Result.TheVariants.{Ok, Err}
@@ -13,6 +14,8 @@ use Rattle.wl_message.specs.Cut.{HasMessage}
 use Rattle.wl_message.specs.Arrived.{Arrived, in_front}
 use Rattle.wl_message.specs.Outgoing.{room_of}
 use Rattle.wl_object_map.specs.declared.object.Object.{Object}
+use Rattle.wl_object_map.specs.declared.object.Maker.TheVariants.{Client}
+use Rattle.wl_object_map.specs.Objects.{maker_of}
 use Rattle.wl_objects.specs.declared.argument.Named.{Named}
 use Rattle.wl_objects.specs.declared.argument.Named.TheVariants as named_as
 use Rattle.wl_objects.specs.declared.error.NextError.{NextError}
@@ -26,7 +29,8 @@ use Rattle.wl_server.specs.Requests as requests
 use Rattle.wl_server.specs.Calls.{without_at}
 use Rattle.wl_server.specs.Announcing.{Owing, owed_to, marked, owed_opcode, values_of}
 use Rattle.wl_recording.specs.Piece.{Piece}
-use Rattle.theory_connection.specs.Meant.{Birth, client_birth, same_birth, Born, Message, Coming}
+use Rattle.theory_connection.specs.Meant.{Birth, client_birth, server_birth, same_birth, same_maker}
+use Rattle.theory_connection.specs.Meant.{Born, Message, Coming}
 use Rattle.theory_connection.specs.Meant.{Event, Delete, Arg, rearg, birth_of, made_in}
 use Rattle.theory_connection.specs.Meant.{ended_by, tokens}
 use Rattle.theory_connection.specs.World.{World, Row, Open, Ending, Marks, Action, WriteRequest}
@@ -44,13 +48,14 @@ pub record IsMessageOf (tables : List Interface) (side : Side) (m : Message Born
   pub there : signature_at tables m.target.iface.0 side m.opcode ≡ Some signature
   pub ends : m.ends ≡ ended_by signature.destroys m.target m.args
 
--- the birth of an end's object, which the client made
+-- the birth of an object that a call takes or returns: by its id's range the client made it, or the
+-- server
 abbrev pub birth_at : Object → Birth
-birth_at object = client_birth object.birth
+birth_at object = record { maker = maker_of object.id; number = object.birth }
 
--- an argument handed to a call: its objects by their births, its new object as the client's next
-abbrev pub handed : ℕ → Given → Arg Birth
-handed births given = reshaped (option_map birth_at) (λ _. client_birth births) (λ t. t) given
+-- an argument handed to a call: its objects by their births, its new object as this birth
+abbrev pub handed : Birth → Given → Arg Birth
+handed next given = reshaped (option_map birth_at) (λ _. next) (λ t. t) given
 
 abbrev pub writing : Side → Message Born → Action
 writing request_side m = WriteRequest m
@@ -186,9 +191,14 @@ HasNone inbox = HasMessage (in_front inbox) → ⊥
 abbrev pub HasOne : Arrived → Type 0
 HasOne inbox = HasMessage (in_front inbox)
 
+-- whether a request that destroys this is answered by a delete: it is if the client made the object
+abbrev pub is_answered : Option Born → Bool
+is_answered None = false
+is_answered (Some x) = same_maker x.birth.maker Client
+
 -- a destroying request whose delete has no room
 abbrev pub IsOutFull : PairState → Message Born → Type 0
-IsOutFull p m = (is_some m.ends ≡ true) × (room_of p.server.core.outbox < delete_id_len)
+IsOutFull p m = (is_answered m.ends ≡ true) × (room_of p.server.core.outbox < delete_id_len)
 
 -- a request whose report needs memory, which is asked for only where its delete has room
 abbrev pub AsksMemory : PairState → Message Born → Type 0
@@ -219,9 +229,11 @@ pub record ReadsEvent (tables : List Interface) (p : PairState) (w : World) (rep
   pub steps : Steps tables w (ReadEvent coming) w'
   pub reports : ReportsComing w coming report
 
--- what comes needs memory to be reported: an event with arguments for an open object
+-- what comes needs memory: an event with arguments for an open object, to report it; an event that
+-- makes an object, to open that
 abbrev pub NeedsMemory : World → Coming Born → Type 0
-NeedsMemory w (Event m) = IsOpen w.client m.target × (m.args ≢ [])
+NeedsMemory w (Event m) =
+    (IsOpen w.client m.target × (m.args ≢ [])) ⊎ (is_some (made_in m.args) ≡ true)
 NeedsMemory w (Delete x) = ⊥
 
 -- what comes first stays: there was no memory for its report, which needs some
@@ -267,13 +279,13 @@ pub record Drops (tables : List Interface) (w : World) (birth : Birth) (w' : Wor
 abbrev pub Means : PairState → World → Move → Reply → World → Type 0
 Means p w (ClientSend target opcode given) (ClientSend reply) w' =
     IfAccepted reply w w' (λ new. WritesThat p.client.core.tables request_side w
-    (birth_at target) opcode (map (handed w.births) given) new w')
+    (birth_at target) opcode (map (handed (client_birth w.births)) given) new w')
 Means p w (ClientBind target name iface version) (ClientBind reply) w' =
     IfAccepted reply w w' (λ new. WritesThat p.client.core.tables request_side w
     (birth_at target) 0 (bind_args name iface version w.births) new w')
 Means p w (ServerSend target opcode given) (ServerSend reply) w' =
     IfAccepted reply w w' (λ new. WritesThat p.server.core.tables event_side w
-    (birth_at target) opcode (map (handed w.births) given) new w')
+    (birth_at target) opcode (map (handed (server_birth w.server_births)) given) new w')
 Means p w (ServerDrop object) (ServerDrop reply) w' =
     IfOk reply w w' (Drops p.server.core.tables w (birth_at object) w')
 Means p w (PostError object code text) (PostError reply) w' =

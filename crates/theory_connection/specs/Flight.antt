@@ -2,22 +2,33 @@
 use Rattle.std.specs.Prelude.{◌≡◌, ◌≢◌, ◌⊎◌, ℕ, ◌+◌, ◌<◌, ◌≤◌, Bool, true, false, cond, ltb, nat_eq}
 use Rattle.std.specs.Prelude.{if◌then◌else◌, List, [], ◌∷◌, ◌++◌, map, Option, Some, None}
 use Rattle.std.specs.Prelude.{option_map}
+use Rattle.wl_object_map.specs.Ranges.{is_of_server, wire_id, max_server_id}
 use Rattle.wl_object_map.specs.View.{max_ids, max_births}
 use Rattle.wl_object_map.specs.Objects.{Objects, look}
 use Rattle.wl_object_map.specs.declared.object.Entry.{Entry}
+use Rattle.wl_object_map.specs.declared.object.Maker.{Maker}
+use Rattle.wl_object_map.specs.declared.object.Maker.TheVariants.{Client, Server}
 use Rattle.wl_object_map.specs.declared.object.State.{State}
 use Rattle.wl_object_map.specs.declared.object.State.TheVariants as states
-use Rattle.theory_connection.specs.Meant.{client_birth, IsAmongFirst, Born, Known, Message, Coming}
+use Rattle.theory_connection.specs.Meant.{client_birth, server_birth, IsAmongFirst, Born, Known}
+use Rattle.theory_connection.specs.Meant.{Message, Coming}
 use Rattle.theory_connection.specs.Meant.{Event, Delete as delete_of, objects, made_in}
 use Rattle.theory_connection.specs.Meant.{born_of_entry}
 use Rattle.theory_connection.specs.World.{Row, Open, Ending}
 
--- what an end's objects are: by id, with the number of ids used and of the client's births
--- counted
+-- what an end has counted in the server's range: the next new id on the wire, and the number of the
+-- next birth
+pub record Counts : Type 0 where
+  pub next : ℕ
+  pub births : ℕ
+
+-- An end's objects by id, in both ranges; how many ids were used and how many births counted in the
+-- client's range; and what was counted in the server's.
 pub record Rows (X : Type 0) : Type 0 where
   pub rows : ℕ → Option X
   pub used : ℕ
   pub births : ℕ
+  pub by_server : Counts
 
 -- the rows with this at an id
 unfoldable pub put_row : {X : Type 0} → (ℕ → Option X) → ℕ → Option X → ℕ → Option X
@@ -25,17 +36,28 @@ put_row rows id row other = if nat_eq other id then row else rows other
 
 -- an end's objects with this at an id
 abbrev pub at : {X : Type 0} → Rows X → ℕ → Option X → Rows X
-at s id o = record { rows = put_row s.rows id o; used = s.used; births = s.births }
+at s id o = record s { rows = put_row s.rows id o }
 
 abbrev pub most : ℕ → ℕ → ℕ
 most a b = cond (ltb a b) b a
 
--- with a new object at an id
+-- with a new object of the client at an id
 abbrev pub with_made : {X : Type 0} → Rows X → ℕ → X → Rows X
-with_made s id x = record {
+with_made s id x = record s {
   rows = put_row s.rows id (Some x);
   used = most s.used id;
   births = s.births + 1;
+}
+
+-- what is counted with one more object of the server's, at an id that was used or is the next one
+abbrev pub one_counted : Counts → ℕ → Counts
+one_counted c id = record { next = most c.next (id + 1); births = c.births + 1 }
+
+-- with a new object of the server's at an id, in place of the row that stands there
+abbrev pub with_told : {X : Type 0} → Rows X → ℕ → X → Rows X
+with_told s id x = record s {
+  rows = put_row s.rows id (Some x);
+  by_server = one_counted s.by_server id;
 }
 
 -- an object in a table, by its state: open or ending
@@ -43,22 +65,34 @@ abbrev pub as_row : State → Born → Row
 as_row states.Live x = Open x
 as_row states.Zombie x = Ending x
 
-abbrev pub row_of_entry : Entry → Row
-row_of_entry e = as_row e.state (born_of_entry e)
+abbrev pub row_of_entry : ℕ → Entry → Row
+row_of_entry id e = as_row e.state (born_of_entry id e)
+
+-- what an end's tables have counted in the server's range
+abbrev pub counts_of : Objects → Counts
+counts_of view =
+    record { next = wire_id (view.server.used + 1); births = view.server.births }
 
 abbrev pub client_rows : Objects → Rows Row
 client_rows view = record {
-  rows = λ id. option_map row_of_entry (look view id);
+  rows = λ id. option_map (row_of_entry id) (look view id);
   used = view.client.used;
   births = view.client.births;
+  by_server = counts_of view;
 }
 
 abbrev pub server_rows : Objects → Rows Born
 server_rows view = record {
-  rows = λ id. option_map born_of_entry (look view id);
+  rows = λ id. option_map (born_of_entry id) (look view id);
   used = view.client.used;
   births = view.client.births;
+  by_server = counts_of view;
 }
+
+-- how many births of a maker were counted
+abbrev pub births_in : {X : Type 0} → Rows X → Maker → ℕ
+births_in v Client = v.births
+births_in v Server = v.by_server.births
 
 -- ---- actions
 
@@ -71,6 +105,7 @@ pub data Ask : Type 0 where
 -- what an event does
 pub data Tell : Type 0 where
   Name : Known → Tell
+  Made : Known → Tell
   Destroyed : Known → Tell
   Delete : Known → Tell
 
@@ -82,6 +117,10 @@ abbrev pub destroy_ask : Option Known → List Ask
 destroy_ask None = []
 destroy_ask (Some x) = Destroy x ∷ []
 
+abbrev pub make_tell : Option Known → List Tell
+make_tell None = []
+make_tell (Some x) = Made x ∷ []
+
 abbrev pub ends : Option Known → List Tell
 ends None = []
 ends (Some x) = Destroyed x ∷ []
@@ -91,9 +130,10 @@ abbrev pub asks : Message Known → List Ask
 asks m = Use m.target ∷ (map Use (objects m.args)
     ++ (make_ask (made_in m.args) ++ destroy_ask m.ends))
 
--- an event names its target and its objects, then ends the object that it destroys
+-- an event names its target and its objects, then makes, then ends the object that it destroys
 abbrev pub tells : Coming Known → List Tell
-tells (Event m) = Name m.target ∷ (map Name (objects m.args) ++ ends m.ends)
+tells (Event m) = Name m.target ∷ (map Name (objects m.args)
+    ++ (make_tell (made_in m.args) ++ ends m.ends))
 tells (delete_of x) = Delete x ∷ []
 
 abbrev pub all_asks : List (Message Known) → List Ask
@@ -107,12 +147,23 @@ all_tells (c ∷ cs) = tells c ++ all_tells cs
 -- the object that an event's action is about
 abbrev pub about : Tell → Known
 about (Name x) = x
+about (Made x) = x
 about (Destroyed x) = x
 about (Delete x) = x
 
--- its object's birth is one of the client's, below this count
-abbrev pub IsBelow : ℕ → Tell → Type 0
+-- the birth of its object is below its maker's count
+abbrev pub IsBelow : (Maker → ℕ) → Tell → Type 0
 IsBelow births t = IsAmongFirst births (about t).born.birth
+
+-- the object that a request's action is about
+abbrev pub asked_about : Ask → Known
+asked_about (Use x) = x
+asked_about (Make x) = x
+asked_about (Destroy x) = x
+
+-- the birth of its object is below its maker's count
+abbrev pub IsAskedBelow : (Maker → ℕ) → Ask → Type 0
+IsAskedBelow births a = IsAmongFirst births (asked_about a).born.birth
 
 -- ---- what they lead to
 
@@ -120,8 +171,8 @@ IsBelow births t = IsAmongFirst births (about t).born.birth
 abbrev pub IsHeldInRows : Rows Row → Known → Type 0
 IsHeldInRows v x = (v.rows x.id ≡ Some (Open x.born)) ⊎ (v.rows x.id ≡ Some (Ending x.born))
 
--- a new object fits an end's table: its id is free or the next one, and it is the client's next
--- birth
+-- a new object of the client fits an end's table: its id is free or the next one, and it is the
+-- client's next birth
 pub record Fresh {X : Type 0} (v : Rows X) (x : Known) : Type 0 where
   pub free : v.rows x.id ≡ None
   pub some : 0 < x.id
@@ -130,9 +181,25 @@ pub record Fresh {X : Type 0} (v : Rows X) (x : Known) : Type 0 where
   pub low : x.id ≤ max_ids
   pub left : v.births < max_births
 
--- a row of the server as the client has it
+-- A new object of the server's is the next at the client: its id is one that was used before or the
+-- next one, no open object has it, and it is the server's next birth. An ending object may have the
+-- id.
+pub record NextTold (v : Rows Row) (x : Known) : Type 0 where
+  pub range : is_of_server x.id ≡ true
+  pub not_open : (b : Born) → v.rows x.id ≢ Some (Open b)
+  pub next : x.id ≤ v.by_server.next
+  pub birth : x.born.birth ≡ server_birth v.by_server.births
+  pub low : x.id ≤ max_server_id
+  pub left : v.by_server.births < max_births
+
+-- what the server has at an id, as the client has it once all is read
 abbrev pub at_client : Option Born → Option Row
 at_client o = option_map Open o
+
+-- of a row at the client, what the server has once all is read: an open object, and no ending one
+abbrev pub only_open : Option Row → Option Born
+only_open (Some (Open x)) = Some x
+only_open _ = None
 
 -- The client at v can read all of these events: each object is there as it was meant, when its turn
 -- comes. Then it is at w. The test says which objects have an interface with a destroying event.
@@ -141,23 +208,33 @@ pub data ReadsInFlight (by_event : Born → Bool) : List Tell → Rows Row → R
   -- what an event names is held at the client, open or ending
   name : {es : List Tell} {v w : Rows Row} {x : Known} → IsHeldInRows v x
       → ReadsInFlight by_event es v w → ReadsInFlight by_event (Name x ∷ es) v w
-  -- an object that an event destroys has an interface with a destroying event, and becomes ending
-  end : {es : List Tell} {v w : Rows Row} {x : Known} → by_event x.born ≡ true → IsHeldInRows v x
+  -- an object that an event destroys is one of the client's with an interface that has a destroying
+  -- event, and becomes ending
+  end : {es : List Tell} {v w : Rows Row} {x : Known} → by_event x.born ≡ true
+      → is_of_server x.id ≡ false → IsHeldInRows v x
       → ReadsInFlight by_event es (at v x.id (Some (Ending x.born))) w
       → ReadsInFlight by_event (Destroyed x ∷ es) v w
-  -- a deleted object is held, is not id 1, and is ending where its interface has no destroying
-  -- event; nothing names it afterwards
-  delete : {es : List Tell} {v w : Rows Row} {x : Known} → x.id ≢ 1 → IsHeldInRows v x
+  -- what an event makes has an interface without a destroying event, and is the server's next at
+  -- the client; an ending row of its id is gone
+  made : {es : List Tell} {v w : Rows Row} {x : Known} → by_event x.born ≡ false → NextTold v x
+      → ReadsInFlight by_event es (with_told v x.id (Open x.born)) w
+      → ReadsInFlight by_event (Made x ∷ es) v w
+  -- a deleted object is one of the client's and held, is not id 1, and is ending where its
+  -- interface has no destroying event; nothing names it afterwards
+  delete : {es : List Tell} {v w : Rows Row} {x : Known} → x.id ≢ 1
+      → is_of_server x.id ≡ false → IsHeldInRows v x
       → (by_event x.born ≡ true) ⊎ (v.rows x.id ≡ Some (Ending x.born))
       → ReadsInFlight by_event es (at v x.id None) w → ReadsInFlight by_event (Delete x ∷ es) v w
 
 -- The server at s can read all of these requests, while the client, which will be at m once it has
--- read all events written so far, reads the deletes that they bring. In the end both have the same
--- objects.
+-- read all events written so far, reads the deletes that they bring. In the end the client's open
+-- objects are those of the server, and in its own range the client holds nothing else.
 pub data Tied (by_event : Born → Bool) : List Ask → Rows Born → Rows Row → Type 0 where
-  -- nothing in flight: both have the same rows and counts
-  drained : {s : Rows Born} {m : Rows Row} → ((id : ℕ) → m.rows id ≡ at_client (s.rows id))
-      → m.used ≡ s.used → m.births ≡ s.births → Tied by_event [] s m
+  -- nothing in flight: both have the same counts, what is open at the client is what the server
+  -- has, and nothing else stands in the client's range
+  drained : {s : Rows Born} {m : Rows Row} → ((id : ℕ) → only_open (m.rows id) ≡ s.rows id)
+      → ((id : ℕ) → is_of_server id ≡ false → m.rows id ≡ at_client (s.rows id))
+      → m.used ≡ s.used → m.births ≡ s.births → m.by_server ≡ s.by_server → Tied by_event [] s m
   -- what a request names is open at the server, and is of an interface without a destroying event
   use_ : {qs : List Ask} {s : Rows Born} {m : Rows Row} {x : Known}
       → s.rows x.id ≡ Some x.born → by_event x.born ≡ false
@@ -166,11 +243,18 @@ pub data Tied (by_event : Born → Bool) : List Ask → Rows Born → Rows Row �
   -- is free or next at the server
   make : {qs : List Ask} {s : Rows Born} {m : Rows Row} {x : Known} → Fresh s x
       → Tied by_event qs (with_made s x.id x.born) m → Tied by_event (Make x ∷ qs) s m
-  -- what a request destroys is open at the server and ending at the client; its delete will come
+  -- what a request destroys is open at the server and ending at the client; the delete of an
+  -- object of the client will come
   destroy : {qs : List Ask} {s : Rows Born} {m : Rows Row} {x : Known}
-      → x.id ≢ 1 → s.rows x.id ≡ Some x.born → by_event x.born ≡ false
+      → x.id ≢ 1 → is_of_server x.id ≡ false → s.rows x.id ≡ Some x.born → by_event x.born ≡ false
       → m.rows x.id ≡ Some (Ending x.born)
       → Tied by_event qs (at s x.id None) (at m x.id None) → Tied by_event (Destroy x ∷ qs) s m
+  -- what a request destroys of the server's objects is open there and ending at the client; no
+  -- delete comes, so its row stays at the client until an event makes an object at its id
+  give_back : {qs : List Ask} {s : Rows Born} {m : Rows Row} {x : Known}
+      → is_of_server x.id ≡ true → s.rows x.id ≡ Some x.born → by_event x.born ≡ false
+      → m.rows x.id ≡ Some (Ending x.born)
+      → Tied by_event qs (at s x.id None) m → Tied by_event (Destroy x ∷ qs) s m
 
 -- Reading the events in flight leaves the client in the middle, and with that middle the server can
 -- read the requests in flight.

@@ -1,5 +1,5 @@
 -- Messages as they are meant: by the objects that they name, and not by ids alone.
-use Rattle.std.specs.Prelude.{◌≡◌, ℕ, zero, suc, ◌<◌, Bool, true, false, ◌&&◌, nat_eq, List, []}
+use Rattle.std.specs.Prelude.{ℕ, zero, suc, ◌<◌, Bool, true, false, ◌&&◌, nat_eq, List, []}
 use Rattle.std.specs.Prelude.{◌∷◌, ◌++◌, map, Option, Some, None, option_map}
 use Rattle.wl_wire.specs.declared.kind.Iface.{Iface}
 use Rattle.wl_sigs.specs.declared.signature.Destroys.{Destroys}
@@ -9,6 +9,7 @@ use Rattle.wl_object_map.specs.declared.object.Entry.{Entry}
 use Rattle.wl_object_map.specs.declared.object.Maker.{Maker}
 use Rattle.wl_object_map.specs.declared.object.Maker.TheVariants.{Client, Server}
 use Rattle.wl_object_map.specs.declared.object.State.TheVariants as states
+use Rattle.wl_object_map.specs.Objects.{maker_of}
 use Rattle.wl_message.specs.Outgoing as boxes
 use Rattle.wl_objects.specs.Writing.{message_bytes}
 use Rattle.wl_objects.specs.Messages.{or_else}
@@ -18,8 +19,13 @@ pub record Birth : Type 0 where
   pub maker : Maker
   pub number : ℕ
 
+-- the client's birth of this number: its births begin at 0, with wl_display
 abbrev pub client_birth : ℕ → Birth
 client_birth number = record { maker = Client; number = number }
+
+-- the server's birth of this number: its births begin at 1
+abbrev pub server_birth : ℕ → Birth
+server_birth number = record { maker = Server; number = number }
 
 abbrev pub same_maker : Maker → Maker → Bool
 same_maker Client Client = true
@@ -29,10 +35,9 @@ same_maker _ _ = false
 abbrev pub same_birth : Birth → Birth → Bool
 same_birth b c = same_maker b.maker c.maker && nat_eq b.number c.number
 
--- The birth is one of the client's, below this count.
-pub record IsAmongFirst (births : ℕ) (b : Birth) : Type 0 where
-  pub maker : b.maker ≡ Client
-  pub number : b.number < births
+-- The birth is below the count of its maker.
+abbrev pub IsAmongFirst : (Maker → ℕ) → Birth → Type 0
+IsAmongFirst births b = b.number < births b.maker
 
 -- an object as both ends mean it: its birth, its interface and its version
 pub record Born : Type 0 where
@@ -154,7 +159,7 @@ spelled_coming (Delete x) = boxes.queued (message_bytes 1 1 (Uint x.id ∷ [])) 
 
 -- ---- the row of an object
 
--- The client made all that stands in a table.
+-- the row of a live object
 abbrev pub live_entry : Born → Entry
 live_entry x = record {
   birth = x.birth.number;
@@ -163,5 +168,10 @@ live_entry x = record {
   state = states.Live;
 }
 
-abbrev pub born_of_entry : Entry → Born
-born_of_entry e = record { birth = client_birth e.birth; iface = e.iface; version = e.version }
+-- the object of a row under this id: by the id's range the client made it, or the server
+abbrev pub born_of_entry : ℕ → Entry → Born
+born_of_entry id e = record {
+  birth = record { maker = maker_of id; number = e.birth };
+  iface = e.iface;
+  version = e.version;
+}

@@ -1,10 +1,14 @@
 -- Words for what is in flight.
-use Rattle.std.specs.Prelude.{◌≡◌, ◌≢◌, ◌⊎◌, ◌↔◌, ℕ, ◌<◌, ◌≤◌, false, List, [], ◌∷◌, ◌++◌}
-use Rattle.std.specs.Prelude.{map, Option, Some, None}
-use Rattle.theory_connection.specs.Meant.{Birth, IsAmongFirst, Born, Known, Message, Coming, Event}
+use Rattle.std.specs.Prelude.{◌≡◌, ◌≢◌, ◌⊎◌, ◌↔◌, ℕ, ◌<◌, ◌≤◌, true, List, [], ◌∷◌, ◌++◌}
+use Rattle.std.specs.Prelude.{zero, suc, ◌+◌, false, map, Option, Some, None}
+use Rattle.wl_object_map.specs.declared.object.Maker.{Maker}
+use Rattle.wl_object_map.specs.declared.object.Maker.TheVariants.{Client, Server}
+use Rattle.wl_object_map.specs.Ranges.{is_of_server, wire_id}
+use Rattle.theory_connection.specs.Meant.{Birth, Born, Known, Message, Coming, Event}
 use Rattle.theory_connection.specs.Meant.{Delete as delete_of, known_id, birth_of, objects, made_in}
 use Rattle.theory_connection.specs.World.{World, IsOpen, IsEnding, IsThere, Each, marks_birth}
-use Rattle.theory_connection.specs.Flight.{Ask, Use, Make, Destroy, Tell, Name, Destroyed, Delete}
+use Rattle.theory_connection.specs.Flight.{Ask, Use, Make, Destroy, Tell, Name, Made, Destroyed}
+use Rattle.theory_connection.specs.Flight.{Delete}
 use Rattle.theory_connection.specs.Flight.{all_asks, all_tells}
 use Rattle.theory_connection.specs.Pair.{PairState}
 use Rattle.theory_connection.specs.Stands.{Stands, StandsBy}
@@ -12,6 +16,7 @@ use Rattle.theory_connection.specs.Stands.{Stands, StandsBy}
 -- the id that an action is about
 abbrev pub tell_id : Tell → ℕ
 tell_id (Name x) = x.id
+tell_id (Made x) = x.id
 tell_id (Destroyed x) = x.id
 tell_id (Delete x) = x.id
 
@@ -20,12 +25,25 @@ ask_id (Use x) = x.id
 ask_id (Make x) = x.id
 ask_id (Destroy x) = x.id
 
+-- the action makes an object
+abbrev pub IsMaking : Tell → Type 0
+IsMaking (Made x) = Unit {0}
+IsMaking _ = ⊥
+
 -- x stands among these
 abbrev pub In : {X : Type 0} → X → List X → Type 0
 In x [] = ⊥
 In x (y ∷ ys) = (x ≡ y) ⊎ In x ys
 
 -- ---- in a world
+
+-- the client made it
+abbrev pub IsOfClient : Born → Type 0
+IsOfClient x = x.birth.maker ≡ Client
+
+-- the server made it
+abbrev pub IsOfServer : Born → Type 0
+IsOfServer x = x.birth.maker ≡ Server
 
 -- the client holds it, open or ending
 abbrev pub IsHeldAtClient : World → Born → Type 0
@@ -41,13 +59,19 @@ pub record MakeComes (w : World) (x : Born) : Type 0 where
   pub there : In request w.requests
   pub makes : made_in request.args ≡ Some x
 
+-- an event on the way to the client makes it
+pub record EventMakes (w : World) (x : Born) : Type 0 where
+  pub event : Message Born
+  pub there : In (Event event) w.events
+  pub makes : made_in event.args ≡ Some x
+
 -- a request on the way to the server destroys it
 pub record DestroyComes (w : World) (x : Born) : Type 0 where
   pub request : Message Born
   pub there : In request w.requests
   pub ends : request.ends ≡ Some x
 
--- its delete is on the way, it is open at the server, or it is made on the way
+-- its delete is on the way, it is open at the server, or a request on the way makes it
 abbrev pub IsSomewhere : World → Born → Type 0
 IsSomewhere w x = DeleteComes w x ⊎ IsThere w.server x ⊎ MakeComes w x
 
@@ -62,9 +86,63 @@ IsLast w x =
     (before after : List (Coming Born)) (coming : Coming Born)
     → w.events ≡ before ++ delete_of x ∷ after → In coming after → NamesBirth x coming → ⊥
 
+-- a request names it
+abbrev pub RequestNames : Born → Message Born → Type 0
+RequestNames x m = (m.target ≡ x) ⊎ In x (objects m.args)
+
+-- a request on the way to the server names it
+pub record NameComes (w : World) (x : Born) : Type 0 where
+  pub request : Message Born
+  pub there : In request w.requests
+  pub names : RequestNames x request
+
+-- no request behind the one that destroys it names it or destroys it again
+abbrev pub IsLastAsked : World → Born → Type 0
+IsLastAsked w x =
+    (before after : List (Message Born)) (request later : Message Born)
+    → w.requests ≡ before ++ request ∷ after → request.ends ≡ Some x → In later after
+    → RequestNames x later ⊎ (later.ends ≡ Some x) → ⊥
+
 -- a registry that is told of globals
 abbrev pub IsToldOfGlobals : World → Born → Type 0
 IsToldOfGlobals w x = In x.birth (map marks_birth w.registries)
+
+-- ---- what is made on the way
+
+-- the object that there is, if there is one
+abbrev pub option_list : {X : Type 0} → Option X → List X
+option_list None = []
+option_list (Some x) = x ∷ []
+
+-- the objects that requests make
+abbrev pub news : {O : Type 0} → List (Message O) → List O
+news [] = []
+news (m ∷ ms) = option_list (made_in m.args) ++ news ms
+
+-- the objects that events make, among what comes to the client
+abbrev pub news_told : {O : Type 0} → List (Coming O) → List O
+news_told [] = []
+news_told (Event m ∷ coming) = option_list (made_in m.args) ++ news_told coming
+news_told (delete_of x ∷ coming) = news_told coming
+
+-- each event on the way that names it comes behind one that makes it, or the client holds it
+abbrev pub IsNamedInTurn : World → Born → Type 0
+IsNamedInTurn w x =
+    (before after : List (Coming Born)) (event : Message Born)
+    → w.events ≡ before ++ Event event ∷ after → NamesBirth x (Event event)
+    → IsHeldAtClient w x ⊎ In x (news_told before)
+
+-- as many births of a maker as this, one after another, from a number on
+abbrev pub births_from : Maker → ℕ → ℕ → List Birth
+births_from maker number zero = []
+births_from maker number (suc count) =
+    record { maker = maker; number = number } ∷ births_from maker (number + 1) count
+
+-- These are, in their order, a maker's births from the first number on, up to the one before the
+-- next.
+abbrev pub IsInOrder : Maker → ℕ → ℕ → List Birth → Type 0
+IsInOrder maker first next births =
+    (count : ℕ) × ((first + count ≡ next) × (births ≡ births_from maker first count))
 
 -- ---- of a pair that stands
 
@@ -72,17 +150,6 @@ IsToldOfGlobals w x = In x.birth (map marks_birth w.registries)
 pub record StandsIn (pair : PairState) (world : World) : Type 0 where
   pub stands : Stands pair world
   pub goes_on : world.ended ≡ false
-
--- ---- what is made on the way
-
--- the object that each of these makes, of those that make one
-abbrev pub option_list : {X : Type 0} → Option X → List X
-option_list None = []
-option_list (Some x) = x ∷ []
-
-abbrev pub news : {O : Type 0} → List (Message O) → List O
-news [] = []
-news (m ∷ ms) = option_list (made_in m.args) ++ news ms
 
 -- Of each pair that stands in a world, and each object.
 abbrev pub OfEach : (PairState → World → Born → Type 0) → Type 0
@@ -99,9 +166,19 @@ OnTheWay P =
 abbrev pub IsUnnamed : ℕ → List (Coming Known) → Type 0
 IsUnnamed id told = Each (λ t. tell_id t ≢ id) (all_tells told)
 
+-- no request is about the id
+abbrev pub IsUnasked : ℕ → List (Message Known) → Type 0
+IsUnasked id asked = Each (λ a. ask_id a ≢ id) (all_asks asked)
+
 -- no request and nothing that comes is about the id
 abbrev pub IsNowhere : ℕ → List (Message Known) → List (Coming Known) → Type 0
-IsNowhere id asked told = IsUnnamed id told × Each (λ a. ask_id a ≢ id) (all_asks asked)
+IsNowhere id asked told = IsUnnamed id told × IsUnasked id asked
+
+-- The first of what comes that is about the id makes an object there.
+abbrev pub IsMadeFirst : ℕ → List (Coming Known) → Type 0
+IsMadeFirst id told =
+    (before after : List Tell) (action : Tell) → all_tells told ≡ before ++ action ∷ after
+    → Each (λ t. tell_id t ≢ id) before → tell_id action ≡ id → IsMaking action
 
 -- The ids used at the client are those used at the server and those of the objects that these
 -- requests make.
@@ -111,11 +188,33 @@ IdsAreOf p asked =
     → (id ≤ p.client.core.view.client.used)
     ↔ ((id ≤ p.server.core.view.client.used) ⊎ In id (map known_id (news asked)))
 
--- The births counted at the client are those counted at the server and those of the objects that
--- requests on the way make.
+-- the birth is one of this maker's, below this count
+abbrev pub IsCountedBirth : Maker → ℕ → Birth → Type 0
+IsCountedBirth maker births b = (b.maker ≡ maker) × (b.number < births)
+
+-- The births of the client counted at the client are those counted at the server and those of the
+-- objects that requests on the way make.
 abbrev pub BirthsAreOf : PairState → World → Type 0
 BirthsAreOf p w =
     (birth : Birth)
-    → IsAmongFirst p.client.core.view.client.births birth
-    ↔ (IsAmongFirst p.server.core.view.client.births birth
+    → IsCountedBirth Client p.client.core.view.client.births birth
+    ↔ (IsCountedBirth Client p.server.core.view.client.births birth
     ⊎ In birth (map birth_of (news w.requests)))
+
+-- The ids of the server's range that are used at the server are those used at the client and those
+-- of the objects that these events make. The table of the range counts its ids from 2 on, so the
+-- last one used is that of the number of its ids.
+abbrev pub ServerIdsAreOf : PairState → List (Coming Known) → Type 0
+ServerIdsAreOf p told =
+    (id : ℕ) → is_of_server id ≡ true
+    → (id ≤ wire_id p.server.core.view.server.used)
+    ↔ ((id ≤ wire_id p.client.core.view.server.used) ⊎ In id (map known_id (news_told told)))
+
+-- The births of the server counted at the server are those counted at the client and those of the
+-- objects that events on the way make.
+abbrev pub ServerBirthsAreOf : PairState → World → Type 0
+ServerBirthsAreOf p w =
+    (birth : Birth)
+    → IsCountedBirth Server p.server.core.view.server.births birth
+    ↔ (IsCountedBirth Server p.client.core.view.server.births birth
+    ⊎ In birth (map birth_of (news_told w.events)))

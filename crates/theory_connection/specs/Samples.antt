@@ -1,12 +1,15 @@
--- Three short histories of the world: a callback that is done, an event that names an object which
--- its reader has destroyed, and a registry that is destroyed by wl_fixes.
-use Rattle.std.specs.Prelude.{◌≡◌, pos, codes, List, [], ◌∷◌, Some, None}
+-- Four short histories of the world: a callback that is done, an event that names an object which
+-- its reader has destroyed, a registry that is destroyed by wl_fixes, and an object that the server
+-- makes.
+use Rattle.std.specs.Prelude.{◌≡◌, ℕ, pos, codes, List, [], ◌∷◌, Some, None}
 use Rattle.wl_wire.specs.Argument.{Uint, Fixed, Str, Obj, New}
 use Rattle.wl_sigs.specs.Tables.{Interface}
 use Rattle.wl_sigs.specs.Fixed.{callback, registry, fixes}
 use Rattle.wl_objects.specs.declared.argument.Named.TheVariants as named_as
+use Rattle.wl_objects.specs.Reading.{Reported}
 use Rattle.wl_client.specs.Reports as events
-use Rattle.theory_connection.specs.Meant.{client_birth, Born, Message, Event, Delete}
+use Rattle.theory_connection.specs.Meant.{client_birth, server_birth, Born, Message}
+use Rattle.theory_connection.specs.Meant.{Event, Delete}
 use Rattle.theory_connection.specs.World.{World, Open, Ending, opening_world, display_born}
 use Rattle.theory_connection.specs.World.{request_written, request_read, event_written, event_read}
 use Rattle.theory_connection.specs.World.{delete_read, Steps, WriteRequest, ReadRequest, WriteEvent}
@@ -180,3 +183,108 @@ pub record DeadRegistry (tables : List Interface) : Type 0 where
       (registry_gone tables)
   pub not_at_client : (registry_gone tables).client registered.birth ≡ None
   pub not_at_server : (registry_gone tables).server registered.birth ≡ None
+
+-- A device, birth 1 of the client, is open at both ends. By an event of opcode 0 it makes an offer,
+-- by one of opcode 1 it shows one.
+abbrev pub sample_device : Born
+sample_device = record { birth = client_birth 1; iface = record { 0 = 5 }; version = 3 }
+
+-- the first two offers, births 1 and 2 of the server
+abbrev pub first_offer : Born
+first_offer = record { birth = server_birth 1; iface = record { 0 = 6 }; version = 3 }
+
+abbrev pub second_offer : Born
+second_offer = record { birth = server_birth 2; iface = record { 0 = 6 }; version = 3 }
+
+abbrev pub device_open : World
+device_open = record opening_world {
+  births = 2;
+  client = put nothing sample_device.birth (Some (Open sample_device));
+  server = put nothing sample_device.birth (Some sample_device);
+}
+
+-- the event that makes an offer
+abbrev pub make_offer : Born → Message Born
+make_offer offer = record {
+  target = sample_device;
+  opcode = 0;
+  args = New offer ∷ [];
+  ends = None;
+}
+
+-- the event that names the first offer
+abbrev pub show_offer : Message Born
+show_offer = record {
+  target = sample_device;
+  opcode = 1;
+  args = Obj (Some first_offer) ∷ [];
+  ends = None;
+}
+
+-- the request that destroys the first offer
+abbrev pub destroy_offer : Message Born
+destroy_offer = record { target = first_offer; opcode = 0; args = []; ends = Some first_offer }
+
+abbrev pub offer_made : World
+offer_made = event_written device_open (make_offer first_offer)
+
+abbrev pub offer_seen : List Interface → World
+offer_seen tables = event_read tables offer_made (make_offer first_offer) []
+
+abbrev pub offer_destroyed : List Interface → World
+offer_destroyed tables = request_written (offer_seen tables) destroy_offer
+
+abbrev pub offer_shown : List Interface → World
+offer_shown tables = event_written (offer_destroyed tables) show_offer
+
+abbrev pub dead_offer_seen : List Interface → World
+dead_offer_seen tables = event_read tables (offer_shown tables) show_offer []
+
+abbrev pub offer_closed : List Interface → World
+offer_closed tables = request_read (dead_offer_seen tables) destroy_offer []
+
+abbrev pub offer_made_again : List Interface → World
+offer_made_again tables = event_written (offer_closed tables) (make_offer second_offer)
+
+abbrev pub all_offers_seen : List Interface → World
+all_offers_seen tables = event_read tables (offer_made_again tables) (make_offer second_offer) []
+
+-- The client's report of what a device tells: this is its opcode, and this its argument.
+abbrev pub offer_report : ℕ → Reported → events.Report
+offer_report opcode argument =
+    events.Event (record { id = 3; birth = 1 }) opcode (argument ∷ [])
+
+-- Each is a step. The client destroys the offer while the server shows it, so it is reported dead.
+-- The server reads the destroying request and writes no delete, and it makes the second offer at
+-- the first one's id. In the end nothing is in flight, and the first offer is still ending at the
+-- client.
+pub record ServerObjectLives (tables : List Interface) : Type 0 where
+  pub makes : Steps tables device_open (WriteEvent (make_offer first_offer)) offer_made
+  pub sees : Steps tables offer_made (ReadEvent (Event (make_offer first_offer)))
+      (offer_seen tables)
+  pub reports_new : ReportsComing offer_made (Event (make_offer first_offer))
+      (offer_report 0 (New (record { id = 4278190080; birth = 1 })))
+  pub asks : Steps tables (offer_seen tables) (WriteRequest destroy_offer) (offer_destroyed tables)
+  pub shows : Steps tables (offer_destroyed tables) (WriteEvent show_offer) (offer_shown tables)
+  pub sees_dead : Steps tables (offer_shown tables) (ReadEvent (Event show_offer))
+      (dead_offer_seen tables)
+  pub reports_dead : ReportsComing (offer_shown tables) (Event show_offer)
+      (offer_report 1 (Obj (named_as.Dead (record { id = 4278190080; birth = 1 }))))
+  pub reads : Steps tables (dead_offer_seen tables) (ReadRequest destroy_offer)
+      (offer_closed tables)
+  pub writes_nothing : (offer_closed tables).events ≡ []
+  pub makes_again : Steps tables (offer_closed tables) (WriteEvent (make_offer second_offer))
+      (offer_made_again tables)
+  pub sees_again : Steps tables (offer_made_again tables)
+      (ReadEvent (Event (make_offer second_offer))) (all_offers_seen tables)
+  pub reports_again : ReportsComing (offer_made_again tables) (Event (make_offer second_offer))
+      (offer_report 0 (New (record { id = 4278190080; birth = 2 })))
+  pub no_requests : (all_offers_seen tables).requests ≡ []
+  pub no_events : (all_offers_seen tables).events ≡ []
+  pub first_at_client : (all_offers_seen tables).client first_offer.birth
+      ≡ Some (Ending first_offer)
+  pub first_at_server : (all_offers_seen tables).server first_offer.birth ≡ None
+  pub second_at_client : (all_offers_seen tables).client second_offer.birth
+      ≡ Some (Open second_offer)
+  pub second_at_server : (all_offers_seen tables).server second_offer.birth ≡ Some second_offer
+  pub next : (all_offers_seen tables).server_births ≡ 3

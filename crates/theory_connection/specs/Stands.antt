@@ -1,6 +1,6 @@
 -- When a pair stands for a world.
-use Rattle.std.specs.Prelude.{◌≡◌, ℕ, ◌<◌, ◌≤◌, ◌^◌, Bool, true, false, List, [], ◌∷◌, ◌++◌, length}
-use Rattle.std.specs.Prelude.{map, Option, Some, None}
+use Rattle.std.specs.Prelude.{◌≡◌, ◌≢◌, ◌⊎◌, ◌↔◌, ℕ, ◌<◌, ◌≤◌, ◌^◌, Bool, true, false, List, []}
+use Rattle.std.specs.Prelude.{◌∷◌, ◌++◌, length, map, Option, Some, is_some}
 use Rattle.wl_wire.specs.declared.kind.Iface.{Iface}
 use Rattle.wl_wire.specs.declared.kind.Kind.{Kind}
 use Rattle.wl_wire.specs.Argument.{Uint, Str, Obj, New, NewNamed}
@@ -20,8 +20,9 @@ use Rattle.wl_object_map.specs.declared.object.Entry.{Entry}
 use Rattle.wl_object_map.specs.declared.object.State.TheVariants as states
 use Rattle.wl_object_map.specs.Ranges.{is_of_server}
 use Rattle.wl_object_map.specs.View.{max_ids}
+use Rattle.wl_object_map.specs.declared.object.Maker.{Maker}
 use Rattle.wl_object_map.specs.declared.object.Maker.TheVariants.{Server}
-use Rattle.wl_object_map.specs.Objects.{Objects, ObjectsAreSound, look, ids_used, next_birth}
+use Rattle.wl_object_map.specs.Objects.{Objects, ObjectsAreSound, look}
 use Rattle.wl_objects.specs.Reading.{iface_of, is_of}
 use Rattle.wl_objects.specs.Writing.{message_len}
 use Rattle.wl_objects.specs.Messages.{made_by, is_error, is_delete_id, is_bind, same_iface}
@@ -34,7 +35,8 @@ use Rattle.wl_server.specs.Requests.{was_advertised}
 use Rattle.wl_sigs.specs.Rules.{is_ended_by_event, has_server_objects}
 use Rattle.wl_server.specs.Calls.{can_be_global}
 use Rattle.wl_server.specs.Announcing.{name_at}
-use Rattle.theory_connection.specs.Meant.{Birth, IsAmongFirst, Born, Known, Message, Coming, Event}
+use Rattle.theory_connection.specs.Meant.{Birth, server_birth, IsAmongFirst, Born, Known}
+use Rattle.theory_connection.specs.Meant.{Message, Coming, Event}
 use Rattle.theory_connection.specs.Meant.{Delete, Arg, renamed, recoming, born_of, birth_of}
 use Rattle.theory_connection.specs.Meant.{made_in, new_object_in, ended_by, wire, spelled_meant}
 use Rattle.theory_connection.specs.Meant.{spelled_coming, live_entry}
@@ -42,21 +44,23 @@ use Rattle.theory_connection.specs.World.{World, display_born, Row, Marks, Open,
 use Rattle.theory_connection.specs.World.{IfThere}
 use Rattle.theory_connection.specs.Pair.{PairState}
 use Rattle.theory_connection.specs.Answers.{NotEnded, marks_of}
-use Rattle.theory_connection.specs.Flight.{client_rows, server_rows, all_asks, all_tells}
+use Rattle.theory_connection.specs.Flight.{Rows, client_rows, server_rows, births_in, all_asks}
+use Rattle.theory_connection.specs.Flight.{IsAskedBelow, all_tells}
 use Rattle.theory_connection.specs.Flight.{MeetInMiddle}
 use Rattle.wl_connection.specs.Core.{max_globals}
 
 -- ---- objects by id and by birth
 
--- The rows of an end are this set of births: each under one id, each one of the client's births
--- that were counted.
-pub record ShowsBirths {X : Type 0} (birth : X → Birth) (rows : ℕ → Option X) (births : ℕ)
-    (sets : Birth → Option X) : Type 0 where
+-- The rows of an end are this set of births: each birth under one id, and each counted by its
+-- maker. A member of the set that may be gone can be without a row, since another object may have
+-- its id by now.
+pub record ShowsBirths {X : Type 0} (birth : X → Birth) (MayBeGone : X → Type 0)
+    (rows : ℕ → Option X) (births : Maker → ℕ) (sets : Birth → Option X) : Type 0 where
   pub below : (id : ℕ) (x : X) → rows id ≡ Some x → IsAmongFirst births (birth x)
   pub one : (i j : ℕ) (x y : X) → rows i ≡ Some x → rows j ≡ Some y → birth x ≡ birth y → i ≡ j
   pub shown : (id : ℕ) (x : X) → rows id ≡ Some x → sets (birth x) ≡ Some x
   pub only : (b : Birth) (x : X) → sets b ≡ Some x
-      → (birth x ≡ b) × ((id : ℕ) × (rows id ≡ Some x))
+      → (birth x ≡ b) × (((id : ℕ) × (rows id ≡ Some x)) ⊎ MayBeGone x)
 
 abbrev pub bare : Row → Born
 bare (Open x) = x
@@ -64,6 +68,16 @@ bare (Ending x) = x
 
 abbrev pub birth_in : Row → Birth
 birth_in r = (bare r).birth
+
+-- What may be gone at the client is an object of the server that is ending there: an event may have
+-- put another object in its place.
+abbrev pub IsEndingOfServer : Row → Type 0
+IsEndingOfServer (Open x) = ⊥
+IsEndingOfServer (Ending x) = x.birth.maker ≡ Server
+
+-- at the server nothing may be gone: each open object has its row
+abbrev pub NoneIsGone : Born → Type 0
+NoneIsGone x = ⊥
 
 -- ---- messages in flight
 
@@ -109,7 +123,7 @@ pub record FitsSignature (tables : List Interface) (side : Side) (m : Message Kn
   pub args : SuitKinds tables m.target.born.version signature.kinds m.args
   pub ends : m.ends ≡ ended_by signature.destroys m.target m.args
   pub len : message_len (map wire m.args) ≤ greatest_limit
-  pub low : m.target.id ≤ max_ids
+  pub low : m.target.id < 2 ^ 32
   pub opcode : m.opcode < 65536
   pub new_version : IfThere (λ x. 1 ≤ x.born.version) (made_in m.args)
   -- it makes at most one object
@@ -168,7 +182,6 @@ pub record AsksFitly (tables : List Interface) (given : List server.Global) (m :
 pub record TellsFitly (tables : List Interface) (given : List server.Global) (m : Message Known)
     : Type 0 where
   pub fits : FitsSignature tables event_side m
-  pub makes_none : made_in m.args ≡ None
   pub no_delete_id : is_delete_id event_side m.target.born.iface m.opcode ≡ false
   pub tells : same_iface m.target.born.iface registry ≡ true → m.opcode ≡ 0
       → TellsGiven tables given m.args
@@ -210,33 +223,43 @@ pub record SameTerms (client server : Terms) : Type 0 where
   pub up_limit : client.out_limit ≡ server.in_limit
   pub down_limit : server.out_limit ≡ client.in_limit
   pub one_limit : client.in_limit ≡ server.in_limit
-  -- no event has a new object of the server: the world has births of the client's alone
-  pub none_by_server : has_server_objects server.tables ≡ false
 
--- All of an end's objects were made by the client: both tables are sound, no id of the server's
--- range has a row, and none was used, by no birth.
-pub record MadeByClient (view : Objects) : Type 0 where
-  pub tables : ObjectsAreSound view
-  pub none : (id : ℕ) → is_of_server id ≡ true → look view id ≡ None
-  pub unused : ids_used Server view ≡ 0
-  pub births : next_birth Server view ≡ 1
+-- Of the server's objects the client holds exactly those that it has counted, open or ending: an
+-- event adds each, and no delete takes one away. The server's births begin at 1.
+abbrev pub HoldsServerObjects : ℕ → (Birth → Option Row) → Type 0
+HoldsServerObjects births held =
+    (number : ℕ)
+    → (is_some (held (server_birth number)) ≡ true) ↔ ((0 < number) × (number < births))
 
 -- The rows at the client are the births open and ending there.
 pub record ClientStands (view : Objects) (failed : Bool) (counted : ℕ) (held : Birth → Option Row)
     : Type 0 where
-  pub sets : ShowsBirths birth_in (client_rows view).rows view.client.births held
+  pub sets : ShowsBirths birth_in IsEndingOfServer (client_rows view).rows
+      (births_in (client_rows view)) held
   pub births : counted ≡ view.client.births
-  pub sound : MadeByClient view
+  pub holds_counted : HoldsServerObjects view.server.births held
+  pub sound : ObjectsAreSound view
+  -- the client frees no id of the server's range, since no delete is of one
+  pub never_freed : view.server.freed ≡ []
   pub display : look view 1 ≡ Some (live_entry display_born)
   pub versions : (id : ℕ) (e : Entry) → look view id ≡ Some e → 1 ≤ e.version
   -- it has not failed
   pub lives : failed ≡ false
 
+-- No object that the server made, of those open there, has an interface with a destroying event or
+-- is a registry. Valid tables let no event make such an object.
+abbrev pub MadePlain : (Born → Bool) → Rows Born → Type 0
+MadePlain test s =
+    (id : ℕ) (x : Born) → is_of_server id ≡ true → s.rows id ≡ Some x
+    → (test x ≡ false) × (x.iface ≢ registry)
+
 -- The rows at the server are the births open there.
-pub record ServerStands (view : Objects) (failed : Bool) (there : Birth → Option Born)
-    : Type 0 where
-  pub sets : ShowsBirths birth_of (server_rows view).rows view.client.births there
-  pub sound : MadeByClient view
+pub record ServerStands (view : Objects) (failed : Bool) (counted : ℕ)
+    (there : Birth → Option Born) : Type 0 where
+  pub sets : ShowsBirths birth_of NoneIsGone (server_rows view).rows (births_in (server_rows view))
+      there
+  pub births : counted ≡ view.server.births
+  pub sound : ObjectsAreSound view
   pub display : look view 1 ≡ Some (live_entry display_born)
   pub versions : (id : ℕ) (e : Entry) → look view id ≡ Some e → 1 ≤ e.version
   pub live : (id : ℕ) (e : Entry) → look view id ≡ Some e → e.state ≡ states.Live
@@ -275,7 +298,11 @@ pub record StandsBy (p : PairState) (w : World) (asked : List (Message Known))
   pub terms : SameTerms (terms_of p.client.core) (terms_of p.server.core)
   -- the objects at each end, and that neither end has failed
   pub client : ClientStands p.client.core.view p.client.core.failed w.births w.client
-  pub server : ServerStands p.server.core.view p.server.core.failed w.server
+  pub server : ServerStands p.server.core.view p.server.core.failed w.server_births w.server
+  -- what the server made ends by no event, and is no registry
+  pub plain : MadePlain (by_event p.server.core.tables) (server_rows p.server.core.view)
+  -- if no event of the tables makes an object, the server has made none: its births begin at 1
+  pub none_made : has_server_objects p.server.core.tables ≡ false → w.server_births ≡ 1
   -- what is in flight each way
   pub requests : Travel (renamed born_of) spelled_meant
       (AsksFitly p.server.core.tables p.server.globals)
@@ -283,9 +310,13 @@ pub record StandsBy (p : PairState) (w : World) (asked : List (Message Known))
   pub events : Travel (recoming born_of) spelled_coming
       (ComesFitly p.server.core.tables p.server.globals)
       p.server.core.outbox p.client.core.inbox w.events told
+  -- the client has counted each object that a request on the way names, makes or destroys
+  pub asks_counted : Each (IsAskedBelow (births_in (client_rows p.client.core.view)))
+      (all_asks asked)
   -- an event that destroys an object is directly followed by that object's delete
   pub deletes_follow : DeletesFollow told
-  -- when its turn comes, each can be read, and when all is read both ends have the same objects
+  -- when its turn comes, each can be read, and when all is read the objects open at the client are
+  -- those open at the server
   pub meet : MeetInMiddle (by_event p.server.core.tables) (all_tells told) (all_asks asked)
       (client_rows p.client.core.view) (server_rows p.server.core.view)
   pub globals : GlobalsStand p.server.core.tables p.client.globals p.server.globals

@@ -10,7 +10,10 @@ use Rattle.wl_client.specs.Reports.{globals_told}
 use Rattle.wl_server.specs.State.{Global}
 use Rattle.wl_server.specs.Registries.{with_registry, without_registry}
 use Rattle.wl_sigs.specs.Rules.{is_ended_by_event}
-use Rattle.theory_connection.specs.Meant.{Birth, client_birth, same_birth, Born, Message, Coming}
+use Rattle.wl_object_map.specs.declared.object.Maker.{Maker}
+use Rattle.wl_object_map.specs.declared.object.Maker.TheVariants.{Client, Server}
+use Rattle.theory_connection.specs.Meant.{Birth, client_birth, server_birth, same_birth, Born}
+use Rattle.theory_connection.specs.Meant.{Message, Coming}
 use Rattle.theory_connection.specs.Meant.{Event, Delete, objects, made_in, Arg}
 use Rattle.wl_connection.specs.Core.{max_globals}
 
@@ -26,8 +29,9 @@ pub record Marks : Type 0 where
   pub removed : List Bool
 
 pub record World : Type 0 where
-  -- how many objects the client made: the number of its next birth
+  -- how many objects the client made, and how many the server: the number of its next birth
   pub births : ℕ
+  pub server_births : ℕ
   -- requests and events that were written and not yet read
   pub requests : List (Message Born)
   pub events : List (Coming Born)
@@ -94,6 +98,22 @@ abbrev pub delete : {O : Type 0} → Option O → List (Coming O)
 delete None = []
 delete (Some x) = Delete x ∷ []
 
+-- the delete of an object that the client made; of one that the server made there is none
+abbrev pub answer_by : {O : Type 0} → Maker → O → List (Coming O)
+answer_by Client x = Delete x ∷ []
+answer_by Server x = []
+
+-- what the server writes when it reads a request that destroys an object: its delete, if the client
+-- made the object, and else nothing
+abbrev pub answer : {O : Type 0} → (O → Maker) → Option O → List (Coming O)
+answer maker None = []
+answer maker (Some x) = answer_by (maker x) x
+
+-- who made an object
+abbrev pub born_maker : Born → Maker
+born_maker x = x.birth.maker
+
+-- a count of births after a message that makes this
 abbrev pub births_counted : {O : Type 0} → Option O → ℕ → ℕ
 births_counted None births = births
 births_counted (Some x) births = births + 1
@@ -161,15 +181,16 @@ request_written w m = record w {
 abbrev pub request_read : World → Message Born → List (Message Born) → World
 request_read w m rest = record w {
   requests = rest;
-  events = w.events ++ delete m.ends;
+  events = w.events ++ answer born_maker m.ends;
   server = gone m.ends (born_into same (made_in m.args) w.server);
   registries = without_marks m.ends (marks_after (made_in m.args) w.registries);
 }
 
 abbrev pub event_written : World → Message Born → World
 event_written w m = record w {
+  server_births = births_counted (made_in m.args) w.server_births;
   events = w.events ++ (Event m ∷ delete m.ends);
-  server = gone m.ends w.server;
+  server = gone m.ends (born_into same (made_in m.args) w.server);
 }
 
 abbrev pub dropped : World → Born → World
@@ -178,7 +199,7 @@ dropped w x = record w { events = w.events ++ Delete x ∷ []; server = put w.se
 abbrev pub event_read : List Interface → World → Message Born → List (Coming Born) → World
 event_read tables w m rest = record w {
   events = rest;
-  client = ending m.ends w.client;
+  client = ending m.ends (born_into Open (made_in m.args) w.client);
   remembered = learned tables w.client m w.remembered;
 }
 
@@ -194,17 +215,20 @@ pub data Steps (tables : List Interface) (w : World) : Action → World → Type
       → IfThere (λ x. x.birth ≡ client_birth w.births) (made_in m.args)
       → Steps tables w (WriteRequest m) (request_written w m)
   -- The first request is read: its new object becomes open at the server, and one that it destroys
-  -- is closed and its delete written.
+  -- is closed and, where the client made it, its delete written.
   reads_request : (m : Message Born) (rest : List (Message Born))
       → w.requests ≡ m ∷ rest → Steps tables w (ReadRequest m) (request_read w m rest)
-  -- The target and the objects of a written event are open at the server. One that it destroys is
-  -- closed, and its delete follows.
+  -- The target and the objects of a written event are open at the server, and a new object is the
+  -- server's next birth. One that it destroys is closed, and its delete follows.
   writes_event : (m : Message Born) → IsThere w.server m.target
-      → Each (IsThere w.server) (objects m.args) → Steps tables w (WriteEvent m) (event_written w m)
+      → Each (IsThere w.server) (objects m.args)
+      → IfThere (λ x. x.birth ≡ server_birth w.server_births) (made_in m.args)
+      → Steps tables w (WriteEvent m) (event_written w m)
   -- An object of an interface with a destroying event is closed without one.
   drops : (x : Born) → IsThere w.server x → is_ended_by_event (interface_at tables x.iface.0) ≡ true
       → Steps tables w (Drop x) (dropped w x)
-  -- The first event is read: an object that it destroys becomes ending.
+  -- The first event is read: its new object becomes open at the client, also where its target is
+  -- ending there, and an object that it destroys becomes ending.
   reads_event : (m : Message Born) (rest : List (Coming Born)) → w.events ≡ Event m ∷ rest
       → Steps tables w (ReadEvent (Event m)) (event_read tables w m rest)
   -- A delete is read: its object is neither open nor ending.
@@ -218,6 +242,7 @@ display_born = record { birth = client_birth 0; iface = display; version = 1 }
 abbrev pub opening_world : World
 opening_world = record {
   births = 1;
+  server_births = 1;
   requests = [];
   events = [];
   client = put nothing display_born.birth (Some (Open display_born));

@@ -1,36 +1,42 @@
 //! What the two ends keep, whatever is done with them.
-ghost use Rattle.std.specs.Prelude.{◌≡◌, ◌⊎◌, ◌<◌, ℕ, List, ◌++◌, ◌∷◌, [], true, false, None, Err};
+ghost use Rattle.std.specs.Prelude.{◌≡◌, ◌⊎◌, ◌↔◌, ◌<◌, ℕ, List, ◌++◌, ◌∷◌, [], true};
+ghost use Rattle.std.specs.Prelude.{false, map, Some, None, Err};
 ghost use Rattle.wl_sigs.specs.Tables.{Interface};
 ghost use Rattle.wl_sigs.specs.Fixed.{registry};
 ghost use Rattle.wl_sigs.specs.Rules.{has_server_objects};
 ghost use Rattle.wl_sigs.specs.Valid.{Valid};
 ghost use Rattle.wl_object_map.specs.View.{IdsOfBirths};
 ghost use Rattle.wl_object_map.specs.Objects.{look};
+ghost use Rattle.wl_object_map.specs.declared.object.Maker.TheVariants.{Client, Server};
 ghost use Rattle.wl_message.specs.declared.amounts.Sizes.{Sizes};
 ghost use Rattle.wl_objects.specs.declared.error.Fault.{Fault};
 ghost use Rattle.wl_objects.specs.declared.error.NextError.TheVariants as errors;
 ghost use Rattle.wl_client.specs.Reports as client_reads;
 ghost use Rattle.wl_server.specs.Requests as server_reads;
 ghost use Rattle.wl_connection.specs.Core.{Core, feeds};
-ghost use Rattle.theory_connection.specs.Meant.{Known, Coming, Delete};
+ghost use Rattle.theory_connection.specs.Meant.{Known, Message, Coming, Delete, birth_of};
 ghost use Rattle.theory_connection.specs.World.{World, opening_world, Each, IsOpen, IsEnding};
 ghost use Rattle.theory_connection.specs.World.{IsThere};
 ghost use Rattle.theory_connection.specs.Pair.{PairState, Move, Reply, Does, new_pair, drained};
 ghost use Rattle.theory_connection.specs.Pair.{carries, carried_bytes, carried_tokens};
-ghost use Rattle.theory_connection.specs.Stands.{Stands, by_event};
+ghost use Rattle.theory_connection.specs.Stands.{Stands, HoldsServerObjects, by_event};
 ghost use Rattle.theory_connection.specs.Runs.{Runs, DoesAll, IsMove, Agree, Keeps};
 ghost use Rattle.theory_connection.specs.Samples.{CallbackLives, DeadArgument, DeadRegistry};
-ghost use Rattle.theory_connection.specs.Plain.{StandsIn, OfEach, OnTheWay, IsUnnamed, IsNowhere};
+ghost use Rattle.theory_connection.specs.Samples.{ServerObjectLives};
+ghost use Rattle.wl_object_map.specs.Ranges.{is_of_server};
+ghost use Rattle.theory_connection.specs.Plain.{IsOfClient, IsOfServer, StandsIn, OfEach, OnTheWay};
+ghost use Rattle.theory_connection.specs.Plain.{IsUnnamed, IsUnasked, IsNowhere, IsMadeFirst};
+ghost use Rattle.theory_connection.specs.Plain.{EventMakes, NameComes, IsNamedInTurn, IsLastAsked};
+ghost use Rattle.theory_connection.specs.Plain.{IsInOrder, news, news_told};
 ghost use Rattle.theory_connection.specs.Plain.{IsHeldAtClient, IsSomewhere, DeleteComes};
 ghost use Rattle.theory_connection.specs.Plain.{MakeComes, DestroyComes, IsLast, IsToldOfGlobals};
-ghost use Rattle.theory_connection.specs.Plain.{IdsAreOf, BirthsAreOf};
+ghost use Rattle.theory_connection.specs.Plain.{IdsAreOf, BirthsAreOf, ServerIdsAreOf};
+ghost use Rattle.theory_connection.specs.Plain.{ServerBirthsAreOf};
 
-/// A new pair with one limit stands for the opening world, where no event of its tables has a new
-/// object of the server.
+/// A new pair with one limit stands for the opening world.
 pub fn new_stands()
     ensures { (tables : List Interface) (client server : Sizes)
         → client.limit.bytes ≡ server.limit.bytes → Valid tables
-        → has_server_objects tables ≡ false
         → Stands (new_pair tables client server) opening_world }
 {}
 
@@ -87,22 +93,34 @@ pub fn server_meets_no_fault()
         → server_reads.next_answer pair.server ≡ Err (errors.Fault fault offset) → ⊥ }
 {}
 
-/// An id that is free at the client occurs in nothing that is on the way.
+/// An id of the client's range that is free at the client occurs in nothing that is on the way.
 pub fn free_nowhere()
-    ensures { (id : ℕ) → OnTheWay (λ pair asked told.
+    ensures { (id : ℕ) → is_of_server id ≡ false → OnTheWay (λ pair asked told.
         look pair.client.core.view id ≡ None → IsNowhere id asked told) }
 {}
 
-/// What the client holds has its delete on the way, is open at the server, or is made by a request
-/// on the way.
-pub fn held_where()
-    ensures { OfEach (λ pair world object. IsHeldAtClient world object → IsSomewhere world object) }
+/// If an id of the server's range has no row at the client, the first thing on the way to the
+/// client that is about the id makes an object there, so no event names it before. No request on
+/// the way is about it.
+pub fn free_is_made_first()
+    ensures events { (id : ℕ) → is_of_server id ≡ true → OnTheWay (λ pair asked told.
+        look pair.client.core.view id ≡ None → IsMadeFirst id told) }
+    ensures requests { (id : ℕ) → is_of_server id ≡ true → OnTheWay (λ pair asked told.
+        look pair.client.core.view id ≡ None → IsUnasked id asked) }
 {}
 
-/// And back: what has its delete on the way, is open at the server or is made on the way, the
-/// client holds.
+/// What the client made and holds has its delete on the way, is open at the server, or is made by a
+/// request on the way.
+pub fn held_where()
+    ensures { OfEach (λ pair world object. IsOfClient object
+        → IsHeldAtClient world object → IsSomewhere world object) }
+{}
+
+/// And back: what the client made and has its delete on the way, is open at the server or is made
+/// on the way, the client holds.
 pub fn held_back()
-    ensures { OfEach (λ pair world object. IsSomewhere world object → IsHeldAtClient world object) }
+    ensures { OfEach (λ pair world object. IsOfClient object
+        → IsSomewhere world object → IsHeldAtClient world object) }
 {}
 
 /// Only one of these holds of an object.
@@ -115,11 +133,12 @@ pub fn only_one()
         MakeComes world object → IsThere world.server object → ⊥) }
 {}
 
-/// What is ending at the client has its destroying request or its delete on the way, never both.
-/// What is open there has no destroying request on the way, and its delete only where its interface
-/// has a destroying event.
+/// What the client made and is ending there has its destroying request or its delete on the way,
+/// never both. What is open there has no destroying request on the way, and its delete only where
+/// its interface has a destroying event. What the server made and is ending at the client is open
+/// at the server exactly if its destroying request is on the way.
 pub fn ending_where()
-    ensures ending { OfEach (λ pair world object. IsEnding world.client object
+    ensures ending { OfEach (λ pair world object. IsOfClient object → IsEnding world.client object
         → DeleteComes world object ⊎ DestroyComes world object) }
     ensures one { OfEach (λ pair world object.
         DeleteComes world object → DestroyComes world object → ⊥) }
@@ -127,6 +146,64 @@ pub fn ending_where()
         IsOpen world.client object → DestroyComes world object → ⊥) }
     ensures event { OfEach (λ pair world object. IsOpen world.client object
         → DeleteComes world object → by_event pair.server.core.tables object ≡ true) }
+    ensures of_server { OfEach (λ pair world object. IsOfServer object
+        → IsEnding world.client object
+        → (IsThere world.server object ↔ DestroyComes world object)) }
+{}
+
+/// A request on the way makes an object of the client, an event an object of the server, and a
+/// delete is of an object of the client.
+pub fn made_by_whom()
+    ensures request { OfEach (λ pair world object. MakeComes world object → IsOfClient object) }
+    ensures event { OfEach (λ pair world object. EventMakes world object → IsOfServer object) }
+    ensures deleted { OfEach (λ pair world object. DeleteComes world object → IsOfClient object) }
+{}
+
+/// What the server made is open there exactly if an event on the way makes it, or it is open at the
+/// client, or a request on the way destroys it. Only one of the three holds: for the last two
+/// `ending_where` says so. What a request on the way destroys is ending at the client, whoever made
+/// it.
+pub fn open_where()
+    ensures there { OfEach (λ pair world object. IsOfServer object → IsThere world.server object
+        ↔ (EventMakes world object ⊎ IsOpen world.client object ⊎ DestroyComes world object)) }
+    ensures made_or_open { OfEach (λ pair world object.
+        EventMakes world object → IsOpen world.client object → ⊥) }
+    ensures made_or_destroyed { OfEach (λ pair world object.
+        EventMakes world object → DestroyComes world object → ⊥) }
+    ensures destroyed { OfEach (λ pair world object.
+        DestroyComes world object → IsEnding world.client object) }
+{}
+
+/// Of the server's objects the client holds exactly those that it has counted, open or ending.
+/// Their births begin at 1.
+pub fn counted_is_held()
+    ensures { (pair : PairState) (world : World) → StandsIn pair world
+        → HoldsServerObjects pair.client.core.view.server.births world.client }
+{}
+
+/// If an event on the way names an object, the client holds it, or an event before this one makes
+/// it.
+pub fn named_in_turn()
+    ensures { OfEach (λ pair world object. IsNamedInTurn world object) }
+{}
+
+/// If a request on the way names an object that the server made, the object is open at the server,
+/// and the client holds it.
+pub fn named_is_open()
+    ensures { OfEach (λ pair world object. IsOfServer object → NameComes world object
+        → IsThere world.server object × IsHeldAtClient world object) }
+{}
+
+/// No request behind one that destroys an object names that object or destroys it again.
+pub fn destroyed_last()
+    ensures { OfEach (λ pair world object. IsLastAsked world object) }
+{}
+
+/// No request behind one that destroys an object is about its id, not even for a later object.
+pub fn ids_are_destroyed_last()
+    ensures { (object : Known) (before after : List (Message Known)) (request : Message Known)
+        → OnTheWay (λ pair asked told. asked ≡ before ++ request ∷ after
+        → request.ends ≡ Some object → IsUnasked object.id after) }
 {}
 
 /// Nothing behind a delete on the way names its object.
@@ -140,27 +217,75 @@ pub fn ids_are_deleted_last()
         told ≡ before ++ Delete object ∷ after → IsUnnamed object.id after) }
 {}
 
-/// What is made on the way has a birth that the server has not counted.
+/// What a request on the way makes has a birth that the server has not counted.
 pub fn made_is_not_counted()
     ensures { OfEach (λ pair world object. MakeComes world object
         → object.birth.number < pair.server.core.view.client.births → ⊥) }
 {}
 
-/// The ids used at the client are those used at the server and those of the objects that are made
-/// on the way; so are the births that each has counted.
+/// What an event on the way makes has a birth that the client has not counted.
+pub fn told_is_not_counted()
+    ensures { OfEach (λ pair world object. EventMakes world object
+        → object.birth.number < pair.client.core.view.server.births → ⊥) }
+{}
+
+/// In the client's range the ids used at the client are those used at the server and those of the
+/// objects that requests on the way make; so are the births that each has counted. In the server's
+/// range it is the other way round: the ids used at the server are those used at the client and
+/// those of the objects that events on the way make, and so are the births.
 pub fn counted_where()
     ensures ids { OnTheWay (λ pair asked told. IdsAreOf pair asked) }
     ensures births { (pair : PairState) (world : World)
         → StandsIn pair world → BirthsAreOf pair world }
+    ensures server_ids { OnTheWay (λ pair asked told. ServerIdsAreOf pair told) }
+    ensures server_births { (pair : PairState) (world : World)
+        → StandsIn pair world → ServerBirthsAreOf pair world }
 {}
 
-/// The ids used at each end are those that its births were given: each birth that was counted there
-/// got one of them, and each of them was given to such a birth.
+/// The requests on the way make, in their order, the client's births from the server's count of
+/// them up to the client's. The events on the way make, in their order, the server's births from
+/// the client's count of them up to the server's.
+pub fn made_in_order()
+    ensures requests { (pair : PairState) (world : World) → StandsIn pair world
+        → IsInOrder Client pair.server.core.view.client.births pair.client.core.view.client.births
+        (map birth_of (news world.requests)) }
+    ensures events { (pair : PairState) (world : World) → StandsIn pair world
+        → IsInOrder Server pair.client.core.view.server.births pair.server.core.view.server.births
+        (map birth_of (news_told world.events)) }
+{}
+
+/// The ids used at each end, in either range, are those that its births were given: each birth that
+/// was counted there got one of them, and each of them was given to such a birth.
 pub fn ids_are_of_births()
     ensures client { (pair : PairState) (world : World)
         → StandsIn pair world → IdsOfBirths pair.client.core.view.client }
     ensures server { (pair : PairState) (world : World)
         → StandsIn pair world → IdsOfBirths pair.server.core.view.client }
+    ensures server_range_at_client { (pair : PairState) (world : World)
+        → StandsIn pair world → IdsOfBirths pair.client.core.view.server }
+    ensures server_range_at_server { (pair : PairState) (world : World)
+        → StandsIn pair world → IdsOfBirths pair.server.core.view.server }
+{}
+
+/// If no event of the tables makes an object, no object of the server's is at either end or on the
+/// way. What other laws say of the client's ids and objects then holds of all: what `free_nowhere`,
+/// `held_where`, `held_back` and the clause `ending` of `ending_where` say.
+pub fn without_server_objects()
+    ensures none_of_server { OfEach (λ pair world object.
+        has_server_objects pair.server.core.tables ≡ false → IsOfServer object
+        → IsHeldAtClient world object ⊎ IsThere world.server object ⊎ EventMakes world object → ⊥) }
+    ensures free_nowhere { (id : ℕ) → OnTheWay (λ pair asked told.
+        has_server_objects pair.server.core.tables ≡ false
+        → look pair.client.core.view id ≡ None → IsNowhere id asked told) }
+    ensures held_where { OfEach (λ pair world object.
+        has_server_objects pair.server.core.tables ≡ false
+        → IsHeldAtClient world object → IsSomewhere world object) }
+    ensures held_back { OfEach (λ pair world object.
+        has_server_objects pair.server.core.tables ≡ false
+        → IsSomewhere world object → IsHeldAtClient world object) }
+    ensures ending { OfEach (λ pair world object.
+        has_server_objects pair.server.core.tables ≡ false
+        → IsEnding world.client object → DeleteComes world object ⊎ DestroyComes world object) }
 {}
 
 /// Each registry that is open at the server is one of those that hear of globals.
@@ -192,4 +317,11 @@ pub fn dead_argument()
 /// delete follows.
 pub fn dead_registry()
     ensures { (tables : List Interface) → DeadRegistry tables }
+{}
+
+/// A history that there is: an event makes an object, the client destroys it, and an event that
+/// names it is reported with the object dead. The server reads the destroying request, writes no
+/// delete, and makes another object at the same id.
+pub fn server_object_lives()
+    ensures { (tables : List Interface) → ServerObjectLives tables }
 {}

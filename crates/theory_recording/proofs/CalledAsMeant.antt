@@ -14,20 +14,22 @@ use Rattle.wl_recording.specs.declared.piece.Direction.{Direction}
 use Rattle.wl_check.specs.Merged.{mark, framed, same_direction}
 use Rattle.wl_check.specs.Changes.{Call, changes, destroyed_id, side_of}
 use Rattle.wl_check.specs.Places.{is_id, is_made, frees, made_entry, new_of, used_by, unless_deleted}
+use Rattle.wl_check.specs.Places.{server_used_by}
+use Rattle.wl_object_map.specs.declared.object.Maker.{Maker}
 use Rattle.wl_check.specs.Rules.{judged}
 use Rattle.wl_check.specs.Session.{Judged}
 use Rattle.wl_check.proofs.MergedPiece.{same_is}
 use Rattle.wl_check.proofs.LongerRecording.{behind_one, advertised_more}
 use Rattle.theory_connection.specs.Meant.{Known, Message, objects, tokens, wire}
 use Rattle.theory_connection.specs.World.{Row, Each, IfThere}
-use Rattle.theory_connection.specs.Flight.{Rows, IsHeldInRows, Fresh}
+use Rattle.theory_connection.specs.Flight.{Rows, IsHeldInRows, Fresh, NextTold}
 use Rattle.theory_connection.specs.Stands.{FitsSignature}
-use Rattle.theory_connection.proofs.WholeInFlight.{client_makes, client_ends}
+use Rattle.theory_connection.proofs.WholeInFlight.{client_makes, client_told, client_ends, OfClient}
 use Rattle.theory_connection.proofs.ReadAsMeant.{made_of, tokens_taken}
-use Rattle.theory_recording.specs.Follows.{knowledge, birth_places, maker, KnownAs, GoesOn, AllGoOn}
+use Rattle.theory_recording.specs.Follows.{knowledge, birth_places, KnownAs, GoesOn, AllGoOn}
 use Rattle.theory_recording.proofs.AdvertisedGlobals.{Grows}
 use Rattle.theory_recording.proofs.JudgedAsMeant.{call_as}
-use Rattle.theory_recording.proofs.KnownBehindMessage.{ended_ids, known_behind, places_behind}
+use Rattle.theory_recording.proofs.KnownBehindMessage.{ended_ids, known_behind, known_event, places_behind, grown}
 use Rattle.theory_connection.proofs.EndedObject.{ends_as, ends_have}
 
 -- The message that stands at a place of a direction's stream, where its direction brought t tokens,
@@ -95,7 +97,40 @@ destroyed_as : (b : Bool) (id : ℕ) (o : Option Known) → b ≡ is_some o → 
 destroyed_as b id None f h = ap (λ (t : Bool). destroyed_id t id) f
 destroyed_as b id (Some x) f h = λ i. destroyed_id (f i) (sym h i)
 
--- behind a message that fits, the checker knows the rows that it leaves
+-- what is known behind a call that makes this
+record BehindCall (tables : List Interface) (e : List Judged) (call : Call) (n o : Option Known) : Type 0 where
+  objects : (id : ℕ) → (knowledge tables (e ++ Ok call ∷ [])).object id
+      ≡ cond (is_made (option_map made_of n) id) (Some (made_entry (suc (length e)) Live (new_of (option_map made_of n))))
+      (unless_deleted (frees None id) (is_id (ended_ids o) id) ((knowledge tables e).object id))
+  used : (knowledge tables (e ++ Ok call ∷ [])).used ≡ used_by (option_map made_of n) (knowledge tables e).used
+  server_used : (knowledge tables (e ++ Ok call ∷ [])).server_used
+      ≡ server_used_by (option_map made_of n) (knowledge tables e).server_used
+  places : birth_places tables (e ++ Ok call ∷ [])
+      ≡ grown (birth_places tables e) (option_map made_of n) (suc (length e))
+
+behind_call : (tables : List Interface) (e : List Judged) (here : Rows Row) (d : Direction) (m : Message Known)
+    (entry : Entry) (f : FitsSignature tables (side_of d) m) (n : Option Known) → Valid tables
+    → (changes tables (call_as d m entry f.signature)).made ≡ option_map made_of n
+    → (changes tables (call_as d m entry f.signature)).deleted ≡ None
+    → BehindCall tables e (call_as d m entry f.signature) n m.ends
+behind_call tables e here d m entry f n valid made_is deleted_is =
+    let call = call_as d m entry f.signature in
+    let k = knowledge tables e in
+    let p = suc (length e) in
+    let b = behind_one tables e call in
+    let ended = ends_as tables (side_of d) m f valid in
+    let destroyed_is : (changes tables call).destroyed ≡ ended_ids m.ends =
+    destroyed_as (destroys_one f.signature.destroys)
+    (ended_id f.signature.destroys m.target.id (map wire m.args)) m.ends ended.flag ended.same in
+    record {
+      objects = λ id. b.objects id ∙ (λ i. cond (is_made (made_is i) id) (Some (made_entry p Live (new_of (made_is i))))
+          (unless_deleted (frees (deleted_is i) id) (is_id (destroyed_is i) id) (k.object id)));
+      used = b.used_is ∙ ap (λ (o : Option NewObject). used_by o k.used) made_is;
+      server_used = b.server_used_is ∙ ap (λ (o : Option NewObject). server_used_by o k.server_used) made_is;
+      places = places_behind tables e call ∙ ap (λ (o : Option NewObject). grown (birth_places tables e) o p) made_is;
+    }
+
+-- behind a request that fits, the checker knows the rows that it leaves
 pub known_call : (tables : List Interface) (e : List Judged) (here : Rows Row) (d : Direction) (m : Message Known)
     (entry : Entry) (f : FitsSignature tables (side_of d) m) (n : Option Known)
     → Valid tables → KnownAs (knowledge tables e) (birth_places tables e) here → IfThere (Fresh here) n
@@ -106,20 +141,29 @@ pub known_call : (tables : List Interface) (e : List Judged) (here : Rows Row) (
     → KnownAs (knowledge tables (e ++ Ok (call_as d m entry f.signature) ∷ []))
     (birth_places tables (e ++ Ok (call_as d m entry f.signature) ∷ [])) (client_ends m.ends (client_makes here n))
 known_call tables e here d m entry f n valid a fresh target args made_is deleted_is =
-    let call = call_as d m entry f.signature in
-    let k = knowledge tables e in
-    let k' = knowledge tables (e ++ Ok call ∷ []) in
-    let p = suc (length e) in
-    let b = behind_one tables e call in
+    let c = behind_call tables e here d m entry f n valid made_is deleted_is in
     let held : IfThere (IsHeldInRows here) m.ends = ends_have (IsHeldInRows here) tables (side_of d) m f target args in
-    let ended = ends_as tables (side_of d) m f valid in
-    let destroyed_is : (changes tables call).destroyed ≡ ended_ids m.ends =
-    destroyed_as (destroys_one f.signature.destroys)
-    (ended_id f.signature.destroys m.target.id (map wire m.args)) m.ends ended.flag ended.same in
-    let known = known_behind k k' (birth_places tables e) p here n m.ends a fresh held
-    (λ id. b.objects id ∙ (λ i. cond (is_made (made_is i) id) (Some (made_entry p Live (new_of (made_is i))))
-    (unless_deleted (frees (deleted_is i) id) (is_id (destroyed_is i) id) (k.object id))))
-    (b.used_is ∙ ap (λ (o : Option NewObject). used_by o k.used) made_is) in
-    let there = places_behind tables e call ∙ ap (λ (o : Option NewObject). birth_places tables e ++ maker o p) made_is
-    in
-    subst (λ (ps : List ℕ). KnownAs k' ps (client_ends m.ends (client_makes here n))) (sym there) known
+    let call = call_as d m entry f.signature in
+    subst (λ (ps : Maker → List ℕ). KnownAs (knowledge tables (e ++ Ok call ∷ [])) ps
+    (client_ends m.ends (client_makes here n))) (sym c.places)
+    (known_behind (knowledge tables e) (knowledge tables (e ++ Ok call ∷ [])) (birth_places tables e) (suc (length e))
+    here n m.ends a fresh held c.objects c.used c.server_used)
+
+-- and behind an event
+pub known_told : (tables : List Interface) (e : List Judged) (here : Rows Row) (d : Direction) (m : Message Known)
+    (entry : Entry) (f : FitsSignature tables (side_of d) m) (n : Option Known)
+    → Valid tables → KnownAs (knowledge tables e) (birth_places tables e) here → IfThere (NextTold here) n
+    → IsHeldInRows here m.target
+    → Each (IsHeldInRows here) (objects m.args) → IfThere OfClient m.ends
+    → (changes tables (call_as d m entry f.signature)).made ≡ option_map made_of n
+    → (changes tables (call_as d m entry f.signature)).deleted ≡ None
+    → KnownAs (knowledge tables (e ++ Ok (call_as d m entry f.signature) ∷ []))
+    (birth_places tables (e ++ Ok (call_as d m entry f.signature) ∷ [])) (client_ends m.ends (client_told here n))
+known_told tables e here d m entry f n valid a follows target args range made_is deleted_is =
+    let c = behind_call tables e here d m entry f n valid made_is deleted_is in
+    let held : IfThere (IsHeldInRows here) m.ends = ends_have (IsHeldInRows here) tables (side_of d) m f target args in
+    let call = call_as d m entry f.signature in
+    subst (λ (ps : Maker → List ℕ). KnownAs (knowledge tables (e ++ Ok call ∷ [])) ps
+    (client_ends m.ends (client_told here n))) (sym c.places)
+    (known_event (knowledge tables e) (knowledge tables (e ++ Ok call ∷ [])) (birth_places tables e) (suc (length e))
+    here n m.ends a follows held range c.objects c.used c.server_used)

@@ -25,18 +25,19 @@ use Rattle.wl_check.specs.Rules.{reader_by, called, judged, judged_message, is_d
 use Rattle.theory_connection.specs.Meant.{Known, Message, Arg, objects, new_object_in, wire, tokens, spelled_meant}
 use Rattle.theory_connection.specs.World.{Each, IfThere}
 use Rattle.theory_connection.specs.Stands.{FitsSignature}
-use Rattle.theory_connection.proofs.NoneByServer.{NoneByServer}
-use Rattle.theory_connection.proofs.ReadAsMeant.{HasObject, Finds, received_by_any, parted}
+use Rattle.wl_sigs.specs.declared.signature.Side.{Side}
+use Rattle.theory_connection.proofs.MadeFor.{MadeFor}
+use Rattle.theory_connection.proofs.ReadAsMeant.{HasObject, Finds, new_id_for, received_by_any, parted}
 
 -- the checker finds each argument whose object it has and whose new id is free
-pub all_found : (r : Reader) (args : List (Arg Known)) → Each (HasObject r) (objects args)
-    → Each (λ a. IfThere (λ x. r.new_id x.id ≡ Free) (new_object_in a)) args → Each (Finds r) args
-all_found r [] o n = tt
-all_found r (Obj None ∷ args) o n = (tt, all_found r args o n.1)
-all_found r (Obj (Some x) ∷ args) o n = (o.0, all_found r args o.1 n.1)
-all_found r (New x ∷ args) o n = (n.0, all_found r args o n.1)
-all_found r (NewNamed name own x ∷ args) o n = (n.0, all_found r args o n.1)
-all_found r (a ∷ args) o n = (tt, all_found r args o n.1)
+pub all_found : (side : Side) (r : Reader) (args : List (Arg Known)) → Each (HasObject r) (objects args)
+    → Each (λ a. IfThere (λ x. new_id_for side r x.id ≡ Free) (new_object_in a)) args → Each (Finds side r) args
+all_found side r [] o n = tt
+all_found side r (Obj None ∷ args) o n = (tt, all_found side r args o n.1)
+all_found side r (Obj (Some x) ∷ args) o n = (o.0, all_found side r args o.1 n.1)
+all_found side r (New x ∷ args) o n = (n.0, all_found side r args o n.1)
+all_found side r (NewNamed name own x ∷ args) o n = (n.0, all_found side r args o n.1)
+all_found side r (a ∷ args) o n = (tt, all_found side r args o n.1)
 
 -- the call as which a message is read, where its target has this row
 abbrev pub call_as : Direction → Message Known → Entry → sigs.MessageSignature → Call
@@ -71,8 +72,8 @@ body_is m stream more p e =
 -- so far are at least those taken before it and its own.
 pub frame_called : (limit : ℕ) (tables : List Interface) (k : Knows) (d : Direction) (m : Message Known)
     (stream more : List ℕ) (p t : ℕ) (o : HasObject (reader_by tables k d) m.target) (f : FitsSignature tables (side_of d) m)
-    → NoneByServer f.signature.kinds → IsMessage limit (spelled_meant m).bytes → drop p stream ≡ (spelled_meant m).bytes ++ more
-    → Each (Finds (reader_by tables k d)) m.args
+    → Each (MadeFor (side_of d)) f.signature.kinds → IsMessage limit (spelled_meant m).bytes → drop p stream ≡ (spelled_meant m).bytes ++ more
+    → Each (Finds (side_of d) (reader_by tables k d)) m.args
     → k.taken d + length (tokens m.args) ≤ t
     → is_disallowed_bind tables k (side_of d) m.opcode (call_as d m o.entry f.signature).received ≡ false
     → judged limit tables k stream (framed d t (mark p (length (spelled_meant m).bytes)))

@@ -6,17 +6,24 @@ use Rattle.std.specs.declared.option.Option.{Option}
 use Rattle.std.specs.declared.option.Option.TheVariants.{None, Some}
 use Rattle.theory_connection.specs.Meant.{client_birth, IsAmongFirst, Born, Known}
 use Rattle.theory_connection.specs.World.{Row, Open, Ending, Each, IfThere}
-use Rattle.theory_connection.specs.Flight.{Rows, at, with_made, Ask, Use, Tell, Name, Delete, make_ask}
-use Rattle.theory_connection.specs.Flight.{destroy_ask, ends, IsHeldInRows, Fresh, ReadsInFlight, done as all_read}
-use Rattle.theory_connection.specs.Flight.{name, end, delete}
+use Rattle.theory_connection.specs.Flight.{Rows, births_in, at, with_made, Ask, Use, Tell, Name, Delete}
+use Rattle.theory_connection.specs.Flight.{make_ask, make_tell, destroy_ask, ends, IsHeldInRows, Fresh, NextTold}
+use Rattle.theory_connection.specs.Flight.{ReadsInFlight, done as all_read, name, made, end, delete}
+use Rattle.std.proofs.Common.{◌<◌}
+use Rattle.wl_object_map.specs.declared.object.Maker.TheVariants.{Server}
+use Rattle.wl_object_map.specs.Ranges.{is_of_server}
+use Rattle.theory_connection.specs.Flight.{Tied}
+use Rattle.theory_connection.specs.Stands.{birth_in}
+use Rattle.theory_connection.proofs.Flight.{fresh_range}
 use Rattle.theory_connection.specs.Plain.{ask_id}
 use Rattle.theory_connection.proofs.Flight.{free_after, live_after, counts_after, make_before}
 use Rattle.theory_connection.proofs.Flight.{destroy_before, reads_more, held_other, held_some}
-use Rattle.theory_connection.proofs.WholeInFlight.{OpenRow, client_makes, client_ends, live_made_if}
+use Rattle.theory_connection.proofs.WholeInFlight.{OpenRow, client_makes, client_told, client_ends, live_made_if}
 use Rattle.theory_connection.proofs.WholeInFlight.{all_live_after, reads_all}
 use Rattle.theory_connection.proofs.EndedObject.{Mortal}
 use Rattle.theory_recording.specs.Leads.{Joins, Leads, done, use_, make, destroy}
-use Rattle.theory_recording.proofs.LeadsByAction.{held_here, put_elsewhere, use_last, make_last, destroy_last}
+use Rattle.theory_recording.proofs.LeadsByAction.{held_here, put_elsewhere, tell_elsewhere, told_here, use_last}
+use Rattle.theory_recording.proofs.LeadsByAction.{make_last, destroy_last, unasked}
 
 -- what is known once a request is recorded
 pub record RecordsAsk (test : Born → Bool) (qs : List Ask) (here common : Rows Row) (x : Known) (xs : List Known)
@@ -29,9 +36,10 @@ pub record RecordsAsk (test : Born → Bool) (qs : List Ask) (here common : Rows
 
 -- what is known once an event is recorded
 pub record RecordsTell (test : Born → Bool) (qs : List Ask) (es fs : List Tell) (here client w : Rows Row) (x : Known)
-    (xs : List Known) (after : Rows Row) : Type 0 where
+    (xs : List Known) (n : Option Known) (after : Rows Row) : Type 0 where
   pub target : IsHeldInRows here x
   pub args : Each (IsHeldInRows here) xs
+  pub new : IfThere (NextTold here) n
   pub joins : Joins test qs es after client
   pub rest : ReadsInFlight test fs joins.common w
 
@@ -43,6 +51,16 @@ other_born : {o : Option Row} (test : Born → Bool) (x n : Known) → (o ≡ So
 other_born {o} test x n (inl h) a b t = let q : Some (Open x.born) ≡ Some (Open n.born) = sym h ∙ a
     in let s : x.born ≡ n.born = cc q in cc (sym t ∙ ap test s ∙ b)
 other_born {o} test x n (inr h) a b t = let q : Some (Ending x.born) ≡ Some (Open n.born) = sym h ∙ a in absurd (cc q)
+
+-- an object of the client's range was counted at these rows
+abbrev pub Counted : Rows Row → Known → Type 0
+Counted v x = is_of_server x.id ≡ false → x.born.birth.number < v.births
+
+-- it is so behind an event that makes an object
+told_first_if : (v : Rows Row) (n o : Option Known) → IfThere (Counted v) o → IfThere (Counted (client_told v n)) o
+told_first_if v None o l = l
+told_first_if v (Some y) None l = tt
+told_first_if v (Some y) (Some x) l = l
 
 module _ {test : Born → Bool} where
   -- ---- the client writes a request
@@ -61,14 +79,14 @@ module _ {test : Born → Bool} where
       record {
         common = with_made m.common n.id (Open n.born);
         leads = make_last n m.leads (record {
-          free = free_after n.id m.reads c.free;
+          free = free_after n.id m.reads (fresh_range c) c.free;
           some = c.some;
           next = grind (arith, c.next);
           birth = c.birth ∙ ap client_birth (sym k.1);
           low = c.low;
           left = grind (arith, c.left);
         });
-        reads = make_before n.id (Open n.born) m.reads c.free;
+        reads = make_before n.id (Open n.born) m.reads (fresh_range c) c.free;
       }
 
   ends_last : {qs : List Ask} {es : List Tell} {here v : Rows Row} (o : Option Known) → Joins test qs es here v
@@ -129,7 +147,7 @@ module _ {test : Born → Bool} where
   -- ---- an event is recorded
 
   pub all_held_here : {qs : List Ask} {v w : Rows Row} (xs : List Known) → Leads test qs v w → Each (IsHeldInRows w) xs
-      → Each (λ x. IsAmongFirst v.births x.born.birth) xs → Each (IsHeldInRows v) xs
+      → Each (Counted v) xs → Each (IsHeldInRows v) xs
   all_held_here [] r h l = tt
   all_held_here (x ∷ xs) r h l = (held_here x r h.0 l.0, all_held_here xs r h.1 l.1)
 
@@ -150,37 +168,70 @@ module _ {test : Born → Bool} where
   names_read [] h = all_read
   names_read (x ∷ xs) h = name h.0 (names_read xs h.1)
 
+  -- what an event makes is recorded
+  makes_recorded : {qs : List Ask} {fs : List Tell} {here common w : Rows Row} (n : Option Known)
+      → Leads test qs here common → IfThere (λ x. Each (λ a. ask_id a ≢ x.id) qs) n
+      → ReadsInFlight test (make_tell n ++ fs) common w
+      → (ReadsInFlight test (make_tell n) common (client_told common n)
+      × Leads test qs (client_told here n) (client_told common n))
+      × (ReadsInFlight test fs (client_told common n) w × IfThere (NextTold here) n)
+  makes_recorded None l u r = ((all_read, l), (r, tt))
+  makes_recorded (Some x) l u (made t g r) =
+      ((made t g all_read, tell_elsewhere x.id (Open x.born) l u), (r, told_here x l u g))
+
   ends_recorded : {qs : List Ask} {fs : List Tell} {here common w : Rows Row} (o : Option Known)
-      → Leads test qs here common → IfThere (λ x. IsAmongFirst here.births x.born.birth) o
+      → Leads test qs here common → IfThere (Counted here) o
       → ReadsInFlight test (ends o ++ fs) common w
       → ReadsInFlight test (ends o) common (client_ends o common)
       × Leads test qs (client_ends o here) (client_ends o common)
       × ReadsInFlight test fs (client_ends o common) w
   ends_recorded None l b r = (all_read, l, r)
-  ends_recorded (Some x) l b (end t a r) = (
-    end t a all_read,
+  ends_recorded (Some x) l b (end t q a r) = (
+    end t q a all_read,
     put_elsewhere x.id (Some (Ending x.born)) l
         (mortal_elsewhere x l (held_here x l a b) t),
     r,
   )
 
-  -- an event is recorded: what it names is held there, and the meeting goes on behind it
+  -- no request that is not yet recorded is about the id of what the event makes that is recorded next
+  pub unasked_event : (qs rs : List Ask) (fs : List Tell) {here common middle : Rows Row} {s : Rows Born} (x : Known)
+      (xs : List Known) (n o : Option Known)
+      → Leads test rs here common → Tied test (qs ++ rs) s middle
+      → ReadsInFlight test ((Name x ∷ (map Name xs ++ (make_tell n ++ ends o))) ++ fs) common middle
+      → ((id : ℕ) (r : Row) → here.rows id ≡ Some r → IsAmongFirst (births_in here) (birth_in r))
+      → ((id : ℕ) (x : Born) → is_of_server id ≡ true → s.rows id ≡ Some x → x.birth.maker ≡ Server)
+      → IfThere (λ y. Each (λ a. ask_id a ≢ y.id) rs) n
+  unasked_event qs rs fs {here} {common} {middle} {s} x xs n o l t (name a r) below by =
+      let k = reads_all xs (subst (λ (l : List Tell). ReadsInFlight test l common middle) (simp append_assoc) r) in
+      by_made n (ends o ++ fs) k.1
+    where
+      by_made : (n : Option Known) (gs : List Tell) → ReadsInFlight test (make_tell n ++ gs) common middle
+          → IfThere (λ y. Each (λ a. ask_id a ≢ y.id) rs) n
+      by_made None gs q = tt
+      by_made (Some y) gs (made f g q) = unasked qs rs y l t g q below by
+
+  -- an event is recorded: what it names is held there, what it makes follows, and the meeting goes
+  -- on behind it
   pub event_recorded : {qs : List Ask} {es fs : List Tell} {here client w : Rows Row} (x : Known) (xs : List Known)
-      (o : Option Known) (m : Joins test qs es here client)
-      → ReadsInFlight test ((Name x ∷ (map Name xs ++ ends o)) ++ fs) m.common w → IsAmongFirst here.births x.born.birth
-      → Each (λ y. IsAmongFirst here.births y.born.birth) xs → IfThere (λ y. IsAmongFirst here.births y.born.birth) o
-      → RecordsTell test qs (es ++ (Name x ∷ (map Name xs ++ ends o))) fs here client w x xs (client_ends o here)
-  event_recorded {fs = fs} {w = w} x xs o m (name a r) l ls lo =
-      let n = reads_all xs (subst (λ (l : List Tell). ReadsInFlight test l m.common w) (simp append_assoc) r) in
+      (n o : Option Known) (m : Joins test qs es here client)
+      → ReadsInFlight test ((Name x ∷ (map Name xs ++ (make_tell n ++ ends o))) ++ fs) m.common w
+      → IfThere (λ y. Each (λ a. ask_id a ≢ y.id) qs) n
+      → Counted here x → Each (Counted here) xs → IfThere (Counted here) o
+      → RecordsTell test qs (es ++ (Name x ∷ (map Name xs ++ (make_tell n ++ ends o)))) fs here client w x xs n
+      (client_ends o (client_told here n))
+  event_recorded {fs = fs} {here = here} {w = w} x xs n o m (name a r) u l ls lo =
+      let k = reads_all xs (subst (λ (l : List Tell). ReadsInFlight test l m.common w) (simp append_assoc) r) in
       let h = held_here x m.leads a l in
-      let e = ends_recorded o m.leads lo n.1 in
+      let c = makes_recorded n m.leads u k.1 in
+      let e = ends_recorded o c.0.1 (told_first_if here n o lo) c.1.0 in
       record {
         target = h;
-        args = all_held_here xs m.leads n.0 ls;
+        args = all_held_here xs m.leads k.0 ls;
+        new = c.1.1;
         joins = record {
-          common = client_ends o m.common;
+          common = client_ends o (client_told m.common n);
           leads = e.1;
-          reads = reads_more m.reads (name a (reads_more (names_read xs n.0) e.0));
+          reads = reads_more m.reads (name a (reads_more (names_read xs k.0) (reads_more c.0.0 e.0)));
         };
         rest = e.2;
       }
@@ -188,16 +239,17 @@ module _ {test : Born → Bool} where
   -- a delete is recorded: nothing asked and not yet recorded is about its id
   pub delete_recorded : {qs : List Ask} {es fs : List Tell} {here client w : Rows Row} (x : Known)
       (m : Joins test qs es here client)
-      → ReadsInFlight test (Delete x ∷ fs) m.common w → IsAmongFirst here.births x.born.birth
+      → ReadsInFlight test (Delete x ∷ fs) m.common w → Counted here x
       → Each (λ a. ask_id a ≢ x.id) qs
-      → RecordsTell test qs (es ++ Delete x ∷ []) fs here client w x [] (at here x.id None)
-  delete_recorded x m (delete z a b r) l e = record {
+      → RecordsTell test qs (es ++ Delete x ∷ []) fs here client w x [] None (at here x.id None)
+  delete_recorded x m (delete z q a b r) l e = record {
     target = held_here x m.leads a l;
     args = tt;
+    new = tt;
     joins = record {
       common = at m.common x.id None;
       leads = put_elsewhere x.id None m.leads e;
-      reads = reads_more m.reads (delete z a b all_read);
+      reads = reads_more m.reads (delete z q a b all_read);
     };
     rest = r;
   }

@@ -5,7 +5,13 @@ use Rattle.std.specs.declared.option.Option.{Option}
 use Rattle.std.specs.declared.option.Option.TheVariants.{None, Some}
 use Rattle.wl_sigs.specs.Tables.{Interface}
 use Rattle.wl_sigs.specs.Fixed.{display}
-use Rattle.wl_sigs.specs.Rules.{has_server_objects}
+use Rattle.std.proofs.Common.{◌<◌, length, arith, subst}
+use Rattle.wl_object_map.specs.declared.object.Maker.{Maker}
+use Rattle.wl_object_map.specs.declared.object.Maker.TheVariants.{Client, Server}
+use Rattle.wl_object_map.specs.Objects.{maker_of}
+use Rattle.theory_connection.specs.Meant.{born_of_entry}
+use Rattle.theory_connection.specs.Flight.{births_in}
+use Rattle.theory_connection.proofs.Stands.{by_makers}
 use Rattle.wl_sigs.specs.Valid.{Valid}
 use Rattle.wl_message.specs.declared.amounts.Sizes.{Sizes}
 use Rattle.wl_message.specs.Arrived.{nothing_arrived}
@@ -30,7 +36,6 @@ use Rattle.theory_recording.specs.Leads.{done}
 use Rattle.theory_recording.specs.Recorded.{Recorded}
 use Rattle.theory_recording.specs.Follows.{AllGoOn, KnownAs, Follows, knowledge, birth_places, makers, entry_at}
 use Rattle.theory_recording.specs.Linked.{Linked, linked, judgements}
-use Rattle.theory_connection.proofs.Births.{next_counted}
 
 -- nothing was recorded
 none_judged : (limit : ℕ) (tables : List Interface) → judgements limit tables [] ≡ []
@@ -61,28 +66,50 @@ known_none limit tables =
     })
     ∙ ap (λ (ms : List Judged). known (changes_at tables ms) 1) (none_judged limit tables)
 
-first_places : (tables : List Interface) → birth_places tables [] ≡ 0 ∷ []
+-- at first there is one place for each maker
+abbrev first : Maker → List ℕ
+first by = 0 ∷ []
+
+first_places : (tables : List Interface) → birth_places tables [] ≡ first
 unfolding makers
-first_places tables = refl
+first_places tables = λ i by. each by i
+  where
+    each : (by : Maker) → birth_places tables [] by ≡ first by
+    each Client = refl
+    each Server = refl
 
-first_row : (b : Bool) → first_entry b ≡ option_map (entry_at (0 ∷ []))
-    (option_map row_of_entry (cond b (Some (live_entry display_born)) None))
-first_row true = refl
-first_row false = refl
+first_row : (id : ℕ) (b : Bool) → first_entry b ≡ option_map (entry_at first)
+    (option_map (row_of_entry id) (cond b (Some (live_entry display_born)) None))
+first_row id true = refl
+first_row id false = refl
 
-first_below : (b : Bool) (r : Row) → option_map row_of_entry (cond b (Some (live_entry display_born)) None) ≡ Some r
-    → IsAmongFirst 1 (birth_in r)
-first_below true r e = let same : Open display_born ≡ r = cc e in next_counted (birth_in r) 0 (sym (ap birth_in same))
-first_below false r e = absurd (cc e)
+one_each : (by : Maker) → 0 < births_in (client_rows (opening_view display)) by
+one_each Client = omega arith
+one_each Server = omega arith
 
-known_opening : KnownAs first_known (0 ∷ []) (client_rows (opening_view display))
+one_place : (by : Maker) → length (first by) ≡ births_in (client_rows (opening_view display)) by
+one_place Client = refl
+one_place Server = refl
+
+first_below : (id : ℕ) (b : Bool) (r : Row)
+    → option_map (row_of_entry id) (cond b (Some (live_entry display_born)) None) ≡ Some r
+    → IsAmongFirst (births_in (client_rows (opening_view display))) (birth_in r)
+first_below id true r e =
+    let same : Open (born_of_entry id (live_entry display_born)) ≡ r = cc e in
+    subst (λ (x : Row). IsAmongFirst (births_in (client_rows (opening_view display))) (birth_in x)) same
+    (one_each (maker_of id))
+first_below id false r e = absurd (cc e)
+
+known_opening : KnownAs first_known first (client_rows (opening_view display))
 known_opening = record {
-  objects = λ id. first_row (nat_eq id 1) ∙ ap (λ (o : Option Entry). option_map (entry_at (0 ∷ []))
-      (option_map row_of_entry o))
+  objects = λ id. first_row id (nat_eq id 1) ∙ ap (λ (o : Option Entry). option_map (entry_at first)
+      (option_map (row_of_entry id) o))
       (sym (look-opening display id));
   used = refl;
-  births = refl;
-  below = λ id r e. first_below (nat_eq id 1) r (ap (option_map row_of_entry) (sym (look-opening display id)) ∙ e);
+  next = refl;
+  births = one_place;
+  below = λ id r e. first_below id (nat_eq id 1) r (ap (option_map (row_of_entry id)) (sym (look-opening display id)) ∙ e);
+  made_by = by_makers (opening_view display);
 }
 
 none_go_on : AllGoOn []
@@ -94,7 +121,7 @@ follows_none limit tables = record {
   here = client_rows (opening_view display);
   known_as = subst (λ (k : Knows). KnownAs k (birth_places tables []) (client_rows (opening_view display)))
       (known_none limit tables)
-      (subst (λ (l : List ℕ). KnownAs first_known l (client_rows (opening_view display)))
+      (subst (λ (l : Maker → List ℕ). KnownAs first_known l (client_rows (opening_view display)))
       (sym (first_places tables)) known_opening);
   joins = record { common = client_rows (opening_view display); leads = done; reads = all_read };
   remembers = tt;
@@ -122,10 +149,10 @@ none_recorded limit tables d sizes same = record {
 
 -- a new pair is linked with the opening world
 pub new_linked : (tables : List Interface) (client_sizes server_sizes : Sizes)
-    → client_sizes.limit.bytes ≡ server_sizes.limit.bytes → Valid tables → has_server_objects tables ≡ false
+    → client_sizes.limit.bytes ≡ server_sizes.limit.bytes → Valid tables
     → Linked (new_pair tables client_sizes server_sizes) opening_world
-new_linked tables client_sizes server_sizes one v none = linked [] [] (refl, refl) (record {
-  stands = new_stands_by tables client_sizes server_sizes one v none;
+new_linked tables client_sizes server_sizes one v = linked [] [] (refl, refl) (record {
+  stands = new_stands_by tables client_sizes server_sizes one v;
   requests = record {
     seen = [];
     later = [];

@@ -1,9 +1,11 @@
 -- A carry keeps a pair linked.
-use Rattle.std.proofs.Common.{◌≡◌, false, ℕ, ◌+◌, List, [], ◌∷◌, ◌++◌, length-append, map, refl, sym, ap, subst, ◌∙◌, arith}
+use Rattle.std.proofs.Common.{◌≡◌, ℕ, ◌+◌, List, [], ◌∷◌, ◌++◌, length-append, map, refl, sym, ap, subst, ◌∙◌, arith}
 use Rattle.std.specs.Prelude.{option_map}
 use Rattle.std.proofs.lemmas.List.{append_assoc}
 use Rattle.wl_sigs.specs.Tables.{Interface}
-use Rattle.wl_sigs.specs.Rules.{has_server_objects}
+use Rattle.theory_connection.specs.Meant.{Born, born_of_entry}
+use Rattle.wl_object_map.specs.Objects.{look}
+use Rattle.theory_connection.proofs.RowsAfterMessage.{map_some}
 use Rattle.wl_sigs.specs.Valid.{Valid}
 use Rattle.wl_message.specs.Outgoing as boxes
 use Rattle.wl_client.specs.declared.globals.Global.{Global as Remembered}
@@ -46,14 +48,14 @@ Asking tables given told_seen client remembered e seen later =
 
 asking_one : (limit : ℕ) (tables : List Interface) (given : List Global) (told_seen : List (Coming Known))
     (client : Rows Row) (remembered : List Remembered) (streams : Direction → List ℕ) (t : ℕ)
-    → Valid tables → has_server_objects tables ≡ false → Each (IsGlobal tables) given
+    → Valid tables → Each (IsGlobal tables) given
     → KeepsOne spelled_meant limit tables ToServer streams t (Asking tables given told_seen client remembered)
-asking_one limit tables given told_seen client remembered streams t valid none globals e seen later m p more f whole
+asking_one limit tables given told_seen client remembered streams t valid globals e seen later m p more f whole
     at enough =
     one_with (λ e'. Follows tables e' later told_seen client remembered)
     (λ e'. Asking tables given told_seen client remembered e' (seen ++ m ∷ []) later) (λ e' g. (g, f.1.1))
     (ask_one limit tables given told_seen client remembered
-    (streams ToServer) more t p e m later valid none globals f.0 f.1.0 whole at enough)
+    (streams ToServer) more t p e m later valid globals f.0 f.1.0 whole at enough)
 
 -- a carry to the server keeps a pair linked
 pub carry_to_server_links : (p : PairState) (w : World) (asked : List (Message Known)) (told : List (Coming Known))
@@ -79,7 +81,7 @@ carry_to_server_links p w asked told most l s =
     let c = carry_recorded spelled_meant limit tables ToServer ps qs bytes taken.tokens F next.client.core.outbox
     p.server.core.inbox next.server.core.inbox l.requests.seen l.requests.later brings
     (asking_one limit tables p.server.globals l.events.seen client p.client.globals (λ x. stream_of x qs)
-    (piece_tokens ToServer ps + taken.tokens) l.stands.terms.valid l.stands.terms.none_by_server l.stands.globals.globals)
+    (piece_tokens ToServer ps + taken.tokens) l.stands.terms.valid l.stands.globals.globals)
     l.requests.recorded (l.follows, fits) flight refl
     (omega (arith, there, length-append p.server.core.inbox.tokens (carried_tokens p.client.core taken))) refl in
     record {
@@ -113,16 +115,16 @@ Telling tables given asked_later told client remembered e seen later =
 telling_one : (limit : ℕ) (tables : List Interface) (given : List Global)
     (asked_seen asked_later : List (Message Known)) (told : List (Coming Known)) (client : Rows Row)
     (server : Rows Born) (remembered : List Remembered)
-    (streams : Direction → List ℕ) (t : ℕ) → Valid tables → has_server_objects tables ≡ false
+    (streams : Direction → List ℕ) (t : ℕ) → Valid tables
     → Whereabouts tables asked_seen asked_later told client server
     → KeepsOne spelled_coming limit tables ToClient streams t (Telling tables given asked_later told client remembered)
-telling_one limit tables given asked_seen asked_later told client server remembered streams t valid none w e seen later
+telling_one limit tables given asked_seen asked_later told client server remembered streams t valid w e seen later
     c p more f whole at enough =
     one_with (λ e'. Follows tables e' asked_later (seen ++ c ∷ []) client remembered)
     (λ e'. Telling tables given asked_later told client remembered e' (seen ++ c ∷ []) later)
     (λ e' g. (g, f.1 ∙ sym (append_assoc seen (c ∷ []) later), f.2.1))
     (tell_one limit tables given asked_seen asked_later told client server remembered
-    (streams ToClient) more t p e seen later c valid none w f.1 f.0 f.2.0 whole at enough)
+    (streams ToClient) more t p e seen later c valid w f.1 f.0 f.2.0 whole at enough)
 
 whereabouts : (p : PairState) (w : World) (asked : List (Message Known)) (told : List (Coming Known))
     (l : LinkedBy p w asked told)
@@ -134,7 +136,9 @@ whereabouts p w asked told l =
       meet = subst (λ (qs : List Ask). MeetInMiddle (by_event p.server.core.tables) (all_tells told) qs
           (client_rows p.client.core.view) (server_rows p.server.core.view)) parts l.stands.meet;
       counted = l.counted;
-      display = ap (option_map flight.row_of_entry) l.stands.client.display;
+      made_by = λ id x h. (let m = map_some (born_of_entry id) (look p.server.core.view id) x h in
+          sym (ap (λ (b : Born). b.birth.maker) m.2));
+      display = ap (option_map (flight.row_of_entry 1)) l.stands.client.display;
     }
 
 -- a carry to the client keeps a pair linked
@@ -162,7 +166,7 @@ carry_to_client_links p w asked told most l s =
     p.client.core.inbox next.client.core.inbox l.events.seen l.events.later brings
     (telling_one limit tables p.server.globals l.requests.seen l.requests.later told client
     (server_rows p.server.core.view) p.client.globals (λ x. stream_of x qs)
-    (piece_tokens ToClient ps + taken.tokens) l.stands.terms.valid l.stands.terms.none_by_server
+    (piece_tokens ToClient ps + taken.tokens) l.stands.terms.valid
     (whereabouts p w asked told l))
     l.events.recorded (l.follows, l.events.is, fits) flight refl
     (omega (arith, there, length-append p.client.core.inbox.tokens (carried_tokens p.server.core taken))) refl in

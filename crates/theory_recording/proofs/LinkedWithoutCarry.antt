@@ -1,7 +1,7 @@
 -- Each move that carries nothing keeps what is linked.
-use Rattle.std.proofs.Common.{◌≡◌, ℕ, ◌≤◌, Bool, true, false, List, [], ◌∷◌, ◌++◌, map, inl}
+use Rattle.std.proofs.Common.{◌≡◌, ℕ, ◌≤◌, Bool, true, false, List, [], ◌∷◌, ◌++◌, map, inl, inr}
 use Rattle.std.proofs.Common.{refl, sym, ap, subst, ◌∙◌, arith, ◌+◌, min, length}
-use Rattle.std.specs.Prelude.{option_map}
+use Rattle.std.specs.Prelude.{option_map, Option}
 use Rattle.std.specs.declared.option.Option.TheVariants.{None, Some}
 use Rattle.std.proofs.lemmas.Bool.{eqb-true, eq-eqb, and_parts}
 use Rattle.std.proofs.lemmas.List.{append_assoc}
@@ -24,24 +24,34 @@ use Rattle.wl_check.specs.Changes.{first_number}
 use Rattle.wl_check.specs.Places.{KnownAtPlace as Knows}
 use Rattle.theory_connection.specs.Meant.{IsAmongFirst, Born, Known, Message, Coming, Event, Delete, Arg, made_in}
 use Rattle.theory_connection.specs.Meant.{objects, wire, spelled_meant, spelled_coming}
-use Rattle.theory_connection.specs.World.{World, Row, Each, IfThere, delete, is_registry}
+use Rattle.theory_connection.specs.World.{World, Row, Each, IfThere, is_registry}
 use Rattle.theory_connection.proofs.EndedObject.{ended_view, ends_have, if_by}
 use Rattle.theory_connection.specs.Pair.{PairState, with_client, with_server}
 use Rattle.theory_connection.specs.Flight.{about, IsBelow, Rows, Tell, tells, all_asks, all_tells, ReadsInFlight}
 use Rattle.theory_connection.specs.Flight.{IsHeldInRows, client_rows}
 use Rattle.theory_connection.specs.Stands.{StandsBy, FitsSignature, TellsGiven, by_event}
-use Rattle.theory_connection.proofs.WholeInFlight.{OpenRow, client_ends, tells_at, deletes_at}
+use Rattle.theory_connection.proofs.WholeInFlight.{OpenRow, client_ends, client_told, id_maker, tells_at, deletes_at}
 use Rattle.theory_connection.proofs.WholeInFlight.{all_asks_more, all_tells_more, each_more}
 use Rattle.theory_connection.proofs.WholeInFlight.{each_rest, each_by}
 use Rattle.theory_connection.proofs.Bridges.{client_closed}
-use Rattle.theory_connection.proofs.RowsAfterMessage.{held_row, client_after, births_kept}
+use Rattle.theory_connection.proofs.RowsAfterMessage.{held_row, client_after, client_after_event}
 use Rattle.theory_connection.proofs.ReadAsMeant.{made_of}
 use Rattle.theory_connection.proofs.ClientGlobals.{learns}
-use Rattle.theory_connection.proofs.RequestRead.{left_state}
+use Rattle.theory_connection.proofs.RequestRead.{left_state, answer_is}
 use Rattle.theory_connection.proofs.EventRead.{after_event, after_delete, teaches}
 use Rattle.theory_connection.proofs.RequestWritten.{CanAsk, asked_pair}
 use Rattle.theory_connection.proofs.ClientBindMove.{find_at}
-use Rattle.theory_connection.proofs.Moves.{BindsRemembered, told_pair, delete_below}
+use Rattle.theory_connection.proofs.Moves.{BindsRemembered, told_pair}
+use Rattle.std.proofs.lemmas.Bool.{cases_Bool}
+use Rattle.wl_object_map.specs.declared.object.Maker.{Maker}
+use Rattle.wl_object_map.specs.declared.object.Maker.TheVariants.{Client, Server}
+use Rattle.wl_object_map.specs.declared.object.Object.{Object}
+use Rattle.wl_object_map.specs.Ranges.{is_of_server}
+use Rattle.wl_object_map.specs.Objects.{opened_at}
+use Rattle.wl_object_map.specs.ObjectsLaws.{births-rise, births-closed}
+use Rattle.theory_connection.specs.World.{answer}
+use Rattle.theory_connection.specs.Flight.{Counts, server_rows, births_in}
+use Rattle.theory_connection.proofs.TwoRanges.{counts_by_server, counts_by_client, counts_closed}
 use Rattle.theory_recording.specs.Leads.{Joins}
 use Rattle.theory_recording.specs.Follows.{IsAdvertised, TellsAdvertised, BindsAdvertised}
 use Rattle.theory_recording.specs.Linked.{LinkedBy, knows, pair_limit}
@@ -155,19 +165,27 @@ asked_links p w w' asked told m c binds l s =
 
 -- ---- the server writes
 
-more_counted : (births : ℕ) (told news : List (Coming Known)) → Each (IsBelow births) (all_tells told)
+more_counted : (births : Maker → ℕ) (told news : List (Coming Known)) → Each (IsBelow births) (all_tells told)
     → Each (IsBelow births) (all_tells news) → Each (IsBelow births) (all_tells (told ++ news))
 more_counted births told news h below =
     rw (all_tells_more told news) (each_more (IsBelow births) (all_tells told) (all_tells news) h below)
 
+below_more : (few many : Maker → ℕ) → ((k : Maker) → few k ≤ many k) → (t : Tell) → IsBelow few t → IsBelow many t
+below_more few many h t l = counted_more (about t).born.birth few many l h
+
+-- how many births an end has counted, as its rows have them
+abbrev counted_at : Objects → Maker → ℕ
+counted_at v = births_in (server_rows v)
+
 -- a pair stays linked when the server writes, none of which is yet recorded
 pub told_links : (p : PairState) (w w' : World) (asked : List (Message Known)) (told : List (Coming Known))
     (view : Objects) (outbox : Outgoing) (registries : List Registry) (news : List (Coming Known))
-    → view.client.births ≡ p.server.core.view.client.births → Each (IsBelow p.server.core.view.client.births) (all_tells news)
+    → ((k : Maker) → births_in (server_rows p.server.core.view) k ≤ births_in (server_rows view) k)
+    → Each (IsBelow (births_in (server_rows view))) (all_tells news)
     → LinkedBy p w asked told
     → StandsBy (told_pair p view outbox registries) w' asked (told ++ news)
     → LinkedBy (told_pair p view outbox registries) w' asked (told ++ news)
-told_links p w w' asked told view outbox registries news births below l s = record {
+told_links p w w' asked told view outbox registries news rise below l s = record {
   stands = s;
   requests = l.requests;
   events = record {
@@ -177,29 +195,53 @@ told_links p w w' asked told view outbox registries news births below l s = reco
     recorded = l.events.recorded;
   };
   follows = l.follows;
-  counted = subst (λ (n : ℕ). Each (IsBelow n) (all_tells (told ++ news))) (sym births)
-      (more_counted p.server.core.view.client.births told news l.counted below);
+  counted = more_counted (counted_at view) told news
+      (each_by (IsBelow (counted_at p.server.core.view)) (IsBelow (counted_at view))
+      (below_more (counted_at p.server.core.view) (counted_at view) rise) (all_tells told) l.counted) below;
 }
 
 -- ---- the server reads
 
-below_more : (few many : ℕ) → few ≤ many → (t : Tell) → IsBelow few t → IsBelow many t
-below_more few many h t l = counted_more (about t).born.birth few many l h
+-- no count falls where an object is opened
+opened_rise : (v : Objects) (id : ℕ) (iface : Iface) (version : ℕ) (k : Maker)
+    → counted_at v k ≤ counted_at (opened_at v id iface version) k
+opened_rise v id iface version Client = births-rise v id iface version
+opened_rise v id iface version Server = elim (cases_Bool (is_of_server id)) [
+  | inl h ↦ (let e = ap (λ (c : Counts). c.births) (counts_by_server v id iface version h) in omega (arith, e))
+  | inr h ↦ (let e = ap (λ (c : Counts). c.births) (counts_by_client v id iface version h) in omega (arith, e))
+]
+
+closed_rise : (v : Objects) (id : ℕ) (k : Maker) → counted_at v k ≤ counted_at (closed v id) k
+closed_rise v id Client = let e = births-closed v id in omega (arith, e)
+closed_rise v id Server = let e = ap (λ (c : Counts). c.births) (counts_closed v id) in omega (arith, e)
+
+-- nor where a message makes this and ends that
+births_kept : (v : Objects) (n o : Option Known) (k : Maker)
+    → counted_at v k ≤ counted_at (ended_view event_side (opens v (option_map made_of n)) o) k
+births_kept v None None k = omega arith
+births_kept v None (Some x) k = closed_rise v x.id k
+births_kept v (Some y) None k = opened_rise v y.id y.born.iface y.born.version k
+births_kept v (Some y) (Some x) k =
+    let more = opened_rise v y.id y.born.iface y.born.version k in
+    let same = closed_rise (opened_at v y.id y.born.iface y.born.version) x.id k in omega (arith, more, same)
 
 -- a pair stays linked when the server reads the first request
 pub request_links : (p : PairState) (w w' : World) (m : Message Known) (ms : List (Message Known))
     (told : List (Coming Known)) (n : ℕ)
-    → in_front p.server.core.inbox ≡ Whole n → IfThere (λ x. IsAmongFirst p.server.core.view.client.births x.born.birth) m.ends
+    → in_front p.server.core.inbox ≡ Whole n
+    → IfThere (λ x. IsAmongFirst (births_in (server_rows p.server.core.view)) x.born.birth) m.ends
     → LinkedBy p w (m ∷ ms) told
-    → StandsBy (with_server p (left_state p.server m n)) w' ms (told ++ delete m.ends)
-    → LinkedBy (with_server p (left_state p.server m n)) w' ms (told ++ delete m.ends)
+    → StandsBy (with_server p (left_state p.server m n)) w' ms (told ++ answer id_maker m.ends)
+    → LinkedBy (with_server p (left_state p.server m n)) w' ms (told ++ answer id_maker m.ends)
 request_links p w w' m ms told n whole there l s =
     let seen = rest_seen spelled_meant (pair_limit p) ToServer p.recording p.client.core.outbox p.server.core.inbox
     ((knows p).taken ToServer) n m ms l.stands.requests.in_boxes whole l.requests in
-    let births = p.server.core.view.client.births in
-    let now = (ended_view event_side (opens p.server.core.view (option_map made_of (made_in m.args))) m.ends).client.births in
-    let dead = delete m.ends in
-    let counted = more_counted births told dead l.counted (delete_below births m.ends there) in
+    let births = counted_at p.server.core.view in
+    let now = counted_at (ended_view event_side (opens p.server.core.view (option_map made_of (made_in m.args))) m.ends) in
+    let dead = answer id_maker m.ends in
+    let counted = more_counted births told dead l.counted
+    (answer_is (λ cs. Each (IsBelow births) (all_tells cs)) m.ends tt
+    (λ x e r. (subst (IfThere (λ y. IsAmongFirst births y.born.birth)) e there, tt))) in
     record {
       stands = s;
       requests = record { seen = seen.rest; later = l.requests.later; is = seen.others; recorded = seen.recorded };
@@ -231,13 +273,16 @@ told_advertised tables given k m a r e t = a (rw (r, eq-eqb m.opcode 0 e) refl) 
 event_joins : (test : Born → Bool) (m : Message Known) (asked_later : List (Message Known)) (rest : List (Coming Known))
     (here : Rows Row) (v : Objects) (tables : List Interface) (f : FitsSignature tables event_side m)
     → Joins test (all_asks asked_later) (all_tells (Event m ∷ rest)) here (client_rows v)
-    → Joins test (all_asks asked_later) (all_tells rest) here (client_rows (ended_view request_side v m.ends))
+    → Joins test (all_asks asked_later) (all_tells rest) here
+    (client_rows (ended_view request_side (opens v (option_map made_of (made_in m.args))) m.ends))
 event_joins test m asked_later rest here v tables f j =
-    let t = tells_at m.target (objects m.args) m.ends j.reads in
+    let new = made_in m.args in
+    let t = tells_at m.target (objects m.args) new m.ends j.reads in
     let held : IfThere (IsHeldInRows (client_rows v)) m.ends =
     ends_have (IsHeldInRows (client_rows v)) tables event_side m f t.target t.args in
-    let rows : client_rows (ended_view request_side v m.ends) ≡ client_ends m.ends (client_rows v) =
-    client_after v None m.ends tt (if_by (held_row v) m.ends held) in
+    let rows : client_rows (ended_view request_side (opens v (option_map made_of new)) m.ends)
+    ≡ client_ends m.ends (client_told (client_rows v) new) =
+    client_after_event v new m.ends t.new (if_by (held_row v) m.ends held) t.range in
     record {
       common = j.common;
       leads = j.leads;
@@ -246,8 +291,8 @@ event_joins test m asked_later rest here v tables f j =
     }
 
 -- the client behind the first of what comes, with this view and these globals
-abbrev read_client : client.State → Coming Known → ℕ → Objects → List Remembered → client.State
-read_client st c n view globals = record {
+abbrev read_client : client.State → Coming Known → ℕ → Objects → List Remembered → Option Object → client.State
+read_client st c n view globals made = record {
   core = record st.core {
     view = view;
     inbox = without_first st.core.inbox n (length (spelled_coming c).tokens);
@@ -255,22 +300,23 @@ read_client st c n view globals = record {
     failed = false;
   };
   globals = globals;
-  made = None;
+  made = made;
 }
 
 -- A pair stays linked when the client reads the first of what comes, where its rows still join and
 -- what it remembers is advertised.
 coming_links : (p : PairState) (w w' : World) (asked : List (Message Known)) (c : Coming Known)
     (cs : List (Coming Known)) (n : ℕ) (view : Objects) (globals : List Remembered)
+    (made : Option Object)
     → in_front p.client.core.inbox ≡ Whole n → (l : LinkedBy p w asked (c ∷ cs))
     → ((here : Rows Row) (rest : List (Coming Known))
     → Joins (by_event p.server.core.tables) (all_asks l.requests.later) (all_tells (c ∷ rest)) here
     (client_rows p.client.core.view)
     → Joins (by_event p.server.core.tables) (all_asks l.requests.later) (all_tells rest) here (client_rows view))
     → (TellsAdvertised p.server.core.tables (knows p) c → Each (Advertised p) globals)
-    → StandsBy (with_client p (read_client p.client c n view globals)) w' asked cs
-    → LinkedBy (with_client p (read_client p.client c n view globals)) w' asked cs
-coming_links p w w' asked c cs n view globals whole l joins learned s =
+    → StandsBy (with_client p (read_client p.client c n view globals made)) w' asked cs
+    → LinkedBy (with_client p (read_client p.client c n view globals made)) w' asked cs
+coming_links p w w' asked c cs n view globals made whole l joins learned s =
     let f = l.follows in
     let tables = p.server.core.tables in
     let seen = rest_seen spelled_coming (pair_limit p) ToClient p.recording p.server.core.outbox p.client.core.inbox
@@ -290,7 +336,7 @@ coming_links p w w' asked c cs n view globals whole l joins learned s =
         tells = told.1;
         binds = f.binds;
       };
-      counted = each_rest (IsBelow p.server.core.view.client.births) (tells c) (all_tells cs) l.counted;
+      counted = each_rest (IsBelow (counted_at p.server.core.view)) (tells c) (all_tells cs) l.counted;
     }
 
 -- a pair stays linked when the client reads an event
@@ -302,8 +348,9 @@ pub event_links : (p : PairState) (w w' : World) (asked : List (Message Known)) 
 event_links p w w' asked m cs n entry whole l s =
     let tables = p.server.core.tables in
     let fit = l.stands.events.fit.0 in
-    coming_links p w w' asked (Event m) cs n (ended_view request_side p.client.core.view m.ends)
-    (after_event p.client m n (teaches m entry)).globals whole l
+    coming_links p w w' asked (Event m) cs n
+    (ended_view request_side (opens p.client.core.view (option_map made_of (made_in m.args))) m.ends)
+    (after_event p.client m n (teaches m entry)).globals (after_event p.client m n (teaches m entry)).made whole l
     (λ here rest j. event_joins (by_event tables) m l.requests.later rest here p.client.core.view tables fit.fits j)
     (λ told. learns (Advertised p) tables p.client.core.tables p.server.globals p.client.globals m
     l.stands.terms.same_tables fit (told_advertised tables p.server.globals (knows p) m told) l.follows.remembers
@@ -329,6 +376,6 @@ pub delete_links : (p : PairState) (w w' : World) (asked : List (Message Known))
     → LinkedBy p w asked (Delete x ∷ cs) → StandsBy (with_client p (after_delete p.client x n)) w' asked cs
     → LinkedBy (with_client p (after_delete p.client x n)) w' asked cs
 delete_links p w w' asked x cs n whole l s =
-    coming_links p w w' asked (Delete x) cs n (closed p.client.core.view x.id) p.client.globals whole l
+    coming_links p w w' asked (Delete x) cs n (closed p.client.core.view x.id) p.client.globals None whole l
     (λ here rest j. delete_joins (by_event p.server.core.tables) x l.requests.later rest here p n j)
     (λ told. l.follows.remembers) s

@@ -14,7 +14,6 @@ use Rattle.wl_sigs.specs.declared.signature.Destroys.TheVariants.{Nothing}
 use Rattle.wl_sigs.specs.Tables as sigs
 use Rattle.wl_sigs.specs.Tables.{Interface, signature_at, destroys_one}
 use Rattle.wl_sigs.specs.Fixed as fixed
-use Rattle.wl_sigs.specs.Rules.{has_server_objects}
 use Rattle.wl_sigs.specs.Valid.{Valid}
 use Rattle.wl_message.specs.Cut.{IsMessage}
 use Rattle.wl_object_map.specs.declared.object.Entry.{Entry}
@@ -24,36 +23,42 @@ use Rattle.wl_client.specs.declared.globals.Global.{Global as Remembered}
 use Rattle.wl_server.specs.State.{Global}
 use Rattle.wl_recording.specs.declared.piece.Direction.TheVariants.{ToClient}
 use Rattle.wl_check.specs.Changes.{changes, side_of, destroyed_id, is_global, first_number}
-use Rattle.wl_check.specs.Places.{is_id, is_made, made_entry, new_of, used_by, unless_deleted, frees}
+use Rattle.wl_check.specs.Places.{is_id, is_made, made_entry, new_of, used_by, server_used_by}
+use Rattle.wl_check.specs.Places.{unless_deleted, frees}
 use Rattle.wl_check.specs.Rules.{reader_by}
 use Rattle.wl_check.specs.Session.{Judged}
 use Rattle.wl_check.proofs.LongerRecording.{behind_one, advertised_own}
 use Rattle.theory_connection.specs.Meant.{IsAmongFirst, Born, Known, Arg, Message, Coming, Event, Delete, objects}
 use Rattle.theory_connection.specs.Meant.{made_in, new_object_in, wire, tokens, spelled_meant, spelled_coming}
-use Rattle.theory_connection.specs.World.{Row, Open, Each, IfThere, display_born}
-use Rattle.theory_connection.proofs.NoneByServer.{none_by_server}
-use Rattle.theory_connection.proofs.EndedObject.{if_by}
-use Rattle.theory_connection.specs.Flight.{IsBelow, Rows, at, Tell, Name, ends, tells, all_tells}
+use Rattle.theory_connection.specs.World.{Row, Open, Ending, Each, IfThere, display_born}
+use Rattle.theory_connection.proofs.MadeFor.{made_for}
+use Rattle.theory_connection.proofs.EndedObject.{ends_have}
+use Rattle.theory_connection.specs.Flight.{IsBelow, births_in, Rows, at, Tell, Name, make_tell, ends, tells}
+use Rattle.theory_connection.specs.Flight.{all_tells}
 use Rattle.theory_connection.specs.Flight.{all_asks, IsHeldInRows, ReadsInFlight, MeetInMiddle}
-use Rattle.theory_connection.specs.Stands.{ComesFitly, TellsFitly, by_event}
+use Rattle.theory_connection.specs.Stands.{ComesFitly, TellsFitly, by_event, birth_in}
 use Rattle.theory_connection.specs.Plain.{ask_id}
 use Rattle.theory_connection.proofs.Flight.{live_after, free_after, put_row_same}
-use Rattle.theory_connection.proofs.WholeInFlight.{client_ends, each_by, each_more, each_front}
-use Rattle.theory_connection.proofs.WholeInFlight.{each_rest, all_tells_more, deletes_at}
+use Rattle.theory_connection.proofs.WholeInFlight.{client_ends, client_told, each_by, each_more, each_front}
+use Rattle.theory_connection.proofs.WholeInFlight.{each_rest, all_tells_more, deletes_at, tells_at}
 use Rattle.theory_connection.proofs.Plain.{free_asks}
 use Rattle.theory_connection.proofs.EventRead.{deleting, delete_signature}
-use Rattle.theory_connection.proofs.ReadAsMeant.{HasObject}
-use Rattle.theory_recording.specs.Follows.{Follows, knowledge, birth_places, maker, TellsAdvertised, KnownAs}
-use Rattle.theory_recording.proofs.LeadsByAction.{held_here, reads_parted, reads_one_way}
-use Rattle.theory_recording.proofs.LeadsByMessage.{event_recorded, delete_recorded}
+use Rattle.theory_connection.proofs.ReadAsMeant.{HasObject, made_of, made_read}
+use Rattle.theory_recording.specs.Follows.{Follows, knowledge, birth_places, TellsAdvertised, KnownAs}
+use Rattle.theory_recording.proofs.LeadsByAction.{held_here, leads_by, reads_parted, reads_one_way}
+use Rattle.theory_recording.proofs.LeadsByMessage.{Counted, unasked_event, event_recorded, delete_recorded}
 use Rattle.theory_recording.proofs.JudgedAsMeant.{all_found, call_as, frame_called}
-use Rattle.theory_recording.proofs.CheckerOfRows.{held_known, news_none}
+use Rattle.theory_recording.proofs.CheckerOfRows.{held_known, news_told}
 use Rattle.theory_recording.proofs.AdvertisedGlobals.{remembers_on, tells_on, binds_on}
-use Rattle.theory_recording.proofs.KnownBehindMessage.{known_deleted, places_behind, some_place}
+use Rattle.theory_recording.proofs.KnownBehindMessage.{known_deleted, places_behind, grown, some_place}
 use Rattle.theory_recording.proofs.RequestBirths.{recorded_first}
 use Rattle.theory_recording.proofs.CalledAsMeant.{One, go_on_more, goes_on_as, own_taken}
-use Rattle.theory_recording.proofs.CalledAsMeant.{other_taken, call_grows, known_call}
-use Rattle.theory_connection.proofs.Births.{counted_more}
+use Rattle.theory_recording.proofs.CalledAsMeant.{other_taken, call_grows, known_told}
+use Rattle.std.proofs.Common.{◌<◌, Bool, inr}
+use Rattle.std.specs.Prelude.{option_map}
+use Rattle.wl_object_map.specs.declared.object.Maker.{Maker}
+use Rattle.wl_object_map.specs.declared.object.Maker.TheVariants.{Client, Server}
+use Rattle.wl_object_map.specs.Objects.{maker_of}
 
 -- ---- where the client will read it
 
@@ -61,28 +66,35 @@ use Rattle.theory_connection.proofs.Births.{counted_more}
 pub record Whereabouts (tables : List Interface) (asked_seen asked_later : List (Message Known))
     (told : List (Coming Known)) (client : Rows Row) (server : Rows Born) : Type 0 where
   pub meet : MeetInMiddle (by_event tables) (all_tells told) (all_asks asked_seen ++ all_asks asked_later) client server
-  pub counted : Each (IsBelow server.births) (all_tells told)
+  pub counted : Each (IsBelow (births_in server)) (all_tells told)
+  pub made_by : (id : ℕ) (x : Born) → server.rows id ≡ Some x → x.birth.maker ≡ maker_of id
   pub display : client.rows 1 ≡ Some (Open display_born)
 
-each_counted : (births : ℕ) (xs : List Known) → Each (IsBelow births) (map Name xs)
-    → Each (λ x. IsAmongFirst births x.born.birth) xs
-each_counted births [] h = tt
-each_counted births (x ∷ xs) h = (h.0, each_counted births xs h.1)
+-- what is held where the checker and the client meet, and was counted by the server, was counted by
+-- the checker if it is the client's
+counted_here : (here common : Rows Row) (server : Rows Born)
+    → ((id : ℕ) (r : Row) → common.rows id ≡ Some r → (birth_in r).maker ≡ maker_of id) → server.births ≤ here.births
+    → (x : Known) → IsHeldInRows common x → IsAmongFirst (births_in server) x.born.birth → Counted here x
+counted_here here common server by first x h c l =
+    let maker : x.born.birth.maker ≡ Client = elim h [
+      | inl p ↦ by x.id (Open x.born) p ∙ ap (λ (b : Bool). cond b Server Client) l
+      | inr p ↦ by x.id (Ending x.born) p ∙ ap (λ (b : Bool). cond b Server Client) l
+    ] in
+    let k : x.born.birth.number < server.births =
+    subst (λ (m : Maker). x.born.birth.number < births_in server m) maker c in
+    omega (arith, k, first)
 
-ends_counted : (births : ℕ) (o : Option Known) → Each (IsBelow births) (ends o)
-    → IfThere (λ x. IsAmongFirst births x.born.birth) o
-ends_counted births None h = tt
-ends_counted births (Some x) h = h.0
-
-below_more : (a b : ℕ) → a ≤ b → (xs : List Known) → Each (λ x. IsAmongFirst a x.born.birth) xs
-    → Each (λ x. IsAmongFirst b x.born.birth) xs
-below_more a b le xs h = each_by (λ (x : Known). IsAmongFirst a x.born.birth)
-    (λ (x : Known). IsAmongFirst b x.born.birth)
-    (λ x l. counted_more x.born.birth a b l le) xs h
+all_counted : (here common : Rows Row) (server : Rows Born)
+    → ((id : ℕ) (r : Row) → common.rows id ≡ Some r → (birth_in r).maker ≡ maker_of id) → server.births ≤ here.births
+    → (xs : List Known) → Each (IsHeldInRows common) xs → Each (IsBelow (births_in server)) (map Name xs)
+    → Each (Counted here) xs
+all_counted here common server by first [] h c = tt
+all_counted here common server by first (x ∷ xs) h c =
+    (counted_here here common server by first x h.0 c.0, all_counted here common server by first xs h.1 c.1)
 
 -- what comes next, where the checker and the client meet
 pub record NextRead (tables : List Interface) (c : Coming Known) (later : List (Coming Known))
-    (common middle : Rows Row) (births : ℕ) : Type 0 where
+    (common middle : Rows Row) (births : Maker → ℕ) : Type 0 where
   pub reads : ReadsInFlight (by_event tables) (tells c ++ all_tells later) common middle
   pub counted : Each (IsBelow births) (tells c)
 
@@ -90,7 +102,7 @@ next_read : (tables : List Interface) (asked_seen asked_later : List (Message Kn
     (told seen later : List (Coming Known)) (c : Coming Known) (client common : Rows Row) (server : Rows Born)
     (w : Whereabouts tables asked_seen asked_later told client server) → told ≡ seen ++ c ∷ later
     → ReadsInFlight (by_event tables) (all_tells seen) client common
-    → NextRead tables c later common w.meet.middle server.births
+    → NextRead tables c later common w.meet.middle (births_in server)
 next_read tables asked_seen asked_later told seen later c client common server w is r =
     let parts : all_tells told ≡ all_tells seen ++ (tells c ++ all_tells later) =
     ap all_tells is ∙ all_tells_more seen (c ∷ later) in
@@ -98,13 +110,13 @@ next_read tables asked_seen asked_later told seen later c client common server w
     w.meet.middle)
     parts w.meet.reads) in
     let same : p.between ≡ common = reads_one_way p.first r in
-    let n = each_rest (IsBelow server.births) (all_tells seen) (tells c ++ all_tells later)
-    (subst (Each (IsBelow server.births)) parts w.counted) in
+    let n = each_rest (IsBelow (births_in server)) (all_tells seen) (tells c ++ all_tells later)
+    (subst (Each (IsBelow (births_in server))) parts w.counted) in
     record {
       reads = subst (λ (v : Rows Row). ReadsInFlight (by_event tables) (tells c ++ all_tells later) v w.meet.middle)
           same
           p.then;
-      counted = each_front (IsBelow server.births) (tells c) (all_tells later) n;
+      counted = each_front (IsBelow (births_in server)) (tells c) (all_tells later) n;
     }
 
 seen_more : (seen : List (Coming Known)) (c : Coming Known) → all_tells (seen ++ c ∷ []) ≡ all_tells seen ++ tells c
@@ -112,8 +124,7 @@ seen_more seen c = all_tells_more seen (c ∷ []) ∙ ap (λ (es : List Tell). a
 
 -- ---- an event
 
--- What an end writes or reads makes an object by a request alone: an event's arguments name none that is new, so
--- that the checker sees it make none.
+-- a delete makes no object
 makes_none : (tables : List Interface) (version : ℕ) (kind : Kind) (a : Arg Known) → new_object_in a ≡ None
     → made_by tables version kind (wire a) ≡ None
 makes_none tables version (kinds.New (Some iface)) (New x) e = absurd (cc e)
@@ -152,7 +163,7 @@ own_global tables e m entry signature same is name version text iface args place
 event_one : (limit : ℕ) (tables : List Interface) (given : List Global) (asked_seen asked_later : List (Message Known))
     (told : List (Coming Known)) (client : Rows Row) (server : Rows Born) (remembered : List Remembered)
     (stream more : List ℕ) (t p : ℕ) (e : List Judged) (seen later : List (Coming Known)) (m : Message Known)
-    → Valid tables → has_server_objects tables ≡ false → Whereabouts tables asked_seen asked_later told client server
+    → Valid tables → Whereabouts tables asked_seen asked_later told client server
     → told ≡ seen ++ Event m ∷ later
     → Follows tables e asked_later seen client remembered → TellsFitly tables given m
     → IsMessage limit (spelled_meant m).bytes → drop p stream ≡ (spelled_meant m).bytes ++ more
@@ -160,27 +171,34 @@ event_one : (limit : ℕ) (tables : List Interface) (given : List Global) (asked
     → One limit tables ToClient stream t p (spelled_meant m) e
     (λ e'. Follows tables e' asked_later (seen ++ Event m ∷ []) client remembered)
 event_one limit tables given asked_seen asked_later told client server remembered stream more t p e seen later m valid
-    none w is f fit whole bytes enough =
+    w is f fit whole bytes enough =
     let k = knowledge tables e in
     let a = f.known_as in
     let ps = birth_places tables e in
+    let new = made_in m.args in
     let next = next_read tables asked_seen asked_later told seen later
     (Event m) client f.joins.common server w is f.joins.reads in
     let first : server.births ≤ f.here.births = recorded_first (all_asks asked_seen)
     (all_asks asked_later) f.joins.leads f.joins.reads w.meet in
-    let counted = each_front (IsBelow server.births) (map Name (objects m.args)) (ends m.ends) next.counted.1 in
-    let ended = ends_counted server.births m.ends
-    (each_rest (IsBelow server.births) (map Name (objects m.args)) (ends m.ends) next.counted.1) in
-    let below = below_more server.births f.here.births first (objects m.args)
-    (each_counted server.births (objects m.args) counted) in
-    let r = event_recorded m.target (objects m.args) m.ends f.joins next.reads
-    (counted_more m.target.born.birth server.births f.here.births next.counted.0 first) below
-    (if_by (λ (x : Known) l. counted_more x.born.birth server.births f.here.births l first) m.ends ended) in
+    let by = leads_by f.joins.leads a.made_by in
+    let there = tells_at m.target (objects m.args) new m.ends next.reads in
+    let counted = each_front (IsBelow (births_in server)) (map Name (objects m.args)) (make_tell new ++ ends m.ends)
+    next.counted.1 in
+    let target = counted_here f.here f.joins.common server by first m.target there.target next.counted.0 in
+    let args_counted = all_counted f.here f.joins.common server by first (objects m.args) there.args counted in
+    let ended : IfThere (Counted f.here) m.ends = ends_have (Counted f.here) tables event_side m fit.fits target args_counted in
+    let unasked = unasked_event (all_asks asked_seen) (all_asks asked_later) (all_tells later) m.target (objects m.args) new m.ends
+    f.joins.leads w.meet.tied next.reads a.below
+    (λ id x l h. w.made_by id x h ∙ ap (λ (b : Bool). cond b Server Client) l) in
+    let r = event_recorded m.target (objects m.args) new m.ends f.joins next.reads unasked target args_counted ended in
     let o = held_known tables k ps f.here m.target a r.target in
     let names = each_by (IsHeldInRows f.here) (HasObject (reader_by tables k ToClient)) (λ x h. held_known tables k ps f.here x a h)
     (objects m.args) r.args in
-    let args = all_found (reader_by tables k ToClient) m.args names
-    (news_none (reader_by tables k ToClient) m.args m.args fit.makes_none fit.fits.new_is) in
+    let args = all_found event_side (reader_by tables k ToClient) m.args names
+    (news_told tables k ps f.here m.args m.args a r.new fit.fits.new_is) in
+    let made_is : made tables o.entry.version fit.fits.signature.kinds (map wire m.args) ≡ option_map made_of new =
+    ap (λ (n : ℕ). made tables n fit.fits.signature.kinds (map wire m.args)) o.version
+    ∙ made_read tables m.target.born.version fit.fits.signature.kinds m.args fit.fits.args in
     let call = call_as ToClient m o.entry fit.fits.signature in
     let e' = e ++ Ok call ∷ [] in
     let k' = knowledge tables e' in
@@ -191,15 +209,15 @@ event_one limit tables given asked_seen asked_later told client server remembere
     record {
       call = call;
       is = frame_called limit tables k ToClient m stream more p t o fit.fits
-          (none_by_server tables valid none m.target.born.iface.0 (side_of ToClient) m.opcode fit.fits.signature
+          (made_for tables valid m.target.born.iface.0 (side_of ToClient) m.opcode fit.fits.signature
           fit.fits.there) whole bytes args enough refl;
       own = own_taken tables e ToClient m o.entry fit.fits;
       other = λ x apart. other_taken tables e call x apart;
       next = record {
         passed = go_on_more e (Ok call) f.passed (goes_on_as tables ToClient m o.entry fit.fits o.iface);
-        here = client_ends m.ends f.here;
-        known_as = known_call tables e f.here ToClient m o.entry fit.fits None valid a tt r.target r.args
-            (makes_nothing tables o.entry.version fit.fits.signature.kinds m.args fit.makes_none) deleted_is;
+        here = client_ends m.ends (client_told f.here new);
+        known_as = known_told tables e f.here ToClient m o.entry fit.fits new valid a r.new r.target r.args
+            there.range made_is deleted_is;
         joins = record {
           common = r.joins.common;
           leads = r.joins.leads;
@@ -225,10 +243,7 @@ display_held tables e asked_later seen client remembered f valid there =
     let plain : by_event tables display_born ≡ false = rw valid.fixed_four.display refl in
     let there_still = live_after 1 display_born f.joins.reads there plain in
     held_here (record { id = 1; born = display_born }) f.joins.leads (inl there_still)
-    (record {
-      maker = refl;
-      number = let s = some_place tables e in let b = f.known_as.births in omega (arith, s, b);
-    })
+    (λ l. (let s = some_place tables e in let b = f.known_as.births Client in omega (arith, s, b)))
 
 -- what is known behind a delete
 known_delete : (tables : List Interface) (e : List Judged) (here : Rows Row) (x : Known) (entry : Entry)
@@ -252,21 +267,23 @@ known_delete tables e here x entry signature a mortal low iface keeps =
     let known = known_deleted k k' (birth_places tables e) here x a mortal low
     (λ id. b.objects id ∙ (λ i. cond (is_made (made_is i) id) (Some (made_entry p Live (new_of (made_is i))))
     (unless_deleted (frees (deleted_is i) id) (is_id (destroyed_is i) id) (k.object id))))
-    (b.used_is ∙ ap (λ (o : Option NewObject). used_by o k.used) made_is) in
-    let there = places_behind tables e call ∙ ap (λ (o : Option NewObject). birth_places tables e ++ maker o p) made_is
-    ∙ append-nil (birth_places tables e) in
-    subst (λ (ps : List ℕ). KnownAs k' ps (at here x.id None)) (sym there) known
+    (b.used_is ∙ ap (λ (o : Option NewObject). used_by o k.used) made_is)
+    (b.server_used_is ∙ ap (λ (o : Option NewObject). server_used_by o k.server_used) made_is) in
+    let there : birth_places tables (e ++ Ok call ∷ []) ≡ birth_places tables e =
+    places_behind tables e call ∙ ap (λ (o : Option NewObject). grown (birth_places tables e) o p) made_is
+    ∙ (λ i by. append-nil (birth_places tables e by) i) in
+    subst (λ (ps : Maker → List ℕ). KnownAs k' ps (at here x.id None)) (sym there) known
 
 delete_one : (limit : ℕ) (tables : List Interface) (asked_seen asked_later : List (Message Known))
     (told : List (Coming Known)) (client : Rows Row) (server : Rows Born) (remembered : List Remembered)
     (stream more : List ℕ) (t p : ℕ) (e : List Judged) (seen later : List (Coming Known)) (x : Known) → Valid tables
-    → has_server_objects tables ≡ false → Whereabouts tables asked_seen asked_later told client server → told ≡ seen ++ Delete x ∷ later
+    → Whereabouts tables asked_seen asked_later told client server → told ≡ seen ++ Delete x ∷ later
     → Follows tables e asked_later seen client remembered → x.id ≤ 1048576
     → IsMessage limit (spelled_coming (Delete x)).bytes → drop p stream ≡ (spelled_coming (Delete x)).bytes ++ more
     → (knowledge tables e).taken ToClient + 0 ≤ t
     → One limit tables ToClient stream t p (spelled_coming (Delete x)) e
     (λ e'. Follows tables e' asked_later (seen ++ Delete x ∷ []) client remembered)
-delete_one limit tables asked_seen asked_later told client server remembered stream more t p e seen later x valid none w
+delete_one limit tables asked_seen asked_later told client server remembered stream more t p e seen later x valid w
     is f low whole bytes enough =
     let k = knowledge tables e in
     let a = f.known_as in
@@ -276,11 +293,13 @@ delete_one limit tables asked_seen asked_later told client server remembered str
     let first : server.births ≤ f.here.births = recorded_first (all_asks asked_seen)
     (all_asks asked_later) f.joins.leads f.joins.reads w.meet in
     let now = deletes_at x next.reads in
-    let free : w.meet.middle.rows x.id ≡ None = free_after x.id now.rest (put_row_same f.joins.common.rows x.id None) in
+    let free : w.meet.middle.rows x.id ≡ None =
+    free_after x.id now.rest now.range (put_row_same f.joins.common.rows x.id None) in
     let unnamed = each_rest (λ q. ask_id q ≢ x.id) (all_asks asked_seen) (all_asks asked_later)
     (free_asks x.id w.meet.tied free) in
+    let by = leads_by f.joins.leads a.made_by in
     let r = delete_recorded x f.joins next.reads
-    (counted_more x.born.birth server.births f.here.births next.counted.0 first) unnamed in
+    (counted_here f.here f.joins.common server by first x now.held next.counted.0) unnamed in
     let display_there : signature_at tables 0 event_side 1
     ≡ Some (fixed.message (codes "delete_id") 1 (fixed.uint ∷ []) Nothing) = rw valid.fixed_four.display refl in
     let fits = delete_signature tables display_there x low in
@@ -295,7 +314,7 @@ delete_one limit tables asked_seen asked_later told client server remembered str
     record {
       call = call;
       is = frame_called limit tables k ToClient (deleting x) stream more p t o fits
-          (none_by_server tables valid none 0 (side_of ToClient) 1 fits.signature fits.there) whole bytes (tt, tt) enough
+          (made_for tables valid 0 (side_of ToClient) 1 fits.signature fits.there) whole bytes (tt, tt) enough
           refl;
       own = own_taken tables e ToClient (deleting x) o.entry fits;
       other = λ y apart. other_taken tables e call y apart;
@@ -324,7 +343,7 @@ pub tell_one : (limit : ℕ) (tables : List Interface) (given : List Global)
     (asked_seen asked_later : List (Message Known)) (told : List (Coming Known)) (client : Rows Row)
     (server : Rows Born) (remembered : List Remembered)
     (stream more : List ℕ) (t p : ℕ) (e : List Judged) (seen later : List (Coming Known)) (c : Coming Known)
-    → Valid tables → has_server_objects tables ≡ false → Whereabouts tables asked_seen asked_later told client server
+    → Valid tables → Whereabouts tables asked_seen asked_later told client server
     → told ≡ seen ++ c ∷ later
     → Follows tables e asked_later seen client remembered → ComesFitly tables given c
     → IsMessage limit (spelled_coming c).bytes → drop p stream ≡ (spelled_coming c).bytes ++ more
@@ -332,10 +351,10 @@ pub tell_one : (limit : ℕ) (tables : List Interface) (given : List Global)
     → One limit tables ToClient stream t p (spelled_coming c) e
     (λ e'. Follows tables e' asked_later (seen ++ c ∷ []) client remembered)
 tell_one limit tables given asked_seen asked_later told client server remembered stream more t p e seen later
-    (Event m) valid none w is f fit whole bytes enough =
+    (Event m) valid w is f fit whole bytes enough =
     event_one limit tables given asked_seen asked_later told client server remembered stream more t p e seen later m
-    valid none w is f fit whole bytes enough
+    valid w is f fit whole bytes enough
 tell_one limit tables given asked_seen asked_later told client server remembered stream more t p e seen later
-    (Delete x) valid none w is f fit whole bytes enough =
-    delete_one limit tables asked_seen asked_later told client server remembered stream more t p e seen later x valid none
+    (Delete x) valid w is f fit whole bytes enough =
+    delete_one limit tables asked_seen asked_later told client server remembered stream more t p e seen later x valid
     w is f fit whole bytes enough

@@ -1,9 +1,8 @@
 -- A request is recorded.
-use Rattle.std.proofs.Common.{◌≡◌, false, ℕ, ◌+◌, ◌≤◌, List, [], ◌∷◌, ◌++◌, length, map, drop, inl, refl, ap, ◌∙◌}
+use Rattle.std.proofs.Common.{◌≡◌, ℕ, ◌+◌, ◌≤◌, List, [], ◌∷◌, ◌++◌, length, map, drop, inl, refl, ap, ◌∙◌}
 use Rattle.std.specs.Prelude.{option_map}
 use Rattle.std.specs.declared.result.Result.TheVariants.{Ok}
 use Rattle.wl_sigs.specs.Tables.{Interface}
-use Rattle.wl_sigs.specs.Rules.{has_server_objects}
 use Rattle.wl_sigs.specs.Valid.{Valid}
 use Rattle.wl_message.specs.Cut.{IsMessage}
 use Rattle.wl_objects.specs.Messages.{made}
@@ -17,7 +16,8 @@ use Rattle.theory_connection.specs.Meant.{Known, Message, Coming, objects, made_
 use Rattle.theory_connection.specs.World.{Row, Each}
 use Rattle.theory_connection.specs.Flight.{Rows, IsHeldInRows}
 use Rattle.theory_connection.specs.Stands.{AsksFitly, IsGlobal}
-use Rattle.theory_connection.proofs.NoneByServer.{none_by_server}
+use Rattle.wl_sigs.specs.declared.signature.Side.TheVariants.{Request}
+use Rattle.theory_connection.proofs.MadeFor.{made_for}
 use Rattle.theory_connection.proofs.WholeInFlight.{OpenRow, each_by, client_makes, client_ends}
 use Rattle.theory_connection.proofs.ReadAsMeant.{HasObject, made_of, made_read}
 use Rattle.theory_recording.specs.Follows.{Follows, knowledge, birth_places}
@@ -32,19 +32,19 @@ use Rattle.theory_recording.proofs.CalledAsMeant.{other_taken, call_grows, known
 pub ask_one : (limit : ℕ) (tables : List Interface) (given : List Global) (told_seen : List (Coming Known))
     (client : Rows Row) (remembered : List Remembered) (stream more : List ℕ) (t p : ℕ) (e : List Judged)
     (m : Message Known) (ms : List (Message Known))
-    → Valid tables → has_server_objects tables ≡ false → Each (IsGlobal tables) given
+    → Valid tables → Each (IsGlobal tables) given
     → Follows tables e (m ∷ ms) told_seen client remembered → AsksFitly tables given m
     → IsMessage limit (spelled_meant m).bytes → drop p stream ≡ (spelled_meant m).bytes ++ more
     → (knowledge tables e).taken ToServer + length (tokens m.args) ≤ t
     → One limit tables ToServer stream t p (spelled_meant m) e (λ e'. Follows tables e' ms told_seen client remembered)
-ask_one limit tables given told_seen client remembered stream more t p e m ms valid none globals f fit whole bytes enough =
+ask_one limit tables given told_seen client remembered stream more t p e m ms valid globals f fit whole bytes enough =
     let k = knowledge tables e in
     let a = f.known_as in
     let r = ask_recorded m.target (objects m.args) (made_in m.args) m.ends f.joins.leads in
     let o = open_known tables k (birth_places tables e) f.here m.target a r.target in
     let names = each_by (OpenRow f.here) (HasObject (reader_by tables k ToServer))
     (λ x h. open_known tables k (birth_places tables e) f.here x a h) (objects m.args) r.args in
-    let args = all_found (reader_by tables k ToServer) m.args names
+    let args = all_found Request (reader_by tables k ToServer) m.args names
     (news_free tables k (birth_places tables e) f.here m.args m.args a r.new fit.fits.new_is) in
     let good = no_bad_bind tables given k m o.entry fit valid globals o.iface o.version f.binds.0 in
     let call = call_as ToServer m o.entry fit.fits.signature in
@@ -57,7 +57,7 @@ ask_one limit tables given told_seen client remembered stream more t p e m ms va
     record {
       call = call;
       is = frame_called limit tables k ToServer m stream more p t o fit.fits
-          (none_by_server tables valid none m.target.born.iface.0 (side_of ToServer) m.opcode fit.fits.signature
+          (made_for tables valid m.target.born.iface.0 (side_of ToServer) m.opcode fit.fits.signature
           fit.fits.there) whole bytes args enough good;
       own = own_taken tables e ToServer m o.entry fit.fits;
       other = λ x apart. other_taken tables e call x apart;

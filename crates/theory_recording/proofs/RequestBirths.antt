@@ -3,7 +3,7 @@ use Rattle.std.proofs.Common.{◌≡◌, ℕ, suc, ◌+◌, ◌≤◌, Bool, Lis
 use Rattle.theory_connection.specs.Meant.{Born}
 use Rattle.theory_connection.specs.World.{Row}
 use Rattle.theory_connection.specs.Flight.{Rows, Ask, Use, Make, Destroy, Tell, ReadsInFlight, Tied}
-use Rattle.theory_connection.specs.Flight.{drained, use_, make, destroy, MeetInMiddle}
+use Rattle.theory_connection.specs.Flight.{drained, use_, make, destroy, give_back, MeetInMiddle}
 use Rattle.theory_connection.proofs.Flight.{counts_after}
 use Rattle.theory_recording.specs.Leads as leads
 use Rattle.theory_recording.specs.Leads.{Leads}
@@ -28,10 +28,11 @@ module _ {test : Born → Bool} where
   leads_births (leads.destroy z a b r) = leads_births r
 
   tied_births : {qs : List Ask} {s : Rows Born} {m : Rows Row} → Tied test qs s m → m.births ≡ s.births + makes_in qs
-  tied_births (drained rows u b) = omega (arith, b)
+  tied_births (drained same rows u b c) = omega (arith, b)
   tied_births (use_ a b t) = tied_births t
   tied_births (make a t) = omega (arith, tied_births t)
-  tied_births (destroy z a b c t) = tied_births t
+  tied_births (destroy z l a b c t) = tied_births t
+  tied_births (give_back l a b c t) = tied_births t
 
   -- the recording is ahead of the server, which reads only what was recorded
   pub recorded_first : {es fs : List Tell} (qs rs : List Ask) {here client common : Rows Row} {s : Rows Born}

@@ -1,5 +1,6 @@
 -- What a checker knows behind the messages that it has judged, and how that fits the ends.
-use Rattle.std.specs.Prelude.{◌≡◌, ℕ, zero, suc, ◌≤◌, true, false, List, [], ◌∷◌, ◌++◌, length}
+use Rattle.std.specs.Prelude.{◌≡◌, ℕ, zero, suc, ◌+◌, ◌≤◌, if◌then◌else◌, true, false, List, []}
+use Rattle.std.specs.Prelude.{◌∷◌, ◌++◌, length}
 use Rattle.std.specs.Prelude.{map, get_or, slice_get, Option, Some, None, option_map}
 use Rattle.std.specs.declared.result.Result.TheVariants.{Ok}
 use Rattle.wl_wire.specs.declared.kind.Iface.{Iface}
@@ -13,10 +14,15 @@ use Rattle.wl_client.specs.declared.globals.Global.{Global}
 use Rattle.wl_check.specs.Changes.{Call, first_number, is_global}
 use Rattle.wl_check.specs.Places.{KnownAtPlace as Knows, known}
 use Rattle.wl_check.specs.Session.{Judged, changes_at, ends_session}
-use Rattle.theory_connection.specs.Meant.{IsAmongFirst, Known, Message, Coming, Event, Delete}
+use Rattle.wl_object_map.specs.declared.object.Maker.{Maker}
+use Rattle.wl_object_map.specs.declared.object.Maker.TheVariants.{Client, Server}
+use Rattle.wl_object_map.specs.Ranges.{first_server_id}
+use Rattle.wl_object_map.specs.Objects.{maker_of}
+use Rattle.theory_connection.specs.Meant.{IsAmongFirst, same_maker, Known, Message, Coming, Event}
+use Rattle.theory_connection.specs.Meant.{Delete}
 use Rattle.theory_connection.specs.Meant.{made_in, wire}
 use Rattle.theory_connection.specs.World.{Row, Open, Ending, Each}
-use Rattle.theory_connection.specs.Flight.{Rows, all_asks, all_tells}
+use Rattle.theory_connection.specs.Flight.{Rows, births_in, all_asks, all_tells}
 use Rattle.theory_connection.specs.Stands.{birth_in, by_event}
 use Rattle.theory_recording.specs.Leads.{Joins}
 
@@ -33,42 +39,52 @@ AllGoOn judged = (k : ℕ) (one : Judged) → slice_get judged k ≡ Some one �
 abbrev pub knowledge : List Interface → List Judged → Knows
 knowledge tables judged = known (changes_at tables judged) (suc (length judged))
 
--- The places of what makes an object, in their order: wl_display, the client's birth 0, is made at
--- place 0, and the client's birth b by the b-th message that makes one. Of a pair this is a
--- request: its ends neither write nor read events that make an object.
-abbrev pub maker : Option NewObject → ℕ → List ℕ
-maker None place = []
-maker (Some new) place = place ∷ []
+-- the place, if a message there makes an object of this maker
+abbrev pub maker : Maker → Option NewObject → ℕ → List ℕ
+maker by None place = []
+maker by (Some new) place = if same_maker (maker_of new.id) by then place ∷ [] else []
 
-unfoldable pub makers : (ℕ → Option NewObject) → ℕ → List ℕ
-makers made zero = []
-makers made (suc place) = makers made place ++ maker (made place) place
+-- The server's births begin at 1, so a 0 for nothing comes before their places.
+abbrev pub no_makers : Maker → List ℕ
+no_makers Client = []
+no_makers Server = 0 ∷ []
 
-abbrev pub birth_places : List Interface → List Judged → List ℕ
+-- The places of the messages that make an object of this maker, by births: wl_display, the client's
+-- birth 0, is made at place 0, and the client's birth b by the b-th request that makes an object;
+-- the server's birth b by the b-th event that makes one.
+unfoldable pub makers : (ℕ → Option NewObject) → ℕ → Maker → List ℕ
+makers made zero by = no_makers by
+makers made (suc place) by = makers made place by ++ maker by (made place) place
+
+-- the same behind these judged messages
+abbrev pub birth_places : List Interface → List Judged → Maker → List ℕ
 birth_places tables judged = makers (λ place. (changes_at tables judged place).made)
     (suc (length judged))
 
--- an object as the checker has it: its birth is told by its place
-abbrev pub entry_at : List ℕ → Row → Entry
+-- an object as the checker has it: its birth is the place of the message that made it
+abbrev pub entry_at : (Maker → List ℕ) → Row → Entry
 entry_at birth_places (Open x) = record {
-  birth = get_or birth_places x.birth.number 0;
+  birth = get_or (birth_places x.birth.maker) x.birth.number 0;
   iface = x.iface;
   version = x.version;
   state = states.Live;
 }
 entry_at birth_places (Ending x) = record {
-  birth = get_or birth_places x.birth.number 0;
+  birth = get_or (birth_places x.birth.maker) x.birth.number 0;
   iface = x.iface;
   version = x.version;
   state = states.Zombie;
 }
 
--- The checker knows just these rows.
-pub record KnownAs (k : Knows) (birth_places : List ℕ) (here : Rows Row) : Type 0 where
+-- The checker knows just these rows, in both ranges of ids, and what was counted there.
+pub record KnownAs (k : Knows) (birth_places : Maker → List ℕ) (here : Rows Row) : Type 0 where
   pub objects : (id : ℕ) → k.object id ≡ option_map (entry_at birth_places) (here.rows id)
   pub used : k.used ≡ here.used
-  pub births : length birth_places ≡ here.births
-  pub below : (id : ℕ) (r : Row) → here.rows id ≡ Some r → IsAmongFirst here.births (birth_in r)
+  pub next : first_server_id + k.server_used ≡ here.by_server.next
+  pub births : (by : Maker) → length (birth_places by) ≡ births_in here by
+  pub below : (id : ℕ) (r : Row) → here.rows id ≡ Some r
+      → IsAmongFirst (births_in here) (birth_in r)
+  pub made_by : (id : ℕ) (r : Row) → here.rows id ≡ Some r → (birth_in r).maker ≡ maker_of id
 
 -- ---- globals
 

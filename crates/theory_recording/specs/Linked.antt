@@ -12,7 +12,7 @@ use Rattle.wl_check.specs.Session.{Judged, IsLawful, messages, session_of}
 use Rattle.theory_connection.specs.Meant.{Known, Message, Coming, spelled_meant, spelled_coming}
 use Rattle.theory_connection.specs.World.{World, Each}
 use Rattle.theory_connection.specs.Pair.{PairState, Move, Reply}
-use Rattle.theory_connection.specs.Flight.{client_rows, all_tells, IsBelow}
+use Rattle.theory_connection.specs.Flight.{client_rows, server_rows, births_in, all_tells, IsBelow}
 use Rattle.theory_connection.specs.Answers.{NotEnded, Answers}
 use Rattle.theory_connection.specs.Stands.{StandsBy}
 use Rattle.theory_recording.specs.Recorded.{Recorded}
@@ -57,7 +57,7 @@ pub record LinkedBy (p : PairState) (w : World) (asked : List (Message Known))
   pub follows : Follows p.server.core.tables (judged_in p) requests.later events.seen
       (client_rows p.client.core.view) p.client.globals
   -- what an event in flight is about was counted by the server
-  pub counted : Each (IsBelow p.server.core.view.client.births) (all_tells told)
+  pub counted : Each (IsBelow (births_in (server_rows p.server.core.view))) (all_tells told)
 
 -- the pieces up to the mark
 abbrev pub up_to : Option ℕ → List Piece → List Piece

@@ -1,7 +1,6 @@
 //! What the two ends record is lawful, whatever is done with them.
 ghost use Rattle.std.specs.Prelude.{◌≡◌, List, false};
 ghost use Rattle.wl_sigs.specs.Tables.{Interface};
-ghost use Rattle.wl_sigs.specs.Rules.{has_server_objects};
 ghost use Rattle.wl_sigs.specs.Valid.{Valid};
 ghost use Rattle.wl_message.specs.declared.amounts.Sizes.{Sizes};
 ghost use Rattle.wl_check.specs.declared.verdict.Verdict.{Verdict};
@@ -12,12 +11,10 @@ ghost use Rattle.theory_connection.specs.Stands.{Stands};
 ghost use Rattle.theory_connection.specs.Runs.{DoesAll, IsMove};
 ghost use Rattle.theory_recording.specs.Linked.{Linked, LinksOn, RunsLinked, pair_limit, up_to};
 
-/// A new pair with one limit is linked with the opening world, where no event of its tables has a
-/// new object of the server.
+/// A new pair with one limit is linked with the opening world.
 pub fn new_linked()
     ensures { (tables : List Interface) (client server : Sizes)
         → client.limit.bytes ≡ server.limit.bytes → Valid tables
-        → has_server_objects tables ≡ false
         → Linked (new_pair tables client server) opening_world }
 {}
 

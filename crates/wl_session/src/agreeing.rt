@@ -19,8 +19,7 @@ use wl_server::Server;
 impl<'t, T: Table> Pair<'t, T> {
     /// Whether both ends have the same objects under the same ids, and the client has destroyed
     /// none of those that it made. One of the server's that it has destroyed stays at the client
-    /// until its id is used again. Over tables in which no event makes an object, they have where
-    /// both are drained and no error was posted.
+    /// until its id is used again. They have where both are drained and no error was posted.
     pub fn agree(&self) -> bool
         ensures exact { IsTrue result ↔ Agree self.now.client.core.view self.now.server.core.view }
         ensures drained { (world : World) → Stands self.now world → world.ended ≡ false

@@ -1,6 +1,5 @@
 //! A client and a server.
-ghost use Rattle.std.specs.Prelude.{◌≡◌, ◌↔◌, ◌≤◌, false, IfOk, IsTrue, length};
-ghost use Rattle.wl_sigs.specs.Rules.{has_server_objects};
+ghost use Rattle.std.specs.Prelude.{◌≡◌, ◌↔◌, ◌≤◌, IfOk, IsTrue, length};
 ghost use Rattle.wl_sigs.specs.Valid.{Valid};
 ghost use Rattle.wl_message.specs.Arrived.{AreSizes};
 ghost use Rattle.wl_client.specs.State.{new_state as new_client};
@@ -69,8 +68,7 @@ impl<'t, T: Table + Drop> Pair<'t, T> {
     /// Both ends as they begin: wl_display at each, empty queues of these sizes, no globals. Both
     /// go by one limit. What a carry needs beside the recording is made here.
     ///
-    /// Where no event of the tables has a new object of the server, the pair stands for the opening
-    /// world.
+    /// The pair stands for the opening world.
     pub fn new(
         alloc: T::Alloc,
         tables: &'t Tables,
@@ -81,10 +79,8 @@ impl<'t, T: Table + Drop> Pair<'t, T> {
         requires server { AreSizes server }
         requires one_limit { client.limit.bytes ≡ server.limit.bytes }
         ensures begins { IfOk result (λ pair. pair ≡ new_pair tables.now client server) }
-        ensures stands { IfOk result (λ pair. has_server_objects tables.now ≡ false
-            → Stands pair opening_world) }
-        ensures linked { IfOk result (λ pair. has_server_objects tables.now ≡ false
-            → Linked pair opening_world) }
+        ensures stands { IfOk result (λ pair. Stands pair opening_world) }
+        ensures linked { IfOk result (λ pair. Linked pair opening_world) }
     {
         know_valid(tables);
         let (bytes, tokens) = buffers(&alloc, client.in_bytes.max(server.in_bytes))?;
@@ -121,8 +117,8 @@ impl<'t, T: Table> Pair<'t, T> {
 
     /// What was carried, piece by piece.
     ///
-    /// Over tables in which no event makes an object it is lawful up to the first error that was
-    /// posted, whatever was done with the pair: `check` says so of it, where it has memory.
+    /// It is lawful up to the first error that was posted, whatever was done with the pair: `check`
+    /// says so of it, where it has memory.
     pub fn recording(&self) -> &Recording<T::Alloc>
         ensures lends { result.now ≡ self.now.recording }
         ensures lawful { (world : World) → Linked self.now world

@@ -5,4 +5,4 @@ use Rattle.theory_connection.proofs.Plain.{free_nowhere}
 use Rattle.theory_connection.proofs.laws.free_nowhere.Goals as goal
 
 pub returns : goal.returns
-returns c = λ id pair world asked told s h. free_nowhere id s.meet (ap (option_map row_of_entry) h)
+returns c = λ id range pair world asked told s h. free_nowhere id s.meet range (ap (option_map (row_of_entry id)) h)
