@@ -8,7 +8,7 @@ use Rattle.theory_connection.specs.World.{opening_world}
 use Rattle.theory_connection.specs.Pair.{PairState, new_pair}
 use Rattle.theory_connection.specs.Stands.{Stands}
 use Rattle.theory_connection.specs.Runs.{Agree}
-use Rattle.wl_session.specs.Room.{object_count}
+use Rattle.wl_session.specs.Room.{HaveSameRows, NoEventMakes, client_count, object_count}
 use Rattle.program_session.specs.Agreement.{agreement_line}
 use Rattle.program_session.specs.Session.{sizes}
 use Rattle.program_demo.specs.Session.{demo_steps}
@@ -19,6 +19,13 @@ use Rattle.program_demo.specs.Playing.{Plays}
 pub record TellsOfPair (tables : List Interface) (pair : PairState) (text : List ℕ) : Type 0 where
   pub agree : Bool
   pub exact : IsTrue agree ↔ Agree pair.client.core.view pair.server.core.view
+  -- if no event of the tables makes an object: whether both have the same rows, and the number is
+  -- that of the client's objects
+  pub rows : NoEventMakes pair.client.core pair.server.core
+      → IsTrue agree ↔ HaveSameRows pair.client.core.view pair.server.core.view
+  pub of_client : NoEventMakes pair.client.core pair.server.core
+      → object_count pair.client.core.view pair.server.core.view
+      ≡ client_count pair.client.core.view
   pub whole : text ≡ trace_of tables (session_of usual_limit pair.recording)
       ++ agreement_line agree (object_count pair.client.core.view pair.server.core.view)
 

@@ -62,6 +62,8 @@ shown_over_streams c s tables client_stream server_stream text shows = (
         passed = shows.ends.passed;
         exact = shows.ends.exact;
         counted = shows.ends.counted;
+        rows = shows.ends.rows;
+        of_client = shows.ends.of_client;
       };
       whole = shows.whole;
     },

@@ -7,7 +7,7 @@ use Rattle.wl_message.specs.Cut.{usual_limit}
 use Rattle.wl_check.specs.Session.{session_of}
 use Rattle.wl_check.specs.Trace.{trace_of}
 use Rattle.theory_connection.specs.Runs.{Agree}
-use Rattle.wl_session.specs.Room.{object_count}
+use Rattle.wl_session.specs.Room.{HaveSameRows, NoEventMakes, client_count, object_count}
 use Rattle.program_session.specs.Agreement.{agreement_line}
 use Rattle.program_socket.specs.Streams.{KnownStream, Connected}
 use Rattle.program_socket.specs.Playing.{PlaysOver, socket_steps, begin}
@@ -29,6 +29,12 @@ pub record Ends {C S : Type 0} (c : KnownStream C) (s : KnownStream S) (tables :
   pub passed : pieces ≡ last.pair.recording
   pub exact : IsTrue agree ↔ Agree last.pair.client.core.view last.pair.server.core.view
   pub counted : objects ≡ object_count last.pair.client.core.view last.pair.server.core.view
+  -- if no event of the tables makes an object: whether both have the same rows, and the number is
+  -- that of the client's objects
+  pub rows : NoEventMakes last.pair.client.core last.pair.server.core
+      → IsTrue agree ↔ HaveSameRows last.pair.client.core.view last.pair.server.core.view
+  pub of_client : NoEventMakes last.pair.client.core last.pair.server.core
+      → objects ≡ client_count last.pair.client.core.view
 
 -- The text is the trace of what passed in the session over these two streams, and a last line,
 -- which says that both ends have the same objects then, and how many.

@@ -1,7 +1,7 @@
 //! The session over two streams.
 ghost use Rattle.std.specs.Prelude.{◌≡◌, ◌↔◌, ◌∷◌, [], IfOk, OnOk, IsTrue};
 ghost use Rattle.theory_connection.specs.Runs.{Agree};
-ghost use Rattle.wl_session.specs.Room.{object_count};
+ghost use Rattle.wl_session.specs.Room.{HaveSameRows, NoEventMakes, client_count, object_count};
 ghost use Rattle.program_socket.specs.Streams.{known_stream};
 ghost use Rattle.program_socket.specs.Playing.{PlaysOver, ClientTurn, ServerTurn, begin};
 ghost use Rattle.program_socket.specs.Playing.{socket_steps};
@@ -153,6 +153,11 @@ impl<'t, T: Table + Drop, C: Read + Write + Drop, S: Read + Write + Drop> Sessio
             ↔ Agree self.entry.client.core.view self.entry.server.core.view }
         ensures objects { result.objects
             ≡ object_count self.entry.client.core.view self.entry.server.core.view }
+        ensures rows { NoEventMakes self.entry.client.core self.entry.server.core
+            → IsTrue result.agree
+            ↔ HaveSameRows self.entry.client.core.view self.entry.server.core.view }
+        ensures of_client { NoEventMakes self.entry.client.core self.entry.server.core
+            → result.objects ≡ client_count self.entry.client.core.view }
         ensures passed { result.recording ≡ self.entry.recording }
     {
         SessionOutcome {

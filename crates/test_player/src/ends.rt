@@ -43,7 +43,8 @@ impl<'a, E: Playable + Drop> Stage for AtEnd<'a, E> {
 
     fn write_state(&self, text: &mut String) -> Result<(), AllocError> {
         write_objects(text, self.end.objects())?;
-        write_made(text, self.end.made())?;
+        write_object(text, self.end.made())?;
+        write_object(text, self.end.replaced())?;
         let room = self.end.in_room();
         let goes = self.end.goes(usize::MAX, usize::MAX);
         write!(text, ", in {} {}, ", room.bytes, room.tokens)?;
@@ -87,7 +88,8 @@ impl<'a, E: Playable + Drop> AtEnd<'a, E> {
             }
             "drained" => reply.push_str(yes_or_no(self.end.is_drained())),
             "objects" => write!(reply, "{}", count_of(self.end.objects())),
-            "made" => write_made(reply, self.end.made()),
+            "made" => write_object(reply, self.end.made()),
+            "replaced" => write_object(reply, self.end.replaced()),
             _ => reply.push_str("unreadable"),
         }
     }
@@ -245,8 +247,8 @@ fn write_range<T: Table>(
 }
 
 /// Appends an object, or that there is none.
-fn write_made(reply: &mut String, made: Option<Object>) -> Result<(), AllocError> {
-    match made {
+fn write_object(reply: &mut String, object: Option<Object>) -> Result<(), AllocError> {
+    match object {
         Some(object) => write!(reply, "{}/{}", object.id, object.birth),
         None => reply.push_str("none"),
     }

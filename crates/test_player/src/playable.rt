@@ -34,6 +34,9 @@ pub trait Playable: Receiver {
     /// The object that the last message read has made: one of the server's, at a client.
     fn made(&self) -> Option<Object>;
 
+    /// The live object that this one has replaced.
+    fn replaced(&self) -> Option<Object>;
+
     /// Adds the objects that a report made.
     fn learn(names: &mut Names, tables: &Tables, report: &Self::Report) -> Result<(), AllocError>;
 
@@ -75,6 +78,10 @@ impl<'t, T: Table> Playable for Client<'t, T> {
 
     fn made(&self) -> Option<Object> {
         Client::made(self)
+    }
+
+    fn replaced(&self) -> Option<Object> {
+        Client::replaced(self)
     }
 
     fn learn(
@@ -129,6 +136,10 @@ impl<'t, T: Table> Playable for Server<'t, T> {
     }
 
     fn made(&self) -> Option<Object> {
+        None
+    }
+
+    fn replaced(&self) -> Option<Object> {
         None
     }
 

@@ -241,7 +241,7 @@ bind_can p w asked told s target name iface version new b n can =
           );
           ends = refl;
           len = omega (arith, short);
-          low = low.1;
+          word = low.1;
           opcode = omega arith;
           new_version = n.some;
           new_is = (tt, (refl, tt));

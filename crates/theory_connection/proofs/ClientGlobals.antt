@@ -10,7 +10,7 @@ use Rattle.wl_wire.specs.Argument.{Argument, Uint, Obj}
 use Rattle.wl_sigs.specs.Tables.{Interface, place_of}
 use Rattle.wl_client.specs.declared.globals.Global.{Global}
 use Rattle.wl_client.specs.State.{is_named, global_of}
-use Rattle.wl_client.specs.Reports.{argument, number_in, text_in, forgotten, replaced, remembered}
+use Rattle.wl_client.specs.Reports.{argument, number_in, text_in, forgotten, with_replaced, remembered}
 use Rattle.wl_client.specs.Reports.{remembered_as, globals_told}
 use Rattle.wl_server.specs.State as server
 use Rattle.theory_connection.specs.Meant.{Known, Message, Arg, rearg, born_of, wire}
@@ -72,7 +72,7 @@ module _ (P : Global → Type 0) where
   one_of true x y p q = p
   one_of false x y p q = q
 
-  pub each_replaced : (g : Global) (gs : List Global) → P g → Each P gs → Each P (replaced g gs)
+  pub each_replaced : (g : Global) (gs : List Global) → P g → Each P gs → Each P (with_replaced g gs)
   each_replaced g [] p h = tt
   each_replaced g (x ∷ gs) p h = (one_of (is_named g.name x) g x p h.0, each_replaced g gs p h.1)
 
@@ -87,7 +87,7 @@ module _ (P : Global → Type 0) where
   -- what is so of each and of one more is so of all that are then remembered
   pub each_remembered : (g : Global) (gs : List Global) → P g → Each P gs → Each P (remembered g gs)
   each_remembered g gs p h =
-      lists_of (is_some (global_of gs g.name)) (replaced g gs) (cond (nat_lt (length gs) max_globals) (gs ++ g ∷ []) gs)
+      lists_of (is_some (global_of gs g.name)) (with_replaced g gs) (cond (nat_lt (length gs) max_globals) (gs ++ g ∷ []) gs)
       (each_replaced g gs p h)
       (lists_of (nat_lt (length gs) max_globals) (gs ++ g ∷ []) gs (each_end gs g h p) h)
 

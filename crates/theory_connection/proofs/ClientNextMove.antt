@@ -45,15 +45,15 @@ use Rattle.theory_connection.proofs.EventRead.{delete_stands, deleting}
 
 -- ---- what is answered and left where a message is found
 
-record Answered (p : PairState) (f : Found) : Type 0 where
-  answer : next_answer p.client ≡ Ok (Some (report p.client.core f))
-  leaves : after_next p.client ≡ state_past p.client f
+pub record Answered (p : PairState) (f : Found) : Type 0 where
+  pub answer : next_answer p.client ≡ Ok (Some (report p.client.core f))
+  pub leaves : after_next p.client ≡ state_past p.client f
 
-answer_is : (p : PairState) (f : Found) → p.client.core.failed ≡ false → found p.client.core event_side ≡ Ok (Some f)
+pub answer_is : (p : PairState) (f : Found) → p.client.core.failed ≡ false → found p.client.core event_side ≡ Ok (Some f)
     → Answered p f
 answer_is p f l r = record { answer = rw (l, r) refl; leaves = rw (l, r) refl }
 
--- whether what stands in front opens an object at an id without a row
+-- whether what stands in front opens an object at an id that was never used
 abbrev opens_in : PairState → Bool
 opens_in p = event_opens p.client.core (found p.client.core event_side)
 
@@ -77,7 +77,8 @@ nexts_none : (p : PairState) (reply : Result (Option Report) NextError) (p' : Pa
 nexts_none p reply p' none d = subst
     (λ (b : Bool). Nexts needs_memory b (next_answer p.client) p (with_client p (after_next p.client)) reply p') none d
 
-idle : (p : PairState) → p.client.core.failed ≡ false → in_front p.client.core.inbox ≡ More
+-- where no whole message waits
+pub idle : (p : PairState) → p.client.core.failed ≡ false → in_front p.client.core.inbox ≡ More
     → (next_answer p.client ≡ Ok None) × (after_next p.client ≡ p.client) × (opens_in p ≡ false)
 idle p l e =
     let r : found p.client.core event_side ≡ Ok None = ap (found_at p.client.core event_side) e in

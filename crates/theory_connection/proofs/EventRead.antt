@@ -29,7 +29,7 @@ use Rattle.wl_connection.specs.Core.{Core}
 use Rattle.wl_connection.specs.Receiving.{found, is_none}
 use Rattle.wl_client.specs.declared.globals.Global.{Global as Remembered}
 use Rattle.wl_client.specs.State as client
-use Rattle.wl_client.specs.Reports.{state_past, globals_told, report, object_made}
+use Rattle.wl_client.specs.Reports.{state_past, globals_told, report, object_made, object_replaced}
 use Rattle.wl_client.specs.Reports as reports
 use Rattle.theory_connection.specs.Meant.{Birth, Born, Known, Message, Coming, Event, Delete, renamed, recoming}
 use Rattle.theory_connection.specs.Meant.{rearg, born_of, birth_of, wire, tokens, spelled_meant, spelled_coming}
@@ -144,6 +144,7 @@ after_event st m n teaches = record {
   };
   globals = cond teaches (globals_told st.core.tables st.globals m.opcode (map wire m.args)) st.globals;
   made = object_made st.core.view (option_map made_of (made_in m.args));
+  replaced = object_replaced st.core.view (option_map made_of (made_in m.args));
 }
 
 -- an event of a live registry teaches the client
@@ -198,6 +199,7 @@ event_answer p m n entry tables f valid same d s =
         globals = cond (registers i && lives entry.state)
             (globals_told p.client.core.tables p.client.globals m.opcode (map wire m.args)) p.client.globals;
         made = object_made v (makes i);
+        replaced = object_replaced v (makes i);
       })
           ∙ (λ i. record {
             core = record p.client.core {
@@ -209,6 +211,7 @@ event_answer p m n entry tables f valid same d s =
             globals = cond (is_registry m.target.born && lives entry.state)
                 (globals_told p.client.core.tables p.client.globals m.opcode (map wire m.args)) p.client.globals;
             made = object_made v new;
+            replaced = object_replaced v new;
           });
       makes = makes;
     }
@@ -325,7 +328,7 @@ delete_signature tables e x h = record {
   args = ((omega (arith, h), tt), tt);
   ends = refl;
   len = omega arith;
-  low = omega arith;
+  word = omega arith;
   opcode = omega arith;
   new_version = tt;
   new_is = (tt, tt);
@@ -387,6 +390,7 @@ after_delete st x n = record st {
     failed = false;
   };
   made = None;
+  replaced = None;
 }
 
 -- an id among the arguments makes no object
@@ -433,6 +437,7 @@ delete_answer p x n entry signature range y row c =
           failed = false;
         };
         made = reports.object_made v (none i);
+        replaced = reports.object_replaced v (none i);
       };
       makes_none = none;
     }

@@ -65,7 +65,7 @@ finds core side m n rows entry f none e b l s k t =
     let bytes = core.inbox.bytes in
     let whole : bytes ≡ message_bytes m.target.id m.opcode vs ++ drop n bytes =
     sym (take-append-drop n bytes) ∙ ap (λ (x : List ℕ). x ++ drop n bytes) b in
-    let p = parted bytes (drop n bytes) m.target.id m.opcode vs whole (omega (arith, f.low)) f.opcode f.len in
+    let p = parted bytes (drop n bytes) m.target.id m.opcode vs whole (omega (arith, f.word)) f.opcode f.len in
     let body : drop 8 (take n bytes) ≡ spelled_values vs = ap (drop 8) b in
     let r = received_right core.tables side core.view rows m (header_of bytes)
     (length core.inbox.tokens) entry f none p.object p.opcode_is l s k t in

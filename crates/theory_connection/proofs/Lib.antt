@@ -18,6 +18,7 @@ pub mod ServerNextMove
 pub mod ClientGlobals
 pub mod EventRead
 pub mod ClientNextMove
+pub mod MadeMeant
 pub mod Carries
 pub mod Calls
 pub mod Rules

@@ -9,9 +9,10 @@ use Rattle.theory_connection.specs.Meant.{recoming, born_of, birth_of, objects, 
 use Rattle.theory_connection.specs.World.{World, Each}
 use Rattle.theory_connection.specs.Flight.{Ask, Use, Make, Destroy, Tell, Name, Made, Delete, asks, make_tell}
 use Rattle.theory_connection.specs.Flight.{tells, all_asks, all_tells, make_ask, destroy_ask, ends}
-use Rattle.theory_connection.specs.Plain.{In, MakeComes, option_list, news, news_told}
+use Rattle.theory_connection.specs.Plain.{In, MakeComes, MessageNames, option_list, news, news_told}
 use Rattle.theory_connection.proofs.RowsAfterMessage.{made_map}
-use Rattle.std.proofs.lemmas.List.{map-append}
+use Rattle.theory_connection.proofs.WholeInFlight.{all_tells_more}
+use Rattle.std.proofs.lemmas.List.{map-append, append_assoc, append-nil}
 use Rattle.theory_connection.proofs.OfServer.{mades, makes, birth_known}
 
 -- ---- lists
@@ -289,6 +290,48 @@ split_at x (y ∷ ys) i = elim i [
   | inr p ↦ (let k = split_at x ys p in record { front = y ∷ k.front; back = k.back; whole = λ n. y ∷ k.whole n })
 ]
 
+-- an action that names an object, behind those of the messages before and other names of its event
+pub record NamedAt (k : Known) (front told : List (Coming Known)) : Type 0 where
+  pub names_before : List Known
+  pub rest : List Tell
+  pub whole : all_tells told ≡ (all_tells front ++ map Name names_before) ++ (Name k ∷ rest)
+
+regroup : (es : List Tell) (t : Known) (us : List Known) (k : Known) (ws xs : List Known) (others rest : List Tell)
+    → xs ≡ us ++ k ∷ ws
+    → es ++ ((Name t ∷ (map Name xs ++ others)) ++ rest)
+    ≡ (es ++ map Name (t ∷ us)) ++ (Name k ∷ ((map Name ws ++ others) ++ rest))
+regroup es t us k ws xs others rest e =
+    ap (λ (l : List Known). es ++ ((Name t ∷ (map Name l ++ others)) ++ rest)) e
+    ∙ ap (λ (l : List Tell). es ++ ((Name t ∷ (l ++ others)) ++ rest)) (map-append Name us (k ∷ ws))
+    ∙ ap (λ (l : List Tell). es ++ (Name t ∷ (l ++ rest))) (append_assoc (map Name us) (Name k ∷ map Name ws) others)
+    ∙ ap (λ (l : List Tell). es ++ (Name t ∷ l)) (append_assoc (map Name us) (Name k ∷ (map Name ws ++ others)) rest)
+    ∙ sym (append_assoc es (map Name (t ∷ us)) (Name k ∷ ((map Name ws ++ others) ++ rest)))
+
+-- what an event names is named by an action of it
+pub named_at : (k : Known) (front : List (Coming Known)) (m : Message Known) (back told : List (Coming Known))
+    → told ≡ front ++ Event m ∷ back → MessageNames k m → NamedAt k front told
+named_at k front m back told q n =
+    let others = make_tell (made_in m.args) ++ ends m.ends in
+    let whole : all_tells told ≡ all_tells front ++ (tells (Event m) ++ all_tells back) =
+    ap all_tells q ∙ all_tells_more front (Event m ∷ back) in
+    elim n [
+      | inl a ↦ record {
+        names_before = [];
+        rest = (map Name (objects m.args) ++ others) ++ all_tells back;
+        whole = whole
+            ∙ ap (λ (l : List Tell). l ++ (tells (Event m) ++ all_tells back)) (sym (append-nil (all_tells front)))
+            ∙ ap (λ (t : Known). (all_tells front ++ []) ++ (Name t ∷ ((map Name (objects m.args) ++ others)
+            ++ all_tells back))) a;
+      }
+      | inr a ↦ (let p = split_at k (objects m.args) a in
+          record {
+            names_before = m.target ∷ p.front;
+            rest = (map Name p.back ++ others) ++ all_tells back;
+            whole = whole ∙ regroup (all_tells front) m.target p.front k p.back (objects m.args) others (all_tells back)
+                p.whole;
+          })
+    ]
+
 -- what whole messages make, action by action
 pub mades_both : (es fs : List Tell) → mades (es ++ fs) ≡ mades es ++ mades fs
 mades_both [] fs = refl
@@ -311,6 +354,16 @@ mades_told (Event m ∷ told) = mades_both (tells (Event m)) (all_tells told)
     ∙ (λ i. (mades_names (objects m.args) (make_tell (made_in m.args) ++ ends m.ends) ∙ mades_made (made_in m.args) m.ends) i
     ++ mades_told told i)
 mades_told (delete_of x ∷ told) = mades_told told
+
+-- what comes before the name of an object makes the objects of the messages before
+pub mades_front : (front : List (Coming Known)) (xs : List Known)
+    → mades (all_tells front ++ map Name xs) ≡ news_told front
+mades_front front xs = mades_both (all_tells front) (map Name xs)
+    ∙ (λ i. mades_told front i ++ none xs i) ∙ append-nil (news_told front)
+  where
+    none : (xs : List Known) → mades (map Name xs) ≡ []
+    none [] = refl
+    none (x ∷ xs) = none xs
 
 pub makes_both : (qs rs : List Ask) → makes (qs ++ rs) ≡ makes qs ++ makes rs
 makes_both [] rs = refl

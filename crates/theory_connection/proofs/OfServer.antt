@@ -11,10 +11,10 @@ use Rattle.wl_object_map.specs.declared.object.Maker.TheVariants.{Client, Server
 use Rattle.wl_object_map.specs.Ranges.{is_of_server}
 use Rattle.theory_connection.specs.Meant.{Birth, Born, Known}
 use Rattle.theory_connection.specs.World.{Row, Open, Ending, Each}
-use Rattle.theory_connection.specs.Flight.{Rows, most, Ask, Use, Make, Destroy, Tell, Name, Made}
+use Rattle.theory_connection.specs.Flight.{Rows, at, with_told, most, Ask, Use, Make, Destroy, Tell, Name, Made}
 use Rattle.theory_connection.specs.Flight.{IsHeldInRows, ReadsInFlight, done, name, made, end, delete, Tied}
 use Rattle.theory_connection.specs.Flight.{drained, use_, make, destroy, give_back, MeetInMiddle}
-use Rattle.theory_connection.specs.Plain.{tell_id, ask_id, In, IsMaking, IsInOrder}
+use Rattle.theory_connection.specs.Plain.{tell_id, ask_id, In, IsMaking, IsInOrder, IsLatest, made_last, not_made}
 use Rattle.theory_connection.proofs.Flight.{put_row_tells, put_row_same, put_row_other, range_apart}
 use Rattle.theory_connection.proofs.Flight.{fresh_range, told_apart, held_some, held_at_client, open_of}
 use Rattle.theory_connection.proofs.Plain as plain
@@ -261,19 +261,32 @@ module _ {test : Born → Bool} where
       let ne = held_some v n i a h in
       let k = untold i r (λ x j. f x (inr j)) (put_row_other v.rows n.id None i ne ∙ h) in ((ne, k.0), k.1)
 
-  -- what an event names the client holds, or an event before it makes it
-  pub named_before : (before after : List Tell) (x : Known) {v w : Rows Row}
-      → ReadsInFlight test (before ++ (Name x ∷ after)) v w → IsHeldInRows v x ⊎ In (Made x) before
-  named_before [] after x (name a r) = inl a
-  named_before (t ∷ ts) after x (name a r) = elim (named_before ts after x r) [ inl p ↦ inl p | inr p ↦ inr (inr p) ]
-  named_before (t ∷ ts) after x (made {v = v} {x = n} b g r) = elim (named_before ts after x r) [
-    | inl p ↦ elim (plain.kept_told v n x p) [ inl q ↦ inl q | inr q ↦ inr (inl (ap Made q)) ]
-    | inr p ↦ inr (inr p)
-  ]
-  named_before (t ∷ ts) after x (end {v = v} {x = n} b l a r) = elim (named_before ts after x r)
-      [ inl p ↦ inl (plain.kept_end v x n a p) | inr p ↦ inr (inr p) ]
-  named_before (t ∷ ts) after x (delete {v = v} {x = n} z l a b r) = elim (named_before ts after x r)
-      [ inl p ↦ inl (plain.kept_delete v x n.id p) | inr p ↦ inr (inr p) ]
+  -- what an event names is the last of its id that an event before it makes, or the client holds it
+  -- and none before makes an object at its id
+  pub named_latest : (before after : List Tell) (x : Known) {v w : Rows Row}
+      → ReadsInFlight test (before ++ (Name x ∷ after)) v w → IsLatest v x (mades before)
+  named_latest [] after x (name a r) = not_made tt a
+  named_latest (t ∷ ts) after x (name a r) = named_latest ts after x r
+  named_latest (t ∷ ts) after x (made {v = v} {x = n} b g r) = by_later (named_latest ts after x r)
+    where
+      by_later : IsLatest (with_told v n.id (Open n.born)) x (mades ts) → IsLatest v x (n ∷ mades ts)
+      by_later (made_last front back e f) = made_last (n ∷ front) back (λ i. n ∷ e i) f
+      by_later (not_made f h) = elim (put_row_tells v.rows n.id (Some (Open n.born)) x.id) [
+        | inl p ↦ (let e : x.born ≡ n.born = elim h [ inl q ↦ cc (p.1, q) | inr q ↦ absurd (cc (p.1, q)) ] in
+            made_last [] (mades ts) (λ i. known_is n x (sym p.0) (sym e) i ∷ mades ts) f)
+        | inr p ↦ not_made ((λ q. p.0 (sym q)), f)
+            (elim h [ inl q ↦ inl (sym p.1 ∙ q) | inr q ↦ inr (sym p.1 ∙ q) ])
+      ]
+  named_latest (t ∷ ts) after x (end {v = v} {x = n} b l a r) = by_later (named_latest ts after x r)
+    where
+      by_later : IsLatest (at v n.id (Some (Ending n.born))) x (mades ts) → IsLatest v x (mades ts)
+      by_later (made_last front back e f) = made_last front back e f
+      by_later (not_made f h) = not_made f (plain.kept_end v x n a h)
+  named_latest (t ∷ ts) after x (delete {v = v} {x = n} z l a b r) = by_later (named_latest ts after x r)
+    where
+      by_later : IsLatest (at v n.id None) x (mades ts) → IsLatest v x (mades ts)
+      by_later (made_last front back e f) = made_last front back e f
+      by_later (not_made f h) = not_made f (plain.kept_delete v x n.id h)
 
   -- what events make are the server's births from the client's count on, one after another
   pub told_in_order : {es : List Tell} {v w : Rows Row} → ReadsInFlight test es v w

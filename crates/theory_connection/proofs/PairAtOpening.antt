@@ -38,7 +38,7 @@ use Rattle.theory_connection.specs.Flight.{all_tells}
 use Rattle.theory_connection.specs.Stands.{Stands, stands, ended, StandsBy, InFlight, ShowsBirths, birth_in, by_event}
 use Rattle.theory_connection.specs.Stands.{IsEndingOfServer, NoneIsGone}
 use Rattle.theory_connection.specs.Runs.{Runs, Agree, Keeps, is_freed, is_zombie}
-use Rattle.wl_sigs.specs.Rules.{is_empty}
+use Rattle.wl_sigs.specs.Rules.{is_empty, has_server_objects}
 use Rattle.theory_connection.proofs.WholeInFlight.{drained_rows}
 use Rattle.theory_connection.proofs.Flight.{open_of}
 use Rattle.theory_connection.proofs.Bridges.{map_put}
@@ -50,24 +50,24 @@ is_nothing : {X : Type 0} (i : ℕ) → nothing {K = ℕ} {X = X} i ≡ None
 unfolding nothing
 is_nothing i = refl
 
-opening_rows : {X : Type 0} (f : ℕ → Entry → X) (q : ℕ)
-    → option_map (f q) (look (opening_view display) q) ≡ put_row nothing 1 (Some (f 1 (live_entry display_born))) q
+opening_rows : (has_range : Bool) {X : Type 0} (f : ℕ → Entry → X) (q : ℕ)
+    → option_map (f q) (look (opening_view display has_range) q) ≡ put_row nothing 1 (Some (f 1 (live_entry display_born))) q
 unfolding put_row nothing
-opening_rows f q = map_put f (look (opening_view display)) (λ i. None) 1 (Some (live_entry display_born))
-    (look-opening display) q
+opening_rows has_range f q = map_put f (look (opening_view display has_range)) (λ i. None) 1 (Some (live_entry display_born))
+    (look-opening display has_range) q
 
-shows_opening : {X : Type 0} (birth : X → Birth) (Gone : X → Type 0) (f : ℕ → Entry → X) (n : Maker → ℕ)
+shows_opening : (has_range : Bool) {X : Type 0} (birth : X → Birth) (Gone : X → Type 0) (f : ℕ → Entry → X) (n : Maker → ℕ)
     → birth (f 1 (live_entry display_born)) ≡ display_born.birth → 0 < n Client
-    → ShowsBirths birth Gone (λ q. option_map (f q) (look (opening_view display) q)) n
+    → ShowsBirths birth Gone (λ q. option_map (f q) (look (opening_view display has_range) q)) n
     (put nothing display_born.birth (Some (f 1 (live_entry display_born))))
-shows_opening birth Gone f n e l =
+shows_opening has_range birth Gone f n e l =
     let first = f 1 (live_entry display_born) in
     let zero : Maker → ℕ = λ k. 0 in
     let k = shows_make birth Gone nothing zero n nothing 1 first (no_object birth Gone zero)
     (λ z h. absurd (cc (is_nothing 1, h))) (λ k. omega arith) (subst (IsAmongFirst n) (sym e) l)
     (λ c. absurd (omega (arith, c))) in
-    let rows : (λ (q : ℕ). option_map (f q) (look (opening_view display) q))
-    ≡ put_row nothing 1 (Some first) = λ i q. opening_rows f q i in
+    let rows : (λ (q : ℕ). option_map (f q) (look (opening_view display has_range) q))
+    ≡ put_row nothing 1 (Some first) = λ i q. opening_rows has_range f q i in
     subst (λ (g : ℕ → Option _). ShowsBirths birth Gone g n
     (put nothing display_born.birth (Some first))) (sym rows)
     (subst (λ (b : Birth). ShowsBirths birth Gone (put_row nothing 1 (Some first)) n
@@ -96,7 +96,7 @@ opening_holds number = refl
 pub new_stands_by : (tables : List Interface) (client_sizes server_sizes : Sizes)
     → client_sizes.limit.bytes ≡ server_sizes.limit.bytes → Valid tables
     → StandsBy (new_pair tables client_sizes server_sizes) opening_world [] []
-new_stands_by tables client_sizes server_sizes one v = record {
+new_stands_by tables client_sizes server_sizes one v = let has_range = has_server_objects tables in record {
   terms = record {
     same_tables = refl;
     valid = v;
@@ -105,29 +105,29 @@ new_stands_by tables client_sizes server_sizes one v = record {
     one_limit = one;
   };
   client = record {
-    sets = shows_opening birth_in IsEndingOfServer row_of_entry (births_in (client_rows (opening_view display))) refl
+    sets = shows_opening has_range birth_in IsEndingOfServer row_of_entry (births_in (client_rows (opening_view display has_range))) refl
         (omega arith);
     births = refl;
     holds_counted = λ number. (λ h. absurd (let k = opening_holds number in cc (h, k)), λ h. absurd (omega (arith, h.0, h.1)));
-    sound = ObjectsAreSound-opening display;
+    sound = ObjectsAreSound-opening display has_range;
     never_freed = refl;
-    display = look-opening display 1;
-    versions = λ id e h. opening_aged (nat_eq id 1) e (sym (look-opening display id) ∙ h);
+    display = look-opening display has_range 1;
+    versions = λ id e h. opening_aged (nat_eq id 1) e (sym (look-opening display has_range id) ∙ h);
     lives = refl;
   };
   server = record {
-    sets = shows_opening birth_of NoneIsGone born_of_entry (births_in (server_rows (opening_view display))) refl
+    sets = shows_opening has_range birth_of NoneIsGone born_of_entry (births_in (server_rows (opening_view display has_range))) refl
         (omega arith);
     births = refl;
-    sound = ObjectsAreSound-opening display;
-    display = look-opening display 1;
-    versions = λ id e h. opening_aged (nat_eq id 1) e (sym (look-opening display id) ∙ h);
-    live = λ id e h. opening_live (nat_eq id 1) e (sym (look-opening display id) ∙ h);
+    sound = ObjectsAreSound-opening display has_range;
+    display = look-opening display has_range 1;
+    versions = λ id e h. opening_aged (nat_eq id 1) e (sym (look-opening display has_range id) ∙ h);
+    live = λ id e h. opening_live (nat_eq id 1) e (sym (look-opening display has_range id) ∙ h);
     lives = refl;
   };
   plain = λ id x range h. absurd (let low = is_from id range in
       let other : nat_eq id 1 ≡ false = ne_eqb id 1 (λ e. omega (arith, low, e)) in
-      let gone : look (opening_view display) id ≡ None = look-opening display id ∙ rw other refl in
+      let gone : look (opening_view display has_range) id ≡ None = look-opening display has_range id ∙ rw other refl in
       let none = ap (option_map (born_of_entry id)) gone in cc (none, h));
   none_made = λ none. refl;
   requests = record { in_world = refl; in_boxes = nothing_flies _ _ refl refl refl refl; fit = tt };
@@ -135,15 +135,15 @@ new_stands_by tables client_sizes server_sizes one v = record {
   asks_counted = tt;
   deletes_follow = tt;
   meet = record {
-    middle = client_rows (opening_view display);
+    middle = client_rows (opening_view display has_range);
     reads = done;
-    tied = nothing_left (λ id. opened id (look (opening_view display) id)
-        (λ e h. opening_live (nat_eq id 1) e (sym (look-opening display id) ∙ h)))
-        (λ id range. both id (look (opening_view display) id)
-        (λ e h. opening_live (nat_eq id 1) e (sym (look-opening display id) ∙ h))) refl refl refl;
+    tied = nothing_left (λ id. opened id (look (opening_view display has_range) id)
+        (λ e h. opening_live (nat_eq id 1) e (sym (look-opening display has_range id) ∙ h)))
+        (λ id range. both id (look (opening_view display has_range) id)
+        (λ e h. opening_live (nat_eq id 1) e (sym (look-opening display has_range id) ∙ h))) refl refl refl;
   };
   globals = record { remembered = refl; given = refl; remembers = tt; globals = tt; few_globals = lit≤ tt };
-  registries = record { told = refl; open_registries = has_none };
+  registries = record { told = refl; open_registries = has_none has_range };
 }
   where
     live_row : (id : ℕ) (e : Entry) (s : State) → s ≡ states.Live

@@ -32,7 +32,8 @@ use Rattle.theory_connection.proofs.Sets.{there_kept}
 use Rattle.theory_connection.proofs.Bridges.{map_none, client_opened, server_opened, server_closed}
 use Rattle.theory_connection.proofs.Bridges.{client_zombied, fresh_free, fresh_room, client_told_rows}
 use Rattle.theory_connection.proofs.Bridges.{server_told_rows}
-use Rattle.theory_connection.proofs.TwoRanges.{told_sound, freed_opened, freed_zombied}
+use Rattle.wl_connection.proofs.ServerRange.{freed_opened, freed_zombied}
+use Rattle.theory_connection.proofs.TwoRanges.{told_sound}
 use Rattle.theory_connection.proofs.ReadAsMeant.{made_of}
 use Rattle.theory_connection.proofs.EndedObject.{Mortal, ended_view}
 
@@ -201,12 +202,9 @@ client_event_sound v (Some y) s g = told_sound v y.id y.born.iface y.born.versio
 -- no id of the server's is freed at a client where a message makes this and ends that
 pub never_freed : (v : Objects) (n o : Option Known) → v.server.freed ≡ []
     → (ended_view Request (opens v (option_map made_of n)) o).server.freed ≡ []
-never_freed v None None h = h
-never_freed v None (Some x) h = freed_zombied v x.id h
-never_freed v (Some y) None h = freed_opened v y.id y.born.iface y.born.version h
-never_freed v (Some y) (Some x) h =
-    freed_zombied (opened_at v y.id y.born.iface y.born.version) x.id
-    (freed_opened v y.id y.born.iface y.born.version h)
+never_freed v n None h = freed_opened v (option_map made_of n) h
+never_freed v n (Some x) h =
+    freed_zombied (opens v (option_map made_of n)) x.id (freed_opened v (option_map made_of n) h)
 
 -- ---- the server's rows are live
 

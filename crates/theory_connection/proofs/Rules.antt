@@ -13,17 +13,14 @@ use Rattle.std.proofs.lemmas.List.Folds.{list_any_at}
 use Rattle.wl_wire.specs.declared.kind.Kind.{Kind}
 use Rattle.wl_wire.specs.declared.kind.Kind.TheVariants as kinds
 use Rattle.wl_wire.specs.declared.kind.Iface.{Iface}
-use Rattle.wl_wire.specs.Argument.{Obj, New}
+use Rattle.wl_wire.specs.Argument.{Obj}
 use Rattle.wl_sigs.specs.declared.signature.Side.{Side}
 use Rattle.wl_sigs.specs.declared.signature.Side.TheVariants.{Request, Event}
 use Rattle.wl_sigs.specs.Tables.{MessageSignature, Interface, interface_at, signature_at, messages_of}
 use Rattle.wl_sigs.specs.Tables.{message_of, has_destroying_event, destroys_target}
-use Rattle.wl_sigs.specs.Fixed.{wl_display, wl_registry, registry}
-use Rattle.wl_wire.specs.Argument.{Argument}
-use Rattle.wl_objects.specs.Messages.{NewObject, made, made_by, or_else}
-use Rattle.theory_connection.proofs.MadeFor.{MadeFor, made_for}
+use Rattle.wl_sigs.specs.Fixed.{wl_display}
 use Rattle.theory_connection.proofs.Calls.{makings}
-use Rattle.wl_sigs.specs.Valid.{Valid, IsFixedPlace}
+use Rattle.wl_sigs.specs.Valid.{Valid}
 use Rattle.wl_object_map.specs.declared.object.Object.{Object}
 use Rattle.wl_object_map.specs.Objects.{Objects, look}
 use Rattle.wl_objects.specs.Reading.{iface_of}
@@ -192,62 +189,3 @@ ends_so tables x opcode m h d =
 -- wl_display has no destroying event
 pub display_plain : (tables : List Interface) → Valid tables → is_ended_by_event (interface_at tables 0) ≡ false
 display_plain tables v = rw v.fixed_four.display refl
-
--- ---- what the server makes
-
-each_of_all : (P : Kind → Type 0) (ks : List Kind) → All P ks → Each P ks
-each_of_all P [] h = tt
-each_of_all P (k ∷ ks) h = (h 0 k (omega arith), each_of_all P ks (All-tail P k ks h))
-
--- what holds of each kind holds of that of the object that an event makes
-pub made_by_kind : (P : Kind → Type 0) (tables : List Interface) (version : ℕ) (ks : List Kind) (values : List Argument)
-    (m : NewObject) → Each P ks → Each (MadeFor Event) ks → made tables version ks values ≡ Some m
-    → P (kinds.NewByServer m.iface)
-made_by_kind P tables version [] values m p f h = absurd (cc h)
-made_by_kind P tables version (kind ∷ ks) [] m p f h = absurd (cc h)
-made_by_kind P tables version (kind ∷ ks) (value ∷ values) m p f h =
-    by_first (made_by tables version kind value) refl h
-    (λ k. made_by_kind P tables version ks values m p.1 f.1 k)
-  where
-    one : (k : Kind) (v : Argument) (n : NewObject) → P k → MadeFor Event k → made_by tables version k v ≡ Some n
-        → P (kinds.NewByServer n.iface)
-    one (kinds.NewByServer iface) (New id) n q g e =
-        let i : iface ≡ n.iface = cc e in subst (λ (j : Iface). P (kinds.NewByServer j)) i q
-    one (kinds.New iface) v n q g e = absurd g
-    one k v n q g e = absurd (cc e)
-
-    by_first : (o : Option NewObject) → made_by tables version kind value ≡ o
-        → or_else o (made tables version ks values) ≡ Some m
-        → (made tables version ks values ≡ Some m → P (kinds.NewByServer m.iface)) → P (kinds.NewByServer m.iface)
-    by_first None e k more = more k
-    by_first (Some n) e k more =
-        let same : n ≡ m = cc k in
-        subst (λ (x : NewObject). P (kinds.NewByServer x.iface)) same (one kind value n p.0 f.0 e)
-
--- an interface that the server makes has no destroying event, and is not wl_registry
-pub record ServerMade (tables : List Interface) (iface : Iface) : Type 0 where
-  pub plain : is_ended_by_event (interface_at tables iface.0) ≡ false
-  pub other : iface ≢ registry
-
-abbrev ByServerRule : List Interface → Kind → Type 0
-ByServerRule tables k = (iface : Iface) (i : Interface) → k ≡ kinds.NewByServer iface
-    → interface_at tables iface.0 ≡ Some i → (has_destroying_event i ≡ false) × ¬ IsFixedPlace iface.0
-
-pub server_made : (tables : List Interface) → Valid tables → (place opcode version : ℕ) (m : MessageSignature)
-    (values : List Argument) (new : NewObject) → signature_at tables place Event opcode ≡ Some m
-    → made tables version m.kinds values ≡ Some new → ServerMade tables new.iface
-server_made tables v place opcode version m values new h e =
-    let rule = made_by_kind (ByServerRule tables) tables version m.kinds values new
-    (each_of_all (ByServerRule tables) m.kinds (v.server_makes.interfaces Event place opcode m h))
-    (made_for tables v place Event opcode m h) e in
-    record {
-      plain = plain_of (interface_at tables new.iface.0) (λ i k. (rule new.iface i refl k).0);
-      other = λ same. (let there : interface_at tables new.iface.0 ≡ Some wl_registry =
-          ap (λ (i : Iface). interface_at tables i.0) same ∙ v.fixed_four.registry in
-          (rule new.iface wl_registry refl there).1 (inr (inl (ap (λ (i : Iface). i.0) same))));
-    }
-  where
-    plain_of : (o : Option Interface) → ((i : Interface) → o ≡ Some i → has_destroying_event i ≡ false)
-        → is_ended_by_event o ≡ false
-    plain_of None f = refl
-    plain_of (Some i) f = f i refl

@@ -7,7 +7,8 @@ use Rattle.theory_connection.specs.World.{reads_event, reads_delete}
 use Rattle.theory_connection.specs.Samples.{CallbackLives, sync, done, sample_callback, DeadArgument, enter}
 use Rattle.theory_connection.specs.Samples.{destroy, DeadRegistry, tell, destroy_registry}
 use Rattle.theory_connection.specs.Samples.{registered, ServerObjectLives, make_offer, show_offer}
-use Rattle.theory_connection.specs.Samples.{destroy_offer, first_offer, second_offer}
+use Rattle.theory_connection.specs.Samples.{destroy_offer, first_offer, second_offer, third_offer}
+use Rattle.theory_connection.specs.Samples.{destroy_device, sample_device}
 
 -- the steps of a callback from its making to its delete, in any tables
 pub callback_lives : (tables : List Interface) → CallbackLives tables
@@ -55,7 +56,7 @@ dead_registry tables = record {
   not_at_server = refl;
 }
 
--- the steps of two offers that the server makes at one id, in any tables
+-- the steps of three offers that the server makes, in any tables
 pub server_object_lives : (tables : List Interface) → ServerObjectLives tables
 unfolding put nothing
 server_object_lives tables = record {
@@ -71,11 +72,21 @@ server_object_lives tables = record {
   makes_again = writes_event (make_offer second_offer) refl tt refl;
   sees_again = reads_event (make_offer second_offer) [] refl;
   reports_again = (refl, refl, refl, refl);
+  makes_third = writes_event (make_offer third_offer) refl tt refl;
+  destroys_device = writes_request destroy_device refl tt tt;
+  sees_discarded = reads_event (make_offer third_offer) [] refl;
+  reports_discarded = (refl, refl, refl, refl);
+  opens_third = refl;
+  reads_device = reads_request destroy_device [] refl;
+  deletes_device = refl;
+  forgets_device = reads_delete sample_device [] refl;
   no_requests = refl;
   no_events = refl;
   first_at_client = refl;
   first_at_server = refl;
   second_at_client = refl;
   second_at_server = refl;
+  third_at_client = refl;
+  third_at_server = refl;
   next = refl;
 }

@@ -3,7 +3,7 @@
 use Rattle.std.proofs.Common.{true, false, cond, ◌++◌, ◌∷◌, [], ◌≡◌, ℕ, ◌<◌, ◌≤◌, Bool, List, map, ◌⊎◌, inl}
 use Rattle.std.proofs.Common.{inr, refl, sym, ◌∙◌, ap, subst, arith, ◌≢◌}
 use Rattle.std.specs.Prelude.{option_map, is_some, ◌↔◌}
-use Rattle.std.proofs.lemmas.List.{append_assoc, append-nil, map-append}
+use Rattle.std.proofs.lemmas.List.{append_assoc}
 use Rattle.std.specs.declared.option.Option.{Option}
 use Rattle.std.specs.declared.option.Option.TheVariants.{None, Some}
 use Rattle.wl_object_map.specs.declared.object.Maker.{Maker}
@@ -15,27 +15,28 @@ use Rattle.theory_connection.specs.Meant.{Delete as delete_of, renamed, recoming
 use Rattle.theory_connection.specs.Meant.{objects, made_in}
 use Rattle.theory_connection.specs.World.{World, Row, Open, Ending, IsOpen, IsEnding, IsThere, Each}
 use Rattle.theory_connection.specs.Flight.{Rows, Counts, births_in, Ask, Use, Make, Destroy, Tell, Name, Made}
-use Rattle.theory_connection.specs.Flight.{Delete, IsHeldInRows, client_rows, server_rows, asks, tells}
-use Rattle.theory_connection.specs.Flight.{all_asks, all_tells, make_ask, destroy_ask, make_tell, ends}
+use Rattle.theory_connection.specs.Flight.{Delete, IsHeldInRows, client_rows, server_rows, asks}
+use Rattle.theory_connection.specs.Flight.{all_asks, all_tells, make_ask, destroy_ask}
 use Rattle.theory_connection.specs.Flight.{ReadsInFlight, Tied, IsAskedBelow}
 use Rattle.theory_connection.specs.Pair.{PairState}
 use Rattle.theory_connection.specs.Stands.{StandsBy, by_event}
 use Rattle.theory_connection.specs.Plain.{In, IsHeldAtClient, MakeComes, DestroyComes, EventMakes, NameComes}
-use Rattle.theory_connection.specs.Plain.{NamesBirth, IsNamedInTurn, IsInOrder, RequestNames, BirthsAreOf}
+use Rattle.theory_connection.specs.Plain.{NamesBirth, IsNamedInTurn, IsInOrder, MessageNames, BirthsAreOf}
+use Rattle.theory_connection.specs.Plain.{IsLatest, made_last, not_made}
 use Rattle.theory_connection.specs.Plain.{ServerBirthsAreOf, news, news_told, ask_id, IsUnasked, IsMadeFirst}
 use Rattle.theory_connection.proofs.Flight.{counts_after, counts_tied, held_some, range_apart}
-use Rattle.theory_connection.proofs.WholeInFlight.{all_asks_both, all_tells_more}
+use Rattle.theory_connection.proofs.WholeInFlight.{all_asks_both}
 use Rattle.theory_connection.proofs.RowsAfterMessage.{map_some, made_map, objects_map}
 use Rattle.theory_connection.proofs.Plain as plain
 use Rattle.theory_connection.proofs.OfServer.{mades, makes, birth_known}
 use Rattle.theory_connection.proofs.OfServer as flight
 use Rattle.theory_connection.proofs.Worlds as worlds
 use Rattle.theory_connection.proofs.Worlds.{made_maker}
-use Rattle.theory_connection.proofs.MessageActions.{in_right, in_either, in_map, from_map, each_in, parted}
-use Rattle.theory_connection.proofs.MessageActions.{tells_in, in_asks, asked_destroy, news_comes, names}
-use Rattle.theory_connection.proofs.MessageActions.{told_made, use_asked, split_at, mades_told, makes_asked}
+use Rattle.theory_connection.proofs.MessageActions.{in_right, in_map, from_map, each_in, parted}
+use Rattle.theory_connection.proofs.MessageActions.{tells_in, in_asks, asked_destroy, news_comes}
+use Rattle.theory_connection.proofs.MessageActions.{told_made, use_asked, mades_told, makes_asked}
 use Rattle.theory_connection.proofs.MessageActions.{births_told_world, births_asked_world, makes_in}
-use Rattle.theory_connection.proofs.MessageActions.{listed_news, news_listed}
+use Rattle.theory_connection.proofs.MessageActions.{listed_news, news_listed, named_at, mades_front}
 
 -- ---- in the world
 
@@ -187,9 +188,9 @@ module _ (p : PairState) (w : World) (asked : List (Message Known)) (told : List
   named_known : (x : Born) → NameComes w x → (k : Known) × (In (Use k) (all_asks asked) × (k.born ≡ x))
   named_known x h =
       let f = from_map (renamed born_of) h.request asked (subst (In h.request) s.requests.in_world h.there) in
-      by_name f.item f.there (subst (RequestNames x) (sym f.is) h.names)
+      by_name f.item f.there (subst (MessageNames x) (sym f.is) h.names)
     where
-      by_name : (m : Message Known) → In m asked → RequestNames x (renamed born_of m)
+      by_name : (m : Message Known) → In m asked → MessageNames x (renamed born_of m)
           → (k : Known) × (In (Use k) (all_asks asked) × (k.born ≡ x))
       by_name m i n = elim n [
         | inl t ↦ (m.target, (in_asks (Use m.target) m asked i (inl refl), t))
@@ -262,14 +263,14 @@ module _ (p : PairState) (w : World) (asked : List (Message Known)) (told : List
   -- no request behind it names the object or destroys it again
   pub last_asked : (before after : List (Message Born)) (request later : Message Born) (x : Born)
       → w.requests ≡ before ++ request ∷ after → request.ends ≡ Some x → In later after
-      → RequestNames x later ⊎ (later.ends ≡ Some x) → ⊥
+      → MessageNames x later ⊎ (later.ends ≡ Some x) → ⊥
   last_asked before after request later x e d i n =
       let t = parted (renamed born_of) asked before request after (sym s.requests.in_world ∙ e) in
       let f = from_map (renamed born_of) later t.rest (subst (In later) (sym t.rest_is) i) in
       let known : option_map born_of t.item.ends ≡ Some x = ap (λ (r : Message Born). r.ends) t.item_is ∙ d in
       let k = map_some born_of t.item.ends x known in
       at_later t.front t.item t.rest k.0 t.whole k.1 k.2 f.item f.there
-      (subst (λ (r : Message Born). RequestNames x r ⊎ (r.ends ≡ Some x)) (sym f.is) n)
+      (subst (λ (r : Message Born). MessageNames x r ⊎ (r.ends ≡ Some x)) (sym f.is) n)
     where
       -- an action about it has its id
       at_ask : (front rest : List (Message Known)) (m : Message Known) (k : Known) → asked ≡ front ++ m ∷ rest
@@ -298,7 +299,7 @@ module _ (p : PairState) (w : World) (asked : List (Message Known)) (told : List
 
       at_later : (front : List (Message Known)) (m : Message Known) (rest : List (Message Known)) (k : Known)
           → asked ≡ front ++ m ∷ rest → m.ends ≡ Some k → k.born ≡ x → (l : Message Known) → In l rest
-          → RequestNames x (renamed born_of l) ⊎ ((renamed born_of l).ends ≡ Some x) → ⊥
+          → MessageNames x (renamed born_of l) ⊎ ((renamed born_of l).ends ≡ Some x) → ⊥
       at_later front m rest k q r b l here n = elim n [
         | inl a ↦ elim a [
           | inl t ↦ at_ask front rest m k q r b (Use l.target) l.target (inl refl)
@@ -321,6 +322,15 @@ module _ (p : PairState) (w : World) (asked : List (Message Known)) (told : List
       (subst (λ (l : List Tell). ReadsInFlight (by_event p.server.core.tables) l v s.meet.middle) e s.meet.reads)
       range free unnamed about
 
+  -- an event names by an id what stands there at the client when its turn comes
+  pub latest_named : (k : Known) (front rest : List (Coming Known)) (m : Message Known) → told ≡ front ++ Event m ∷ rest
+      → MessageNames k m → IsLatest v k (news_told front)
+  latest_named k front rest m q n =
+      let a = named_at k front m rest told q n in
+      subst (IsLatest v k) (mades_front front a.names_before)
+      (flight.named_latest (all_tells front ++ map Name a.names_before) a.rest k
+      (subst (λ (l : List Tell). ReadsInFlight (by_event p.server.core.tables) l v s.meet.middle) a.whole s.meet.reads))
+
   -- what an event names the client holds, or an event before it makes it
   pub named_in_turn : (x : Born) → IsNamedInTurn w x
   named_in_turn x = λ before after event e n.
@@ -328,49 +338,23 @@ module _ (p : PairState) (w : World) (asked : List (Message Known)) (told : List
       subst (λ (l : List (Coming Born)). IsHeldAtClient w x ⊎ In x (news_told l)) t.front_is
       (by_coming t.front t.item t.rest t.whole (subst (NamesBirth x) (sym t.item_is) n))
     where
-      -- a name of an event: what is before it in the event makes nothing
-      at_name : (front : List (Coming Known)) (ns : List Known) (k : Known) (rest : List Tell) → k.born ≡ x
-          → all_tells told ≡ (all_tells front ++ map Name ns) ++ (Name k ∷ rest)
+      by_latest : (front : List (Coming Known)) (k : Known) → k.born ≡ x → IsLatest v k (news_told front)
           → IsHeldAtClient w x ⊎ In x (news_told (map (recoming born_of) front))
-      at_name front ns k rest b q =
-          elim (flight.named_before (all_tells front ++ map Name ns) rest k
-          (subst (λ (l : List Tell). ReadsInFlight (by_event p.server.core.tables) l v s.meet.middle) q s.meet.reads)) [
-            | inl h ↦ inl (subst (IsHeldAtClient w) b (worlds.held_world p w asked told s k h))
-            | inr h ↦ elim (in_either (Made k) (all_tells front) (map Name ns) h) [
-              | inl i ↦ (let m = makes_in k front i in
-                  inr (news_listed x (renamed born_of m.event) (map (recoming born_of) front)
-                  (in_map (recoming born_of) (Event m.event) front m.there)
-                  (made_map born_of m.event.args ∙ ap (option_map born_of) m.makes_it ∙ ap Some b)))
-              | inr i ↦ absurd (names (Made k) ns i)
-            ]
-          ]
-
-      regroup : (es : List Tell) (t : Known) (us : List Known) (k : Known) (ws xs : List Known) (others rest : List Tell)
-          → xs ≡ us ++ k ∷ ws
-          → es ++ ((Name t ∷ (map Name xs ++ others)) ++ rest)
-          ≡ (es ++ map Name (t ∷ us)) ++ (Name k ∷ ((map Name ws ++ others) ++ rest))
-      regroup es t us k ws xs others rest e =
-          ap (λ (l : List Known). es ++ ((Name t ∷ (map Name l ++ others)) ++ rest)) e
-          ∙ ap (λ (l : List Tell). es ++ ((Name t ∷ (l ++ others)) ++ rest)) (map-append Name us (k ∷ ws))
-          ∙ ap (λ (l : List Tell). es ++ (Name t ∷ (l ++ rest))) (append_assoc (map Name us) (Name k ∷ map Name ws) others)
-          ∙ ap (λ (l : List Tell). es ++ (Name t ∷ l)) (append_assoc (map Name us) (Name k ∷ (map Name ws ++ others)) rest)
-          ∙ sym (append_assoc es (map Name (t ∷ us)) (Name k ∷ ((map Name ws ++ others) ++ rest)))
+      by_latest front k b (not_made f h) = inl (subst (IsHeldAtClient w) b (worlds.held_world p w asked told s k h))
+      by_latest front k b (made_last earlier later e f) =
+          let m = listed_news k front (subst (In k) (sym e) (in_right k earlier (k ∷ later) (inl refl))) in
+          inr (news_listed x (renamed born_of m.event) (map (recoming born_of) front)
+          (in_map (recoming born_of) (Event m.event) front m.there)
+          (made_map born_of m.event.args ∙ ap (option_map born_of) m.makes_it ∙ ap Some b))
 
       by_coming : (front : List (Coming Known)) (c : Coming Known) (rest : List (Coming Known))
           → told ≡ front ++ c ∷ rest → NamesBirth x (recoming born_of c)
           → IsHeldAtClient w x ⊎ In x (news_told (map (recoming born_of) front))
-      by_coming front (Event m) rest q n =
-          let others = make_tell (made_in m.args) ++ ends m.ends in
-          let whole : all_tells told ≡ all_tells front ++ (tells (Event m) ++ all_tells rest) =
-          ap all_tells q ∙ all_tells_more front (Event m ∷ rest) in
-          elim n [
-            | inl a ↦ at_name front [] m.target ((map Name (objects m.args) ++ others) ++ all_tells rest) a
-                (whole ∙ ap (λ (l : List Tell). l ++ (tells (Event m) ++ all_tells rest)) (sym (append-nil (all_tells front))))
-            | inr a ↦ (let f = from_map born_of x (objects m.args) (subst (In x) (objects_map born_of m.args) a) in
-                let k = split_at f.item (objects m.args) f.there in
-                at_name front (m.target ∷ k.front) f.item ((map Name k.back ++ others) ++ all_tells rest) f.is
-                (whole ∙ regroup (all_tells front) m.target k.front f.item k.back (objects m.args) others (all_tells rest) k.whole))
-          ]
+      by_coming front (Event m) rest q n = elim n [
+        | inl a ↦ by_latest front m.target a (latest_named m.target front rest m q (inl refl))
+        | inr a ↦ (let f = from_map born_of x (objects m.args) (subst (In x) (objects_map born_of m.args) a) in
+            by_latest front f.item f.is (latest_named f.item front rest m q (inr f.there)))
+      ]
       by_coming front (delete_of k) rest q n =
           inl (subst (IsHeldAtClient w) n (worlds.held_world p w asked told s k
           (worlds.deleted_is_held p w asked told s k (tells_in (Delete k) (delete_of k) told

@@ -67,7 +67,8 @@ use Rattle.theory_connection.proofs.ClientSendMove.{if_map, new_births}
 use Rattle.theory_connection.proofs.Calls.{Checked, is_checked, LiveAt, live_as, handed_all}
 use Rattle.theory_connection.proofs.Calls.{tokens_all}
 use Rattle.theory_connection.proofs.TwoRanges.{row_low}
-use Rattle.theory_connection.proofs.Rules.{ends_so, ServerMade, server_made}
+use Rattle.wl_connection.proofs.MadeByEvent.{IsMadeByEvent, made_by_event}
+use Rattle.theory_connection.proofs.Rules.{ends_so}
 use Rattle.theory_connection.proofs.Written.{the_made, the_new, the_args, the_call, new_id, new_birth, CallIs, call_is}
 use Rattle.theory_connection.proofs.Written.{call_ends, accepted_call, opens, no_delete}
 use Rattle.theory_connection.proofs.ClientSendMove.{made_same}
@@ -144,8 +145,8 @@ server_can p w asked told s target opcode given signature c k n =
     let v = core.view in
     let m = the_call core Event c.entry target opcode given signature in
     let mk = the_made core Event c.entry given signature in
-    let rule = told_made (ServerMade core.tables) (made_in m.args) mk k.made_is
-    (λ new e. server_made core.tables s.terms.valid c.entry.iface.0 opcode c.entry.version signature
+    let rule = told_made (IsMadeByEvent core.tables) (made_in m.args) mk k.made_is
+    (λ new e. made_by_event core.tables s.terms.valid c.entry.iface.0 opcode c.entry.version signature
     (map (wired (next_id Server v)) given) new c.signed e) in
     record {
       fitly = record {
@@ -158,7 +159,7 @@ server_can p w asked told s target opcode given signature c k n =
       args = each_by (LiveAt v) (ThereRow (server_rows v)) (there_live v) (objects m.args) k.live;
       new = told_fits v (the_new core Event c.entry given signature) (made_in m.args) s.server.sound
           (new_id Server v mk) (new_birth Server v mk) k.new n;
-      new_plain = if_by (λ x r. r.plain) (made_in m.args) rule;
+      new_plain = if_by (λ x r. r.lasting) (made_in m.args) rule;
       new_other = if_by (λ x r. r.other) (made_in m.args) rule;
       ends = event_ends p.server.core.tables s.terms.valid m.target m.args opcode signature c.signed;
       short = k.short;

@@ -22,7 +22,7 @@ use Rattle.wl_object_map.specs.Objects.{Objects, ObjectsAreSound, look, closed, 
 use Rattle.wl_object_map.specs.ObjectsLaws.{look-opened_at, look-closed, look-zombied}
 use Rattle.wl_object_map.specs.ObjectsLaws.{births-closed, ObjectsAreSound-closed}
 use Rattle.theory_connection.proofs.Flight.{range_apart}
-use Rattle.theory_connection.proofs.TwoRanges.{freed_closed}
+use Rattle.wl_connection.proofs.ServerRange.{freed_closed}
 use Rattle.wl_objects.specs.Messages.{opens}
 use Rattle.theory_connection.specs.Meant.{Birth, Born, Known, born_of, birth_of, born_of_entry}
 use Rattle.theory_connection.specs.World.{Row, Open, Each, IfThere, born_into, same, ending, gone, put, births_counted}

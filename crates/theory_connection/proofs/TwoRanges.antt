@@ -1,5 +1,5 @@
 -- What an end's two tables are together: where a row is, and what a change leaves of the counts.
-use Rattle.std.proofs.Common.{◌≡◌, ℕ, ◌+◌, ◌<◌, ◌≤◌, Bool, true, false, cond, max, [], inl, inr}
+use Rattle.std.proofs.Common.{◌≡◌, ℕ, ◌+◌, ◌<◌, ◌≤◌, Bool, true, false, cond, max, inl, inr}
 use Rattle.std.proofs.Common.{refl, sym, ap, ◌∙◌, arith, is_some}
 use Rattle.std.proofs.lemmas.Bool.{cases_Bool}
 use Rattle.std.proofs.lemmas.Bool.Decides.{nat_tests}
@@ -134,27 +134,3 @@ told_sound v id iface version s range next low left = by_row (look v id) refl
         ObjectsAreSound-opened_at v id iface version s
         (in_range-server table.free_or_next v id range
         ∙ unheld_is_free v.server (table_id id) s.server none (omega (arith, from)) (omega (arith, from, next))) room
-
--- ---- no id of the server's is freed at a client
-
-freed_either : (b : Bool) (view new : View) → view.freed ≡ [] → (b ≡ true → new.freed ≡ [])
-    → (cond b new view).freed ≡ []
-freed_either true view new h k = k refl
-freed_either false view new h k = h
-
--- an opening frees none
-pub freed_opened : (v : Objects) (id : ℕ) (iface : Iface) (version : ℕ) → v.server.freed ≡ []
-    → (opened_at v id iface version).server.freed ≡ []
-freed_opened v id iface version h =
-    freed_either (is_of_server id) v.server (table.opened_at v.server (table_id id) iface version) h
-    (λ t. ap (table.without (table_id id)) h)
-
--- nor a zombie-making
-pub freed_zombied : (v : Objects) (id : ℕ) → v.server.freed ≡ [] → (zombied v id).server.freed ≡ []
-freed_zombied v id h = freed_either (is_of_server id) v.server (table.zombied v.server (table_id id)) h (λ t. h)
-
--- nor a closing in the client's range
-pub freed_closed : (v : Objects) (id : ℕ) → is_of_server id ≡ false → v.server.freed ≡ []
-    → (closed v id).server.freed ≡ []
-freed_closed v id range h =
-    freed_either (is_of_server id) v.server (table.closed v.server (table_id id)) h (λ t. absurd (cc (range, t)))

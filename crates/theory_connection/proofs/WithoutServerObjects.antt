@@ -1,25 +1,26 @@
 -- Where no event of the tables makes an object, what is known of the client's objects and ids alone is
 -- known of all.
-use Rattle.std.proofs.Common.{◌≡◌, ℕ, ◌≤◌, false, List, ◌⊎◌, inl, inr, refl, sym, ◌∙◌, ap, arith}
+use Rattle.std.proofs.Common.{◌≡◌, ℕ, ◌≤◌, false, List, ◌⊎◌, inl, inr, refl, sym, ◌∙◌, ap, subst, arith, ◌∷◌}
 use Rattle.std.specs.Prelude.{is_some}
 use Rattle.std.specs.declared.option.Option.TheVariants.{None}
 use Rattle.wl_sigs.specs.Rules.{has_server_objects}
 use Rattle.wl_object_map.specs.declared.object.Maker.{Maker}
 use Rattle.wl_object_map.specs.declared.object.Maker.TheVariants.{Client, Server}
-use Rattle.theory_connection.specs.Meant.{Born, Known, Message, Coming}
+use Rattle.theory_connection.specs.Meant.{Born, Known, Message, Coming, Event, Delete as delete_of}
 use Rattle.theory_connection.specs.World.{World, Row, IsThere, IsEnding}
 use Rattle.theory_connection.specs.Flight.{Rows, Counts, Made, client_rows, all_tells}
 use Rattle.theory_connection.specs.Pair.{PairState}
 use Rattle.theory_connection.specs.Stands.{StandsBy}
 use Rattle.theory_connection.specs.Plain.{In, IsHeldAtClient, IsSomewhere, DeleteComes, DestroyComes}
-use Rattle.theory_connection.specs.Plain.{EventMakes, IsNowhere}
+use Rattle.theory_connection.specs.Plain.{EventMakes, IsNowhere, IsOnTheWay, NamesBirth}
 use Rattle.theory_connection.proofs.Flight.{counts_tied}
 use Rattle.theory_connection.proofs.Stands.{some_births}
 use Rattle.theory_connection.proofs.Plain.{made_later, free_asks}
 use Rattle.theory_connection.proofs.OfServer.{counts_rise, made_counted, untold}
 use Rattle.theory_connection.proofs.Worlds as worlds
 use Rattle.theory_connection.proofs.ServerObjects.{event_known, held_counted, there_where}
-use Rattle.theory_connection.proofs.ServerObjects.{destroyed_is_ending}
+use Rattle.theory_connection.proofs.ServerObjects.{destroyed_is_ending, named_in_turn, named_open}
+use Rattle.theory_connection.proofs.MessageActions.{split_at, listed_news, in_left}
 
 module _ (p : PairState) (w : World) (asked : List (Message Known)) (told : List (Coming Known))
     (s : StandsBy p w asked told) (none : has_server_objects p.server.core.tables ≡ false) where
@@ -64,17 +65,49 @@ module _ (p : PairState) (w : World) (asked : List (Message Known)) (told : List
     ]
   ]
 
+  -- none is made, named or deleted on the way
+  not_made : (x : Born) → EventMakes w x → ⊥
+  not_made x h = let k = event_known p w asked told s x h in none_told k.0 k.1.0
+
+  not_deleted : (x : Born) → x.birth.maker ≡ Server → DeleteComes w x → ⊥
+  not_deleted x c h = let d = worlds.deleted_by p w asked told s x h in cc (c, d)
+
+  not_named : (x : Born) → x.birth.maker ≡ Server → (coming : Coming Born) → In coming w.events → NamesBirth x coming
+      → ⊥
+  not_named x c (Event m) i n =
+      let t = split_at (Event m) w.events i in
+      elim (named_in_turn p w asked told s x t.front t.back m t.whole n) [
+        | inl held ↦ none_held x c held
+        | inr made ↦ (let k = listed_news x t.front made in
+            not_made x (record {
+              event = k.event;
+              there = subst (In (Event k.event)) (sym t.whole) (in_left (Event k.event) t.front (Event m ∷ t.back) k.there);
+              makes = k.makes_it;
+            }))
+      ]
+  not_named x c (delete_of y) i n =
+      not_deleted x c (subst (λ (z : Born). In (delete_of z) w.events) n i)
+
+  none_comes : (x : Born) → x.birth.maker ≡ Server → IsOnTheWay w x → ⊥
+  none_comes x c h = elim h [
+    | inl a ↦ absurd (let d = worlds.made_by p w asked told s x a in cc (c, d))
+    | inr a ↦ elim a [
+      | inl b ↦ not_made x b
+      | inr b ↦ elim b [
+        | inl n ↦ none_there x c (named_open p w asked told s x c n).0
+        | inr n ↦ not_named x c n.coming n.there n.names
+      ]
+    ]
+  ]
+
   -- ---- the laws, of all objects and ids
 
   -- an object of the server's is nowhere
   pub no_object : (x : Born) → x.birth.maker ≡ Server
-      → IsHeldAtClient w x ⊎ IsThere w.server x ⊎ EventMakes w x → ⊥
+      → IsHeldAtClient w x ⊎ IsThere w.server x ⊎ IsOnTheWay w x → ⊥
   no_object x c h = elim h [
     | inl a ↦ none_held x c a
-    | inr a ↦ elim a [
-      | inl b ↦ none_there x c b
-      | inr b ↦ (let k = event_known p w asked told s x b in none_told k.0 k.1.0)
-    ]
+    | inr a ↦ elim a [ inl b ↦ none_there x c b | inr b ↦ none_comes x c b ]
   ]
 
   pub nowhere_free : (id : ℕ) → v.rows id ≡ None → IsNowhere id asked told
@@ -93,7 +126,7 @@ module _ (p : PairState) (w : World) (asked : List (Message Known)) (told : List
       by_maker : (m : Maker) → x.birth.maker ≡ m → IsHeldAtClient w x
       by_maker Client c = worlds.back_held p w asked told s x c h
       by_maker Server c = elim h [
-        | inl a ↦ absurd (let d = worlds.deleted_by p w asked told s x a in cc (c, d))
+        | inl a ↦ absurd (not_deleted x c a)
         | inr a ↦ elim a [
           | inl b ↦ absurd (none_there x c b)
           | inr b ↦ absurd (let d = worlds.made_by p w asked told s x b in cc (c, d))

@@ -229,14 +229,15 @@ pub record ReadsEvent (tables : List Interface) (p : PairState) (w : World) (rep
   pub steps : Steps tables w (ReadEvent coming) w'
   pub reports : ReportsComing w coming report
 
--- what comes needs memory: an event with arguments for an open object, to report it; an event that
--- makes an object, to open that
+-- What comes needs memory: an event with arguments for an open object, to report it; an event that
+-- makes an object, to open that. The world has no ids: that it is only at the next unused one is
+-- said by `Does`.
 abbrev pub NeedsMemory : World → Coming Born → Type 0
 NeedsMemory w (Event m) =
     (IsOpen w.client m.target × (m.args ≢ [])) ⊎ (is_some (made_in m.args) ≡ true)
 NeedsMemory w (Delete x) = ⊥
 
--- what comes first stays: there was no memory for its report, which needs some
+-- what comes first stays: it needs memory, for its report or its new object, and there was none
 pub record KeepsEvent (p : PairState) (w : World) (w' : World) : Type 0 where
   pub waits : HasOne p.client.core.inbox
   pub coming : Coming Born

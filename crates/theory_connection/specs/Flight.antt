@@ -89,7 +89,7 @@ server_rows view = record {
   by_server = counts_of view;
 }
 
--- how many births of a maker were counted
+-- the number of a maker's next birth
 abbrev pub births_in : {X : Type 0} → Rows X → Maker → ℕ
 births_in v Client = v.births
 births_in v Server = v.by_server.births
@@ -181,9 +181,8 @@ pub record Fresh {X : Type 0} (v : Rows X) (x : Known) : Type 0 where
   pub low : x.id ≤ max_ids
   pub left : v.births < max_births
 
--- A new object of the server's is the next at the client: its id is one that was used before or the
--- next one, no open object has it, and it is the server's next birth. An ending object may have the
--- id.
+-- The client can read an event that makes this object of the server: the id was used before or is
+-- the next one, no open object has it (an ending one may), and it is the server's next birth.
 pub record NextTold (v : Rows Row) (x : Known) : Type 0 where
   pub range : is_of_server x.id ≡ true
   pub not_open : (b : Born) → v.rows x.id ≢ Some (Open b)
@@ -192,11 +191,12 @@ pub record NextTold (v : Rows Row) (x : Known) : Type 0 where
   pub low : x.id ≤ max_server_id
   pub left : v.by_server.births < max_births
 
--- what the server has at an id, as the client has it once all is read
+-- the row that the client will have, once all is read, of what the server has
 abbrev pub at_client : Option Born → Option Row
 at_client o = option_map Open o
 
--- of a row at the client, what the server has once all is read: an open object, and no ending one
+-- what the server will have, once all is read, of a client's row: the object if it is open, nothing
+-- if it is ending
 abbrev pub only_open : Option Row → Option Born
 only_open (Some (Open x)) = Some x
 only_open _ = None
@@ -214,8 +214,8 @@ pub data ReadsInFlight (by_event : Born → Bool) : List Tell → Rows Row → R
       → is_of_server x.id ≡ false → IsHeldInRows v x
       → ReadsInFlight by_event es (at v x.id (Some (Ending x.born))) w
       → ReadsInFlight by_event (Destroyed x ∷ es) v w
-  -- what an event makes has an interface without a destroying event, and is the server's next at
-  -- the client; an ending row of its id is gone
+  -- an event makes an object whose interface has no destroying event, as the server's next one at
+  -- the client; it replaces an ending row of its id
   made : {es : List Tell} {v w : Rows Row} {x : Known} → by_event x.born ≡ false → NextTold v x
       → ReadsInFlight by_event es (with_told v x.id (Open x.born)) w
       → ReadsInFlight by_event (Made x ∷ es) v w

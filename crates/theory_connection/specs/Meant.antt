@@ -35,7 +35,7 @@ same_maker _ _ = false
 abbrev pub same_birth : Birth → Birth → Bool
 same_birth b c = same_maker b.maker c.maker && nat_eq b.number c.number
 
--- The birth is below the count of its maker.
+-- The birth's number is below that of its maker's next birth.
 abbrev pub IsAmongFirst : (Maker → ℕ) → Birth → Type 0
 IsAmongFirst births b = b.number < births b.maker
 

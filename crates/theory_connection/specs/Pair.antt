@@ -178,7 +178,8 @@ pub data Announces (p : PairState) : Result ℕ SendError → PairState → Type
   refused : p.server.core.failed ≡ true → Announces p (Err refusals.Failed) p
 
 -- A read returns and leaves what it says. Or there is no memory for a report that needs some, or,
--- at a client, for an object that the message makes at an id without a row; then nothing changes.
+-- at a client, for an object that the message makes at an id that was never used; then nothing
+-- changes.
 pub data Nexts {R : Type 0} (needs : R → Bool) (opens : Bool)
     (answer : Result (Option R) NextError) (before after : PairState)
     : Result (Option R) NextError → PairState → Type 0 where

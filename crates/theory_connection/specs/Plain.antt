@@ -6,9 +6,9 @@ use Rattle.wl_object_map.specs.declared.object.Maker.TheVariants.{Client, Server
 use Rattle.wl_object_map.specs.Ranges.{is_of_server, wire_id}
 use Rattle.theory_connection.specs.Meant.{Birth, Born, Known, Message, Coming, Event}
 use Rattle.theory_connection.specs.Meant.{Delete as delete_of, known_id, birth_of, objects, made_in}
-use Rattle.theory_connection.specs.World.{World, IsOpen, IsEnding, IsThere, Each, marks_birth}
+use Rattle.theory_connection.specs.World.{World, Row, IsOpen, IsEnding, IsThere, Each, marks_birth}
 use Rattle.theory_connection.specs.Flight.{Ask, Use, Make, Destroy, Tell, Name, Made, Destroyed}
-use Rattle.theory_connection.specs.Flight.{Delete}
+use Rattle.theory_connection.specs.Flight.{Delete, Rows, IsHeldInRows}
 use Rattle.theory_connection.specs.Flight.{all_asks, all_tells}
 use Rattle.theory_connection.specs.Pair.{PairState}
 use Rattle.theory_connection.specs.Stands.{Stands, StandsBy}
@@ -75,9 +75,13 @@ pub record DestroyComes (w : World) (x : Born) : Type 0 where
 abbrev pub IsSomewhere : World → Born → Type 0
 IsSomewhere w x = DeleteComes w x ⊎ IsThere w.server x ⊎ MakeComes w x
 
+-- a message names it
+abbrev pub MessageNames : {O : Type 0} → O → Message O → Type 0
+MessageNames x m = (m.target ≡ x) ⊎ In x (objects m.args)
+
 -- what comes to the client names it
 abbrev pub NamesBirth : Born → Coming Born → Type 0
-NamesBirth x (Event m) = (m.target ≡ x) ⊎ In x (objects m.args)
+NamesBirth x (Event m) = MessageNames x m
 NamesBirth x (delete_of y) = y ≡ x
 
 -- nothing that comes behind its delete names it
@@ -86,22 +90,18 @@ IsLast w x =
     (before after : List (Coming Born)) (coming : Coming Born)
     → w.events ≡ before ++ delete_of x ∷ after → In coming after → NamesBirth x coming → ⊥
 
--- a request names it
-abbrev pub RequestNames : Born → Message Born → Type 0
-RequestNames x m = (m.target ≡ x) ⊎ In x (objects m.args)
-
 -- a request on the way to the server names it
 pub record NameComes (w : World) (x : Born) : Type 0 where
   pub request : Message Born
   pub there : In request w.requests
-  pub names : RequestNames x request
+  pub names : MessageNames x request
 
 -- no request behind the one that destroys it names it or destroys it again
 abbrev pub IsLastAsked : World → Born → Type 0
 IsLastAsked w x =
     (before after : List (Message Born)) (request later : Message Born)
     → w.requests ≡ before ++ request ∷ after → request.ends ≡ Some x → In later after
-    → RequestNames x later ⊎ (later.ends ≡ Some x) → ⊥
+    → MessageNames x later ⊎ (later.ends ≡ Some x) → ⊥
 
 -- a registry that is told of globals
 abbrev pub IsToldOfGlobals : World → Born → Type 0
@@ -109,7 +109,7 @@ IsToldOfGlobals w x = In x.birth (map marks_birth w.registries)
 
 -- ---- what is made on the way
 
--- the object that there is, if there is one
+-- a list of the object, or the empty list
 abbrev pub option_list : {X : Type 0} → Option X → List X
 option_list None = []
 option_list (Some x) = x ∷ []
@@ -125,6 +125,21 @@ news_told [] = []
 news_told (Event m ∷ coming) = option_list (made_in m.args) ++ news_told coming
 news_told (delete_of x ∷ coming) = news_told coming
 
+-- the object that an event makes, if it makes one; a delete makes none
+abbrev pub made_by_coming : {O : Type 0} → Coming O → Option O
+made_by_coming (Event m) = made_in m.args
+made_by_coming (delete_of x) = None
+
+-- something on the way to the client names it: an event, or its delete
+pub record NamedToClient (w : World) (x : Born) : Type 0 where
+  pub coming : Coming Born
+  pub there : In coming w.events
+  pub names : NamesBirth x coming
+
+-- a message on the way makes it or names it, or is its delete
+abbrev pub IsOnTheWay : World → Born → Type 0
+IsOnTheWay w x = MakeComes w x ⊎ EventMakes w x ⊎ NameComes w x ⊎ NamedToClient w x
+
 -- each event on the way that names it comes behind one that makes it, or the client holds it
 abbrev pub IsNamedInTurn : World → Born → Type 0
 IsNamedInTurn w x =
@@ -132,14 +147,13 @@ IsNamedInTurn w x =
     → w.events ≡ before ++ Event event ∷ after → NamesBirth x (Event event)
     → IsHeldAtClient w x ⊎ In x (news_told before)
 
--- as many births of a maker as this, one after another, from a number on
+-- `count` births of a maker, numbered from `number` on
 abbrev pub births_from : Maker → ℕ → ℕ → List Birth
 births_from maker number zero = []
 births_from maker number (suc count) =
     record { maker = maker; number = number } ∷ births_from maker (number + 1) count
 
--- These are, in their order, a maker's births from the first number on, up to the one before the
--- next.
+-- These are a maker's births numbered `first` to `next - 1`, in order.
 abbrev pub IsInOrder : Maker → ℕ → ℕ → List Birth → Type 0
 IsInOrder maker first next births =
     (count : ℕ) × ((first + count ≡ next) × (births ≡ births_from maker first count))
@@ -180,6 +194,13 @@ IsMadeFirst id told =
     (before after : List Tell) (action : Tell) → all_tells told ≡ before ++ action ∷ after
     → Each (λ t. tell_id t ≢ id) before → tell_id action ≡ id → IsMaking action
 
+-- x is the latest object at its id: it is the last of these, which were made one after another,
+-- that has the id; or none of them has it, and the client's rows hold x there, open or ending.
+pub data IsLatest (v : Rows Row) (x : Known) (made : List Known) : Type 0 where
+  made_last : (before after : List Known) → made ≡ before ++ x ∷ after
+      → Each (λ y. y.id ≢ x.id) after → IsLatest v x made
+  not_made : Each (λ y. y.id ≢ x.id) made → IsHeldInRows v x → IsLatest v x made
+
 -- The ids used at the client are those used at the server and those of the objects that these
 -- requests make.
 abbrev pub IdsAreOf : PairState → List (Message Known) → Type 0
@@ -202,8 +223,8 @@ BirthsAreOf p w =
     ⊎ In birth (map birth_of (news w.requests)))
 
 -- The ids of the server's range that are used at the server are those used at the client and those
--- of the objects that these events make. The table of the range counts its ids from 2 on, so the
--- last one used is that of the number of its ids.
+-- of the objects that these events make. `used` counts the table's row 1, which stands for nothing,
+-- so the last id used is `wire_id used`.
 abbrev pub ServerIdsAreOf : PairState → List (Coming Known) → Type 0
 ServerIdsAreOf p told =
     (id : ℕ) → is_of_server id ≡ true

@@ -1,5 +1,5 @@
 -- Four short histories of the world: a callback that is done, an event that names an object which
--- its reader has destroyed, a registry that is destroyed by wl_fixes, and an object that the server
+-- its reader has destroyed, a registry that is destroyed by wl_fixes, and objects that the server
 -- makes.
 use Rattle.std.specs.Prelude.{◌≡◌, ℕ, pos, codes, List, [], ◌∷◌, Some, None}
 use Rattle.wl_wire.specs.Argument.{Uint, Fixed, Str, Obj, New}
@@ -189,12 +189,15 @@ pub record DeadRegistry (tables : List Interface) : Type 0 where
 abbrev pub sample_device : Born
 sample_device = record { birth = client_birth 1; iface = record { 0 = 5 }; version = 3 }
 
--- the first two offers, births 1 and 2 of the server
+-- three offers, births 1 to 3 of the server
 abbrev pub first_offer : Born
 first_offer = record { birth = server_birth 1; iface = record { 0 = 6 }; version = 3 }
 
 abbrev pub second_offer : Born
 second_offer = record { birth = server_birth 2; iface = record { 0 = 6 }; version = 3 }
+
+abbrev pub third_offer : Born
+third_offer = record { birth = server_birth 3; iface = record { 0 = 6 }; version = 3 }
 
 abbrev pub device_open : World
 device_open = record opening_world {
@@ -225,6 +228,15 @@ show_offer = record {
 abbrev pub destroy_offer : Message Born
 destroy_offer = record { target = first_offer; opcode = 0; args = []; ends = Some first_offer }
 
+-- the request that destroys the device
+abbrev pub destroy_device : Message Born
+destroy_device = record {
+  target = sample_device;
+  opcode = 2;
+  args = [];
+  ends = Some sample_device;
+}
+
 abbrev pub offer_made : World
 offer_made = event_written device_open (make_offer first_offer)
 
@@ -246,8 +258,23 @@ offer_closed tables = request_read (dead_offer_seen tables) destroy_offer []
 abbrev pub offer_made_again : List Interface → World
 offer_made_again tables = event_written (offer_closed tables) (make_offer second_offer)
 
-abbrev pub all_offers_seen : List Interface → World
-all_offers_seen tables = event_read tables (offer_made_again tables) (make_offer second_offer) []
+abbrev pub second_seen : List Interface → World
+second_seen tables = event_read tables (offer_made_again tables) (make_offer second_offer) []
+
+abbrev pub third_made : List Interface → World
+third_made tables = event_written (second_seen tables) (make_offer third_offer)
+
+abbrev pub device_destroyed : List Interface → World
+device_destroyed tables = request_written (third_made tables) destroy_device
+
+abbrev pub third_opened : List Interface → World
+third_opened tables = event_read tables (device_destroyed tables) (make_offer third_offer) []
+
+abbrev pub device_closed : List Interface → World
+device_closed tables = request_read (third_opened tables) destroy_device []
+
+abbrev pub device_gone : List Interface → World
+device_gone tables = delete_read (device_closed tables) sample_device []
 
 -- The client's report of what a device tells: this is its opcode, and this its argument.
 abbrev pub offer_report : ℕ → Reported → events.Report
@@ -255,9 +282,11 @@ offer_report opcode argument =
     events.Event (record { id = 3; birth = 1 }) opcode (argument ∷ [])
 
 -- Each is a step. The client destroys the offer while the server shows it, so it is reported dead.
--- The server reads the destroying request and writes no delete, and it makes the second offer at
--- the first one's id. In the end nothing is in flight, and the first offer is still ending at the
--- client.
+-- The server reads the destroying request and writes no delete, and makes the second offer. The
+-- reports show both at one id; the world itself has no ids. Then the client destroys the device
+-- while the server makes the third offer, so that event is discarded, and its offer opens all the
+-- same. In the end nothing is in flight, the first offer is still ending at the client, and the
+-- two others are open at both ends.
 pub record ServerObjectLives (tables : List Interface) : Type 0 where
   pub makes : Steps tables device_open (WriteEvent (make_offer first_offer)) offer_made
   pub sees : Steps tables offer_made (ReadEvent (Event (make_offer first_offer)))
@@ -276,15 +305,29 @@ pub record ServerObjectLives (tables : List Interface) : Type 0 where
   pub makes_again : Steps tables (offer_closed tables) (WriteEvent (make_offer second_offer))
       (offer_made_again tables)
   pub sees_again : Steps tables (offer_made_again tables)
-      (ReadEvent (Event (make_offer second_offer))) (all_offers_seen tables)
+      (ReadEvent (Event (make_offer second_offer))) (second_seen tables)
   pub reports_again : ReportsComing (offer_made_again tables) (Event (make_offer second_offer))
       (offer_report 0 (New (record { id = 4278190080; birth = 2 })))
-  pub no_requests : (all_offers_seen tables).requests ≡ []
-  pub no_events : (all_offers_seen tables).events ≡ []
-  pub first_at_client : (all_offers_seen tables).client first_offer.birth
-      ≡ Some (Ending first_offer)
-  pub first_at_server : (all_offers_seen tables).server first_offer.birth ≡ None
-  pub second_at_client : (all_offers_seen tables).client second_offer.birth
-      ≡ Some (Open second_offer)
-  pub second_at_server : (all_offers_seen tables).server second_offer.birth ≡ Some second_offer
-  pub next : (all_offers_seen tables).server_births ≡ 3
+  pub makes_third : Steps tables (second_seen tables) (WriteEvent (make_offer third_offer))
+      (third_made tables)
+  pub destroys_device : Steps tables (third_made tables) (WriteRequest destroy_device)
+      (device_destroyed tables)
+  pub sees_discarded : Steps tables (device_destroyed tables)
+      (ReadEvent (Event (make_offer third_offer))) (third_opened tables)
+  pub reports_discarded : ReportsComing (device_destroyed tables) (Event (make_offer third_offer))
+      (events.Discarded (record { id = 3; birth = 1 }) 0 [])
+  pub opens_third : (third_opened tables).client third_offer.birth ≡ Some (Open third_offer)
+  pub reads_device : Steps tables (third_opened tables) (ReadRequest destroy_device)
+      (device_closed tables)
+  pub deletes_device : (device_closed tables).events ≡ Delete sample_device ∷ []
+  pub forgets_device : Steps tables (device_closed tables) (ReadEvent (Delete sample_device))
+      (device_gone tables)
+  pub no_requests : (device_gone tables).requests ≡ []
+  pub no_events : (device_gone tables).events ≡ []
+  pub first_at_client : (device_gone tables).client first_offer.birth ≡ Some (Ending first_offer)
+  pub first_at_server : (device_gone tables).server first_offer.birth ≡ None
+  pub second_at_client : (device_gone tables).client second_offer.birth ≡ Some (Open second_offer)
+  pub second_at_server : (device_gone tables).server second_offer.birth ≡ Some second_offer
+  pub third_at_client : (device_gone tables).client third_offer.birth ≡ Some (Open third_offer)
+  pub third_at_server : (device_gone tables).server third_offer.birth ≡ Some third_offer
+  pub next : (device_gone tables).server_births ≡ 4

@@ -51,9 +51,8 @@ use Rattle.wl_connection.specs.Core.{max_globals}
 
 -- ---- objects by id and by birth
 
--- The rows of an end are this set of births: each birth under one id, and each counted by its
--- maker. A member of the set that may be gone can be without a row, since another object may have
--- its id by now.
+-- An end's rows show this set of births: each birth has one id at most, and its maker has counted
+-- it. A birth that may be gone needs no row: another object may have its id by now.
 pub record ShowsBirths {X : Type 0} (birth : X → Birth) (MayBeGone : X → Type 0)
     (rows : ℕ → Option X) (births : Maker → ℕ) (sets : Birth → Option X) : Type 0 where
   pub below : (id : ℕ) (x : X) → rows id ≡ Some x → IsAmongFirst births (birth x)
@@ -123,7 +122,7 @@ pub record FitsSignature (tables : List Interface) (side : Side) (m : Message Kn
   pub args : SuitKinds tables m.target.born.version signature.kinds m.args
   pub ends : m.ends ≡ ended_by signature.destroys m.target m.args
   pub len : message_len (map wire m.args) ≤ greatest_limit
-  pub low : m.target.id < 2 ^ 32
+  pub word : m.target.id < 2 ^ 32
   pub opcode : m.opcode < 65536
   pub new_version : IfThere (λ x. 1 ≤ x.born.version) (made_in m.args)
   -- it makes at most one object
@@ -246,8 +245,8 @@ pub record ClientStands (view : Objects) (failed : Bool) (counted : ℕ) (held :
   -- it has not failed
   pub lives : failed ≡ false
 
--- No object that the server made, of those open there, has an interface with a destroying event or
--- is a registry. Valid tables let no event make such an object.
+-- No object that the server made and that is open there is a registry or has an interface with a
+-- destroying event. Valid tables let no event make such an object (V11).
 abbrev pub MadePlain : (Born → Bool) → Rows Born → Type 0
 MadePlain test s =
     (id : ℕ) (x : Born) → is_of_server id ≡ true → s.rows id ≡ Some x

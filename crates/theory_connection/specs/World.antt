@@ -29,7 +29,7 @@ pub record Marks : Type 0 where
   pub removed : List Bool
 
 pub record World : Type 0 where
-  -- how many objects the client made, and how many the server: the number of its next birth
+  -- the number of the client's next birth, and of the server's, whose births begin at 1
   pub births : ℕ
   pub server_births : ℕ
   -- requests and events that were written and not yet read
@@ -219,7 +219,8 @@ pub data Steps (tables : List Interface) (w : World) : Action → World → Type
   reads_request : (m : Message Born) (rest : List (Message Born))
       → w.requests ≡ m ∷ rest → Steps tables w (ReadRequest m) (request_read w m rest)
   -- The target and the objects of a written event are open at the server, and a new object is the
-  -- server's next birth. One that it destroys is closed, and its delete follows.
+  -- server's next birth. Its interface and version are said where the pair stands (`NamesRightly`).
+  -- An object that the event destroys is closed, and its delete follows.
   writes_event : (m : Message Born) → IsThere w.server m.target
       → Each (IsThere w.server) (objects m.args)
       → IfThere (λ x. x.birth ≡ server_birth w.server_births) (made_in m.args)

@@ -1,6 +1,6 @@
 //! What the two ends keep, whatever is done with them.
 ghost use Rattle.std.specs.Prelude.{◌≡◌, ◌⊎◌, ◌↔◌, ◌<◌, ℕ, List, ◌++◌, ◌∷◌, [], true};
-ghost use Rattle.std.specs.Prelude.{false, map, Some, None, Err};
+ghost use Rattle.std.specs.Prelude.{false, map, option_map, Some, None, Ok, Err};
 ghost use Rattle.wl_sigs.specs.Tables.{Interface};
 ghost use Rattle.wl_sigs.specs.Fixed.{registry};
 ghost use Rattle.wl_sigs.specs.Rules.{has_server_objects};
@@ -14,7 +14,10 @@ ghost use Rattle.wl_objects.specs.declared.error.NextError.TheVariants as errors
 ghost use Rattle.wl_client.specs.Reports as client_reads;
 ghost use Rattle.wl_server.specs.Requests as server_reads;
 ghost use Rattle.wl_connection.specs.Core.{Core, feeds};
-ghost use Rattle.theory_connection.specs.Meant.{Known, Message, Coming, Delete, birth_of};
+ghost use Rattle.theory_connection.specs.Meant.{Born, Known, Message, Coming, Event, Delete};
+ghost use Rattle.theory_connection.specs.Meant.{birth_of};
+ghost use Rattle.theory_connection.specs.Answers.{birth_at};
+ghost use Rattle.theory_connection.specs.Flight.{client_rows};
 ghost use Rattle.theory_connection.specs.World.{World, opening_world, Each, IsOpen, IsEnding};
 ghost use Rattle.theory_connection.specs.World.{IsThere};
 ghost use Rattle.theory_connection.specs.Pair.{PairState, Move, Reply, Does, new_pair, drained};
@@ -27,7 +30,8 @@ ghost use Rattle.wl_object_map.specs.Ranges.{is_of_server};
 ghost use Rattle.theory_connection.specs.Plain.{IsOfClient, IsOfServer, StandsIn, OfEach, OnTheWay};
 ghost use Rattle.theory_connection.specs.Plain.{IsUnnamed, IsUnasked, IsNowhere, IsMadeFirst};
 ghost use Rattle.theory_connection.specs.Plain.{EventMakes, NameComes, IsNamedInTurn, IsLastAsked};
-ghost use Rattle.theory_connection.specs.Plain.{IsInOrder, news, news_told};
+ghost use Rattle.theory_connection.specs.Plain.{IsInOrder, news, news_told, made_by_coming};
+ghost use Rattle.theory_connection.specs.Plain.{MessageNames, IsLatest, IsOnTheWay};
 ghost use Rattle.theory_connection.specs.Plain.{IsHeldAtClient, IsSomewhere, DeleteComes};
 ghost use Rattle.theory_connection.specs.Plain.{MakeComes, DestroyComes, IsLast, IsToldOfGlobals};
 ghost use Rattle.theory_connection.specs.Plain.{IdsAreOf, BirthsAreOf, ServerIdsAreOf};
@@ -72,7 +76,8 @@ pub fn run_more()
         → Runs pair world (moves ++ move ∷ []) (replies ++ reply ∷ []) next) }
 {}
 
-/// Once nothing waits in any queue, both ends hold the same objects under the same numbers.
+/// Once nothing waits in any queue, both ends hold the same objects under the same ids. At the ids
+/// of the server's range that the server has freed the client still has zombies.
 pub fn drained_agree()
     ensures { (pair : PairState) (world : World) → Stands pair world → world.ended ≡ false
         → drained pair
@@ -116,8 +121,8 @@ pub fn held_where()
         → IsHeldAtClient world object → IsSomewhere world object) }
 {}
 
-/// And back: what the client made and has its delete on the way, is open at the server or is made
-/// on the way, the client holds.
+/// The client holds what it made if its delete is on the way, if it is open at the server, or if a
+/// request on the way makes it.
 pub fn held_back()
     ensures { OfEach (λ pair world object. IsOfClient object
         → IsSomewhere world object → IsHeldAtClient world object) }
@@ -182,9 +187,35 @@ pub fn counted_is_held()
 {}
 
 /// If an event on the way names an object, the client holds it, or an event before this one makes
-/// it.
+/// it. An object of the server's whose id was used again counts as held, since the world has no
+/// ids: `ids_are_named_in_turn` says that no event names it.
 pub fn named_in_turn()
     ensures { OfEach (λ pair world object. IsNamedInTurn world object) }
+{}
+
+/// If an event on the way names an object, the client has that object at its id when the event's
+/// turn comes: it is the last one that an event before this one makes at the id or, if none does,
+/// the one that the client holds there. So no event names an object whose id was used again before
+/// the event.
+pub fn ids_are_named_in_turn()
+    ensures { (object : Known) (before after : List (Coming Known)) (event : Message Known)
+        → OnTheWay (λ pair asked told. told ≡ before ++ Event event ∷ after
+        → MessageNames object event
+        → IsLatest (client_rows pair.client.core.view) object (news_told before)) }
+{}
+
+/// What the client says that a message has made (`Client::made`) is what the server meant it to
+/// make, also where the report is `Discarded`. It takes the place of no live object.
+pub fn made_is_meant()
+    ensures made { (pair : PairState) (world : World) (coming : Coming Born)
+        (rest : List (Coming Born)) (report : client_reads.Report) → StandsIn pair world
+        → world.events ≡ coming ∷ rest
+        → client_reads.next_answer pair.client ≡ Ok (Some report)
+        → option_map birth_at (client_reads.after_next pair.client).made
+        ≡ option_map birth_of (made_by_coming coming) }
+    ensures replaced { (pair : PairState) (world : World) (report : client_reads.Report)
+        → StandsIn pair world → client_reads.next_answer pair.client ≡ Ok (Some report)
+        → (client_reads.after_next pair.client).replaced ≡ None }
 {}
 
 /// If a request on the way names an object that the server made, the object is open at the server,
@@ -267,13 +298,14 @@ pub fn ids_are_of_births()
         → StandsIn pair world → IdsOfBirths pair.server.core.view.server }
 {}
 
-/// If no event of the tables makes an object, no object of the server's is at either end or on the
-/// way. What other laws say of the client's ids and objects then holds of all: what `free_nowhere`,
-/// `held_where`, `held_back` and the clause `ending` of `ending_where` say.
+/// If no event of the tables makes an object, no object of the server's is at either end, and no
+/// message on the way makes or names one. Then what `free_nowhere`, `held_where`, `held_back` and
+/// the clause `ending` of `ending_where` say of the client's ids and objects holds of all.
 pub fn without_server_objects()
     ensures none_of_server { OfEach (λ pair world object.
         has_server_objects pair.server.core.tables ≡ false → IsOfServer object
-        → IsHeldAtClient world object ⊎ IsThere world.server object ⊎ EventMakes world object → ⊥) }
+        → IsHeldAtClient world object ⊎ IsThere world.server object ⊎ IsOnTheWay world object
+        → ⊥) }
     ensures free_nowhere { (id : ℕ) → OnTheWay (λ pair asked told.
         has_server_objects pair.server.core.tables ≡ false
         → look pair.client.core.view id ≡ None → IsNowhere id asked told) }
@@ -321,7 +353,8 @@ pub fn dead_registry()
 
 /// A history that there is: an event makes an object, the client destroys it, and an event that
 /// names it is reported with the object dead. The server reads the destroying request, writes no
-/// delete, and makes another object at the same id.
+/// delete, and makes another object. Last, an event is discarded because the client has destroyed
+/// its target, and the object that it makes opens all the same.
 pub fn server_object_lives()
     ensures { (tables : List Interface) → ServerObjectLives tables }
 {}

@@ -83,7 +83,7 @@ frame_called limit tables k d m stream more p t o f none whole e args w good =
     let n = length (spelled_meant m).bytes in
     let size : is_size limit n ≡ true = is_size-true limit n whole.size in
     let header = header_at (drop p stream) in
-    let q = parted (drop p stream) more m.target.id m.opcode vs e (omega (arith, f.low)) f.opcode f.len in
+    let q = parted (drop p stream) more m.target.id m.opcode vs e (omega (arith, f.word)) f.opcode f.len in
     let enough : length (tokens m.args) ≤ t - k.taken d = omega (arith, w) in
     let read = received_by_any tables (side_of d) (reader_by tables k d) m header
     (t - k.taken d) o f none q.object q.opcode_is args enough in

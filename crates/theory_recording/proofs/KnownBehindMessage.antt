@@ -33,12 +33,12 @@ use Rattle.theory_connection.proofs.Sets.{made_counts, told_counts, ends_count, 
 use Rattle.theory_connection.proofs.WholeInFlight.{client_makes, client_told, client_ends, OfClient, held_told_if}
 use Rattle.theory_connection.proofs.EndedObject.{if_by}
 use Rattle.theory_connection.proofs.ReadAsMeant.{made_of}
-use Rattle.theory_recording.specs.Follows.{entry_at, maker, makers, birth_places, KnownAs}
+use Rattle.theory_recording.specs.Follows.{entry_at, place_of_making, places_of_making, birth_places, KnownAs}
 use Rattle.theory_connection.proofs.Births.{maker_itself, counted_more, next_counted}
 
 -- the places with that of what a message makes
 abbrev pub grown : (Maker → List ℕ) → Option NewObject → ℕ → Maker → List ℕ
-grown places made p by = places by ++ maker by made p
+grown places made p by = places by ++ place_of_making by made p
 
 abbrev Below : (Maker → List ℕ) → Rows Row → Type 0
 Below places here = (id : ℕ) (r : Row) → here.rows id ≡ Some r
@@ -70,7 +70,7 @@ new_entry : (places : Maker → List ℕ) (p : ℕ) (x : Known) → IsNext place
     → entry_at (grown places (Some (made_of x)) p) (Open x.born) ≡ made_entry p Live (made_of x)
 new_entry places p x n =
     let by = x.born.birth.maker in
-    let own : maker by (Some (made_of x)) p ≡ p ∷ [] =
+    let own : place_of_making by (Some (made_of x)) p ≡ p ∷ [] =
     ap (λ (m : Maker). cond (same_maker m by) (p ∷ []) []) n.maker_is
     ∙ ap (λ (b : Bool). cond b (p ∷ []) []) (maker_itself by) in
     let g : get_or (grown places (Some (made_of x)) p by) x.born.birth.number 0 ≡ p =
@@ -92,7 +92,7 @@ at_made places p x here e below id true t =
 at_made places p x here e below id false t =
     let i : id ≢ x.id = grind (arith, nat_tests) in
     let there : put_row here.rows x.id (Some (Open x.born)) id ≡ here.rows id = grind (arith, put_row_tells) in
-    rw there (sym (row_more places (λ by. maker by (Some (made_of x)) p) (here.rows id) (below id)))
+    rw there (sym (row_more places (λ by. place_of_making by (Some (made_of x)) p) (here.rows id) (below id)))
 
 zombie_entry : (birth_places : Maker → List ℕ) (x : Known) (o : Option Row)
     → (o ≡ Some (Open x.born)) ⊎ (o ≡ Some (Ending x.born))
@@ -465,22 +465,22 @@ known_deleted k k' birth_places here x a ne low objects used server_used = recor
 -- ---- the places
 
 makers_same : (f g : ℕ → Option NewObject) (n : ℕ) (by : Maker) → ((q : ℕ) → q < n → f q ≡ g q)
-    → makers f n by ≡ makers g n by
-unfolding makers
+    → places_of_making f n by ≡ places_of_making g n by
+unfolding places_of_making
 makers_same f g zero by h = refl
 makers_same f g (suc n) by h =
     let front = makers_same f g n by (λ q l. h q (omega (arith, l))) in
     let last = h n (omega arith) in
-    λ i. front i ++ maker by (last i) n
+    λ i. front i ++ place_of_making by (last i) n
 
 -- behind one more message there is one more place where it makes an object
 pub places_behind : (tables : List Interface) (e : List Judged) (call : Call)
     → birth_places tables (e ++ Ok call ∷ []) ≡ grown (birth_places tables e) (changes tables call).made (suc (length e))
-unfolding makers
+unfolding places_of_making
 places_behind tables e call = λ i by. each by i
   where
     each : (by : Maker) → birth_places tables (e ++ Ok call ∷ []) by
-        ≡ birth_places tables e by ++ maker by (changes tables call).made (suc (length e))
+        ≡ birth_places tables e by ++ place_of_making by (changes tables call).made (suc (length e))
     each by =
         let all = e ++ Ok call ∷ [] in
         let n : suc (length all) ≡ suc (suc (length e)) = ap suc (length_last e (Ok call)) in
@@ -488,16 +488,16 @@ places_behind tables e call = λ i by. each by i
         let front = makers_same (λ q. (changes_at tables all q).made) (λ q. (changes_at tables e q).made)
         (suc (length e)) by
         (λ q l. (let s = changes_at_same tables e (Ok call ∷ []) q l in λ i. (s i).made)) in
-        ap (λ (k : ℕ). makers (λ q. (changes_at tables all q).made) k by) n
-        ∙ (λ i. front i ++ maker by ((last i).made) (suc (length e)))
+        ap (λ (k : ℕ). places_of_making (λ q. (changes_at tables all q).made) k by) n
+        ∙ (λ i. front i ++ place_of_making by ((last i).made) (suc (length e)))
 
 -- wl_display is one of them
 makers_some : (made : ℕ → Option NewObject) (n : ℕ) (first : NewObject) → made 0 ≡ Some first
-    → is_of_server first.id ≡ false → 0 < length (makers made (suc n) Client)
-unfolding makers
+    → is_of_server first.id ≡ false → 0 < length (places_of_making made (suc n) Client)
+unfolding places_of_making
 makers_some made zero first e l = rw (e, l) (omega arith)
 makers_some made (suc n) first e l = let r = makers_some made n first e l
-    in omega (arith, r, length-append (makers made (suc n) Client) (maker Client (made (suc n)) (suc n)))
+    in omega (arith, r, length-append (places_of_making made (suc n) Client) (place_of_making Client (made (suc n)) (suc n)))
 
 -- wl_display is always made
 pub some_place : (tables : List Interface) (e : List Judged) → 0 < length (birth_places tables e Client)

@@ -10,7 +10,7 @@ use Rattle.wl_object_map.specs.declared.object.Maker.{Maker}
 use Rattle.wl_object_map.specs.declared.object.Maker.TheVariants.{Client, Server}
 use Rattle.wl_object_map.specs.Objects.{maker_of}
 use Rattle.theory_connection.specs.Meant.{born_of_entry}
-use Rattle.theory_connection.specs.Flight.{births_in}
+use Rattle.theory_connection.specs.Flight.{Rows, births_in}
 use Rattle.theory_connection.proofs.Stands.{by_makers}
 use Rattle.wl_sigs.specs.Valid.{Valid}
 use Rattle.wl_message.specs.declared.amounts.Sizes.{Sizes}
@@ -34,7 +34,7 @@ use Rattle.theory_connection.specs.World.{display_born}
 use Rattle.theory_connection.proofs.PairAtOpening.{new_stands_by}
 use Rattle.theory_recording.specs.Leads.{done}
 use Rattle.theory_recording.specs.Recorded.{Recorded}
-use Rattle.theory_recording.specs.Follows.{AllGoOn, KnownAs, Follows, knowledge, birth_places, makers, entry_at}
+use Rattle.theory_recording.specs.Follows.{AllGoOn, KnownAs, Follows, knowledge, birth_places, places_of_making, entry_at}
 use Rattle.theory_recording.specs.Linked.{Linked, linked, judgements}
 
 -- nothing was recorded
@@ -71,7 +71,7 @@ abbrev first : Maker → List ℕ
 first by = 0 ∷ []
 
 first_places : (tables : List Interface) → birth_places tables [] ≡ first
-unfolding makers
+unfolding places_of_making
 first_places tables = λ i by. each by i
   where
     each : (by : Maker) → birth_places tables [] by ≡ first by
@@ -83,47 +83,51 @@ first_row : (id : ℕ) (b : Bool) → first_entry b ≡ option_map (entry_at fir
 first_row id true = refl
 first_row id false = refl
 
-one_each : (by : Maker) → 0 < births_in (client_rows (opening_view display)) by
+-- the rows of a new client, whether it has a table of the server's range or not
+abbrev opening_rows : Rows Row
+opening_rows = client_rows (opening_view display true)
+
+one_each : (by : Maker) → 0 < births_in opening_rows by
 one_each Client = omega arith
 one_each Server = omega arith
 
-one_place : (by : Maker) → length (first by) ≡ births_in (client_rows (opening_view display)) by
+one_place : (by : Maker) → length (first by) ≡ births_in opening_rows by
 one_place Client = refl
 one_place Server = refl
 
 first_below : (id : ℕ) (b : Bool) (r : Row)
     → option_map (row_of_entry id) (cond b (Some (live_entry display_born)) None) ≡ Some r
-    → IsAmongFirst (births_in (client_rows (opening_view display))) (birth_in r)
+    → IsAmongFirst (births_in opening_rows) (birth_in r)
 first_below id true r e =
     let same : Open (born_of_entry id (live_entry display_born)) ≡ r = cc e in
-    subst (λ (x : Row). IsAmongFirst (births_in (client_rows (opening_view display))) (birth_in x)) same
+    subst (λ (x : Row). IsAmongFirst (births_in opening_rows) (birth_in x)) same
     (one_each (maker_of id))
 first_below id false r e = absurd (cc e)
 
-known_opening : KnownAs first_known first (client_rows (opening_view display))
+known_opening : KnownAs first_known first opening_rows
 known_opening = record {
   objects = λ id. first_row id (nat_eq id 1) ∙ ap (λ (o : Option Entry). option_map (entry_at first)
       (option_map (row_of_entry id) o))
-      (sym (look-opening display id));
+      (sym (look-opening display true id));
   used = refl;
   next = refl;
   births = one_place;
-  below = λ id r e. first_below id (nat_eq id 1) r (ap (option_map (row_of_entry id)) (sym (look-opening display id)) ∙ e);
-  made_by = by_makers (opening_view display);
+  below = λ id r e. first_below id (nat_eq id 1) r (ap (option_map (row_of_entry id)) (sym (look-opening display true id)) ∙ e);
+  made_by = by_makers (opening_view display true);
 }
 
 none_go_on : AllGoOn []
 none_go_on k one e = absurd (cc e)
 
-follows_none : (limit : ℕ) (tables : List Interface) → Follows tables [] [] [] (client_rows (opening_view display)) []
+follows_none : (limit : ℕ) (tables : List Interface) → Follows tables [] [] [] opening_rows []
 follows_none limit tables = record {
   passed = none_go_on;
-  here = client_rows (opening_view display);
-  known_as = subst (λ (k : Knows). KnownAs k (birth_places tables []) (client_rows (opening_view display)))
+  here = opening_rows;
+  known_as = subst (λ (k : Knows). KnownAs k (birth_places tables []) opening_rows)
       (known_none limit tables)
-      (subst (λ (l : Maker → List ℕ). KnownAs first_known l (client_rows (opening_view display)))
+      (subst (λ (l : Maker → List ℕ). KnownAs first_known l opening_rows)
       (sym (first_places tables)) known_opening);
-  joins = record { common = client_rows (opening_view display); leads = done; reads = all_read };
+  joins = record { common = opening_rows; leads = done; reads = all_read };
   remembers = tt;
   tells = tt;
   binds = tt;
@@ -165,7 +169,7 @@ new_linked tables client_sizes server_sizes one v = linked [] [] (refl, refl) (r
     is = refl;
     recorded = none_recorded server_sizes.limit.bytes tables ToClient client_sizes one;
   };
-  follows = subst (λ (ms : List Judged). Follows tables ms [] [] (client_rows (opening_view display)) [])
+  follows = subst (λ (ms : List Judged). Follows tables ms [] [] opening_rows [])
       (sym (none_judged server_sizes.limit.bytes tables)) (follows_none server_sizes.limit.bytes tables);
   counted = tt;
 })

@@ -291,8 +291,9 @@ event_joins test m asked_later rest here v tables f j =
     }
 
 -- the client behind the first of what comes, with this view and these globals
-abbrev read_client : client.State → Coming Known → ℕ → Objects → List Remembered → Option Object → client.State
-read_client st c n view globals made = record {
+abbrev read_client : client.State → Coming Known → ℕ → Objects → List Remembered → Option Object → Option Object
+    → client.State
+read_client st c n view globals made replaced = record {
   core = record st.core {
     view = view;
     inbox = without_first st.core.inbox n (length (spelled_coming c).tokens);
@@ -301,22 +302,23 @@ read_client st c n view globals made = record {
   };
   globals = globals;
   made = made;
+  replaced = replaced;
 }
 
 -- A pair stays linked when the client reads the first of what comes, where its rows still join and
 -- what it remembers is advertised.
 coming_links : (p : PairState) (w w' : World) (asked : List (Message Known)) (c : Coming Known)
     (cs : List (Coming Known)) (n : ℕ) (view : Objects) (globals : List Remembered)
-    (made : Option Object)
+    (made replaced : Option Object)
     → in_front p.client.core.inbox ≡ Whole n → (l : LinkedBy p w asked (c ∷ cs))
     → ((here : Rows Row) (rest : List (Coming Known))
     → Joins (by_event p.server.core.tables) (all_asks l.requests.later) (all_tells (c ∷ rest)) here
     (client_rows p.client.core.view)
     → Joins (by_event p.server.core.tables) (all_asks l.requests.later) (all_tells rest) here (client_rows view))
     → (TellsAdvertised p.server.core.tables (knows p) c → Each (Advertised p) globals)
-    → StandsBy (with_client p (read_client p.client c n view globals made)) w' asked cs
-    → LinkedBy (with_client p (read_client p.client c n view globals made)) w' asked cs
-coming_links p w w' asked c cs n view globals made whole l joins learned s =
+    → StandsBy (with_client p (read_client p.client c n view globals made replaced)) w' asked cs
+    → LinkedBy (with_client p (read_client p.client c n view globals made replaced)) w' asked cs
+coming_links p w w' asked c cs n view globals made replaced whole l joins learned s =
     let f = l.follows in
     let tables = p.server.core.tables in
     let seen = rest_seen spelled_coming (pair_limit p) ToClient p.recording p.server.core.outbox p.client.core.inbox
@@ -350,7 +352,8 @@ event_links p w w' asked m cs n entry whole l s =
     let fit = l.stands.events.fit.0 in
     coming_links p w w' asked (Event m) cs n
     (ended_view request_side (opens p.client.core.view (option_map made_of (made_in m.args))) m.ends)
-    (after_event p.client m n (teaches m entry)).globals (after_event p.client m n (teaches m entry)).made whole l
+    (after_event p.client m n (teaches m entry)).globals (after_event p.client m n (teaches m entry)).made
+    (after_event p.client m n (teaches m entry)).replaced whole l
     (λ here rest j. event_joins (by_event tables) m l.requests.later rest here p.client.core.view tables fit.fits j)
     (λ told. learns (Advertised p) tables p.client.core.tables p.server.globals p.client.globals m
     l.stands.terms.same_tables fit (told_advertised tables p.server.globals (knows p) m told) l.follows.remembers
@@ -376,6 +379,6 @@ pub delete_links : (p : PairState) (w w' : World) (asked : List (Message Known))
     → LinkedBy p w asked (Delete x ∷ cs) → StandsBy (with_client p (after_delete p.client x n)) w' asked cs
     → LinkedBy (with_client p (after_delete p.client x n)) w' asked cs
 delete_links p w w' asked x cs n whole l s =
-    coming_links p w w' asked (Delete x) cs n (closed p.client.core.view x.id) p.client.globals None whole l
+    coming_links p w w' asked (Delete x) cs n (closed p.client.core.view x.id) p.client.globals None None whole l
     (λ here rest j. delete_joins (by_event p.server.core.tables) x l.requests.later rest here p n j)
     (λ told. l.follows.remembers) s

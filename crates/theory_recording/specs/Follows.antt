@@ -39,27 +39,29 @@ AllGoOn judged = (k : ℕ) (one : Judged) → slice_get judged k ≡ Some one �
 abbrev pub knowledge : List Interface → List Judged → Knows
 knowledge tables judged = known (changes_at tables judged) (suc (length judged))
 
--- the place, if a message there makes an object of this maker
-abbrev pub maker : Maker → Option NewObject → ℕ → List ℕ
-maker by None place = []
-maker by (Some new) place = if same_maker (maker_of new.id) by then place ∷ [] else []
+-- the place, if the message there makes an object of this maker; else nothing
+abbrev pub place_of_making : Maker → Option NewObject → ℕ → List ℕ
+place_of_making by None place = []
+place_of_making by (Some new) place =
+    if same_maker (maker_of new.id) by then place ∷ [] else []
 
--- The server's births begin at 1, so a 0 for nothing comes before their places.
-abbrev pub no_makers : Maker → List ℕ
-no_makers Client = []
-no_makers Server = 0 ∷ []
+-- What comes before the first place: for the server one 0, since its births begin at 1.
+abbrev pub place_before : Maker → List ℕ
+place_before Client = []
+place_before Server = 0 ∷ []
 
 -- The places of the messages that make an object of this maker, by births: wl_display, the client's
 -- birth 0, is made at place 0, and the client's birth b by the b-th request that makes an object;
 -- the server's birth b by the b-th event that makes one.
-unfoldable pub makers : (ℕ → Option NewObject) → ℕ → Maker → List ℕ
-makers made zero by = no_makers by
-makers made (suc place) by = makers made place by ++ maker by (made place) place
+unfoldable pub places_of_making : (ℕ → Option NewObject) → ℕ → Maker → List ℕ
+places_of_making made zero by = place_before by
+places_of_making made (suc place) by =
+    places_of_making made place by ++ place_of_making by (made place) place
 
 -- the same behind these judged messages
 abbrev pub birth_places : List Interface → List Judged → Maker → List ℕ
-birth_places tables judged = makers (λ place. (changes_at tables judged place).made)
-    (suc (length judged))
+birth_places tables judged =
+    places_of_making (λ place. (changes_at tables judged place).made) (suc (length judged))
 
 -- an object as the checker has it: its birth is the place of the message that made it
 abbrev pub entry_at : (Maker → List ℕ) → Row → Entry

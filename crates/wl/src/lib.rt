@@ -7,10 +7,10 @@
 //! compositor, a proxy and a test use the same two types.
 //!
 //! The contract of each call says what it returns and what it leaves, and is proved. More is proved
-//! of two ends of this library that start together, with tables in which no event makes an object,
-//! over a transport that keeps bytes in order and descriptors in step. Up to the first error that the server posts, each end reads exactly the
+//! of two ends of this library that start together, over a transport that keeps bytes in order and
+//! descriptors in step. Up to the first error that the server posts, each end reads exactly the
 //! messages that the other wrote, however the bytes are cut. Once both streams are drained, both
-//! ends have the same objects.
+//! ends have the same objects, those of the server too.
 //!
 //! # The loop
 //!
@@ -83,7 +83,8 @@
 //!
 //! - `Event { target, opcode, args }`: an event for a live object.
 //! - `Discarded { target, opcode, tokens }`: an event for an object that the client has destroyed.
-//!   If it made an object, that is open, and [`Client::made`] returns it.
+//!   If it made an object, that is open, and [`Client::made`] returns it. If that replaced a live
+//!   object, [`Client::replaced`] returns the live one.
 //! - `Deleted { object }`: wl_display.delete_id; the object is gone, and its id is free again.
 //! - `Stray { id }`: a delete_id for no object, for wl_display, or for an object that the server
 //!   made; nothing changed.
@@ -389,6 +390,7 @@
 //!     ) -> ReadAll
 //!     fn remembers(&self, name: u32) -> bool
 //!     fn made(&self) -> Option<Object>
+//!     fn replaced(&self) -> Option<Object>
 //! Server<'t, T: Table>
 //!     fn new(alloc: T::Alloc, tables: &'t Tables, sizes: Sizes) -> Result<Self, AllocError>
 //!     fn send(
@@ -481,6 +483,7 @@
 //!     fn new(alloc: T::Alloc, display: Iface) -> Result<Self, AllocError>
 //!     fn with_server_range(alloc: T::Alloc, display: Iface) -> Result<Self, AllocError>
 //!     fn client(&self) -> &T
+//!     fn has_server_range(&self) -> bool
 //!     fn look(&self, id: u32) -> Option<Entry>
 //!     fn is_free(&self, id: u32) -> bool
 //!     fn has_room(&self, id: u32) -> bool

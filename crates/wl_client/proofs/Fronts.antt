@@ -20,6 +20,8 @@ use Rattle.wl_objects.specs.declared.parsed.ParsedArg.{ParsedArg}
 use Rattle.wl_objects.specs.Messages.{Received, received, reader_of}
 use Rattle.wl_connection.specs.Core.{Core}
 use Rattle.wl_connection.specs.Receiving.{Found, found, found_in, takes, own_tokens}
+use Rattle.wl_connection.specs.ServerRange.{OpensLasting}
+use Rattle.wl_connection.proofs.ServerRange.{opens_made}
 use Rattle.wl_client.specs.declared.pending.PendingEvent.{PendingEvent}
 use Rattle.wl_client.specs.Reports.{Report, report, Event, Discarded, is_error_event}
 use Rattle.wl_client.specs.Reports.{is_delete_event, deleted_id, error_report, delete_report}
@@ -89,6 +91,9 @@ ahead core h body args waiting event m v f e found_it s =
         waiting = omega (arith, p.tokens, f.tokens, s.tokens_taken);
         made = subst (CanOpen core.tables core.view) (sym s.made)
             (can_open core.tables core.view h body waiting m (made_by_found core.tables (headed h m)) v e refl);
+        lasting = subst (OpensLasting core.tables) (sym s.made)
+            (opens_made core.tables v m.entry.iface.0 h.opcode m.entry.version m.signature m.values
+            (made_by_found core.tables (headed h m)) p.signature refl);
         change = s.can;
         entry = s.entry;
         wants = ap (event_opens core) found_it ∙ ap (opens_row core.view) (sym s.made);

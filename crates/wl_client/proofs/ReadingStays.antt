@@ -15,7 +15,7 @@ use Rattle.wl_connection.proofs.Roles.{IsRole, of_found}
 use Rattle.wl_client.specs.State.{State}
 use Rattle.wl_client.specs.Reports.{Report, Event, Discarded, Stray, report, plain_report, error_report}
 use Rattle.wl_client.specs.Reports.{delete_report, deleted, deleted_id, is_error_event, is_delete_event}
-use Rattle.wl_client.specs.Reports.{view_after, globals_after, object_made, made_by_event, state_past, is_last}
+use Rattle.wl_client.specs.Reports.{view_after, globals_after, object_made, object_replaced, made_by_event, state_past, is_last}
 use Rattle.wl_client.specs.Reports.{client_role}
 use Rattle.wl_client.specs.Streams.{client_reading}
 
@@ -44,6 +44,7 @@ past_arrived state f bytes tokens h =
       core = record (with_view c (view_after state.core f)) { failed = is_error_event f };
       globals = globals_after state f;
       made = object_made state.core.view (made_by_event state.core f.message);
+      replaced = object_replaced state.core.view (made_by_event state.core f.message);
     })
     (past_stays state.core event_side f bytes tokens h)
 

@@ -41,10 +41,10 @@ pub zombied_same : (view : Objects) (id : ℕ) (e : Entry) → look view id ≡ 
 zombied_same view id e l z = elim (cases_Bool (is_of_server id)) [
   | inl h ↦
       (let same = same_in_table view.server (table_id id) e (sym (in_range-server table.look view id h) ∙ l) z in
-      changed_server table.zombied view id h ∙ (λ i. record { client = view.client; server = same i }))
+      changed_server table.zombied view id h ∙ (λ i. record view { server = same i }))
   | inr h ↦
       (let same = same_in_table view.client id e (sym (in_range-client table.look view id h) ∙ l) z in
-      changed_client table.zombied view id h ∙ (λ i. record { client = same i; server = view.server }))
+      changed_client table.zombied view id h ∙ (λ i. record view { client = same i }))
 ]
 
 is_zombie : (s : State) → lives s ≡ false → s ≡ Zombie

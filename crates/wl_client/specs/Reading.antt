@@ -14,6 +14,7 @@ use Rattle.wl_message.specs.Arrived.{in_front}
 use Rattle.wl_message.specs.Cut.{Whole}
 use Rattle.wl_connection.specs.Core.{Core}
 use Rattle.wl_connection.specs.Receiving.{Found, found, takes}
+use Rattle.wl_connection.specs.ServerRange.{OpensLasting}
 use Rattle.wl_client.specs.declared.pending.PendingEvent.{PendingEvent}
 use Rattle.wl_client.specs.State.{Global}
 use Rattle.wl_client.specs.Reports.{Report, report, is_error_event, event_opens, opens_row}
@@ -49,13 +50,14 @@ IsPendingOf tables view header body args r (Ok event) =
     (m : Received) × (r ≡ Ok m) × IsPending tables view body args (headed header m) event
 
 -- An event in front can be taken: its message is whole, its tokens wait, what it makes can be
--- opened, what it changes is there then, and what it is about is there. Only where the tables have
--- such messages does it make something.
+-- opened and is destroyed by no event, what it changes is there then, and what it is about is
+-- there. It makes something only if the tables have such messages.
 pub record CanTake (core : Core) (event : PendingEvent) : Type 0 where
   pub message : in_front core.inbox ≡ Whole event.size
   pub few : event.tokens ≤ max_args
   pub waiting : event.tokens ≤ length core.inbox.tokens
   pub made : CanOpen core.tables core.view event.change.made
+  pub lasting : OpensLasting core.tables event.change.made
   pub change : CanChange (opens core.view event.change.made) event.change.objects
   pub entry : event.entry ≡ outline_entry core.view event.outline
   pub wants : event_opens core (found core event_side) ≡ opens_row core.view event.change.made

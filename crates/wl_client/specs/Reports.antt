@@ -1,5 +1,5 @@
 -- What a client reads, and what it makes of it.
-use Rattle.std.specs.Prelude.{ℕ, Bool, true, false, ◌&&◌, not, nat_eq, nat_lt}
+use Rattle.std.specs.Prelude.{ℕ, ◌+◌, Bool, true, false, ◌&&◌, not, nat_eq, nat_lt}
 use Rattle.std.specs.Prelude.{if◌then◌else◌, List}
 use Rattle.std.specs.Prelude.{[], ◌∷◌, ◌++◌, length, map, filter, Option, Some, None, is_some}
 use Rattle.std.specs.Prelude.{unwrap_or, slice_get, option_map}
@@ -19,7 +19,9 @@ use Rattle.wl_objects.specs.declared.error.Fault.{Fault}
 use Rattle.wl_objects.specs.declared.error.NextError.{NextError}
 use Rattle.wl_object_map.specs.declared.object.Entry.{Entry}
 use Rattle.wl_object_map.specs.View as table
-use Rattle.wl_object_map.specs.Objects.{Objects, look, is_held, births}
+use Rattle.wl_object_map.specs.declared.object.Maker.TheVariants.{Server}
+use Rattle.wl_object_map.specs.Ranges.{first_server_id}
+use Rattle.wl_object_map.specs.Objects.{Objects, look, births, ids_used}
 use Rattle.wl_objects.specs.Reading.{Reported, named_at}
 use Rattle.wl_objects.specs.Messages.{Received, NewObject, made, is_error, is_delete_id, same_iface}
 use Rattle.wl_objects.specs.Messages.{after, after_delete_id, ended_id}
@@ -123,10 +125,10 @@ needs_memory _ = false
 
 -- ---- what it leaves
 
--- whether an object is made at an id that has no row
+-- whether an object is made at the next id of the server's range, which was never used
 abbrev pub opens_row : Objects → Option NewObject → Bool
 opens_row view None = false
-opens_row view (Some m) = not (is_held view m.id)
+opens_row view (Some m) = nat_eq m.id (first_server_id + ids_used Server view)
 
 -- the object that an event makes, if it makes one: also an event for a zombie
 abbrev pub made_by_event : Core → Received → Option NewObject
@@ -145,14 +147,14 @@ abbrev pub forgotten : ℕ → List Global → List Global
 forgotten name globals = filter (λ global. not (is_named name global)) globals
 
 -- the globals with this one in the place of the other of its name
-abbrev pub replaced : Global → List Global → List Global
-replaced global globals =
+abbrev pub with_replaced : Global → List Global → List Global
+with_replaced global globals =
     map (λ other. if is_named global.name other then global else other) globals
 
 -- the globals with this one: in place of another of its name, else last, where there is room
 abbrev pub remembered : Global → List Global → List Global
 remembered global globals =
-    if is_some (global_of globals global.name) then replaced global globals
+    if is_some (global_of globals global.name) then with_replaced global globals
     else if nat_lt (length globals) max_globals then globals ++ global ∷ []
     else globals
 
@@ -183,6 +185,17 @@ abbrev pub object_made : Objects → Option NewObject → Option Object
 object_made view made =
     option_map (λ (m : NewObject). record { id = m.id; birth = births view m.id }) made
 
+-- the object of an id, by its row, if it is live
+abbrev pub live_object : ℕ → Option Entry → Option Object
+live_object id None = None
+live_object id (Some entry) =
+    if lives entry.state then Some (record { id = id; birth = entry.birth }) else None
+
+-- the live object that a new object replaces, which gets its id
+abbrev pub object_replaced : Objects → Option NewObject → Option Object
+object_replaced view None = None
+object_replaced view (Some m) = live_object m.id (look view m.id)
+
 abbrev pub core_after : Core → Found → Core
 core_after core f = record (with_view (past_found core f) (view_after core f)) {
   failed = is_error_event f;
@@ -193,6 +206,7 @@ state_past state f = record {
   core = core_after state.core f;
   globals = globals_after state f;
   made = object_made state.core.view (made_by_event state.core f.message);
+  replaced = object_replaced state.core.view (made_by_event state.core f.message);
 }
 
 -- ---- reading the next message, where no memory is needed
@@ -202,8 +216,8 @@ abbrev pub is_last : Report → Bool
 is_last (Error id named code text) = true
 is_last _ = false
 
--- Whether what stands in front opens an object at an id that has no row, which may need memory. At
--- an id that has one, a zombie's say, the object takes its place.
+-- Whether what stands in front opens an object at an id that was never used, which may need memory.
+-- At an id that was used the new object takes the place of the one that is there, a zombie say.
 abbrev pub event_opens : Core → Result (Option Found) Fault → Bool
 event_opens core (Ok (Some f)) = opens_row core.view (made_by_event core f.message)
 event_opens core _ = false
@@ -235,6 +249,6 @@ abbrev pub after_next : State → State
 after_next state = role_after client_role state
 
 -- What `next_owned` returns where memory can be refused: out of memory stands only in place of a
--- report that needs some, or of an event that opens an object at an id without a row.
+-- report that needs some, or of an event that opens an object at an id that was never used.
 abbrev pub IsClientNext : State → Result (Option Report) NextError → Type 0
 IsClientNext state result = IsNext client_role state result

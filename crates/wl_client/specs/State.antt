@@ -1,18 +1,20 @@
 -- What a client is: an end, and the globals that it was told.
-use Rattle.std.specs.Prelude.{ℕ, Bool, nat_eq, List, [], Option, None}
+use Rattle.std.specs.Prelude.{◌≡◌, ℕ, Bool, nat_eq, List, [], Option, None}
 use Rattle.std.specs.List.{find}
 use Rattle.wl_sigs.specs.Tables.{Interface}
 use Rattle.wl_message.specs.declared.amounts.Sizes.{Sizes}
 use Rattle.wl_object_map.specs.declared.object.Object.{Object}
 use Rattle.wl_connection.specs.Core.{Core, new_core}
+use Rattle.wl_connection.specs.ServerRange.{NoEventEndsMade}
 pub use Rattle.wl_client.specs.declared.globals.Global.{Global}
 
--- The globals that the client remembers, no name twice, in the order in which their names were
--- told; and the object that the message read last made, if it made one.
+-- The remembered globals, no name twice, in the order in which their names were told; the object
+-- that the last message read made, or none; and the live object that this one replaced, or none.
 pub record State : Type 0 where
   pub core : Core
   pub globals : List Global
   pub made : Option Object
+  pub replaced : Option Object
 
 -- whether a global has this name
 abbrev pub is_named : ℕ → Global → Bool
@@ -24,7 +26,13 @@ global_of globals name = find (is_named name) globals
 
 abbrev pub new_state : List Interface → Sizes → State
 new_state tables sizes =
-    record { core = new_core tables sizes; globals = []; made = None }
+    record { core = new_core tables sizes; globals = []; made = None; replaced = None }
 
 abbrev pub with_core : State → Core → State
 with_core state core = record state { core = core }
+
+-- What holds of a client between calls: it frees no id of the server's range, and no event destroys
+-- an object that the server made.
+pub record IsSound (core : Core) : Type 0 where
+  pub frees_none : core.view.server.freed ≡ []
+  pub lasting : NoEventEndsMade core.tables core.view

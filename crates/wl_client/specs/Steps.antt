@@ -1,10 +1,11 @@
 -- The steps in which a client reads a message.
-use Rattle.std.specs.Prelude.{◌≢◌, ℕ, false, IsTrue, List, [], Option, Some, None}
+use Rattle.std.specs.Prelude.{◌≡◌, ◌≢◌, ℕ, true, false, IsTrue, List, [], Option, Some, None}
 use Rattle.wl_sigs.specs.Tables.{Interface}
 use Rattle.wl_message.specs.Outgoing.{no_messages}
 use Rattle.wl_objects.specs.declared.reading.Received.{Received as Read}
 use Rattle.wl_sigs.specs.Fixed.{display}
 use Rattle.wl_object_map.specs.declared.object.Object.{Object}
+use Rattle.wl_object_map.specs.Ranges.{is_of_server}
 use Rattle.wl_object_map.specs.Objects.{Objects, opening, is_held, has_room, closed, zombied}
 use Rattle.wl_objects.specs.Messages.{NewObject, made, opens, server_may_use}
 use Rattle.wl_objects.specs.Seen.{received_of}
@@ -43,8 +44,13 @@ end_with tables view tokens = record {
 abbrev pub found_as : ℕ → Read → Found
 found_as opcode read = record { size = 0; opcode = opcode; message = received_of read }
 
-abbrev pub client_state : Core → List Global → Option Object → State
-client_state core globals made = record { core = core; globals = globals; made = made }
+abbrev pub client_state : Core → List Global → Option Object → Option Object → State
+client_state core globals made replaced = record {
+  core = core;
+  globals = globals;
+  made = made;
+  replaced = replaced;
+}
 
 -- what is reported where these tables, objects and tokens are there
 abbrev pub report_by : List Interface → Objects → List ℕ → Found → Report
@@ -61,7 +67,7 @@ view_by tables view f = view_after (end_with tables view []) f
 -- the globals after a message
 abbrev pub globals_by : List Interface → List Global → Found → List Global
 globals_by tables globals f =
-    globals_after (client_state (end_with tables (opening display) []) globals None) f
+    globals_after (client_state (end_with tables (opening display true) []) globals None None) f
 
 -- what a message makes can be opened: at an id that is free for an object of the server, for which
 -- the limits leave room
@@ -80,11 +86,13 @@ changed view (object_changes.Close id) = closed view id
 abbrev pub view_stepped : Objects → PendingEvent → Objects
 view_stepped view event = changed (opens view event.change.made) event.change.objects
 
--- the change can be made: of an object that is there, and is not wl_display
+-- the change can be made: of an object that is there, and is not wl_display; an id of the server's
+-- is not freed
 abbrev pub CanChange : Objects → ObjectChange → Type 0
 CanChange view object_changes.Nothing = Unit {0}
 CanChange view (object_changes.Zombie id) = IsTrue (is_held view id) × (id ≢ 1)
-CanChange view (object_changes.Close id) = IsTrue (is_held view id) × (id ≢ 1)
+CanChange view (object_changes.Close id) =
+    IsTrue (is_held view id) × (id ≢ 1) × (is_of_server id ≡ false)
 
 -- the globals after a change of them
 abbrev pub with_global_change : List Global → GlobalChange → List Global

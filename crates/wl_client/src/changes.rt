@@ -1,6 +1,6 @@
 //! The changes that a message makes at a client: among its objects, and of the globals that it
 //! remembers.
-ghost use Rattle.std.specs.Prelude.{◌≡◌, ◌≢◌, List, IsTrue, IfOk, OnErr, OnOk, false, true};
+ghost use Rattle.std.specs.Prelude.{◌≡◌, ◌≢◌, List, [], IsTrue, IfOk, OnErr, OnOk, false, true};
 ghost use Rattle.wl_wire.specs.Argument.{Argument};
 ghost use Rattle.wl_sigs.specs.declared.signature.Side.TheVariants.{Request as request_side};
 ghost use Rattle.wl_sigs.specs.Tables.{destroys_argument};
@@ -8,7 +8,7 @@ ghost use Rattle.wl_object_map.specs.Objects.{Objects, is_held, is_live};
 ghost use Rattle.wl_objects.specs.Messages.{destroys, ended_id, opens};
 ghost use Rattle.wl_objects.specs.Seen.{received_of};
 ghost use Rattle.wl_connection.specs.Core.{with_view};
-ghost use Rattle.wl_client.specs.Reports.{globals_told, object_made, opens_row};
+ghost use Rattle.wl_client.specs.Reports.{globals_told, object_made, object_replaced, opens_row};
 ghost use Rattle.wl_client.specs.State.{Global as Told};
 ghost use Rattle.wl_client.specs.Steps.{CanChange, CanOpen, changed, found_as, globals_by};
 ghost use Rattle.wl_client.specs.Steps.{made_by_found, with_global_change};
@@ -51,13 +51,29 @@ pub(crate) struct Change {
     pub(crate) last: bool,
 }
 
+/// The live object that a message's new object will replace, if there is one.
+pub(crate) fn replaced_by<T: Table>(core: &Core<'_, T>, made: Option<NewObject>) -> Option<Object>
+    ensures { result ≡ object_replaced core.now.view made }
+{
+    let id = made?.id;
+    let entry = core.objects.look(id)?;
+    match entry.state {
+        State::Live => Some(Object {
+            id,
+            birth: entry.birth,
+        }),
+        State::Zombie => None,
+    }
+}
+
 /// Opens the object that a message makes, if it makes one, and returns it. Where there is no memory
-/// for it nothing changes; that can be only at an id that has no row.
+/// for it nothing changes; that can be only at an id that was never used.
 pub(crate) fn open_made<T: Table>(
     core: &mut Core<'_, T>,
     made: Option<NewObject>,
 ) -> Result<Option<Object>, AllocError>
-    requires { CanOpen core.old.tables core.old.view made }
+    requires can { CanOpen core.old.tables core.old.view made }
+    requires frees_none { core.old.view.server.freed ≡ [] }
     ensures ok { OnOk result (core.new ≡ with_view core.old (opens core.old.view made)) }
     ensures object { IfOk result (λ object. object ≡ object_made core.old.view made) }
     ensures err { OnErr result (core.new ≡ core.old) }

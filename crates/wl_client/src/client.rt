@@ -1,5 +1,5 @@
 //! The client's end.
-ghost use Rattle.std.specs.Prelude.{◌≡◌, IfOk};
+ghost use Rattle.std.specs.Prelude.{◌≡◌, [], IfOk};
 ghost use Rattle.wl_message.specs.Arrived.{AreSizes};
 ghost use Rattle.wl_client.specs.State.{new_state};
 
@@ -13,7 +13,7 @@ use wl_objects::{Object, Table};
 use wl_sigs::Tables;
 
 /// A client's end of a connection: its objects, what came in and what goes out, the globals that it
-/// was told, and the object that the last message read has made.
+/// was told, and what the last message read has made and replaced.
 #[derive(Drop)]
 pub struct Client<'t, T: Table> {
     pub(crate) end: Endpoint<'t, T>,
@@ -25,7 +25,7 @@ pub struct Client<'t, T: Table> {
 impl<'t, T: Table> Model for Client<'t, T> {
     ghost use Rattle.std.specs.Coded.{codes};
     ghost use Rattle.wl_object_map.specs.Objects.{objects_code};
-    ghost use Rattle.wl_client.specs.State.{State};
+    ghost use Rattle.wl_client.specs.State.{State, IsSound};
 
     ghost Value = { State };
 
@@ -35,7 +35,10 @@ impl<'t, T: Table> Model for Client<'t, T> {
       core = c.end.core;
       globals = c.kept.globals;
       made = c.kept.made;
+      replaced = c.kept.replaced;
     } };
+
+    ghost invariant = { λ c. IsSound c.end.core };
 }
 
 impl<'t, T: Table> Client<'t, T> {
@@ -52,6 +55,7 @@ impl<'t, T: Table> Client<'t, T> {
             kept: Kept {
                 globals,
                 made: None,
+                replaced: None,
             },
             alloc: own,
         })
@@ -60,10 +64,23 @@ impl<'t, T: Table> Client<'t, T> {
     /// The object that the last message read has made: one of the server's, which an event makes,
     /// also where it was `Discarded`. None where that message has made none, and before the first.
     /// A call that reads no message leaves it. After `read_all` it is what the last of its messages
-    /// has made.
+    /// has made. Where it takes the place of a live object, `replaced` returns that one.
     pub fn made(&self) -> Option<Object>
-        ensures { result ≡ self.now.made }
+        ensures answer { result ≡ self.now.made }
+        // So an id of the server's range without an entry was never used.
+        ensures frees_none { self.now.core.view.server.freed ≡ [] }
     {
         self.kept.made
+    }
+
+    /// The live object that the object returned by `made` has replaced: it had the same id, and no
+    /// request could end it at its version (a zwlr_output_head_v1 of version 2). No later report
+    /// names it, so free here what belongs to it. None if the last message read replaced none. A
+    /// call that reads no message leaves it. After `read_all` it is what the last of its messages
+    /// replaced, so read one by one where you need each.
+    pub fn replaced(&self) -> Option<Object>
+        ensures { result ≡ self.now.replaced }
+    {
+        self.kept.replaced
     }
 }

@@ -1,7 +1,7 @@
 //! The globals that a client was told.
 ghost use Rattle.std.specs.Prelude.{◌≡◌, ◌<◌, ◌≤◌, [], ◌∷◌, ◌++◌, IfOk, length, map, if◌then◌else◌};
 ghost use Rattle.wl_client.specs.State.{global_of, is_named};
-ghost use Rattle.wl_client.specs.Reports.{forgotten, replaced, remembered};
+ghost use Rattle.wl_client.specs.Reports.{forgotten, with_replaced, remembered};
 ghost use Rattle.wl_client.specs.Steps.{with_global_change};
 ghost use Rattle.wl_connection.specs.Core.{max_globals};
 
@@ -103,7 +103,7 @@ fn global_of(globals: &[Global], name: u32) -> Option<Global>
 
 /// Puts a global in the place of those of its name.
 fn replace(globals: &mut [Global], global: Global)
-    ensures { globals.new ≡ replaced global globals.old }
+    ensures { globals.new ≡ with_replaced global globals.old }
 {
     'globals: for other in globals.iter_mut() {
         if other.name == global.name {

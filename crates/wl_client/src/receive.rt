@@ -21,7 +21,8 @@ use wl_objects::{NextError, Table};
 
 impl<'t, T: Table> Client<'t, T> {
     /// Reads the next message, once it is whole; none before. An event by which the server makes an
-    /// object opens it, and `made` returns it.
+    /// object opens it: `made` returns it, and `replaced` the live object that it has replaced, if
+    /// there was one.
     ///
     /// A fault makes the client fail for good, and so does wl_display.error once it is reported. If
     /// there is no memory for the object that an event makes, the message stays and can be read

@@ -15,8 +15,8 @@ pub enum Incoming<'a> {
         args: Args<'a>,
     },
     /// An event for an object that the client has destroyed. The tokens that came with it are
-    /// returned, so that the caller can close what they stand for. What it has made, `made` of the
-    /// client returns.
+    /// returned, so that the caller can close what they stand for. The client's `made` returns what
+    /// it has made, and `replaced` what that has replaced.
     Discarded {
         target: Object,
         opcode: u16,

@@ -1,7 +1,7 @@
 //! What a client keeps beside its endpoint, and how it reads an event with that.
 ghost use Rattle.std.specs.Prelude.{◌≡◌};
 
-use crate::changes::{apply_object_change, open_made};
+use crate::changes::{apply_object_change, open_made, replaced_by};
 use crate::globals::Remembered;
 use crate::pending::{PendingEvent, find};
 use crate::report::OwnedIncoming;
@@ -16,10 +16,12 @@ pub(crate) struct Kept<A: Allocator> {
     pub(crate) globals: Remembered<A>,
     /// What the last message read has made.
     pub(crate) made: Option<Object>,
+    /// The live object that this one has replaced.
+    pub(crate) replaced: Option<Object>,
 }
 
 impl<T: Table> Role<T> for Kept<T::Alloc> {
-    ghost use Rattle.wl_client.specs.State.{State as ClientState};
+    ghost use Rattle.wl_client.specs.State.{State as ClientState, IsSound as IsSoundClient};
     ghost use Rattle.wl_client.specs.Reports.{Report as ClientReport, client_role};
     ghost use Rattle.wl_client.specs.Seen.{report_of};
     ghost use Rattle.wl_client.specs.Steps.{client_state};
@@ -33,7 +35,7 @@ impl<T: Table> Role<T> for Kept<T::Alloc> {
 
     ghost State = { ClientState };
 
-    ghost state = { λ core kept. client_state core kept.globals kept.made };
+    ghost state = { λ core kept. client_state core kept.globals kept.made kept.replaced };
 
     ghost role = { client_role };
 
@@ -43,7 +45,7 @@ impl<T: Table> Role<T> for Kept<T::Alloc> {
 
     ghost tells = { taken_report };
 
-    ghost IsSound = { λ core kept. Unit {0} };
+    ghost IsSound = { λ core kept. IsSoundClient core };
 
     ghost IsAhead = { λ core kept args event. IsNextEvent core args event };
 
@@ -76,7 +78,9 @@ impl<T: Table> Role<T> for Kept<T::Alloc> {
     }
 
     fn take(&mut self, end: &mut Endpoint<'_, T>, event: &PendingEvent) -> Result<(), AllocError> {
+        let replaced = replaced_by(&end.core, event.change.made);
         self.made = open_made(&mut end.core, event.change.made)?;
+        self.replaced = replaced;
         // Nothing is allocated from here on.
         end.core.pass(event.size, event.tokens);
         apply_object_change(&mut end.core, event.change.objects);

@@ -26,8 +26,8 @@ use Rattle.wl_object_map.specs.Ranges.{is_of_server}
 use Rattle.wl_object_map.specs.ObjectsLaws.{free-next, free-no_row, is_from}
 use Rattle.wl_connection.specs.Core.{HasDisplay}
 
-pub HasDisplay-opening : HasDisplay (opening display)
-HasDisplay-opening = look-opening display 1
+pub HasDisplay-opening : (range : Bool) → HasDisplay (opening display range)
+HasDisplay-opening range = look-opening display range 1
 
 -- an id that has no row is another
 not_display : (view : Objects) (id : ℕ) → HasDisplay view → look view id ≡ None → eqb 1 id ≡ false

@@ -15,4 +15,6 @@ pub mod ReadsGoOn
 pub mod TwoParts
 pub mod AnyCut
 pub mod Roles
+pub mod MadeByEvent
+pub mod ServerRange
 pub mod Writes

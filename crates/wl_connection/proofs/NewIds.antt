@@ -104,7 +104,7 @@ first_read r place kind ks bytes values rest (Err fault) e = absurd (cc e)
 first_read r place kind ks bytes values rest (Ok value) e =
     unfaulted r place kind ks bytes values rest value (value_fault r place kind value.0) refl e
 
-one_of : (o other : Option NewObject) (m : NewObject) → or_else o other ≡ Some m → (o ≡ Some m) ⊎ (other ≡ Some m)
+pub one_of : (o other : Option NewObject) (m : NewObject) → or_else o other ≡ Some m → (o ≡ Some m) ⊎ (other ≡ Some m)
 one_of None other m h = inr h
 one_of (Some n) other m h = inl h
 
@@ -150,7 +150,7 @@ of_client (kinds.NewByServer iface) ks a b h = absurd (cc h)
 of_client kinds.Array ks a b h = refl
 of_client kinds.Fd ks a b h = refl
 
-without_client : (kind : Kind) (ks : List Kind) → new_objects (kind ∷ ks) ≡ [] → new_objects ks ≡ []
+pub without_client : (kind : Kind) (ks : List Kind) → new_objects (kind ∷ ks) ≡ [] → new_objects ks ≡ []
 without_client kinds.Int ks h = h
 without_client kinds.Uint ks h = h
 without_client kinds.Fixed ks h = h

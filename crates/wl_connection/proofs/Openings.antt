@@ -75,7 +75,7 @@ early_checked limit tables side view target opcode given =
     early_by limit tables side view opcode given (live_row view target)
 
 -- a message whose signature has no new object makes none
-makes_none : (tables : List Interface) (version : ℕ) (ks : List Kind) (values : List Argument)
+pub makes_none : (tables : List Interface) (version : ℕ) (ks : List Kind) (values : List Argument)
     → is_some (first (made_objects ks)) ≡ false → made tables version ks values ≡ None
 makes_none tables version [] values h = refl
 makes_none tables version (k ∷ ks) [] h = refl

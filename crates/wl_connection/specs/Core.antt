@@ -17,7 +17,7 @@ use Rattle.wl_object_map.specs.declared.object.Entry.{Entry}
 use Rattle.wl_object_map.specs.declared.object.State.TheVariants.{Live}
 use Rattle.wl_object_map.specs.Objects.{Objects, opening, look}
 use Rattle.wl_objects.specs.Messages.{live_row}
-use Rattle.wl_sigs.specs.Rules.{is_empty}
+use Rattle.wl_sigs.specs.Rules.{is_empty, has_server_objects}
 
 pub record Core : Type 0 where
   pub tables : List Interface
@@ -39,7 +39,7 @@ max_read = 18446744073709551615
 abbrev pub new_core : List Interface → Sizes → Core
 new_core tables sizes = record {
   tables = tables;
-  view = opening display;
+  view = opening display (has_server_objects tables);
   inbox = nothing_arrived sizes.in_bytes sizes.in_tokens sizes.limit;
   outbox = no_messages sizes.out_bytes sizes.out_tokens sizes.limit;
   failed = false;

@@ -5,6 +5,7 @@ pub mod Outcomes
 pub mod Streams
 pub mod Reads
 pub mod Roles
+pub mod ServerRange
 pub mod Spelled
 pub mod Transport
 pub mod Waiting

@@ -1,13 +1,17 @@
 //! An end of a connection, whichever of the two it is.
 ghost use Rattle.std.specs.Prelude.{◌≡◌, ◌≤◌, ◌⊎◌, ◌+◌, ◌++◌, [], true, Err, length, take, drop};
-ghost use Rattle.std.specs.Prelude.{min, slice_get};
+ghost use Rattle.std.specs.Prelude.{IfSome, min, slice_get};
 ghost use Rattle.wl_message.specs.Outgoing.{goes, Peeks, waiting_bytes, waiting_tokens};
 ghost use Rattle.wl_message.specs.Streams.{Flushes, bytes_written};
 ghost use Rattle.wl_message.specs.declared.streams.FillError.TheVariants.{NoRoom};
+ghost use Rattle.wl_sigs.specs.Rules.{has_server_objects};
+ghost use Rattle.wl_object_map.specs.Ranges.{is_of_server};
 ghost use Rattle.wl_connection.specs.Core.{Core as CoreState, display_object, live, in_room};
 ghost use Rattle.wl_connection.specs.Core.{is_drained};
 ghost use Rattle.wl_connection.specs.Core.{feeds, feeds_len, with_arrived, with_gone};
 ghost use Rattle.wl_connection.specs.Reads.{IsCoreOf};
+ghost use Rattle.wl_connection.specs.ServerRange.{IsRangeNewUnlessMade, NoEventEnds};
+ghost use Rattle.wl_connection.specs.ServerRange.{NoEventEndsMade};
 ghost use Rattle.wl_connection.specs.Transport.{EndFills, EndReceives};
 ghost use Rattle.wl_connection.specs.Waiting.{waiting, waiting_count, given_up};
 
@@ -29,7 +33,8 @@ pub trait End {
 
     /// What it has in common with the other end.
     fn core(&self) -> &Core<'_, Self::Table>
-        ensures { result.now ≡ core self.now };
+        ensures core { result.now ≡ core self.now }
+        ensures lasting { NoEventEndsMade (core self.now).tables (core self.now).view };
 
     /// Takes in what comes: as many tokens as fit, and where these are all, as many bytes as fit.
     /// A failed end takes nothing. Whatever waits, the inbox can hold the longest message.
@@ -135,16 +140,25 @@ pub trait End {
 
     /// The interface and version of an object that is live. At a failed end too.
     final fn live(&self, object: Object) -> Option<(Iface, u32)>
-        ensures { result ≡ live (core self.now) object }
+        ensures answer { result ≡ live (core self.now) object }
+        // No event destroys what the server made.
+        ensures lasting { is_of_server object.id ≡ true
+            → IfSome result (λ found. NoEventEnds (core self.now).tables found.0) }
     {
         self.core().live(object)
     }
 
-    /// The objects, in both ranges of ids.
+    /// The objects, in both ranges of ids. They have a table of the server's range exactly if the
+    /// tables of messages have events by which the server makes an object. If not, that range stays
+    /// as at a new end: none of its ids has an entry.
     final fn objects(&self) -> &Objects<Self::Table>
-        ensures { result.now ≡ (core self.now).view }
+        ensures objects { result.now ≡ (core self.now).view }
+        ensures range { (core self.now).view.has_server_range
+            ≡ has_server_objects (core self.now).tables }
+        ensures stays_new { IsRangeNewUnlessMade (core self.now).tables (core self.now).view }
+        ensures lasting { NoEventEndsMade (core self.now).tables (core self.now).view }
     {
-        &self.core().objects
+        self.core().objects()
     }
 
     /// The table of the client's range, in which the objects are that the client made.

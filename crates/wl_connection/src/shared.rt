@@ -1,9 +1,11 @@
 //! What both ends of a connection have: tables, objects and two queues.
 ghost use Rattle.std.specs.Prelude.{◌≡◌, ◌≤◌, IfOk, take};
 ghost use Rattle.wl_sigs.specs.Fixed.{display};
+ghost use Rattle.wl_sigs.specs.Rules.{has_server_objects};
 ghost use Rattle.wl_message.specs.Arrived.{AreSizes};
 ghost use Rattle.wl_object_map.specs.Objects.{opening};
 ghost use Rattle.wl_connection.specs.Core.{new_core, live, feeds, with_arrived};
+ghost use Rattle.wl_connection.specs.ServerRange.{IsRangeNewUnlessMade};
 
 use std::alloc::AllocError;
 use std::marker::Model;
@@ -35,6 +37,7 @@ pub struct Core<'t, T: Table> {
 impl<'t, T: Table> Model for Core<'t, T> {
     ghost use Rattle.std.specs.Prelude.{◌≡◌, ◌≤◌, false, length};
     ghost use Rattle.std.specs.Coded.{codes};
+    ghost use Rattle.wl_sigs.specs.Rules.{has_server_objects};
     ghost use Rattle.wl_message.specs.Cut.{usual_limit};
     ghost use Rattle.wl_object_map.specs.Objects.{objects_code};
     ghost use Rattle.wl_connection.specs.Core.{Core as CoreState, HasDisplay, IsOrdinary};
@@ -57,14 +60,15 @@ impl<'t, T: Table> Model for Core<'t, T> {
       store : usual_limit ≤ length c.store.items;
       room : c.outbox.limit.bytes ≤ length c.store.items;
       display : HasDisplay c.objects;
+      range : c.objects.has_server_range ≡ has_server_objects c.tables.now;
       no_error : c.failed ≡ false → IsOrdinary c.outbox;
       whole : c.inbox.limit.bytes ≤ c.inbox.capacity;
     } };
 }
 
 impl<'t, T: Table> Core<'t, T> {
-    /// An end with wl_display alone and empty queues of these sizes. It has the server's range of ids
-    /// where the tables have events by which the server makes objects.
+    /// An end with wl_display alone and empty queues of these sizes. It has a table of the server's
+    /// range of ids exactly if the tables have events by which the server makes objects.
     pub fn new(alloc: T::Alloc, tables: &'t Tables, sizes: Sizes) -> Result<Self, AllocError>
         requires { AreSizes sizes }
         ensures { IfOk result (λ core. core ≡ new_core tables.now sizes) }
@@ -83,6 +87,17 @@ impl<'t, T: Table> Core<'t, T> {
             failed: false,
             read: 0,
         })
+    }
+
+    /// The objects, in both ranges of ids.
+    pub fn objects(&self) -> &Objects<T>
+        ensures objects { result.now ≡ self.now.view }
+        ensures range { self.now.view.has_server_range ≡ has_server_objects self.now.tables }
+        ensures stays_new { IsRangeNewUnlessMade self.now.tables self.now.view }
+    {
+        // Called for what it ensures: without a table the range is that of a new end.
+        let _range = self.objects.has_server_range();
+        &self.objects
     }
 
     /// The interface and version of an object that is live, as `End::live` says.
@@ -112,7 +127,8 @@ impl<'t, T: Table> Core<'t, T> {
 
 /// The objects of a new end that has these tables.
 fn new_objects<T: Table>(alloc: T::Alloc, tables: &Tables) -> Result<Objects<T>, AllocError>
-    ensures { IfOk result (λ objects. objects ≡ opening display) }
+    ensures { IfOk result
+        (λ objects. objects ≡ opening display (has_server_objects tables.now)) }
 {
     if tables.has_server_objects() {
         Objects::with_server_range(alloc, DISPLAY)

@@ -1,5 +1,5 @@
 -- What the calls of the objects of both ranges make of their tables.
-use Rattle.std.proofs.Common.{◌≡◌, ℕ, ◌<◌, ◌≤◌, sym, ◌∙◌, ap, subst, true, not, ◌&&◌, inl, inr}
+use Rattle.std.proofs.Common.{◌≡◌, ℕ, ◌<◌, ◌≤◌, sym, ◌∙◌, ap, subst, Bool, true, not, ◌&&◌, inl, inr}
 use Rattle.std.proofs.lemmas.Bool.{cases_Bool}
 use Rattle.std.specs.Prelude.{OnOk, OnErr}
 use Rattle.std.specs.declared.result.Result.{Result}
@@ -18,15 +18,20 @@ use Rattle.wl_object_map.specs.ObjectsLaws.{of_client, of_server, changed_client
 
 pub client_changed : (change : View → ℕ → View) (o : Objects) (id : ℕ) {new : View} → id < first_server_id
     → new ≡ change o.client id
-    → ◌≡◌ {A = Objects} (record { client = new; server = o.server }) (changed_at change o id)
+    → ◌≡◌ {A = Objects} (record o { client = new }) (changed_at change o id)
 client_changed change o id l e =
-    (λ i. record { client = e i; server = o.server }) ∙ sym (changed_client change o id (of_client id l))
+    (λ i. record o { client = e i }) ∙ sym (changed_client change o id (of_client id l))
 
-pub server_changed : (change : View → ℕ → View) (o : Objects) (id : ℕ) {place : ℕ} {old new : View}
-    → first_server_id ≤ id → o.server ≡ old → place ≡ table_id id → new ≡ change old place
-    → ◌≡◌ {A = Objects} (record { client = o.client; server = new }) (changed_at change o id)
-server_changed change o id l was at e =
-    (λ i. record { client = o.client; server = (e ∙ (λ j. change (sym was j) (at j))) i })
+pub server_changed : (change : View → ℕ → View) (o : Objects) (id : ℕ) {place : ℕ} {old new : View} {range : Bool}
+    → first_server_id ≤ id → o.server ≡ old → o.has_server_range ≡ range → place ≡ table_id id
+    → new ≡ change old place
+    → ◌≡◌ {A = Objects} (record { client = o.client; server = new; has_server_range = range }) (changed_at change o id)
+server_changed change o id l was kept at e =
+    (λ i. record {
+      client = o.client;
+      server = (e ∙ (λ j. change (sym was j) (at j))) i;
+      has_server_range = sym kept i;
+    })
     ∙ sym (changed_server change o id (of_server id l))
 
 -- An opening that may be refused keeps a table sound.

@@ -1,9 +1,9 @@
 -- What one end's objects are, in both ranges of ids, and what opening, closing and zombie-making
 -- make of them. Each definition has the name of that of `View` for one table, and goes by the id on
 -- the wire.
-use Rattle.std.specs.Prelude.{ℕ, ◌-◌, Bool, cond, refl, Option, Some, None, is_some}
+use Rattle.std.specs.Prelude.{◌≡◌, ℕ, ◌-◌, Bool, false, cond, refl, Option, Some, None, is_some}
 use Rattle.std.specs.FinMap.{len}
-use Rattle.std.specs.Coded.{Coded, code_by, coded×}
+use Rattle.std.specs.Coded.{Coded, code_by, coded×, coded_bool}
 use Rattle.wl_wire.specs.declared.kind.Iface.{Iface}
 use Rattle.wl_object_map.specs.declared.object.Entry.{Entry}
 use Rattle.wl_object_map.specs.declared.object.Maker.{Maker}
@@ -12,10 +12,12 @@ use Rattle.wl_object_map.specs.Ranges.{is_of_server, table_id, wire_id}
 use Rattle.wl_object_map.specs.View as table
 use Rattle.wl_object_map.specs.View.{View}
 
--- The table of the client's range, and that of the server's range.
+-- The table of the client's range and that of the server's range, and whether the end keeps the
+-- second one. An end that does not keep it opens no object in the server's range.
 pub record Objects : Type 0 where
   pub client : View
   pub server : View
+  pub has_server_range : Bool
 
 -- who makes the objects of an id
 abbrev pub maker_of : ℕ → Maker
@@ -28,7 +30,7 @@ in_range says objects id =
 
 -- after a change of the table of an id's range, at the id there
 abbrev pub changed_at : (View → ℕ → View) → Objects → ℕ → Objects
-changed_at change objects id = record {
+changed_at change objects id = record objects {
   client = cond (is_of_server id) objects.client (change objects.client id);
   server = cond (is_of_server id) (change objects.server (table_id id)) objects.server;
 }
@@ -87,13 +89,21 @@ can_open Server objects = table.can_open objects.server
 abbrev pub no_interface : Iface
 no_interface = record { 0 = 0 }
 
--- a new end's: wl_display alone, with id 1, birth 0 and version 1. So too is an end's that never
--- has a table of the server's range.
-abbrev pub opening : Iface → Objects
-opening display = record {
+-- a new end's: wl_display alone, with id 1, birth 0 and version 1
+abbrev pub opening : Iface → Bool → Objects
+opening display has_server_range = record {
   client = table.opening display;
   server = table.opening no_interface;
+  has_server_range = has_server_range;
 }
+
+-- the server's range is that of a new end: no object was ever opened there
+abbrev pub IsServerRangeNew : Objects → Type 0
+IsServerRangeNew objects = objects.server ≡ table.opening no_interface
+
+-- if the end keeps no table of the server's range, that range is new
+abbrev pub KeepsRangeNew : Objects → Type 0
+KeepsRangeNew objects = objects.has_server_range ≡ false → IsServerRangeNew objects
 
 -- after an object was opened at an id, with the next birth of the id's range
 abbrev pub opened_at : Objects → ℕ → Iface → ℕ → Objects
@@ -119,14 +129,15 @@ pub record ObjectsAreSound (objects : Objects) : Type 0 where
 
 -- Objects as a value that both tables stand for.
 
--- the table of the server's range, where there is one
+-- the table of the server's range, where there is one; else that of a new end
 abbrev pub server_view : {X : Type 0} → (X → View) → Option X → View
 server_view says None = table.opening no_interface
 server_view says (Some held) = says held
 
 abbrev pub objects_code : Coded Objects
 objects_code =
-    code_by (View × View) (coded× table.view_code table.view_code)
-    (λ o. (o.client, o.server))
-    (λ p. record { client = p.0; server = p.1 })
+    code_by (View × (View × Bool))
+    (coded× table.view_code (coded× table.view_code coded_bool))
+    (λ o. (o.client, (o.server, o.has_server_range)))
+    (λ p. record { client = p.0; server = p.1.0; has_server_range = p.1.1 })
     (λ _. refl)

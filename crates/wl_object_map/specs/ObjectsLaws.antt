@@ -1,7 +1,7 @@
 -- Laws of the objects in both ranges: what an id's row is after each change, and that each change
 -- keeps both tables sound.
 use Rattle.std.proofs.Common.{◌≡◌, ◌≢◌, ℕ, ◌+◌, ◌<◌, ◌≤◌, refl, sym, ◌∙◌, ap, cond}
-use Rattle.std.proofs.Common.{true, false, arith, eqb, is_some, subst, ◌⊎◌, inl, inr, ⊎_elim}
+use Rattle.std.proofs.Common.{Bool, true, false, arith, eqb, is_some, subst, ◌⊎◌, inl, inr, ⊎_elim}
 use Rattle.std.proofs.lemmas.Bool.{cases_Bool}
 use Rattle.std.proofs.lemmas.Grind.{common_steps}
 use Rattle.std.proofs.lemmas.Bool.Decides.{nat_tests}
@@ -22,7 +22,7 @@ use Rattle.wl_object_map.specs.Sounds as sounds
 use Rattle.wl_object_map.specs.Objects.{Objects, ObjectsAreSound, in_range, changed_at, look}
 use Rattle.wl_object_map.specs.Objects.{is_held, births}
 use Rattle.wl_object_map.specs.Objects.{free_or_next, has_room, next_id, next_birth, can_open}
-use Rattle.wl_object_map.specs.Objects.{no_interface}
+use Rattle.wl_object_map.specs.Objects.{no_interface, IsServerRangeNew}
 use Rattle.wl_object_map.specs.Objects.{opening, opened_at, opened, closed, zombied}
 
 -- Ids and ranges.
@@ -69,15 +69,15 @@ pub in_range-client : {X : Type 0} (says : View → ℕ → X) (o : Objects) (id
 in_range-client says o id h = ap (λ b. cond b (says o.server (table_id id)) (says o.client id)) h
 
 pub changed_server : (change : View → ℕ → View) (o : Objects) (id : ℕ) → is_of_server id ≡ true
-    → changed_at change o id ≡ record { client = o.client; server = change o.server (table_id id) }
-changed_server change o id h = ap (λ b. record {
+    → changed_at change o id ≡ record o { server = change o.server (table_id id) }
+changed_server change o id h = ap (λ b. record o {
   client = cond b o.client (change o.client id);
   server = cond b (change o.server (table_id id)) o.server;
 }) h
 
 pub changed_client : (change : View → ℕ → View) (o : Objects) (id : ℕ) → is_of_server id ≡ false
-    → changed_at change o id ≡ record { client = change o.client id; server = o.server }
-changed_client change o id h = ap (λ b. record {
+    → changed_at change o id ≡ record o { client = change o.client id }
+changed_client change o id h = ap (λ b. record o {
   client = cond b o.client (change o.client id);
   server = cond b (change o.server (table_id id)) o.server;
 }) h
@@ -91,7 +91,7 @@ pub look-changed : (change : View → ℕ → View) (row : View → Option Entry
     ≡ cond (eqb q id) (in_range (λ view place. row view (look o q)) o id) (look o q)
 look-changed change row law o id q = elim (cases_Bool (is_of_server id)) [
   | inl s ↦
-      (let new : Objects = record { client = o.client; server = change o.server (table_id id) } in
+      (let new : Objects = record o { server = change o.server (table_id id) } in
       ap (λ (x : Objects). look x q) (changed_server change o id s)
       ∙ elim (cases_Bool (is_of_server q)) [
         | inl t ↦
@@ -109,7 +109,7 @@ look-changed change row law o id q = elim (cases_Bool (is_of_server id)) [
             (apart_too q id t s)))
       ])
   | inr s ↦
-      (let new : Objects = record { client = change o.client id; server = o.server } in
+      (let new : Objects = record o { client = change o.client id } in
       ap (λ (x : Objects). look x q) (changed_client change o id s)
       ∙ elim (cases_Bool (is_of_server q)) [
         | inl t ↦
@@ -128,16 +128,25 @@ look-changed change row law o id q = elim (cases_Bool (is_of_server id)) [
 ]
 
 -- wl_display's, and no other
-pub look-opening : (display : Iface) (q : ℕ)
-    → look (opening display) q
+pub look-opening : (display : Iface) (range : Bool) (q : ℕ)
+    → look (opening display range) q
     ≡ cond (eqb q 1) (Some (record { birth = 0; iface = display; version = 1; state = Live })) None
-look-opening display q = elim (cases_Bool (is_of_server q)) [
+look-opening display range q = elim (cases_Bool (is_of_server q)) [
   | inl t ↦
-      in_range-server table.look (opening display) q t
+      in_range-server table.look (opening display range) q t
       ∙ rows.look-opening no_interface (table_id q)
       ∙ (let l = is_from q t in grind (arith, common_steps, nat_tests, l))
-  | inr t ↦ in_range-client table.look (opening display) q t ∙ rows.look-opening display q
+  | inr t ↦ in_range-client table.look (opening display range) q t ∙ rows.look-opening display q
 ]
+
+-- no id of a server's range that is new has a row
+pub look-new_range : (o : Objects) (id : ℕ) → IsServerRangeNew o → is_of_server id ≡ true
+    → look o id ≡ None
+look-new_range o id new h =
+    in_range-server table.look o id h
+    ∙ ap (λ view. table.look view (table_id id)) new
+    ∙ rows.look-opening no_interface (table_id id)
+    ∙ (let l = is_from id h in grind (arith, common_steps, nat_tests, l))
 
 -- the row of a new object that is the birth-th of its range
 abbrev new_row : ℕ → Iface → ℕ → Entry
@@ -204,8 +213,9 @@ ObjectsAreSound-changed change o id s server client = elim (cases_Bool (is_of_se
       (record { client = client h; server = s.server })
 ]
 
-pub ObjectsAreSound-opening : (display : Iface) → ObjectsAreSound (opening display)
-ObjectsAreSound-opening display = record {
+pub ObjectsAreSound-opening : (display : Iface) (range : Bool)
+    → ObjectsAreSound (opening display range)
+ObjectsAreSound-opening display range = record {
   client = sounds.Sound-opening display;
   server = sounds.Sound-opening no_interface;
 }
@@ -328,19 +338,18 @@ free-no_row o id s h = elim (cases_Bool (is_of_server id)) [
 -- so an opening at the next id is one of the maker's table
 pub opened-client : (o : Objects) (iface : Iface) (version : ℕ) → ObjectsAreSound o
     → opened Client o iface version
-    ≡ record { client = table.opened o.client iface version; server = o.server }
+    ≡ record o { client = table.opened o.client iface version }
 opened-client o iface version s =
     changed_client (λ view place. table.opened_at view place iface version) o (next_id Client o)
     (next_of_client o s)
 
 pub opened-server : (o : Objects) (iface : Iface) (version : ℕ) → ObjectsAreSound o
     → opened Server o iface version
-    ≡ record { client = o.client; server = table.opened o.server iface version }
+    ≡ record o { server = table.opened o.server iface version }
 opened-server o iface version s =
     changed_server (λ view place. table.opened_at view place iface version) o (next_id Server o)
     (next_of_server o s)
-    ∙ ap (λ place. record {
-      client = o.client;
+    ∙ ap (λ place. record o {
       server = table.opened_at o.server place iface version;
     }) (table_id-wire_id (table.next_id o.server))
 
@@ -398,7 +407,7 @@ free_is o id s h =
 pub opened_at-client : (o : Objects) (id : ℕ) (iface : Iface) (version : ℕ)
     → is_of_server id ≡ false
     → opened_at o id iface version
-    ≡ record { client = table.opened_at o.client id iface version; server = o.server }
+    ≡ record o { client = table.opened_at o.client id iface version }
 opened_at-client o id iface version h =
     changed_client (λ view place. table.opened_at view place iface version) o id h
 

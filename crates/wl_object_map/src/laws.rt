@@ -1,13 +1,15 @@
 //! What follows from the definitions of a table. Each law is the contract of a function that does
 //! nothing.
-ghost use Rattle.std.specs.Prelude.{◌≡◌, ◌≢◌, ℕ, ◌+◌, true, not, ◌&&◌, ltb, leb, eqb, length, drop};
-ghost use Rattle.std.specs.Prelude.{if◌then◌else◌};
+ghost use Rattle.std.specs.Prelude.{◌≡◌, ◌≢◌, ℕ, ◌+◌, Bool, true, not, ◌&&◌, ltb, leb, eqb, length};
+ghost use Rattle.std.specs.Prelude.{[], None, drop, if◌then◌else◌};
 ghost use Rattle.wl_wire.specs.declared.kind.Iface.{Iface};
 ghost use Rattle.wl_object_map.specs.View.{View, Sound, is_held, free_or_next, has_room, can_open};
 ghost use Rattle.wl_object_map.specs.View.{next_id, opening, opened, opened_at, closed, zombied};
 ghost use Rattle.wl_object_map.specs.declared.object.Maker.{Maker};
+ghost use Rattle.wl_object_map.specs.declared.object.Maker.TheVariants.{Server};
+ghost use Rattle.wl_object_map.specs.Ranges.{is_of_server};
 ghost use Rattle.wl_object_map.specs.Objects as objects;
-ghost use Rattle.wl_object_map.specs.Objects.{Objects, ObjectsAreSound};
+ghost use Rattle.wl_object_map.specs.Objects.{Objects, ObjectsAreSound, IsServerRangeNew};
 
 /// What each call makes of a sound table is sound.
 pub fn tables_stay_sound()
@@ -50,7 +52,8 @@ pub fn reopening_uses_no_id()
 
 /// What each call makes of both tables of an end is sound.
 pub fn objects_stay_sound()
-    ensures opening { (display : Iface) → ObjectsAreSound (objects.opening display) }
+    ensures opening { (display : Iface) (has_server_range : Bool)
+        → ObjectsAreSound (objects.opening display has_server_range) }
     ensures opened_at { (o : Objects) (id : ℕ) (iface : Iface) (version : ℕ) → ObjectsAreSound o
         → objects.free_or_next o id ≡ true → objects.has_room o id ≡ true
         → ObjectsAreSound (objects.opened_at o id iface version) }
@@ -64,4 +67,14 @@ pub fn objects_stay_sound()
     ensures closed { (o : Objects) (id : ℕ) → ObjectsAreSound o → objects.is_held o id ≡ true
         → id ≢ 1
         → ObjectsAreSound (objects.closed o id) }
+{}
+
+/// A server's range that is new is empty: no id of it has a row or was used, and its first object
+/// will have birth 1.
+pub fn new_ranges_are_empty()
+    ensures rows { (o : Objects) (id : ℕ) → IsServerRangeNew o → is_of_server id ≡ true
+        → objects.look o id ≡ None }
+    ensures used { (o : Objects) → IsServerRangeNew o → objects.ids_used Server o ≡ 0 }
+    ensures freed { (o : Objects) → IsServerRangeNew o → o.server.freed ≡ [] }
+    ensures births { (o : Objects) → IsServerRangeNew o → objects.next_birth Server o ≡ 1 }
 {}

@@ -1,9 +1,10 @@
 //! The objects of one end in both ranges of ids: a table for each.
-ghost use Rattle.std.specs.Prelude.{◌≡◌, ◌≢◌, ◌≤◌, ◌↔◌, ◌&&◌, not, Err, IfOk, OnOk, OnErr, IsTrue};
+ghost use Rattle.std.specs.Prelude.{◌≡◌, ◌≢◌, ◌≤◌, ◌↔◌, ◌&&◌, not, true, false, Err, IfOk, OnOk};
+ghost use Rattle.std.specs.Prelude.{OnErr, IsTrue};
 ghost use Rattle.wl_object_map.specs.Ranges.{is_of_server, table_id, wire_id};
 ghost use Rattle.wl_object_map.specs.View.{max_ids};
 ghost use Rattle.wl_object_map.specs.Objects.{Objects, ObjectsAreSound, look, is_held, is_live};
-ghost use Rattle.wl_object_map.specs.Objects.{births, row_count};
+ghost use Rattle.wl_object_map.specs.Objects.{KeepsRangeNew, births, row_count};
 ghost use Rattle.wl_object_map.specs.Objects.{ids_used, free_or_next, has_room, can_open, next_id};
 ghost use Rattle.wl_object_map.specs.Objects.{opening, opened, opened_at, closed, zombied};
 
@@ -40,6 +41,7 @@ pub struct Objects<T: Table> {
 }
 
 impl<T: Table> Model for Objects<T> {
+    ghost use Rattle.std.specs.Prelude.{is_some};
     ghost use Rattle.wl_object_map.specs.Objects.{Objects, ObjectsAreSound, objects_code};
     ghost use Rattle.wl_object_map.specs.Objects.{server_view};
 
@@ -50,11 +52,13 @@ impl<T: Table> Model for Objects<T> {
     ghost view = { λ o. record {
       client = T.view o.client;
       server = server_view T.view o.server;
+      has_server_range = is_some o.server;
     } };
 
     ghost invariant = { λ o. ObjectsAreSound (record {
       client = T.view o.client;
       server = server_view T.view o.server;
+      has_server_range = is_some o.server;
     }) };
 }
 
@@ -81,7 +85,7 @@ impl<T: Table> Objects<T> {
     /// The objects of an end whose server makes none: wl_display alone, with id 1, birth 0 and
     /// version 1.
     pub fn new(alloc: T::Alloc, display: Iface) -> Result<Self, AllocError>
-        ensures { IfOk result (λ objects. objects ≡ opening display) }
+        ensures { IfOk result (λ objects. objects ≡ opening display false) }
     {
         Ok(Objects {
             client: T::new(alloc, display)?,
@@ -92,7 +96,7 @@ impl<T: Table> Objects<T> {
     /// The objects of an end whose server makes some too: wl_display alone, as `new` has it, and an
     /// empty range of the server's, for which memory is taken at once.
     pub fn with_server_range(alloc: T::Alloc, display: Iface) -> Result<Self, AllocError>
-        ensures { IfOk result (λ objects. objects ≡ opening display) }
+        ensures { IfOk result (λ objects. objects ≡ opening display true) }
     {
         let client = T::new(alloc.clone()?, display)?;
         let server = Some(T::new(alloc, NO_INTERFACE)?);
@@ -104,6 +108,14 @@ impl<T: Table> Objects<T> {
         ensures { T.view result.now ≡ self.now.client }
     {
         &self.client
+    }
+
+    /// Whether there is a table of the server's range. Without one no object was ever opened there.
+    pub fn has_server_range(&self) -> bool
+        ensures answer { result ≡ self.now.has_server_range }
+        ensures new { KeepsRangeNew self.now }
+    {
+        self.server.is_some()
     }
 
     /// The entry of an id, live or zombie.

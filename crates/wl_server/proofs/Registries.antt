@@ -32,7 +32,7 @@ use Rattle.wl_object_map.specs.Views.{eqb_is, cases_row, some_is, free_is, free_
 use Rattle.wl_objects.specs.declared.error.SendError.{SendError}
 use Rattle.wl_objects.specs.declared.error.SendError.TheVariants as refusals
 use Rattle.wl_objects.specs.Writing.{Given, wired}
-use Rattle.wl_objects.specs.Messages.{NewObject, made, made_by, or_else, opens, same_iface, checked, is_hidden, live_row}
+use Rattle.wl_objects.specs.Messages.{NewObject, made, made_by, opens, same_iface, checked, is_hidden, live_row}
 use Rattle.wl_objects.specs.Writing.{is_live_as}
 use Rattle.wl_objects.proofs.Wholes.{passes}
 use Rattle.wl_connection.specs.Core.{Core, past, with_view}
@@ -52,6 +52,7 @@ use Rattle.wl_server.proofs.OneObject.{one-same, not-one}
 use Rattle.wl_server.proofs.ReadingStays.{view_kept}
 use Rattle.wl_server.proofs.RisingBirths.{rise-without}
 use Rattle.wl_server.proofs.AfterRequest.{rise-opened}
+use Rattle.wl_connection.proofs.NewIds.{one_of, without_client}
 use Rattle.wl_server.proofs.OwedEvents.{either-object, rising-marked, view-dues}
 use Rattle.wl_server.proofs.TellingGoesOn.{rising-told}
 
@@ -315,21 +316,6 @@ one_made tables version n (kinds.NewByServer iface) (New u) ks m none other is =
     subst (IsMade n) same (record { id = refl; iface = other iface refl })
 one_made tables version n kind x ks m none other is = absurd (cc is)
 
-none_behind : (kind : Kind) (ks : List Kind) → new_objects (kind ∷ ks) ≡ [] → new_objects ks ≡ []
-none_behind (kinds.New iface) ks none = absurd (cc none)
-none_behind kinds.Int ks none = none
-none_behind kinds.Uint ks none = none
-none_behind kinds.Fixed ks none = none
-none_behind (kinds.Str null) ks none = none
-none_behind (kinds.Obj null iface) ks none = none
-none_behind (kinds.NewByServer iface) ks none = none
-none_behind kinds.Array ks none = none
-none_behind kinds.Fd ks none = none
-
-one_of : (o other : Option NewObject) (m : NewObject) → or_else o other ≡ Some m → (o ≡ Some m) ⊎ (other ≡ Some m)
-one_of None other m h = inr h
-one_of (Some n) other m h = inl h
-
 made_is : (tables : List Interface) (version n : ℕ) (ks : List Kind) (list : List Given) (m : NewObject)
     → new_objects ks ≡ [] → All MakesNoRegistry ks → made tables version ks (map (wired n) list) ≡ Some m → IsMade n m
 made_is tables version n [] list m h a e = absurd (cc e)
@@ -337,7 +323,7 @@ made_is tables version n (k ∷ ks) [] m h a e = absurd (cc e)
 made_is tables version n (k ∷ ks) (x ∷ list) m h a e =
     elim (one_of (made_by tables version k (wired n x)) (made tables version ks (map (wired n) list)) m e) [
       | inl p ↦ one_made tables version n k x ks m h (All-first MakesNoRegistry k ks a) p
-      | inr p ↦ made_is tables version n ks list m (none_behind k ks h) (All-tail MakesNoRegistry k ks a) p
+      | inr p ↦ made_is tables version n ks list m (without_client k ks h) (All-tail MakesNoRegistry k ks a) p
     ]
 
 -- the server makes no registry
@@ -560,18 +546,18 @@ past_told core rs all told now ms past t h =
 
 -- ---- a new server
 
-first_row : (q : ℕ) (e : Entry) → look (opening display) q ≡ Some e
+first_row : (range : Bool) (q : ℕ) (e : Entry) → look (opening display range) q ≡ Some e
     → (q ≡ 1) × (e ≡ record { birth = 0; iface = display; version = 1; state = Live })
-first_row q e h = ⊎_elim
+first_row range q e h = ⊎_elim
     (λ p. (eqb_is q 1 p.0, sym (some_is _ e p.1)))
     (λ p. (let no = p.1 in absurd (cc no)))
     (cases_row (eqb q 1) (Some (record { birth = 0; iface = display; version = 1; state = Live })) None e
-    (sym (look-opening display q) ∙ h))
+    (sym (look-opening display range q) ∙ h))
 
-pub has_none : HasRegistries (opening display) []
-has_none = record {
+pub has_none : (range : Bool) → HasRegistries (opening display range) []
+has_none range = record {
   rising = omega arith;
-  all = λ id e there is. (let i = ap (λ (x : Entry). x.iface.0) (first_row id e there).1
+  all = λ id e there is. (let i = ap (λ (x : Entry). x.iface.0) (first_row range id e there).1
       in let k = ap (λ (x : Iface). x.0) is in absurd (omega (arith, i, k)));
   only = λ o a. absurd a;
 }

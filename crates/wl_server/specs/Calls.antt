@@ -1,7 +1,7 @@
 -- What a server's other calls return and write.
-use Rattle.std.specs.Prelude.{ℕ, ◌+◌, ◌-◌, Bool, true, false, ◌&&◌, ◌||◌, not, nat_eq, nat_lt}
+use Rattle.std.specs.Prelude.{◌≡◌, ℕ, ◌+◌, ◌-◌, Bool, true, false, ◌&&◌, ◌||◌, not, nat_eq, nat_lt}
 use Rattle.std.specs.Prelude.{nat_le, if◌then◌else◌, List, [], ◌∷◌, ◌++◌, length, slice_set, Option}
-use Rattle.std.specs.Prelude.{Some, None}
+use Rattle.std.specs.Prelude.{Some, None, is_some}
 use Rattle.std.specs.List.{list_any}
 use Rattle.std.specs.declared.result.Result.{Result}
 use Rattle.std.specs.declared.result.Result.TheVariants.{Ok, Err}
@@ -13,6 +13,7 @@ use Rattle.wl_object_map.specs.declared.object.Object.{Object}
 use Rattle.wl_object_map.specs.declared.object.Entry.{Entry}
 use Rattle.wl_objects.specs.declared.error.SendError.{SendError}
 use Rattle.wl_objects.specs.declared.error.SendError.TheVariants as refusals
+use Rattle.wl_object_map.specs.Ranges.{is_of_server}
 use Rattle.wl_object_map.specs.Objects.{closed}
 use Rattle.wl_objects.specs.Messages.{live_row, same_iface}
 use Rattle.wl_connection.specs.Core.{Core, with_view}
@@ -37,6 +38,12 @@ drop_at core (Some entry) =
 abbrev pub drop_refusal : Core → Object → Option SendError
 drop_refusal core object =
     if core.failed then Some refusals.Failed else drop_at core (live_row core.view object)
+
+-- an object that the server made is live, and the end has not failed
+pub record IsLiveOfServer (core : Core) (object : Object) : Type 0 where
+  pub not_failed : core.failed ≡ false
+  pub made_by_server : is_of_server object.id ≡ true
+  pub is_live : is_some (live_row core.view object) ≡ true
 
 -- The end after an object was dropped: delete_id is written, and the object is closed.
 abbrev pub after_drop : Core → Object → Core

@@ -2,6 +2,7 @@
 use Rattle.std.specs.Prelude.{◌≡◌, ℕ, suc, ◌≤◌, max, List, [], ◌∷◌, length, map, take}
 use Rattle.std.specs.List.{filter}
 use Rattle.wl_connection.specs.Core.{Core, max_globals}
+use Rattle.wl_connection.specs.ServerRange.{NoEventEndsMade}
 use Rattle.wl_server.specs.declared.registry.Slot.{Slot}
 use Rattle.wl_server.specs.State.{Global, Registry}
 use Rattle.wl_server.specs.Announcing.{owed_in}
@@ -47,3 +48,5 @@ pub record IsSound (core : Core) (globals : List Global) (kept : KeptRegistries)
   pub registries : HasRegistries core.view kept.list
   pub past : kept.past ≤ core.view.client.births
   pub settled : owed_in globals (settled_in kept) ≡ []
+  -- no event destroys an object that the server made
+  pub lasting : NoEventEndsMade core.tables core.view

@@ -1,5 +1,5 @@
 //! What a server writes to its client.
-ghost use Rattle.std.specs.Prelude.{◌≡◌, false, IfOk, OnOk, OnErr};
+ghost use Rattle.std.specs.Prelude.{◌≡◌, false, Err, IfOk, OnOk, OnErr};
 ghost use Rattle.wl_sigs.specs.Rules.{has_server_objects};
 ghost use Rattle.wl_sigs.specs.declared.signature.Side.TheVariants.{Event as event_side};
 ghost use Rattle.wl_sigs.specs.Valid.{Valid};
@@ -8,7 +8,7 @@ ghost use Rattle.wl_connection.specs.Outcomes.{refusal_in};
 ghost use Rattle.wl_connection.specs.Sending.{IsSendAnswer, OpensNothing, after_send};
 ghost use Rattle.wl_server.specs.State.{with_core};
 ghost use Rattle.wl_server.specs.Calls.{after_drop, after_error, drop_refusal, error_refusal};
-ghost use Rattle.wl_server.specs.Calls.{is_error_text};
+ghost use Rattle.wl_server.specs.Calls.{IsLiveOfServer, is_error_text};
 
 use crate::server::Server;
 use wl_connection::{Core, DELETE_ID_LEN};
@@ -53,6 +53,8 @@ impl<'t, T: Table> Server<'t, T> {
     /// tested in this order: S1, S2, S12, S9. Allocates nothing.
     pub fn drop_object(&mut self, object: Object) -> Result<(), SendError>
         ensures answer { refusal_in result ≡ drop_refusal self.old.core object }
+        ensures of_server { IsLiveOfServer self.old.core object
+            → result ≡ Err SendError.NotDroppable }
         ensures ok { OnOk result (self.new ≡ with_core self.old (after_drop self.old.core object)) }
         ensures err { OnErr result (self.new ≡ self.old) }
     {

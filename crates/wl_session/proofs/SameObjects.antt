@@ -1,6 +1,7 @@
 -- The same objects at both ends.
-use Rattle.std.proofs.Common.{◌≡◌, ℕ, ◌<◌, ◌≤◌, ◌+◌, Bool, true, false, refl, sym, ap, subst, ◌∙◌, inl, inr, arith}
+use Rattle.std.proofs.Common.{◌≡◌, ℕ, ◌<◌, ◌≤◌, ◌+◌, ◌-◌, Bool, true, false, refl, sym, ap, subst, ◌∙◌, inl, inr, arith}
 use Rattle.std.proofs.lemmas.Bool.{cases_lt}
+use Rattle.std.specs.FinMap.{len}
 use Rattle.std.specs.Prelude.{◌↔◌, IsTrue, ltb, not, ◌&&◌, is_some}
 use Rattle.std.specs.declared.option.Option.{Option}
 use Rattle.std.specs.declared.option.Option.TheVariants.{None, Some}
@@ -11,11 +12,14 @@ use Rattle.wl_object_map.specs.declared.object.Maker.TheVariants.{Client, Server
 use Rattle.wl_object_map.specs.Ranges.{first_server_id, is_of_server, table_id}
 use Rattle.wl_object_map.specs.View as table
 use Rattle.wl_object_map.specs.View.{View, Sound, lives_in, lives, times}
-use Rattle.wl_object_map.specs.Views.{Place, place_of_id, in_row, in_list, at_null, unused}
-use Rattle.wl_object_map.specs.Objects.{Objects, ObjectsAreSound, look, ids_used, next_birth}
+use Rattle.wl_object_map.specs.Views.{place_of_id, in_row, in_list, at_null, unused}
+use Rattle.wl_object_map.specs.Sounds.{Sound-opening}
+use Rattle.wl_object_map.specs.Objects.{Objects, ObjectsAreSound, IsServerRangeNew, look, ids_used, next_birth}
+use Rattle.wl_object_map.specs.Objects.{no_interface, row_count}
 use Rattle.wl_object_map.specs.ObjectsLaws.{in_range-client, in_range-server, is_from, of_client, of_server}
 use Rattle.theory_connection.specs.Runs.{AgreeByClient, AgreeByServer, is_freed, is_zombie}
 use Rattle.wl_session.specs.Room.{AreSame, AreSameByServer, SameByServer, both_live, was_freed}
+use Rattle.wl_session.specs.Room.{client_count, object_count}
 
 -- ---- the client's range
 
@@ -229,3 +233,13 @@ rows_of_server client server most s counted a id low high =
       | at_null l t e ↦ absurd (omega (arith, low, e))
       | unused l t d ↦ absurd (omega (arith, low, high, counted, used, d))
     ]
+
+-- ---- where no event makes an object
+
+-- the objects are those that the client has
+pub counts_client : (client server : Objects) → IsServerRangeNew server
+    → object_count client server ≡ client_count client
+counts_client client server s =
+    let one = (Sound-opening no_interface).count in
+    let none : row_count Server server ≡ 0 = ap (λ (view : View). len view.rows - 1) s ∙ omega (arith, one) in
+    ap (λ (n : ℕ). client_count client + n) none ∙ omega arith

@@ -1,5 +1,6 @@
--- How much a pair can carry at once.
-use Rattle.std.specs.Prelude.{◌≡◌, ℕ, ◌+◌, ◌<◌, ◌≤◌, List, [], ◌∷◌, Option, Some, None}
+-- How much a pair can carry at once, and when two ends have the same objects.
+use Rattle.std.specs.Prelude.{◌≡◌, ℕ, ◌+◌, ◌<◌, ◌≤◌, false, List, [], ◌∷◌, Option, Some, None}
+use Rattle.wl_sigs.specs.Rules.{has_server_objects}
 use Rattle.wl_object_map.specs.declared.object.Entry.{Entry}
 use Rattle.wl_object_map.specs.declared.object.State.TheVariants as states
 use Rattle.wl_object_map.specs.declared.object.Maker.TheVariants.{Client, Server}
@@ -7,6 +8,7 @@ use Rattle.wl_object_map.specs.Ranges.{first_server_id}
 use Rattle.wl_object_map.specs.Objects.{Objects, look, row_count}
 use Rattle.wl_recording.specs.Piece.{Piece, with_last_bytes}
 use Rattle.wl_message.specs.Arrived.{Arrived}
+use Rattle.wl_connection.specs.Core.{Core}
 
 -- whatever fits into an inbox fits into this number of bytes and of tokens
 pub record HoldsInbox (bytes tokens : ℕ) (inbox : Arrived) : Type 0 where
@@ -37,7 +39,22 @@ SameByServer used client server =
     (id : ℕ) → first_server_id ≤ id → id < first_server_id + used
     → AreSameByServer (look client id) (look server id)
 
--- How many objects two ends have: in the client's range those that the client has, also those that
--- it has destroyed and whose delete_id has not come, and in the server's those that the server has.
+-- how many objects a client has in its own range, also those that it has destroyed and whose
+-- delete_id has not come
+abbrev pub client_count : Objects → ℕ
+client_count client = row_count Client client
+
+-- How many objects two ends have: in the client's range those that the client has, and in the
+-- server's those that the server has.
 abbrev pub object_count : Objects → Objects → ℕ
-object_count client server = row_count Client client + row_count Server server
+object_count client server = client_count client + row_count Server server
+
+-- no event of either end's tables makes an object
+pub record NoEventMakes (client server : Core) : Type 0 where
+  pub at_client : has_server_objects client.tables ≡ false
+  pub at_server : has_server_objects server.tables ≡ false
+
+-- both ends have the same rows under the same ids, all live
+pub record HaveSameRows (client server : Objects) : Type 0 where
+  pub same : (id : ℕ) → look client id ≡ look server id
+  pub live : (id : ℕ) (e : Entry) → look client id ≡ Some e → e.state ≡ states.Live

@@ -3,11 +3,13 @@ ghost use Rattle.std.specs.Prelude.{◌≡◌, ◌≤◌, ◌↔◌, false, IsTr
 ghost use Rattle.wl_object_map.specs.declared.object.State.TheVariants.{Live, Zombie};
 ghost use Rattle.wl_object_map.specs.View.{max_ids};
 ghost use Rattle.wl_object_map.specs.Objects.{ObjectsAreSound, ids_used};
+ghost use Rattle.wl_sigs.specs.Rules.{has_server_objects};
 ghost use Rattle.theory_connection.specs.World.{World};
 ghost use Rattle.theory_connection.specs.Pair.{drained};
 ghost use Rattle.theory_connection.specs.Stands.{Stands};
 ghost use Rattle.theory_connection.specs.Runs.{Agree, AgreeByClient, AgreeByServer};
-ghost use Rattle.wl_session.specs.Room.{AreSame, AreSameByServer, SameByServer, object_count};
+ghost use Rattle.wl_session.specs.Room.{AreSame, AreSameByServer, HaveSameRows, NoEventMakes};
+ghost use Rattle.wl_session.specs.Room.{SameByServer, client_count, object_count};
 
 use crate::pair::Pair;
 use wl_client::Client;
@@ -19,9 +21,12 @@ use wl_server::Server;
 impl<'t, T: Table> Pair<'t, T> {
     /// Whether both ends have the same objects under the same ids, and the client has destroyed
     /// none of those that it made. One of the server's that it has destroyed stays at the client
-    /// until its id is used again. They have where both are drained and no error was posted.
+    /// until its id is used again. If both are drained and no error was posted, they have.
     pub fn agree(&self) -> bool
         ensures exact { IsTrue result ↔ Agree self.now.client.core.view self.now.server.core.view }
+        // Over tables by which the server makes no object: the same rows, all live.
+        ensures rows { NoEventMakes self.now.client.core self.now.server.core
+            → IsTrue result ↔ HaveSameRows self.now.client.core.view self.now.server.core.view }
         ensures drained { (world : World) → Stands self.now world → world.ended ≡ false
             → drained self.now → IsTrue result }
     {
@@ -32,7 +37,10 @@ impl<'t, T: Table> Pair<'t, T> {
 /// Whether a client and a server have the same objects under the same ids, and the client has
 /// destroyed none of those that it made, as `Pair::agree` has it.
 pub fn same_rows<T: Table>(client: &Client<'_, T>, server: &Server<'_, T>) -> bool
-    ensures { IsTrue result ↔ Agree client.now.core.view server.now.core.view }
+    ensures exact { IsTrue result ↔ Agree client.now.core.view server.now.core.view }
+    // Over tables by which the server makes no object: the same rows, all live.
+    ensures rows { NoEventMakes client.now.core server.now.core
+        → IsTrue result ↔ HaveSameRows client.now.core.view server.now.core.view }
 {
     let client = client.objects();
     let server = server.objects();
@@ -43,7 +51,10 @@ pub fn same_rows<T: Table>(client: &Client<'_, T>, server: &Server<'_, T>) -> bo
 /// counting those that it has destroyed and whose delete_id has not come, and in the server's range
 /// those that the server has.
 pub fn object_count<T: Table>(client: &Client<'_, T>, server: &Server<'_, T>) -> usize
-    ensures { result ≡ object_count client.now.core.view server.now.core.view }
+    ensures count { result ≡ object_count client.now.core.view server.now.core.view }
+    // Over tables by which the server makes no object: those that the client has.
+    ensures of_client { has_server_objects server.now.core.tables ≡ false
+        → result ≡ client_count client.now.core.view }
 {
     let of_client = client.objects().len(Maker::Client);
     let of_server = server.objects().len(Maker::Server);

@@ -1,5 +1,6 @@
 //! A client and a server.
-ghost use Rattle.std.specs.Prelude.{◌≡◌, ◌↔◌, ◌≤◌, IfOk, IsTrue, length};
+ghost use Rattle.std.specs.Prelude.{◌≡◌, ◌↔◌, ◌≤◌, false, IfOk, IsTrue, length};
+ghost use Rattle.wl_sigs.specs.Rules.{has_server_objects};
 ghost use Rattle.wl_sigs.specs.Valid.{Valid};
 ghost use Rattle.wl_message.specs.Arrived.{AreSizes};
 ghost use Rattle.wl_client.specs.State.{new_state as new_client};
@@ -9,7 +10,7 @@ ghost use Rattle.theory_connection.specs.World.{World, opening_world};
 ghost use Rattle.theory_connection.specs.Pair.{new_pair, drained};
 ghost use Rattle.theory_connection.specs.Stands.{Stands};
 ghost use Rattle.theory_recording.specs.Linked.{Linked, pair_limit, up_to};
-ghost use Rattle.wl_session.specs.Room.{object_count};
+ghost use Rattle.wl_session.specs.Room.{client_count, object_count};
 
 use crate::agreeing::object_count;
 use std::alloc::{AllocError, Allocator};
@@ -110,7 +111,11 @@ impl<'t, T: Table> Pair<'t, T> {
     /// it has destroyed and whose delete_id has not come, and in the server's range those that the
     /// server has.
     pub fn len(&self) -> usize
-        ensures { result ≡ object_count self.now.client.core.view self.now.server.core.view }
+        ensures count { result
+            ≡ object_count self.now.client.core.view self.now.server.core.view }
+        // Over tables by which the server makes no object: those that the client has.
+        ensures of_client { has_server_objects self.now.server.core.tables ≡ false
+            → result ≡ client_count self.now.client.core.view }
     {
         object_count(&self.client, &self.server)
     }

@@ -17,4 +17,6 @@ returns g c =
       passed = c.ended.ensures.passed;
       exact = c.ended.ensures.agree;
       counted = c.ended.ensures.objects;
+      rows = c.ended.ensures.rows;
+      of_client = c.ended.ensures.of_client;
     }

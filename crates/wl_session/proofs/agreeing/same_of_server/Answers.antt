@@ -2,7 +2,7 @@ use Rattle.std.proofs.Common.{◌≡◌, sym, ◌∙◌, arith}
 use Rattle.std.proofs.lemmas.Grind.{common_steps}
 use Rattle.std.proofs.lemmas.Bool.Decides.{nat_tests}
 use Rattle.wl_object_map.specs.declared.object.Maker.TheVariants.{Server}
-use Rattle.wl_object_map.specs.Objects.{ids_used, next_birth}
+use Rattle.wl_object_map.specs.Objects.{next_birth}
 use Rattle.wl_session.proofs.SameObjects.{same_of_server, rows_of_server}
 use Rattle.wl_session.proofs.agreeing.same_of_server.Goals as goal
 

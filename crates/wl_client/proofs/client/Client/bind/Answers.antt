@@ -5,7 +5,7 @@ use Rattle.wl_client.proofs.Binds.{bind_opens}
 use Rattle.wl_objects.specs.declared.error.SendError.TheVariants as refusals
 use Rattle.wl_wire.specs.declared.kind.Iface.{Iface}
 use Rattle.wl_object_map.specs.declared.object.Maker.TheVariants.{Client}
-use Rattle.wl_object_map.specs.Objects.{next_id, opened_at}
+use Rattle.wl_object_map.specs.Objects.{ObjectsAreSound, next_id, opened_at}
 use Rattle.wl_objects.specs.Writing.{bind_values}
 use Rattle.wl_connection.specs.Core.{Core, with_view}
 use Rattle.wl_connection.specs.Outcomes.{AnswersOrMemory}
@@ -13,7 +13,8 @@ use Rattle.wl_connection.specs.Sending.{with_sent}
 use Rattle.wl_client.specs.declared.client.Client.TheInside.{Inside}
 use Rattle.wl_client.specs.Binding.{FitsBind}
 use Rattle.wl_client.specs.Calls.{after_bind, bind_answer, iface_or}
-use Rattle.wl_client.specs.State.{State, global_of}
+use Rattle.wl_client.specs.State.{State, IsSound, global_of}
+use Rattle.wl_client.proofs.SoundClients.{sound_bound, sound_by}
 use Rattle.wl_client.proofs.client.Client.bind.Goals as goal
 
 pub len-requires : goal.len-requires
@@ -30,12 +31,23 @@ pub write_bind-requires-clause-len : goal.write_bind-requires-clause-len
 write_bind-requires-clause-len g c = let f : FitsBind c.args.iface.now = c.if-can_bind.ensures.fits refl
     in f.len c.args.name c.args.version c.in_ok-object.object.id
 
+pub invariant_of-self-2 : goal.invariant_of-self-2
+invariant_of-self-2 g c =
+    let core = c.self.inside.end.core in
+    sound_by c.open_next.new.self c.write_bind.new.self
+    (ap (λ (k : Core). k.tables) c.write_bind.ensures) (ap (λ (k : Core). k.view) c.write_bind.ensures)
+    (subst IsSound (sym c.in_ok-object.ensures.ok)
+    (sound_bound core c.in-Some-get.global.iface c.args.version
+    (subst (λ (k : Core). ObjectsAreSound k.view) (λ i. (c.self-inside.view_is i).end.core) c.in-Some.ensures.sound)
+    c.self.invariant))
+
 pub returns-clause-ok : goal.returns-clause-ok
 returns-clause-ok g c =
     let state : State = record {
       core = c.self.inside.end.core;
       globals = c.self.inside.kept.globals;
       made = c.self.inside.kept.made;
+      replaced = c.self.inside.kept.replaced;
     } in
     let target = c.args.registry in
     let iface = c.args.iface.now in
@@ -58,6 +70,7 @@ returns-clause-answer g c =
       core = c.self.inside.end.core;
       globals = c.self.inside.kept.globals;
       made = c.self.inside.kept.made;
+      replaced = c.self.inside.kept.replaced;
     } in
     let opens = bind_opens state c.args.registry c.args.name c.args.iface.now c.args.version c.in-Some.entry
     c.in-Some-get.global (search rules) (search rules) (sym c.if-ne.ensures) (search rules) (search rules)

@@ -12,6 +12,7 @@ returns-clause-yes g c t =
       core = c.self.inside.end.core;
       globals = c.self.inside.kept.globals;
       made = c.self.inside.kept.made;
+      replaced = c.self.inside.kept.replaced;
     } in
     elim c.match-find.branch [
       | in-Ok-Some w ↦

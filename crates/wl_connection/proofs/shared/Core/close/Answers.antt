@@ -1,4 +1,5 @@
-use Rattle.std.proofs.Common.{sym, subst}
+use Rattle.std.proofs.Common.{sym, subst, ap, ◌∙◌}
+use Rattle.wl_object_map.specs.Objects.{Objects}
 use Rattle.wl_connection.specs.Core.{HasDisplay}
 use Rattle.wl_connection.proofs.Displays.{HasDisplay-closed}
 use Rattle.wl_connection.proofs.shared.Core.close.Goals as goal
@@ -10,6 +11,7 @@ invariant_of-self g c = record {
   display = subst HasDisplay (sym c.close.ensures)
       (HasDisplay-closed c.self.inside.objects c.args.id c.requires.not_display
       c.self.invariant.display);
+  range = ap (λ (o : Objects). o.has_server_range) c.close.ensures ∙ c.self.invariant.range;
   no_error = c.self.invariant.no_error;
   whole = c.self.invariant.whole;
 }

@@ -1,7 +1,8 @@
-use Rattle.std.proofs.Common.{sym, subst}
-use Rattle.wl_object_map.specs.Objects.{ObjectsAreSound}
+use Rattle.std.proofs.Common.{refl, sym, subst, ◌∙◌}
+use Rattle.wl_object_map.specs.Objects.{ObjectsAreSound, opened}
 use Rattle.wl_connection.specs.Core.{Core}
 use Rattle.wl_connection.proofs.Displays.{HasDisplay-opening_next}
+use Rattle.wl_connection.proofs.ServerRange.{range_of}
 use Rattle.wl_connection.proofs.shared.Core.open_next.Goals as goal
 
 pub invariant_of-self : goal.invariant_of-self
@@ -12,6 +13,9 @@ invariant_of-self g c = record {
       c.open_next.new.self c.args.iface c.args.version
       (subst (λ (core : Core). ObjectsAreSound core.view) (sym c.self.view_is) c.requires) c.self.invariant.display
       c.open_next.ensures.ok c.open_next.ensures.err;
+  range = range_of c.open_next.result c.self.inside.objects c.open_next.new.self
+      (opened c.args.maker c.self.inside.objects c.args.iface c.args.version)
+      c.open_next.ensures.ok c.open_next.ensures.err refl ∙ c.self.invariant.range;
   no_error = c.self.invariant.no_error;
   whole = c.self.invariant.whole;
 }

@@ -1,4 +1,4 @@
-use Rattle.std.proofs.Common.{◌≡◌, true, sym, ap, subst, arith}
+use Rattle.std.proofs.Common.{◌≡◌, true, is_some, sym, ap, subst, arith}
 use Rattle.std.proofs.lemmas.Grind.{common_steps}
 use Rattle.std.proofs.lemmas.Bool.Decides.{nat_tests}
 use Rattle.wl_object_map.specs.View as table
@@ -12,6 +12,7 @@ invariant_of-self g c =
     let o : Objects = record {
       client = g.T.Table.view c.self.inside.client;
       server = server_view g.T.Table.view c.self.inside.server;
+      has_server_range = is_some c.self.inside.server;
     } in
     subst ObjectsAreSound (sym (client_changed table.closed o c.args.id
     (grind (arith, common_steps, nat_tests, c.if-id-lt-FIRST_SERVER_ID.true)) c.close.ensures))
@@ -23,9 +24,10 @@ invariant_of-self-2 g c =
     let o : Objects = record {
       client = g.T.Table.view c.self.inside.client;
       server = server_view g.T.Table.view c.self.inside.server;
+      has_server_range = is_some c.self.inside.server;
     } in
     subst ObjectsAreSound (sym (server_changed table.closed o c.args.id
     (grind (arith, common_steps, nat_tests, c.if-id-lt-FIRST_SERVER_ID.false))
-    (ap (server_view g.T.Table.view) c.in-Some.is) c.table_id.ensures c.close-2.ensures))
+    (ap (server_view g.T.Table.view) c.in-Some.is) (ap is_some c.in-Some.is) c.table_id.ensures c.close-2.ensures))
     (ObjectsAreSound-closed o c.args.id c.self.invariant
     (subst (λ (x : Objects). is_held x c.args.id ≡ true) (sym c.self.view_is) c.requires.held) c.requires.not_display)

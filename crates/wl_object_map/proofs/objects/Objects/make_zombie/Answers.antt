@@ -1,4 +1,4 @@
-use Rattle.std.proofs.Common.{sym, ap, subst, arith}
+use Rattle.std.proofs.Common.{is_some, sym, ap, subst, arith}
 use Rattle.std.proofs.lemmas.Grind.{common_steps}
 use Rattle.std.proofs.lemmas.Bool.Decides.{nat_tests}
 use Rattle.wl_object_map.specs.View as table
@@ -12,6 +12,7 @@ invariant_of-self g c =
     let o : Objects = record {
       client = g.T.Table.view c.self.inside.client;
       server = server_view g.T.Table.view c.self.inside.server;
+      has_server_range = is_some c.self.inside.server;
     } in
     subst ObjectsAreSound (sym (client_changed table.zombied o c.args.id
     (grind (arith, common_steps, nat_tests, c.if-id-lt-FIRST_SERVER_ID.true)) c.make_zombie.ensures))
@@ -22,8 +23,9 @@ invariant_of-self-2 g c =
     let o : Objects = record {
       client = g.T.Table.view c.self.inside.client;
       server = server_view g.T.Table.view c.self.inside.server;
+      has_server_range = is_some c.self.inside.server;
     } in
     subst ObjectsAreSound (sym (server_changed table.zombied o c.args.id
     (grind (arith, common_steps, nat_tests, c.if-id-lt-FIRST_SERVER_ID.false))
-    (ap (server_view g.T.Table.view) c.in-Some.is) c.table_id.ensures c.make_zombie-2.ensures))
+    (ap (server_view g.T.Table.view) c.in-Some.is) (ap is_some c.in-Some.is) c.table_id.ensures c.make_zombie-2.ensures))
     (ObjectsAreSound-zombied o c.args.id c.self.invariant c.requires.not_display)

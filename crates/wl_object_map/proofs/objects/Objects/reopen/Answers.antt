@@ -1,4 +1,4 @@
-use Rattle.std.proofs.Common.{◌≡◌, true, sym, ap, subst, arith}
+use Rattle.std.proofs.Common.{◌≡◌, true, is_some, sym, ap, subst, arith}
 use Rattle.std.proofs.lemmas.Grind.{common_steps}
 use Rattle.std.proofs.lemmas.Bool.Decides.{nat_tests}
 use Rattle.wl_object_map.specs.View as table
@@ -12,6 +12,7 @@ invariant_of-self g c =
     let o : Objects = record {
       client = g.T.Table.view c.self.inside.client;
       server = server_view g.T.Table.view c.self.inside.server;
+      has_server_range = is_some c.self.inside.server;
     } in
     subst ObjectsAreSound (sym (client_changed (λ view place. table.opened_at view place c.args.iface c.args.version) o c.args.id
     (grind (arith, common_steps, nat_tests, c.if-id-lt-FIRST_SERVER_ID.true)) c.reopen.ensures.table))
@@ -24,10 +25,11 @@ invariant_of-self-2 g c =
     let o : Objects = record {
       client = g.T.Table.view c.self.inside.client;
       server = server_view g.T.Table.view c.self.inside.server;
+      has_server_range = is_some c.self.inside.server;
     } in
     subst ObjectsAreSound (sym (server_changed (λ view place. table.opened_at view place c.args.iface c.args.version) o c.args.id
     (grind (arith, common_steps, nat_tests, c.if-id-lt-FIRST_SERVER_ID.false))
-    (ap (server_view g.T.Table.view) c.in-Some.is) c.table_id.ensures c.reopen-object.ensures.table))
+    (ap (server_view g.T.Table.view) c.in-Some.is) (ap is_some c.in-Some.is) c.table_id.ensures c.reopen-object.ensures.table))
     (ObjectsAreSound-reopened o c.args.id c.args.iface c.args.version c.self.invariant
     (subst (λ (x : Objects). is_held x c.args.id ≡ true) (sym c.self.view_is) c.requires.held) c.requires.not_display
     (subst (λ (x : Objects). has_room x c.args.id ≡ true) (sym c.self.view_is) c.requires.room))

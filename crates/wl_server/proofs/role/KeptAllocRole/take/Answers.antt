@@ -7,6 +7,7 @@ use Rattle.wl_connection.specs.Sending.{delete_id_len, fits}
 use Rattle.wl_server.specs.Steps.{core_by, core_without, pending_in, registries_by, registries_without}
 use Rattle.wl_server.proofs.AfterRequest.{taken-is, taken-left}
 use Rattle.wl_server.proofs.Closings.{registries_opened, row_opened}
+use Rattle.wl_server.proofs.LastingObjects.{lasting_step}
 use Rattle.wl_server.proofs.Registries.{births_left, has_now}
 use Rattle.wl_server.proofs.role.KeptAllocRole.take.Goals as goal
 
@@ -78,6 +79,7 @@ returns-in-Some g c =
         );
         settled = c.close_object.ensures.settled kept.globals.items
             (opened.settled kept.globals.items c.requires.sound.settled);
+        lasting = lasting_step core c.close_object.new.core step now opened.fresh c.requires.sound.lasting;
       };
     }
 
@@ -106,5 +108,6 @@ returns-in_default g c =
             c.requires.ahead.can_take now left opened.fresh c.requires.sound.registries;
         past = omega (arith, opened.past, ap (λ (k : Core). k.view.client.births) c.pass.ensures);
         settled = opened.settled kept.globals.items c.requires.sound.settled;
+        lasting = lasting_step core c.pass.new.self step now opened.fresh c.requires.sound.lasting;
       };
     }

@@ -5,6 +5,7 @@ use Rattle.wl_server.specs.Registries.{HasRegistries}
 use Rattle.wl_server.specs.Announcing.{Fitting, after_announce, owed_in}
 use Rattle.wl_server.specs.Slots.{settled_in}
 use Rattle.wl_server.specs.Tellings.{IsAnnounced}
+use Rattle.wl_server.proofs.LastingObjects.{lasting_told}
 use Rattle.wl_server.proofs.TellingGoesOn.{finished}
 use Rattle.wl_server.proofs.Registries.{has_told, past_told}
 use Rattle.wl_server.proofs.server.Server.announce.Goals as goal
@@ -28,6 +29,7 @@ invariant_of-self g c =
           (omega (arith, c.announce-told.ensures.past, c.self.invariant.past));
       settled = ap (λ (gs : List Global). owed_in gs (settled_in left)) (sym c.deref.ensures.value)
           ∙ c.announce-told.ensures.settled;
+      lasting = lasting_told core registries _ _ now left.list told c.self.invariant.lasting;
     }
 
 pub returns : goal.returns

@@ -10,6 +10,7 @@ use Rattle.wl_connection.specs.Outcomes.{refusal_in}
 use Rattle.wl_server.specs.Calls.{after_drop, drop_refusal}
 use Rattle.wl_server.specs.State.{Registry}
 use Rattle.wl_server.specs.Registries.{HasRegistries}
+use Rattle.wl_server.proofs.LastingObjects.{lasting_drop}
 use Rattle.wl_server.proofs.Registries.{has_dropped}
 use Rattle.wl_server.proofs.server.Server.drop_object.Goals as goal
 
@@ -39,4 +40,6 @@ invariant_of-self g c =
       past = past_by c.self.inside.kept.registries.past c.args.object c.close_dropped.result c.self.inside.end.core
           c.close_dropped.new.core e.ok e.err c.self.invariant.past;
       settled = c.self.invariant.settled;
+      lasting = lasting_drop c.self.inside.end.core c.close_dropped.new.core c.args.object c.close_dropped.result e.ok e.err
+          c.self.invariant.lasting;
     }

@@ -8,6 +8,7 @@ use Rattle.wl_object_map.specs.Objects.{ObjectsAreSound}
 use Rattle.wl_connection.specs.Core.{Core}
 use Rattle.wl_connection.specs.Sending.{after_send}
 use Rattle.wl_server.specs.Registries.{HasRegistries}
+use Rattle.wl_server.proofs.LastingObjects.{lasting_send}
 use Rattle.wl_server.proofs.Registries.{has_sent, past_sent}
 use Rattle.wl_server.proofs.server.Server.send.Goals as goal
 
@@ -36,4 +37,6 @@ invariant_of-self g c =
           (λ v s is. past_sent core now c.self.inside.kept.registries.past c.args.target c.args.opcode list v is
           c.self.invariant.past) c.self.invariant.past;
       settled = c.self.invariant.settled;
+      lasting = lasting_send core now c.args.target c.args.opcode c.args.args.now c.send.result e.ok e.err e.valid e.sound
+          c.self.invariant.lasting;
     }

@@ -1,0 +1,77 @@
+-- A client stays sound: whatever it sends and reads, it frees no id of the server's range, and no event
+-- destroys an object that the server made.
+use Rattle.std.proofs.Common.{◌≡◌, ℕ, List, ap, sym, subst, ◌∙◌}
+use Rattle.std.specs.Prelude.{IfOk, OnErr, OnOk}
+use Rattle.std.specs.declared.option.Option.{Option}
+use Rattle.std.specs.declared.option.Option.TheVariants.{Some}
+use Rattle.std.specs.declared.result.Result.{Result}
+use Rattle.std.specs.declared.result.Result.TheVariants.{Ok, Err}
+use Rattle.wl_wire.specs.declared.kind.Iface.{Iface}
+use Rattle.wl_sigs.specs.declared.signature.Side.TheVariants.{Request}
+use Rattle.wl_sigs.specs.Valid.{Valid}
+use Rattle.wl_object_map.specs.declared.object.Object.{Object}
+use Rattle.wl_object_map.specs.declared.object.Maker.TheVariants.{Client}
+use Rattle.wl_object_map.specs.Objects.{Objects, ObjectsAreSound, next_id, opened_at}
+use Rattle.wl_object_map.specs.ObjectsLaws.{next_of_client}
+use Rattle.wl_objects.specs.declared.argument.Arg.{Arg}
+use Rattle.wl_objects.specs.declared.error.SendError.{SendError}
+use Rattle.wl_objects.specs.Writing.{given}
+use Rattle.wl_objects.specs.Messages.{NewObject, opens}
+use Rattle.wl_connection.specs.Core.{Core, with_view}
+use Rattle.wl_connection.specs.Sending.{after_send}
+use Rattle.wl_connection.specs.ServerRange.{OpensLasting}
+use Rattle.wl_connection.proofs.ServerRange.{freed_closed, freed_opened, freed_sent, freed_zombied}
+use Rattle.wl_connection.proofs.ServerRange.{lasting_closed, lasting_opened, lasting_sent, lasting_zombied, tables_sent}
+use Rattle.wl_client.specs.declared.changes.ObjectChange.{ObjectChange}
+use Rattle.wl_client.specs.declared.changes.ObjectChange.TheVariants.{Nothing, Zombie, Close}
+use Rattle.wl_client.specs.State.{IsSound}
+use Rattle.wl_client.specs.Steps.{CanChange, changed}
+
+-- what the objects decide
+pub sound_by : (core now : Core) → now.tables ≡ core.tables → now.view ≡ core.view → IsSound core → IsSound now
+sound_by core now tables view s = record {
+  frees_none = ap (λ (v : Objects). v.server.freed) view ∙ s.frees_none;
+  lasting = rw (tables, view) s.lasting;
+}
+
+-- after an opening
+pub sound_opened : (core : Core) (new : Option NewObject) → OpensLasting core.tables new → IsSound core
+    → IsSound (with_view core (opens core.view new))
+sound_opened core new lasting s = record {
+  frees_none = freed_opened core.view new s.frees_none;
+  lasting = lasting_opened core.tables core.view new lasting s.lasting;
+}
+
+-- after a change of an object that is there
+pub sound_changed : (core : Core) (change : ObjectChange) → CanChange core.view change → IsSound core
+    → IsSound (with_view core (changed core.view change))
+sound_changed core Nothing can s = record { frees_none = s.frees_none; lasting = s.lasting }
+sound_changed core (Zombie id) can s = record {
+  frees_none = freed_zombied core.view id s.frees_none;
+  lasting = lasting_zombied core.tables core.view id s.lasting;
+}
+sound_changed core (Close id) can s = record {
+  frees_none = freed_closed core.view id can.2 s.frees_none;
+  lasting = lasting_closed core.tables core.view id s.lasting;
+}
+
+-- after a call of send
+pub sound_sent : (before now : Core) (target : Object) (opcode : ℕ) (list : List Arg)
+    (result : Result (Option Object) SendError)
+    → OnOk result (now ≡ after_send before Request target opcode (given list)) → OnErr result (now ≡ before)
+    → IfOk result (λ _. Valid before.tables) → IfOk result (λ _. ObjectsAreSound before.view)
+    → IsSound before → IsSound now
+sound_sent before now target opcode list (Ok new) ok err valid sound s =
+    subst IsSound (sym ok) (record {
+      frees_none = freed_sent before target opcode list s.frees_none;
+      lasting = rw (tables_sent before Request target opcode list)
+          (lasting_sent before Request target opcode list valid sound s.lasting);
+    })
+sound_sent before now target opcode list (Err why) ok err valid sound s = subst IsSound (sym err) s
+
+-- after the opening of what a bind makes
+pub sound_bound : (core : Core) (iface : Iface) (version : ℕ) → ObjectsAreSound core.view → IsSound core
+    → IsSound (with_view core (opened_at core.view (next_id Client core.view) iface version))
+sound_bound core iface version sound s =
+    sound_opened core (Some (record { id = next_id Client core.view; iface = iface; version = version }))
+    (λ of_server. absurd (cc (next_of_client core.view sound, of_server))) s

@@ -1,0 +1,204 @@
+-- The server's range of ids at an end: whether it has a table of its own stays, and no event destroys
+-- an object that the server made, whatever the end reads and writes.
+use Rattle.std.proofs.Common.{◌≡◌, ℕ, Bool, true, false, List, [], refl, sym, ap, subst, ◌∙◌, cond, eqb}
+use Rattle.std.proofs.Common.{arith, inl, inr, map}
+use Rattle.std.proofs.lemmas.Bool.Decides.{nat_tests}
+use Rattle.std.specs.Prelude.{OnErr, OnOk}
+use Rattle.std.specs.declared.option.Option.{Option}
+use Rattle.std.specs.declared.option.Option.TheVariants.{None, Some}
+use Rattle.std.specs.declared.result.Result.{Result}
+use Rattle.std.specs.declared.result.Result.TheVariants.{Ok, Err}
+use Rattle.wl_wire.specs.declared.kind.Iface.{Iface}
+use Rattle.wl_wire.specs.Argument.{Argument}
+use Rattle.wl_sigs.specs.declared.signature.Side.{Side}
+use Rattle.wl_sigs.specs.declared.signature.Side.TheVariants.{Request, Event}
+use Rattle.wl_sigs.specs.declared.signature.Destroys.{Destroys}
+use Rattle.wl_sigs.specs.declared.signature.Destroys.TheVariants.{Nothing, Target, Arg}
+use Rattle.wl_sigs.specs.Tables.{Interface, MessageSignature, signature_at}
+use Rattle.wl_sigs.specs.Fixed.{display}
+use Rattle.wl_sigs.specs.Valid.{Valid}
+use Rattle.wl_object_map.specs.declared.object.Entry.{Entry}
+use Rattle.wl_object_map.specs.declared.object.Object.{Object}
+use Rattle.wl_object_map.specs.View as table
+use Rattle.wl_object_map.specs.View.{zombie}
+use Rattle.wl_object_map.specs.Ranges.{is_of_server, table_id}
+use Rattle.wl_object_map.specs.declared.object.Maker.TheVariants.{Client, Server}
+use Rattle.wl_object_map.specs.Objects.{Objects, ObjectsAreSound, look, opening, closed, zombied, next_id}
+use Rattle.wl_object_map.specs.ObjectsLaws.{look-opening, is_from, next_of_client}
+use Rattle.wl_object_map.specs.ObjectsLaws.{row-opened_at, row-closed, row-zombied}
+use Rattle.wl_objects.specs.declared.argument.Arg.{Arg as CallArg}
+use Rattle.wl_objects.specs.declared.error.SendError.{SendError}
+use Rattle.wl_objects.specs.Writing.{given, wired, call_makes}
+use Rattle.wl_objects.specs.Messages.{NewObject, made, opens, destroyed, destroys, after, checked, ended_id}
+use Rattle.wl_objects.proofs.Wholes.{passes}
+use Rattle.wl_connection.specs.Core.{Core}
+use Rattle.wl_connection.specs.Sending.{after_send, after_checked, made_at, following, with_following}
+use Rattle.wl_connection.specs.Sending.{next_object, version_at}
+use Rattle.wl_connection.specs.ServerRange.{NoEventEnds, NoEventEndsMade, OpensLasting}
+use Rattle.wl_connection.proofs.CheckedSends.{made-next}
+use Rattle.wl_connection.proofs.MadeByEvent.{made_by_event}
+
+-- an opening that may be refused leaves whether there is a table of the range
+pub range_of : {X E : Type 0} (result : Result X E) (before now changed : Objects) → OnOk result (now ≡ changed) → OnErr result (now ≡ before)
+    → changed.has_server_range ≡ before.has_server_range → now.has_server_range ≡ before.has_server_range
+range_of (Ok x) before now changed ok err kept = ap (λ (o : Objects). o.has_server_range) ok ∙ kept
+range_of (Err why) before now changed ok err kept = ap (λ (o : Objects). o.has_server_range) err
+
+-- No event destroys an object that the server made.
+
+module _ (tables : List Interface) where
+  -- a new end has none
+  pub lasting_opening : (range : Bool) → NoEventEndsMade tables (opening display range)
+  lasting_opening range id e of_server row =
+      let low = is_from id of_server in
+      let other : eqb id 1 ≡ false = grind (arith, nat_tests, low) in
+      let none : look (opening display range) id ≡ None = look-opening display range id ∙ rw other refl in
+      absurd (cc (none, row))
+
+  pub lasting_closed : (view : Objects) (id : ℕ) → NoEventEndsMade tables view → NoEventEndsMade tables (closed view id)
+  lasting_closed view id h q e of_server row = h q e of_server (row-closed view id q e row).1
+
+  pub lasting_zombied : (view : Objects) (id : ℕ) → NoEventEndsMade tables view → NoEventEndsMade tables (zombied view id)
+  lasting_zombied view id h q e of_server row =
+      let d = row-zombied view id q e row in
+      subst (λ (x : Entry). NoEventEnds tables x.iface) (sym d.1.1)
+      (by_test (eqb q id) d.0 (h q d.0 of_server d.1.0))
+    where
+      by_test : (b : Bool) (x : Entry) → NoEventEnds tables x.iface → NoEventEnds tables (cond b (zombie x) x).iface
+      by_test true x p = p
+      by_test false x p = p
+
+  pub lasting_opened : (view : Objects) (new : Option NewObject) → OpensLasting tables new → NoEventEndsMade tables view
+      → NoEventEndsMade tables (opens view new)
+  lasting_opened view None o h = h
+  lasting_opened view (Some m) o h = λ q e of_server row.
+      elim (row-opened_at view m.id m.iface m.version q e row) [
+        | inl new ↦ subst (λ (x : Entry). NoEventEnds tables x.iface) (sym new.1)
+            (o (ap is_of_server (sym new.0) ∙ of_server))
+        | inr old ↦ h q e of_server old.1
+      ]
+
+  lasting_destroyed : (side : Side) (view : Objects) (id : ℕ) → NoEventEndsMade tables view
+      → NoEventEndsMade tables (destroyed side view id)
+  lasting_destroyed Request view id h = lasting_zombied view id h
+  lasting_destroyed Event view id h = lasting_closed view id h
+
+  pub lasting_destroys : (side : Side) (what : Destroys) (id : ℕ) (view : Objects) → NoEventEndsMade tables view
+      → NoEventEndsMade tables (destroys side what id view)
+  lasting_destroys side Nothing id view h = h
+  lasting_destroys side Target id view h = lasting_destroyed side view id h
+  lasting_destroys side (Arg place) id view h = lasting_destroyed side view id h
+
+  pub lasting_after : (side : Side) (view : Objects) (new : Option NewObject) (what : Destroys) (id : ℕ)
+      → OpensLasting tables new → NoEventEndsMade tables view → NoEventEndsMade tables (after side view new what id)
+  lasting_after side view new what id o h =
+      lasting_destroys side what id (opens view new) (lasting_opened view new o h)
+
+-- what an event makes
+pub opens_made : (tables : List Interface) → Valid tables → (place opcode version : ℕ) (m : MessageSignature)
+    (values : List Argument) (o : Option NewObject) → signature_at tables place Event opcode ≡ Some m
+    → made tables version m.kinds values ≡ o → OpensLasting tables o
+opens_made tables v place opcode version m values None at is = tt
+opens_made tables v place opcode version m values (Some new) at is =
+    λ of_server. (made_by_event tables v place opcode version m values new at is).lasting
+
+-- what a call makes that passed its checks
+opens_lasting : (core : Core) (side : Side) (target : Object) (opcode : ℕ) (list : List CallArg) (m : MessageSignature)
+    → Valid core.tables → ObjectsAreSound core.view
+    → checked core.outbox.limit.bytes core.tables side core.view target opcode (given list) ≡ Ok m
+    → OpensLasting core.tables (made_at core side target m (given list))
+opens_lasting core Request target opcode list m v s e =
+    let p = passes core.outbox.limit.bytes core.tables Request core.view target opcode (given list) m e in
+    subst (OpensLasting core.tables) (sym (made-next core Request target opcode list m p.entry e p.row))
+    (by_iface (call_makes m.kinds) p.entry.version)
+  where
+    by_iface : (iface : Option Iface) (version : ℕ)
+        → OpensLasting core.tables (next_object Client core.view version iface)
+    by_iface None version = tt
+    by_iface (Some iface) version = λ of_server. absurd (cc (next_of_client core.view s, of_server))
+opens_lasting core Event target opcode list m v s e =
+    let p = passes core.outbox.limit.bytes core.tables Event core.view target opcode (given list) m e in
+    opens_made core.tables v p.entry.iface.0 opcode (version_at (look core.view target.id)) m
+    (map (wired (next_id Server core.view)) (given list)) (made_at core Event target m (given list)) p.exists refl
+
+-- whatever is sent
+followed_view : (b : Bool) (id : ℕ) (k : Core) → (with_following b id k).view ≡ k.view
+followed_view true id k = refl
+followed_view false id k = refl
+
+followed_tables : (b : Bool) (id : ℕ) (k : Core) → (with_following b id k).tables ≡ k.tables
+followed_tables true id k = refl
+followed_tables false id k = refl
+
+-- a call leaves the tables
+pub tables_sent : (core : Core) (side : Side) (target : Object) (opcode : ℕ) (list : List CallArg)
+    → (after_send core side target opcode (given list)).tables ≡ core.tables
+tables_sent core side target opcode list =
+    by_check (checked core.outbox.limit.bytes core.tables side core.view target opcode (given list))
+  where
+    by_check : (r : Result MessageSignature SendError)
+        → (after_checked core side target opcode (given list) r).tables ≡ core.tables
+    by_check (Err why) = refl
+    by_check (Ok m) = followed_tables (following side m.destroys)
+        (ended_id m.destroys target.id (map (wired 0) (given list))) _
+
+pub lasting_sent : (core : Core) (side : Side) (target : Object) (opcode : ℕ) (list : List CallArg)
+    → Valid core.tables → ObjectsAreSound core.view → NoEventEndsMade core.tables core.view
+    → NoEventEndsMade core.tables (after_send core side target opcode (given list)).view
+lasting_sent core side target opcode list v s h =
+    by_check (checked core.outbox.limit.bytes core.tables side core.view target opcode (given list)) refl
+  where
+    by_check : (r : Result MessageSignature SendError)
+        → checked core.outbox.limit.bytes core.tables side core.view target opcode (given list) ≡ r
+        → NoEventEndsMade core.tables (after_checked core side target opcode (given list) r).view
+    by_check (Err why) e = h
+    by_check (Ok m) e =
+        let id = ended_id m.destroys target.id (map (wired 0) (given list)) in
+        let new = made_at core side target m (given list) in
+        subst (NoEventEndsMade core.tables) (sym (followed_view (following side m.destroys) id _))
+        (lasting_after core.tables side core.view new m.destroys id
+        (opens_lasting core side target opcode list m v s e) h)
+
+-- An end that frees no id of the server's range frees none by what it opens, nor by what it makes a
+-- zombie: so a client frees none.
+
+abbrev FreesNone : Objects → Type 0
+FreesNone view = view.server.freed ≡ []
+
+pub freed_opened : (view : Objects) (new : Option NewObject) → FreesNone view → FreesNone (opens view new)
+freed_opened view None h = h
+freed_opened view (Some m) h = by_range (is_of_server m.id)
+  where
+    by_range : (b : Bool) → (cond b (table.opened_at view.server (table_id m.id) m.iface m.version) view.server).freed ≡ []
+    by_range true = ap (table.without (table_id m.id)) h
+    by_range false = h
+
+pub freed_zombied : (view : Objects) (id : ℕ) → FreesNone view → FreesNone (zombied view id)
+freed_zombied view id h = by_range (is_of_server id)
+  where
+    by_range : (b : Bool) → (cond b (table.zombied view.server (table_id id)) view.server).freed ≡ []
+    by_range true = h
+    by_range false = h
+
+-- closing an object of the client's leaves the range
+pub freed_closed : (view : Objects) (id : ℕ) → is_of_server id ≡ false → FreesNone view → FreesNone (closed view id)
+freed_closed view id client h = rw client h
+
+freed_destroys : (what : Destroys) (id : ℕ) (view : Objects) → FreesNone view
+    → FreesNone (destroys Request what id view)
+freed_destroys Nothing id view h = h
+freed_destroys Target id view h = freed_zombied view id h
+freed_destroys (Arg place) id view h = freed_zombied view id h
+
+pub freed_sent : (core : Core) (target : Object) (opcode : ℕ) (list : List CallArg) → FreesNone core.view
+    → FreesNone (after_send core Request target opcode (given list)).view
+freed_sent core target opcode list h =
+    by_check (checked core.outbox.limit.bytes core.tables Request core.view target opcode (given list))
+  where
+    by_check : (r : Result MessageSignature SendError)
+        → FreesNone (after_checked core Request target opcode (given list) r).view
+    by_check (Err why) = h
+    by_check (Ok m) =
+        freed_destroys m.destroys (ended_id m.destroys target.id (map (wired 0) (given list)))
+        (opens core.view (made_at core Request target m (given list)))
+        (freed_opened core.view (made_at core Request target m (given list)) h)
