@@ -69,10 +69,11 @@ SAME(report, offsetof(waywire_report, opcode) == 4 && offsetof(waywire_report, t
 	&& offsetof(waywire_report, spelling) == 60);
 SAME(report_parts, offsetof(waywire_report, text) == 64 && offsetof(waywire_report, text_length) == 72
 	&& offsetof(waywire_report, place) == 80 && offsetof(waywire_report, offset) == 88
-	&& offsetof(waywire_report, interface) == 96 && offsetof(waywire_report, forgotten) == 98
-	&& offsetof(waywire_report, version) == 100
-	&& offsetof(waywire_report, user) == 104 && offsetof(waywire_report, args) == 112
-	&& sizeof(waywire_report) == 112 + 20 * 48); /* an export writes what stands before `user` */
+	&& offsetof(waywire_report, replaced) == 96 && offsetof(waywire_report, interface) == 112
+	&& offsetof(waywire_report, forgotten) == 114 && offsetof(waywire_report, version) == 116);
+/* An export writes what stands before `user`. */
+SAME(report_end, offsetof(waywire_report, user) == 120 && offsetof(waywire_report, replaced_user) == 128
+	&& offsetof(waywire_report, args) == 136 && sizeof(waywire_report) == 136 + 20 * 48);
 
 /* ---- what C may pass wrongly */
 
@@ -410,6 +411,7 @@ static uint32_t id_after(uint32_t id, uint32_t of_client, uint32_t of_server)
 			it->untold -= report->token_count; \
 		} \
 		report->user = user_of(&it->users, report->target); \
+		report->replaced_user = report->replaced.id ? user_of(&it->users, report->replaced) : NULL; \
 		return status; \
 	}
 

@@ -309,9 +309,9 @@ typedef struct waywire_sizes {
 /* The kinds of reports, and the fields that each uses; the others are 0. */
 typedef enum waywire_report_kind {
 	WAYWIRE_NOTHING = 0,   /* no whole message waits */
-	WAYWIRE_MESSAGE = 1,   /* a request or an event: target, opcode, args, tokens, forgotten */
-	WAYWIRE_DISCARDED = 2, /* an event for an object that the client has destroyed: target, opcode, tokens.
-	                        * If it makes an object, that is open: waywire_client_made */
+	WAYWIRE_MESSAGE = 1,   /* a request or an event: target, opcode, args, tokens, forgotten, replaced */
+	WAYWIRE_DISCARDED = 2, /* an event for an object that the client has destroyed: target, opcode, tokens,
+	                        * replaced. If it makes an object, that is open: waywire_client_made */
 	WAYWIRE_DELETED = 3,   /* wl_display.delete_id of an object: target. Its id is free again */
 	WAYWIRE_STRAY = 4,     /* wl_display.delete_id of an id that names no object, of 1, or of one of the
 	                        * server's: id. Nothing changed */
@@ -342,12 +342,17 @@ typedef struct waywire_report {
 	size_t text_length;
 	size_t place;
 	uint64_t offset;
+	/* The live object whose id the event's new object has taken over; id 0 if there is none, and always in a
+	 * server's report. It is gone, and no later report has it: free what `replaced_user` points to. It can be the
+	 * event's target: then `user` is the same pointer. waywire_client_made says which objects can be replaced. */
+	waywire_object replaced;
 	/* The place of the target's interface in the tables, and below the target's version: as they were before
 	 * the message, even if it ended the target; version 0 if there is no target. */
 	uint16_t interface;
 	bool forgotten; /* whether it is wl_registry.global, and the client does not remember the global */
 	uint32_t version;
 	void *user; /* what the caller has set for the target, as by waywire_client_set_user; else null */
+	void *replaced_user; /* what the caller has set for `replaced`; else null */
 	waywire_arg args[WAYWIRE_MAX_ARGS];
 } waywire_report;
 
@@ -529,10 +534,12 @@ waywire_status waywire_client_live(const waywire_client *client, waywire_object 
 /* Sets the caller's own pointer for an object that is live, in place of the one set before; null is none. Each
  * report whose target is the object has it, also after the client has destroyed the object (WAYWIRE_DISCARDED)
  * and when the object ends (WAYWIRE_DELETED). The library never follows it. The caller frees what it points to:
- * at the object's last report, and for the objects that are left (`object_after`) before the client is freed. An
- * object that the server made has no last report: free what it has when you destroy it, and set null first. The
- * call may allocate: at most 32 bytes for each id up to the object's, from the first that its maker
- * gives (1 or 0xff000000) on. WAYWIRE_STALE if the object is not live, WAYWIRE_NO_MEMORY. */
+ * at the object's last report, and for the objects that are left (`object_after`) before the client is freed. No
+ * WAYWIRE_DELETED comes for an object that the server made: free what it has before you destroy it, or at an event
+ * that says that it is finished, and set null. If a new object replaces it while it is live, the report has what is
+ * still set as `replaced_user`: free that. The call may allocate: at most 32 bytes for each id up to the object's,
+ * from the first that its maker gives (1 or 0xff000000) on. WAYWIRE_STALE if the object is not live,
+ * WAYWIRE_NO_MEMORY. */
 waywire_status waywire_client_set_user(waywire_client *client, waywire_object object, void *user);
 
 /* The pointer that was set for an object, also once it has ended, as long as none was set for a later object
@@ -634,7 +641,8 @@ waywire_status waywire_client_take_waiting_tokens(waywire_client *client, uint32
 	size_t token_count, size_t *taken);
 
 /* Reads the next message once it is whole; `report` says WAYWIRE_NOTHING before. The report is valid
- * as waywire_report says. An event by which the server makes an object opens it.
+ * as waywire_report says. An event by which the server makes an object opens it. If its id is that of a live
+ * object, that is gone: the report has it as `replaced`, and the caller frees what `replaced_user` points to.
  * With a status of WAYWIRE_FAULT_.. the report is written too (kind WAYWIRE_FAULT) and the client has
  * failed for good, as it has after a report WAYWIRE_ERROR. It writes nothing to the server about that; what
  * waited in the outbox can still be taken. WAYWIRE_NO_MEMORY if there is no memory for the object that an event
@@ -645,7 +653,11 @@ waywire_status waywire_client_next(waywire_client *client, waywire_report *repor
 
 /* The object that the last message read has made: one of the server's, also where its report was
  * WAYWIRE_DISCARDED, so that it can be destroyed. `made` gets id 0 if that message has made none, and before the
- * first. A call that reads no message changes nothing here. */
+ * first. A call that reads no message changes nothing here.
+ * It can replace a live object of the server's that no request can end at its version, such as a
+ * zwlr_output_head_v1 of version 2: the server destroys such an object on its own, and uses its id again. The
+ * report of the message then has the old object as `replaced`. That is no longer live, and `object_after` passes
+ * over it. */
 waywire_status waywire_client_made(const waywire_client *client, waywire_object *made);
 
 /* ---- a server */

@@ -200,9 +200,12 @@ static void drop(struct connection *connection, const waywire_report *report)
 		destroy_made(connection);
 }
 
-/* Calls what a report is for, and forgets its object where that is gone with it. */
+/* Calls what a report is for, and forgets the objects that are gone with it. */
 static void hear(struct connection *connection, const waywire_report *report)
 {
+	struct known *replaced = find(connection, report->replaced);
+	if (replaced)
+		forget(replaced);
 	for (size_t each = 0; each < report->arg_count; each++)
 		if (report->args[each].kind == WAYWIRE_NEW || report->args[each].kind == WAYWIRE_BOUND)
 			learn(connection, report->args[each].object);

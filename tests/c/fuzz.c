@@ -387,7 +387,7 @@ static void is_told(int reader, const struct message *message, const waywire_rep
 	MUST(report->kind == (live ? WAYWIRE_MESSAGE : WAYWIRE_DISCARDED) && report->opcode == message->opcode);
 	MUST(waywire_object_equal(report->target, it) && report->user == (message->target == 1 ? NULL : target->user));
 	MUST(!report->id && !report->code && !report->named && !report->spelling && !report->text_length
-		&& !report->place && !report->offset);
+		&& !report->place && !report->offset && !report->replaced.id && !report->replaced_user);
 	MUST(report->arg_count == (live ? message->arg_count : 0) && report->token_count == tokens_in(message));
 	for (size_t place = 0; place < report->arg_count; place++)
 		MUST(is_reported(reader, &message->args[place], &report->args[place]));
@@ -460,6 +460,7 @@ static void reads(int by)
 		MUST(status == (no_room ? WAYWIRE_OUT_FULL : WAYWIRE_OK));
 	if (status || !whole) {
 		MUST(report.kind == WAYWIRE_NOTHING && !report.arg_count && !report.target.id && !report.user);
+		MUST(!report.replaced.id && !report.replaced_user);
 		return;
 	}
 	came[by] -= length;

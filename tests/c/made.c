@@ -342,8 +342,46 @@ static void hostile_server(void)
 	end(&pair);
 }
 
+/* How often a new client and a new server over the core's tables and a text ask for memory. */
+struct asks {
+	long client, server;
+};
+
+static struct asks asks_over(const char *more)
+{
+	struct asks asked;
+	waywire_tables *core, *tables;
+	waywire_client *client;
+	waywire_server *server;
+	MUST(!waywire_tables_core(&core));
+	MUST(!waywire_tables_read(core, more, strlen(more), &tables, NULL, NULL));
+	waywire_tables_free(core);
+	long before = asks;
+	MUST(!waywire_client_new(tables, &sizes, &client));
+	asked.client = asks - before;
+	before = asks;
+	MUST(!waywire_server_new(tables, &sizes, &server));
+	asked.server = asks - before;
+	waywire_client_free(client);
+	waywire_server_free(server);
+	waywire_tables_free(tables);
+	MUST(live == 0);
+	return asked;
+}
+
+/* An end has a table for the server's objects only where an event makes some: one call for memory more. */
+static void second_table(void)
+{
+	struct asks of_core = asks_over("");
+	struct asks without = asks_over("interface dev 3\nrequest release D\nevent made u\n");
+	struct asks with = asks_over(text);
+	MUST(without.client == of_core.client && without.server == of_core.server);
+	MUST(with.client == of_core.client + 1 && with.server == of_core.server + 1);
+}
+
 int main(void)
 {
+	second_table();
 	same_id_again();
 	both_ranges_are_gone_through();
 	discarded_event_makes();

@@ -1,6 +1,6 @@
 /* The connection of the examples destroys what the server makes by an event that the client does not listen to,
  * and by one for an object that the client has destroyed. It keeps what a listener hears of, by the event or by its
- * own interface, and what no request only destroys. */
+ * own interface, and what no request only destroys. It destroys the data of an object that another replaces. */
 #define _GNU_SOURCE
 #include "connection.h"
 #include "must.h"
@@ -11,11 +11,12 @@
 
 /* Of the requests of a thing only the last destroys it and has no argument, in the version that is bound. */
 static const char text[] = "interface maker 1\nrequest release D\nevent made N(thing)\nevent lent N(loan) h\n"
+	"event plugged N(head)\ninterface head 1\n"
 	"interface thing 2\nrequest rename s\nrequest end s D\nrequest leave D @2\nrequest destroy D\nevent gone\n"
 	"interface loan 1\nrequest end s D\n";
 
 /* Opcodes of the tables. */
-enum { RELEASE = 0, MADE = 0, LENT = 1, GONE = 0 };
+enum { RELEASE = 0, MADE = 0, LENT = 1, PLUGGED = 2, GONE = 0 };
 
 /* How long something may take to come, in milliseconds. */
 #define WAIT 60000
@@ -98,6 +99,28 @@ static waywire_object lends(void)
 	return made;
 }
 
+static void on_destroy(void *data)
+{
+	++*(int *)data;
+}
+
+/* The server makes a head, and another with its id. Our end never does that, so the second event is written by
+ * hand. */
+static void replaces(void)
+{
+	int destroyed = 0;
+	waywire_object made, other;
+	waywire_arg new = waywire_new();
+	MUST(!waywire_server_send(server.link.server, maker, PLUGGED, &new, 1, &made, NULL));
+	goes(false);
+	connection_set_data(&client, made, &destroyed, on_destroy);
+	uint32_t again[] = { maker.id, 12 << 16 | PLUGGED, made.id };
+	MUST(write(server.link.socket, again, sizeof again) == sizeof again);
+	MUST(connection_dispatch(&client, WAIT) == 1 && destroyed == 1 && !connection_data(&client, made));
+	MUST(!waywire_client_made(client.link.client, &other) && other.id == made.id);
+	MUST(!waywire_client_live(client.link.client, other, NULL, NULL));
+}
+
 static bool lives(waywire_object object)
 {
 	return !waywire_client_live(client.link.client, object, NULL, NULL)
@@ -112,6 +135,7 @@ static bool is_gone(waywire_object object)
 
 int main(int count, char **words)
 {
+	char path[256];
 	waywire_object made;
 	MUST(count == 2);
 	begin(words[1]);
@@ -131,6 +155,12 @@ int main(int count, char **words)
 	/* It has destroyed the maker, and the server sends the event before it reads that. */
 	MUST(!waywire_client_send(client.link.client, maker, RELEASE, NULL, 0, NULL, NULL));
 	MUST(is_gone(makes(true)) && is_gone(maker) && lives(made));
+	connection_close(&client);
+	connection_close(&server);
+	/* A connection that has implemented no interface. */
+	snprintf(path, sizeof path, "%s-again", words[1]);
+	begin(path);
+	replaces();
 	connection_close(&client);
 	connection_close(&server);
 	return 0;

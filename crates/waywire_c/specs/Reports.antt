@@ -92,6 +92,7 @@ pub record ReportFields : Type 0 where
   pub text_length : ℕ
   pub place : ℕ
   pub offset : ℕ
+  pub replaced : Object
   pub forgotten : Bool
 
 abbrev pub told_by : Report → ReportFields
@@ -108,6 +109,7 @@ told_by report = record {
   text_length = report.text_length;
   place = report.place;
   offset = report.offset;
+  replaced = object_from_c report.replaced;
   forgotten = report.forgotten;
 }
 
@@ -125,6 +127,7 @@ of_kind kind = record {
   text_length = 0;
   place = 0;
   offset = 0;
+  replaced = no_object;
   forgotten = false;
 }
 
@@ -206,13 +209,14 @@ abbrev pub is_forgotten : State → Option ℕ → Bool
 is_forgotten state None = false
 is_forgotten state (Some name) = not (is_some (global_of state.globals name))
 
--- What is told of a report of a client in this state, which is left in that one: also whether it
--- tells of a global that the client then does not remember.
+-- The fields of a client's report, from its states before and after: also which live object the new
+-- one has replaced, and whether it tells of a global that the client then does not remember.
 abbrev pub told_event_by : ℕ → State → State → Result (Option client.Report) NextError
     → ReportFields
 told_event_by room before after (Err why) = told_unread why
 told_event_by room before after (Ok None) = of_kind 0
 told_event_by room before after (Ok (Some report)) = record (told_incoming room report) {
+  replaced = made_object after.replaced;
   forgotten = is_forgotten after (told_global_name (client.entry_of before.core.view report)
       report);
 }

@@ -14,7 +14,7 @@ ghost use Rattle.waywire_c.specs.Reports.{told_event, told_request};
 
 use crate::reports::{Report, global_told, incoming, nothing, request, unread};
 use crate::statuses::{OK, next_status};
-use crate::values::ReportArg;
+use crate::values::{CObject, ReportArg};
 use wl_client::Client;
 use wl_objects::SlotTable;
 use wl_server::Server;
@@ -43,6 +43,7 @@ pub fn read_event<'t>(
         Ok(Some(read)) => {
             let global = global_told(read);
             *report = incoming(read, args);
+            report.replaced = client.replaced().map_or(CObject::none(), CObject::of);
             if let Some(name) = global {
                 report.forgotten = !client.remembers(name);
             }

@@ -53,6 +53,8 @@ pub struct Report {
     pub text_length: usize,
     pub place: usize,
     pub offset: u64,
+    /// The live object that an event's new object has replaced; zeros if it replaced none.
+    pub replaced: CObject,
     /// What the object that the report is about had before the message; zeros where there is none.
     pub interface: u16,
     /// Whether it is wl_registry.global, and the client does not remember the global.
@@ -81,6 +83,7 @@ fn plain(kind: u32) -> Report
         text_length: 0,
         place: 0,
         offset: 0,
+        replaced: CObject::none(),
         interface: 0,
         forgotten: false,
         version: 0,

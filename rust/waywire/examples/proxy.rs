@@ -258,6 +258,9 @@ impl Proxy {
             if let Some(made) = self.compositor_side.end.made() {
                 self.keep_or_destroy(made)?;
             }
+            if let Some(replaced) = self.compositor_side.end.replaced() {
+                self.forget(replaced.object);
+            }
         }
         Ok(())
     }

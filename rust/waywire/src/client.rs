@@ -3,7 +3,7 @@
 use crate::amounts::{Amounts, Sizes};
 use crate::args::Arg;
 use crate::error::{Failed, NewError, NextError, SendError};
-use crate::report::Incoming;
+use crate::report::{Incoming, Replaced};
 use crate::sys;
 use crate::tables::{Interface, Object, Tables};
 
@@ -43,6 +43,10 @@ impl Client {
 
     /// Sets a number of the caller's own for an object that is live, such as a place in a list of its; 0 is none.
     /// Each message to the object has it ([`Message::user`](crate::Message::user)).
+    ///
+    /// Drop what it stands for at [`Incoming::Deleted`]. That does not come for an object that the
+    /// server made: drop it when you destroy the object, and when another replaces it
+    /// ([`replaced`](Client::replaced)).
     pub fn set_user(&mut self, object: Object, user: usize) -> Result<(), SendError> {
         self.end.set_user(object, user)
     }
@@ -135,8 +139,9 @@ impl Client {
     }
 
     /// Reads the next message; `None` while none is whole. An event by which the server makes an
-    /// object opens it, and [`made`](Client::made) returns it. Memory is allocated only where the id
-    /// of that object is the next that the server has never used, and so never over tables without
+    /// object opens it, and [`made`](Client::made) returns it. If its id is that of a live object, that
+    /// one is gone, and [`replaced`](Client::replaced) returns it. Memory is allocated only where the id
+    /// of the new object is the next that the server has never used, and so never over tables without
     /// such events.
     // Not an iterator's: what it returns is lent from the client.
     #[inline]
@@ -151,5 +156,18 @@ impl Client {
     /// and before the first. A call that reads no message leaves it.
     pub fn made(&self) -> Option<Object> {
         self.end.made()
+    }
+
+    /// The live object that the last message read has replaced, and what was set for it: its id is
+    /// now that of the object that [`made`](Client::made) returns. The report may have been
+    /// [`Incoming::Discarded`]. `None` if that message has replaced none, and if the last call of
+    /// [`next`](Client::next) read no message.
+    ///
+    /// Only an object of the server's that no request can end at its version is replaced, such as a
+    /// zwlr_output_head_v1 of version 2: the server destroys it on its own, and uses its id again.
+    /// The object is gone, and no later message names it: drop here what belongs to it. While an
+    /// event is lent, [`Message::replaced`](crate::Message::replaced) returns the same.
+    pub fn replaced(&self) -> Option<Replaced> {
+        self.report.replaced()
     }
 }

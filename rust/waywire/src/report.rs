@@ -55,6 +55,13 @@ impl<'a> Message<'a> {
         self.report.user()
     }
 
+    /// The live object whose id an event's new object has taken over: [`Client::replaced`](crate::Client::replaced).
+    /// A request has none.
+    #[inline]
+    pub fn replaced(&self) -> Option<Replaced> {
+        self.report.replaced()
+    }
+
     /// Whether it is wl_registry.global and the client does not remember the global, which then
     /// cannot be bound: it remembers 1,024 at a time, and none whose interface is not in the tables.
     #[inline]
@@ -95,6 +102,15 @@ impl fmt::Debug for Message<'_> {
     }
 }
 
+/// A live object whose id a new object has taken over. It is gone, and no later message names it.
+#[derive(Clone, Copy, Debug, PartialEq, Eq)]
+pub struct Replaced {
+    /// The object.
+    pub object: Object,
+    /// What was set for it by [`Client::set_user`](crate::Client::set_user); else 0.
+    pub user: usize,
+}
+
 /// What a client reads.
 #[derive(Clone, Debug)]
 #[non_exhaustive]
@@ -102,7 +118,8 @@ pub enum Incoming<'a> {
     /// An event for a live object.
     Event(Event<'a>),
     /// An event for an object that the client has destroyed. Its descriptors are the caller's to
-    /// close. If it has made an object, that is open: [`Client::made`](crate::Client::made).
+    /// close. If it has made an object, that is open: [`Client::made`](crate::Client::made). It may
+    /// have replaced one: [`Client::replaced`](crate::Client::replaced).
     Discarded {
         /// The object.
         target: Object,

@@ -15,7 +15,7 @@ use crate::amounts::{Amounts, Sizes};
 use crate::args::Arg;
 use crate::error::{Failed, Fault, FaultKind, GlobalError, NewError, NextError, SendError};
 use crate::inspector::Sender;
-use crate::report::Named;
+use crate::report::{Named, Replaced};
 use crate::tables::{Interface, Object};
 use std::ffi::{c_char, c_void, CStr, CString};
 use std::mem::MaybeUninit;
@@ -186,11 +186,13 @@ pub struct Report {
     text_length: usize,
     place: usize,
     offset: u64,
+    replaced: Object,
     interface: u16,
     forgotten: bool,
     version: u32,
-    /// A number that the caller has set, and never a pointer that is followed.
+    /// Numbers that the caller has set, and never pointers that are followed.
     user: *mut c_void,
+    replaced_user: *mut c_void,
     args: [RawArg; MAX_ARGS as usize],
 }
 
@@ -229,10 +231,12 @@ impl Report {
             text_length: 0,
             place: 0,
             offset: 0,
+            replaced: Object::NONE,
             interface: 0,
             forgotten: false,
             version: 0,
             user: ptr::null_mut(),
+            replaced_user: ptr::null_mut(),
             args: [NO_ARG; MAX_ARGS as usize],
         }
     }
@@ -265,6 +269,12 @@ impl Report {
     #[inline]
     pub fn user(&self) -> usize {
         self.user as usize
+    }
+
+    #[inline]
+    pub fn replaced(&self) -> Option<Replaced> {
+        (self.replaced != Object::NONE)
+            .then_some(Replaced { object: self.replaced, user: self.replaced_user as usize })
     }
 
     /// The line of the report, as a trace has it.
@@ -874,7 +884,8 @@ mod tests {
             Sizes, "waywire_sizes": out_bytes out_tokens in_bytes in_tokens limit;
             RawArg, "waywire_arg": kind i u object bytes length;
             Report, "waywire_report": kind opcode target arg_count tokens token_count id code named
-                spelling text text_length place offset interface forgotten version user args;
+                spelling text text_length place offset replaced interface forgotten version user
+                replaced_user args;
         };
         wanted.extend(decoded::tests::layout());
         wanted.extend(tables::tests::layout());

@@ -7,7 +7,8 @@ use common::{core_messages, repository, Core};
 use std::fs;
 use waywire::{
     event, request, Amounts, Arg, ArgKind, Client, Decoded, Destroys, Failed, FaultKind, Fixed,
-    Incoming, Object, SendError, Sender, Server, Sizes, Spelled, Tables, Value,
+    Incoming, NextError, Object, Replaced, SendError, Sender, Server, Sizes, Spelled, Tables,
+    Value,
 };
 
 /// A client and a server with nothing between.
@@ -296,6 +297,66 @@ fn an_event_makes_an_object() {
     assert_eq!(pair.carry_to_client().len(), 12);
     assert!(matches!(pair.client.next(), Ok(Some(Incoming::Deleted(object))) if object == dev));
     assert_eq!(pair.client.made(), None);
+}
+
+/// Live objects of the server's whose ids others take over. Our server never does that, so the events are
+/// bytes of their own.
+#[test]
+fn an_event_replaces_an_object() {
+    let text = b"interface dev 2\nrequest release D\nevent made N(off)\n\
+        interface late 3\nevent made N(off)\n\
+        interface off 3\nrequest destroy D @3\n";
+    let mut pair = Pair::new(&Tables::core().unwrap().read(text).unwrap());
+    let (dev, late) = (pair.object("dev"), pair.object("late"));
+    let comes = |client: &mut Client, maker: Object| {
+        let maker = maker.id().to_le_bytes();
+        client.feed(&[&maker[..], &[0, 0, 12, 0, 0, 0, 0, 255]].concat(), &[]).unwrap();
+    };
+    // What the event for a live maker has made, and what that has replaced.
+    let makes = |client: &mut Client, maker| {
+        comes(client, maker);
+        let replaced = match client.next() {
+            Ok(Some(Incoming::Event(event))) => event.replaced(),
+            other => panic!("{other:?}"),
+        };
+        assert_eq!(client.replaced(), replaced);
+        (client.made().unwrap(), replaced)
+    };
+    let client = &mut pair.client;
+    assert_eq!(client.replaced(), None);
+    let (first, replaced) = makes(client, dev);
+    assert_eq!(replaced, None);
+    client.set_user(first, 7).unwrap();
+
+    let (second, replaced) = makes(client, dev);
+    assert_eq!(replaced, Some(Replaced { object: first, user: 7 }));
+    assert_eq!((second.id(), client.user(second), client.live(first)), (first.id(), 0, None));
+    assert!(client.objects().any(|it| it == second) && !client.objects().any(|it| it == first));
+    assert_eq!(client.set_user(first, 1), Err(SendError::Stale));
+    client.set_user(second, 8).unwrap();
+    assert_eq!(client.replaced(), Some(Replaced { object: first, user: 7 }));
+    assert!(client.next().unwrap().is_none());
+    assert_eq!((client.replaced(), client.made()), (None, Some(second)));
+
+    client.send(dev, 0, &[]).unwrap();
+    comes(client, dev);
+    assert!(matches!(client.next(), Ok(Some(Incoming::Discarded { .. }))));
+    assert_eq!(client.replaced(), Some(Replaced { object: second, user: 8 }));
+
+    // A request can end the next one.
+    let third = client.made().unwrap();
+    let (fourth, replaced) = makes(client, late);
+    assert_eq!(replaced, Some(Replaced { object: third, user: 0 }));
+    client.set_user(fourth, 9).unwrap();
+    client.send(fourth, 0, &[]).unwrap();
+    let (fifth, replaced) = makes(client, late);
+    assert_eq!((replaced, client.live(fifth).map(|it| it.1)), (None, Some(3)));
+    comes(client, late);
+    match client.next() {
+        Err(NextError::Fault(fault)) => assert_eq!(fault.kind, FaultKind::BadNewId { place: 0 }),
+        other => panic!("{other:?}"),
+    }
+    assert_eq!(client.replaced(), None);
 }
 
 /// What tables say of messages, and messages that are taken apart by it.
