@@ -357,6 +357,7 @@ class RecordedObjects(unittest.TestCase):
 
     # The verdict of each, how many objects the server made in it, and how many ids these have.
     RECORDED = {
+        "clipboard": ("lawful: 12 requests, 14 events, 0 and 0 bytes left", 3, 2),
         "copy_and_paste": ("lawful: 557 requests, 429 events, 0 and 0 bytes left", 10, 3),
         "kanshi": ("lawful: 155 requests, 290 events, 0 and 0 bytes left", 22, 6),
         "wl_paste": ("lawful: 83 requests, 297 events, 0 and 0 bytes left", 26, 1),

@@ -12,7 +12,8 @@ use test_player::{Actor, Playable, Trouble, Words, write_stop};
 use wl_client::Client;
 use wl_connection::{End, read_all};
 use wl_message::{Limit, Piece, Sizes};
-use wl_objects::{Fault, NextError, SlotTable, Table};
+use wl_object_map::{DISPLAY_ID, FIRST_SERVER_ID};
+use wl_objects::{Fault, Maker, NextError, Objects as ObjectsOf, SlotTable, Table};
 use wl_recording::Direction;
 use wl_server::Server;
 use wl_sigs::Tables;
@@ -286,14 +287,9 @@ impl<'a, E: Playable + Drop> Replay<'a, E> {
     /// Appends the numbers of objects, and keeps what was written. After a fault a server's last
     /// message tells of it.
     fn finish(&mut self, outcome: &mut Outcome) -> Result<(), Trouble> {
-        let table = self.end.table();
-        write!(
-            &mut outcome.text,
-            "{} {} {}",
-            table.used(),
-            table.births(),
-            table.len()
-        )?;
+        let objects = self.end.objects();
+        write_counts(&mut outcome.text, objects, Maker::Client, DISPLAY_ID)?;
+        write_counts(&mut outcome.text, objects, Maker::Server, FIRST_SERVER_ID)?;
         outcome.written = vec![in self.props.alloc; 0u8; 4160]?;
         let mut tokens = vec![in self.props.alloc; 0u32; 64]?;
         let taken = self.end.take(&mut outcome.written, &mut tokens);
@@ -304,6 +300,17 @@ impl<'a, E: Playable + Drop> Replay<'a, E> {
         }
         Ok(())
     }
+}
+
+/// Appends how many ids of a range were used, births counted, and objects there are.
+fn write_counts<T: Table>(
+    text: &mut String,
+    objects: &ObjectsOf<T>,
+    maker: Maker,
+    first: u32,
+) -> Result<(), AllocError> {
+    let (used, births) = (objects.used(maker), objects.births(first));
+    write!(text, "{used} {births} {} ", objects.len(maker))
 }
 
 /// The bytes as one piece, or as a piece for each.

@@ -269,11 +269,15 @@ impl<'a> Run<'a> {
         let opcode = self.dice.below(6) as u16;
         let kinds = self.kinds_of(target.iface, Side::Event, opcode)?;
         let args = self.arguments(&kinds)?;
-        Ok(RandomMove::of(Move::ServerSend {
+        let action = Move::ServerSend {
             target: target.object,
             opcode,
             args,
-        }))
+        };
+        Ok(RandomMove {
+            action,
+            makes: kinds.iter().find_map(|kind| interface_made(*kind)),
+        })
     }
 
     /// A bind of a global by its right interface.
@@ -349,10 +353,11 @@ impl<'a> Run<'a> {
     }
 }
 
-/// The interface of the object that an argument of a request makes.
+/// The interface of the object that an argument makes.
 fn interface_made(kind: Kind) -> Option<Iface> {
     match kind {
         Kind::New(made) => made,
+        Kind::NewByServer(made) => Some(made),
         _ => None,
     }
 }
@@ -378,7 +383,7 @@ fn kind_of(action: &Move) -> usize {
 /// The object that a move made.
 fn object_made(reply: &Reply) -> Option<Object> {
     match reply {
-        Reply::ClientSend(Ok(made)) => *made,
+        Reply::ClientSend(Ok(made)) | Reply::ServerSend(Ok(made)) => *made,
         Reply::ClientBind(Ok(made)) => Some(*made),
         _ => None,
     }
