@@ -6,41 +6,38 @@
  * have at one time, it takes as it is. */
 #include "users.h"
 
-#define EXPORTS_OF_BOTH(end) \
-	uint32_t waywire_c_##end##_new(struct handle tables, const waywire_sizes *, void **made); \
-	void waywire_c_##end##_free(struct handle); \
-	void waywire_c_##end##_display(const struct handle *, waywire_object *display); \
-	uint32_t waywire_c_##end##_live(const struct handle *, waywire_object, uint16_t *interface, \
-		uint32_t *version); \
-	uint32_t waywire_c_##end##_object_count(const struct handle *, bool by_server); \
-	uint32_t waywire_c_##end##_ids_used(const struct handle *, bool by_server); \
-	uint32_t waywire_c_##end##_look(const struct handle *, uint32_t id, uint64_t *birth); \
-	bool waywire_c_##end##_has_failed(const struct handle *); \
-	void waywire_c_##end##_in_room(const struct handle *, waywire_amounts *room); \
-	bool waywire_c_##end##_is_drained(const struct handle *); \
-	void waywire_c_##end##_feed(struct handle *, const void *bytes, size_t length, \
-		const uint32_t *tokens, size_t token_count, waywire_amounts *fed); \
-	void waywire_c_##end##_goes(const struct handle *, size_t bytes, size_t tokens, \
-		waywire_amounts *amounts); \
-	void waywire_c_##end##_take(struct handle *, void *bytes, size_t length, uint32_t *tokens, \
-		size_t token_count, waywire_amounts *taken); \
-	void waywire_c_##end##_peek(const struct handle *, waywire_part *parts, size_t *tokens); \
-	uint32_t waywire_c_##end##_token_to_go(const struct handle *, size_t place, uint32_t *token); \
-	void waywire_c_##end##_sent(struct handle *, size_t bytes, waywire_amounts *taken); \
-	void waywire_c_##end##_space(const struct handle *, waywire_part *parts); \
-	void waywire_c_##end##_received(struct handle *, size_t bytes, const uint32_t *tokens, \
-		size_t token_count, waywire_amounts *fed); \
-	void waywire_c_##end##_take_waiting_tokens(struct handle *, uint32_t *tokens, \
-		size_t token_count, size_t *taken); \
-	uint32_t waywire_c_##end##_send(struct handle *, waywire_object target, uint16_t opcode, \
-		const waywire_arg *args, size_t arg_count, waywire_object *made, size_t *place); \
-	uint32_t waywire_c_##end##_next(struct handle *, waywire_report *, waywire_arg *args, \
-		size_t arg_count)
+uint32_t waywire_c_client_new(struct handle tables, const waywire_sizes *, void **made);
+uint32_t waywire_c_server_new(struct handle tables, const waywire_sizes *, void **made);
+void waywire_c_end_free(struct handle);
+void waywire_c_end_display(const struct handle *, waywire_object *display);
+uint32_t waywire_c_end_live(const struct handle *, waywire_object, uint16_t *interface,
+	uint32_t *version);
+uint32_t waywire_c_end_object_count(const struct handle *, bool by_server);
+uint32_t waywire_c_end_ids_used(const struct handle *, bool by_server);
+uint32_t waywire_c_end_look(const struct handle *, uint32_t id, uint64_t *birth);
+bool waywire_c_end_has_failed(const struct handle *);
+void waywire_c_end_in_room(const struct handle *, waywire_amounts *room);
+bool waywire_c_end_is_drained(const struct handle *);
+void waywire_c_end_feed(struct handle *, const void *bytes, size_t length,
+	const uint32_t *tokens, size_t token_count, waywire_amounts *fed);
+void waywire_c_end_goes(const struct handle *, size_t bytes, size_t tokens,
+	waywire_amounts *amounts);
+void waywire_c_end_take(struct handle *, void *bytes, size_t length, uint32_t *tokens,
+	size_t token_count, waywire_amounts *taken);
+void waywire_c_end_peek(const struct handle *, waywire_part *parts, size_t *tokens);
+uint32_t waywire_c_end_token_to_go(const struct handle *, size_t place, uint32_t *token);
+void waywire_c_end_sent(struct handle *, size_t bytes, waywire_amounts *taken);
+void waywire_c_end_space(const struct handle *, waywire_part *parts);
+void waywire_c_end_received(struct handle *, size_t bytes, const uint32_t *tokens,
+	size_t token_count, waywire_amounts *fed);
+void waywire_c_end_take_waiting_tokens(struct handle *, uint32_t *tokens,
+	size_t token_count, size_t *taken);
+uint32_t waywire_c_end_send(struct handle *, waywire_object target, uint16_t opcode,
+	const waywire_arg *args, size_t arg_count, waywire_object *made, size_t *place);
+uint32_t waywire_c_end_next(struct handle *, waywire_report *, waywire_arg *args,
+	size_t arg_count);
 
-EXPORTS_OF_BOTH(client);
-EXPORTS_OF_BOTH(server);
-
-void waywire_c_client_made(const struct handle *, waywire_object *made);
+uint32_t waywire_c_client_made(const struct handle *, waywire_object *made);
 uint32_t waywire_c_client_bind(struct handle *, waywire_object registry, uint32_t name,
 	const void *interface, size_t length, uint32_t version, waywire_object *bound);
 uint32_t waywire_c_server_drop_object(struct handle *, waywire_object);
@@ -187,7 +184,7 @@ static uint32_t id_after(uint32_t id, uint32_t of_client, uint32_t of_server)
 	{ \
 		if (!it) \
 			return; \
-		waywire_c_##end##_free(it->handle); \
+		waywire_c_end_free(it->handle); \
 		waywire_tables_free(it->tables); \
 		free_users(&it->users); \
 		free(it); \
@@ -197,7 +194,7 @@ static uint32_t id_after(uint32_t id, uint32_t of_client, uint32_t of_server)
 	{ \
 		if (!it || !display) \
 			return WAYWIRE_NULL; \
-		waywire_c_##end##_display(&it->handle, display); \
+		waywire_c_end_display(&it->handle, display); \
 		return WAYWIRE_OK; \
 	} \
 \
@@ -208,7 +205,7 @@ static uint32_t id_after(uint32_t id, uint32_t of_client, uint32_t of_server)
 		uint32_t no_version; \
 		if (!it) \
 			return WAYWIRE_NULL; \
-		return waywire_c_##end##_live(&it->handle, object, interface ? interface : &no_interface, \
+		return waywire_c_end_live(&it->handle, object, interface ? interface : &no_interface, \
 			version ? version : &no_version); \
 	} \
 \
@@ -229,8 +226,8 @@ static uint32_t id_after(uint32_t id, uint32_t of_client, uint32_t of_server)
 	{ \
 		if (!it || !count) \
 			return WAYWIRE_NULL; \
-		*count = (size_t)waywire_c_##end##_object_count(&it->handle, false) \
-			+ waywire_c_##end##_object_count(&it->handle, true); \
+		*count = (size_t)waywire_c_end_object_count(&it->handle, false) \
+			+ waywire_c_end_object_count(&it->handle, true); \
 		return WAYWIRE_OK; \
 	} \
 \
@@ -240,10 +237,10 @@ static uint32_t id_after(uint32_t id, uint32_t of_client, uint32_t of_server)
 		uint64_t birth; \
 		if (!it || !object) \
 			return WAYWIRE_NULL; \
-		uint32_t of_client = waywire_c_##end##_ids_used(&it->handle, false); \
-		uint32_t of_server = waywire_c_##end##_ids_used(&it->handle, true); \
+		uint32_t of_client = waywire_c_end_ids_used(&it->handle, false); \
+		uint32_t of_server = waywire_c_end_ids_used(&it->handle, true); \
 		while ((id = id_after(id, of_client, of_server)) != 0) { \
-			if (waywire_c_##end##_look(&it->handle, id, &birth)) \
+			if (waywire_c_end_look(&it->handle, id, &birth)) \
 				continue; \
 			object->birth = birth; \
 			object->id = id; \
@@ -256,7 +253,7 @@ static uint32_t id_after(uint32_t id, uint32_t of_client, uint32_t of_server)
 	{ \
 		if (!it || !failed) \
 			return WAYWIRE_NULL; \
-		*failed = waywire_c_##end##_has_failed(&it->handle); \
+		*failed = waywire_c_end_has_failed(&it->handle); \
 		return WAYWIRE_OK; \
 	} \
 \
@@ -264,7 +261,7 @@ static uint32_t id_after(uint32_t id, uint32_t of_client, uint32_t of_server)
 	{ \
 		if (!it || !room) \
 			return WAYWIRE_NULL; \
-		waywire_c_##end##_in_room(&it->handle, room); \
+		waywire_c_end_in_room(&it->handle, room); \
 		return WAYWIRE_OK; \
 	} \
 \
@@ -272,7 +269,7 @@ static uint32_t id_after(uint32_t id, uint32_t of_client, uint32_t of_server)
 	{ \
 		if (!it || !drained) \
 			return WAYWIRE_NULL; \
-		*drained = waywire_c_##end##_is_drained(&it->handle); \
+		*drained = waywire_c_end_is_drained(&it->handle); \
 		return WAYWIRE_OK; \
 	} \
 \
@@ -287,9 +284,9 @@ static uint32_t id_after(uint32_t id, uint32_t of_client, uint32_t of_server)
 			status = slice(&from, token_count, sizeof *tokens); \
 		if (status) \
 			return status; \
-		waywire_c_##end##_feed(&it->handle, bytes, length, from, token_count, fed); \
+		waywire_c_end_feed(&it->handle, bytes, length, from, token_count, fed); \
 		it->untold += fed->tokens; \
-		return waywire_c_##end##_has_failed(&it->handle) ? WAYWIRE_FAILED : WAYWIRE_OK; \
+		return waywire_c_end_has_failed(&it->handle) ? WAYWIRE_FAILED : WAYWIRE_OK; \
 	} \
 \
 	waywire_status waywire_##end##_goes(const waywire_##end *it, size_t bytes, size_t tokens, \
@@ -297,7 +294,7 @@ static uint32_t id_after(uint32_t id, uint32_t of_client, uint32_t of_server)
 	{ \
 		if (!it || !amounts) \
 			return WAYWIRE_NULL; \
-		waywire_c_##end##_goes(&it->handle, bytes, tokens, amounts); \
+		waywire_c_end_goes(&it->handle, bytes, tokens, amounts); \
 		return WAYWIRE_OK; \
 	} \
 \
@@ -311,7 +308,7 @@ static uint32_t id_after(uint32_t id, uint32_t of_client, uint32_t of_server)
 		if (!status) \
 			status = slice(&tokens_to, token_count, sizeof *tokens); \
 		if (!status) \
-			waywire_c_##end##_take(&it->handle, (void *)to, length, (uint32_t *)tokens_to, \
+			waywire_c_end_take(&it->handle, (void *)to, length, (uint32_t *)tokens_to, \
 				token_count, taken); \
 		return status; \
 	} \
@@ -325,9 +322,9 @@ static uint32_t id_after(uint32_t id, uint32_t of_client, uint32_t of_server)
 		waywire_status status = slice(&to, room, sizeof *tokens); \
 		if (status) \
 			return status; \
-		waywire_c_##end##_peek(&it->handle, parts, token_count); \
+		waywire_c_end_peek(&it->handle, parts, token_count); \
 		for (size_t place = 0; place < *token_count && place < room; place++) \
-			waywire_c_##end##_token_to_go(&it->handle, place, &tokens[place]); \
+			waywire_c_end_token_to_go(&it->handle, place, &tokens[place]); \
 		return WAYWIRE_OK; \
 	} \
 \
@@ -336,7 +333,7 @@ static uint32_t id_after(uint32_t id, uint32_t of_client, uint32_t of_server)
 		waywire_amounts no_amounts; \
 		if (!it) \
 			return WAYWIRE_NULL; \
-		waywire_c_##end##_sent(&it->handle, bytes, taken ? taken : &no_amounts); \
+		waywire_c_end_sent(&it->handle, bytes, taken ? taken : &no_amounts); \
 		return WAYWIRE_OK; \
 	} \
 \
@@ -344,7 +341,7 @@ static uint32_t id_after(uint32_t id, uint32_t of_client, uint32_t of_server)
 	{ \
 		if (!it || !parts) \
 			return WAYWIRE_NULL; \
-		waywire_c_##end##_space(&it->handle, parts); \
+		waywire_c_end_space(&it->handle, parts); \
 		return WAYWIRE_OK; \
 	} \
 \
@@ -357,9 +354,9 @@ static uint32_t id_after(uint32_t id, uint32_t of_client, uint32_t of_server)
 		waywire_status status = slice(&from, token_count, sizeof *tokens); \
 		if (status) \
 			return status; \
-		waywire_c_##end##_received(&it->handle, bytes, from, token_count, fed); \
+		waywire_c_end_received(&it->handle, bytes, from, token_count, fed); \
 		it->untold += fed->tokens; \
-		return waywire_c_##end##_has_failed(&it->handle) ? WAYWIRE_FAILED : WAYWIRE_OK; \
+		return waywire_c_end_has_failed(&it->handle) ? WAYWIRE_FAILED : WAYWIRE_OK; \
 	} \
 \
 	waywire_status waywire_##end##_take_waiting_tokens(waywire_##end *it, uint32_t *tokens, \
@@ -370,7 +367,7 @@ static uint32_t id_after(uint32_t id, uint32_t of_client, uint32_t of_server)
 			return WAYWIRE_NULL; \
 		waywire_status status = slice(&to, token_count, sizeof *tokens); \
 		if (!status) \
-			waywire_c_##end##_take_waiting_tokens(&it->handle, (uint32_t *)to, token_count, taken); \
+			waywire_c_end_take_waiting_tokens(&it->handle, (uint32_t *)to, token_count, taken); \
 		return status; \
 	} \
 \
@@ -391,7 +388,7 @@ static uint32_t id_after(uint32_t id, uint32_t of_client, uint32_t of_server)
 				return status; \
 			args = copies; \
 		} \
-		waywire_status status = waywire_c_##end##_send(&it->handle, target, opcode, args, arg_count, \
+		waywire_status status = waywire_c_end_send(&it->handle, target, opcode, args, arg_count, \
 			&object, &refused); \
 		if (!status && made) \
 			*made = object; \
@@ -404,7 +401,7 @@ static uint32_t id_after(uint32_t id, uint32_t of_client, uint32_t of_server)
 	{ \
 		if (!it || !report) \
 			return WAYWIRE_NULL; \
-		waywire_status status = waywire_c_##end##_next(&it->handle, report, report->args, \
+		waywire_status status = waywire_c_end_next(&it->handle, report, report->args, \
 			WAYWIRE_MAX_ARGS); \
 		if (it->untold) { \
 			list_tokens(report, it->tokens); \
@@ -434,8 +431,7 @@ waywire_status waywire_client_made(const waywire_client *client, waywire_object 
 {
 	if (!client || !made)
 		return WAYWIRE_NULL;
-	waywire_c_client_made(&client->handle, made);
-	return WAYWIRE_OK;
+	return waywire_c_client_made(&client->handle, made);
 }
 
 waywire_status waywire_server_drop_object(waywire_server *server, waywire_object object)
@@ -520,6 +516,7 @@ const char *waywire_strerror(waywire_status status)
 	case WAYWIRE_BAD_SIZES: return "sizes that no end has";
 	case WAYWIRE_NOT_FOUND: return "not found";
 	case WAYWIRE_TOO_LARGE: return "length is too large";
+	case WAYWIRE_OTHER_END: return "call of the other end";
 	case WAYWIRE_BAD_LINE: return "bad line";
 	case WAYWIRE_BAD_TABLE: return "line breaks a rule of tables";
 	}

@@ -116,6 +116,7 @@ typedef enum waywire_status {
 	WAYWIRE_BAD_SIZES = 63,      /* sizes that no end can have, or a limit that no message has */
 	WAYWIRE_NOT_FOUND = 64,      /* no such interface, or the object is not live */
 	WAYWIRE_TOO_LARGE = 65,      /* a length above PTRDIFF_MAX */
+	WAYWIRE_OTHER_END = 66,      /* a call of a client for a server, or of a server for a client */
 
 	/* Why no tables are read from a text. */
 	WAYWIRE_BAD_LINE = 71,       /* a line has none of the forms of such a text */

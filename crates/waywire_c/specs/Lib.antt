@@ -1,4 +1,5 @@
 pub mod Owned
+pub mod Ends
 pub mod Lending
 pub mod Statuses
 pub mod Values

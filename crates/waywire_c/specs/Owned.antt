@@ -7,8 +7,7 @@ use Rattle.std.specs.Box.Ownership.{box_owns}
 use Rattle.std.specs.Global.{Global}
 use Rattle.std_heap.specs.contracts.GlobalAllocator.TheImpl.{ghosts}
 use Rattle.waywire_c.specs.contracts.held.HeldTables as tables
-use Rattle.waywire_c.specs.contracts.held.HeldClient as client
-use Rattle.waywire_c.specs.contracts.held.HeldServer as server
+use Rattle.waywire_c.specs.contracts.held.HeldEnd as end
 use Rattle.waywire_c.specs.contracts.held.HeldInspector as inspector
 
 -- a handle of tables holds what a `&'static` to them does, so it can be copied
@@ -18,17 +17,11 @@ lends_tables = static_ref_at tables.the_row
 abbrev pub held_tables_coded : Coded tables.the_row.Denot
 held_tables_coded = tables.the_row.coded
 
-abbrev pub owns_client : Global → Ptr → client.the_row.Denot → Fml
-owns_client alloc = box_owns (ghosts.dealloc_token alloc) client.the_row
+abbrev pub owns_end : Global → Ptr → end.the_row.Denot → Fml
+owns_end alloc = box_owns (ghosts.dealloc_token alloc) end.the_row
 
-abbrev pub held_client_coded : Coded client.the_row.Denot
-held_client_coded = client.the_row.coded
-
-abbrev pub owns_server : Global → Ptr → server.the_row.Denot → Fml
-owns_server alloc = box_owns (ghosts.dealloc_token alloc) server.the_row
-
-abbrev pub held_server_coded : Coded server.the_row.Denot
-held_server_coded = server.the_row.coded
+abbrev pub held_end_coded : Coded end.the_row.Denot
+held_end_coded = end.the_row.coded
 
 abbrev pub owns_inspector : Global → Ptr → inspector.the_row.Denot → Fml
 owns_inspector alloc = box_owns (ghosts.dealloc_token alloc) inspector.the_row

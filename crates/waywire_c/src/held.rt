@@ -1,6 +1,9 @@
 //! What a handle leads to. Each is a type of its own, so that a handle's proofs name it in a word.
+use std::io::{Read, Write};
 use wl_check::Inspector;
 use wl_client::Client;
+use wl_connection::{Core, End};
+use wl_message::{Fed, FillError, FlushError, Taken};
 use wl_objects::SlotTable;
 use wl_server::Server;
 use wl_sigs::Tables;
@@ -11,14 +14,11 @@ pub struct HeldTables {
     pub tables: &'static Tables,
 }
 
+/// An end, whichever of the two it is.
 #[derive(Drop)]
-pub struct HeldClient {
-    pub client: Client<'static, SlotTable>,
-}
-
-#[derive(Drop)]
-pub struct HeldServer {
-    pub server: Server<'static, SlotTable>,
+pub enum HeldEnd {
+    Client(Client<'static, SlotTable>),
+    Server(Server<'static, SlotTable>),
 }
 
 /// An inspector, and the line of the verdict that was asked for last.
@@ -26,4 +26,72 @@ pub struct HeldServer {
 pub struct HeldInspector {
     pub inspector: Inspector<'static>,
     pub line: Vec<u8>,
+}
+
+impl End for HeldEnd {
+    ghost use Rattle.waywire_c.specs.Ends.{core_of, end_with_core, end_laws};
+
+    type Table = SlotTable;
+
+    ghost core = { core_of };
+
+    ghost with_core = { end_with_core };
+
+    fn core(&self) -> &Core<'_, SlotTable> {
+        match self {
+            HeldEnd::Client(client) => client.core(),
+            HeldEnd::Server(server) => server.core(),
+        }
+    }
+
+    fn feed(&mut self, bytes: &[u8], tokens: &[u32]) -> Fed {
+        match self {
+            HeldEnd::Client(client) => client.feed(bytes, tokens),
+            HeldEnd::Server(server) => server.feed(bytes, tokens),
+        }
+    }
+
+    fn take(&mut self, bytes: &mut [u8], tokens: &mut [u32]) -> Taken {
+        match self {
+            HeldEnd::Client(client) => client.take(bytes, tokens),
+            HeldEnd::Server(server) => server.take(bytes, tokens),
+        }
+    }
+
+    fn received(&mut self, bytes: usize, tokens: &[u32]) -> Fed {
+        match self {
+            HeldEnd::Client(client) => client.received(bytes, tokens),
+            HeldEnd::Server(server) => server.received(bytes, tokens),
+        }
+    }
+
+    fn sent(&mut self, bytes: usize) -> Taken {
+        match self {
+            HeldEnd::Client(client) => client.sent(bytes),
+            HeldEnd::Server(server) => server.sent(bytes),
+        }
+    }
+
+    fn fill<R: Read>(&mut self, reader: &mut R) -> Result<usize, FillError> {
+        match self {
+            HeldEnd::Client(client) => client.fill(reader),
+            HeldEnd::Server(server) => server.fill(reader),
+        }
+    }
+
+    fn flush<W: Write>(&mut self, writer: &mut W) -> Result<usize, FlushError> {
+        match self {
+            HeldEnd::Client(client) => client.flush(writer),
+            HeldEnd::Server(server) => server.flush(writer),
+        }
+    }
+
+    fn take_waiting_tokens(&mut self, tokens: &mut [u32]) -> usize {
+        match self {
+            HeldEnd::Client(client) => client.take_waiting_tokens(tokens),
+            HeldEnd::Server(server) => server.take_waiting_tokens(tokens),
+        }
+    }
+
+    ghost laws = { end_laws };
 }

@@ -7,8 +7,9 @@
 #![tactic(auto)]
 
 mod client;
-mod client_handle;
 mod decoding;
+mod end;
+mod end_handle;
 mod held;
 mod inspector;
 mod inspector_handle;
@@ -20,7 +21,6 @@ mod recording;
 mod reports;
 mod sending;
 mod server;
-mod server_handle;
 mod statuses;
 mod tables;
 mod tables_handle;

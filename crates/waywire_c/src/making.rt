@@ -7,12 +7,14 @@ ghost use Rattle.wl_sigs.specs.Outcome.{outcome};
 ghost use Rattle.wl_interface_text.specs.declared.fault.TableFault.TheVariants.{Memory};
 ghost use Rattle.wl_client.specs.State.{new_state as new_client};
 ghost use Rattle.wl_server.specs.State.{new_state as new_server};
+ghost use Rattle.waywire_c.specs.declared.held.HeldEnd.TheVariants.{Client as MadeClient};
+ghost use Rattle.waywire_c.specs.declared.held.HeldEnd.TheVariants.{Server as MadeServer};
 ghost use Rattle.wl_check.specs.Inspected.{printed, HasPassed};
 ghost use Rattle.waywire_c.specs.Inspecting.{IsTried};
 ghost use Rattle.waywire_c.specs.Sizes.{AreAllowed, IsNewBy};
 ghost use Rattle.waywire_c.specs.Statuses.{making_outcome};
 
-use crate::held::{HeldClient, HeldInspector, HeldServer, HeldTables};
+use crate::held::{HeldEnd, HeldInspector, HeldTables};
 use crate::statuses::{BAD_SIZES, NO_MEMORY};
 use crate::values::CSizes;
 use std::alloc::{AllocError, Global};
@@ -73,12 +75,12 @@ pub fn client(
     alloc: Global,
     tables: &'static Tables,
     sizes: Sizes,
-) -> Result<Box<HeldClient>, AllocError>
+) -> Result<Box<HeldEnd>, AllocError>
     requires { AreSizes sizes }
-    ensures { IfOk result (λ made. made.value.client ≡ new_client tables.now sizes) }
+    ensures { IfOk result (λ made. made.value ≡ MadeClient (new_client tables.now sizes)) }
 {
     let client = Client::new(alloc, tables, sizes)?;
-    boxed(alloc, HeldClient { client })
+    boxed(alloc, HeldEnd::Client(client))
 }
 
 /// A client over these tables with the sizes of C. Otherwise a status: `BAD_SIZES` where no end can
@@ -87,9 +89,9 @@ pub fn client_by(
     alloc: Global,
     tables: &'static Tables,
     sizes: &CSizes,
-) -> Result<Box<HeldClient>, u32>
+) -> Result<Box<HeldEnd>, u32>
     ensures made { IfOk result (λ made.
-        IsNewBy (new_client tables.now) sizes.now made.value.client) }
+        IsNewBy (λ sizes. MadeClient (new_client tables.now sizes)) sizes.now made.value) }
     ensures sizes { making_outcome result ≢ 63 ↔ AreAllowed sizes.now }
     ensures tried { making_outcome result ≢ 63 → IsTried (making_outcome result) }
 {
@@ -107,12 +109,12 @@ pub fn server(
     alloc: Global,
     tables: &'static Tables,
     sizes: Sizes,
-) -> Result<Box<HeldServer>, AllocError>
+) -> Result<Box<HeldEnd>, AllocError>
     requires { AreSizes sizes }
-    ensures { IfOk result (λ made. made.value.server ≡ new_server tables.now sizes) }
+    ensures { IfOk result (λ made. made.value ≡ MadeServer (new_server tables.now sizes)) }
 {
     let server = Server::new(alloc, tables, sizes)?;
-    boxed(alloc, HeldServer { server })
+    boxed(alloc, HeldEnd::Server(server))
 }
 
 /// A server over these tables with the sizes of C, or a status, as for a client.
@@ -120,9 +122,9 @@ pub fn server_by(
     alloc: Global,
     tables: &'static Tables,
     sizes: &CSizes,
-) -> Result<Box<HeldServer>, u32>
+) -> Result<Box<HeldEnd>, u32>
     ensures made { IfOk result (λ made.
-        IsNewBy (new_server tables.now) sizes.now made.value.server) }
+        IsNewBy (λ sizes. MadeServer (new_server tables.now sizes)) sizes.now made.value) }
     ensures sizes { making_outcome result ≢ 63 ↔ AreAllowed sizes.now }
     ensures tried { making_outcome result ≢ 63 → IsTried (making_outcome result) }
 {

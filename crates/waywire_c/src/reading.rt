@@ -1,5 +1,5 @@
 //! An end reads a message, and what it reports is shown to C.
-ghost use Rattle.std.specs.Prelude.{◌≡◌, ◌≢◌, length, None, false};
+ghost use Rattle.std.specs.Prelude.{◌≡◌, ◌≢◌, length, None, true, false};
 ghost use Rattle.wl_sigs.specs.declared.signature.Side.TheVariants.{Event};
 ghost use Rattle.wl_sigs.specs.Rules.{has_server_objects};
 ghost use Rattle.wl_connection.specs.Receiving.{found};
@@ -7,11 +7,14 @@ ghost use Rattle.wl_client.specs.Reports.{after_next as after_event, event_opens
 ghost use Rattle.wl_server.specs.Requests.{after_next as after_request};
 ghost use Rattle.wl_server.specs.Requests.{next_answer as request_answer};
 ghost use Rattle.wl_server.specs.Requests.{request_opens, request as found_request};
+ghost use Rattle.waywire_c.specs.Ends.{front_opens, read_status, takes_none, told_next, next_entry};
+ghost use Rattle.waywire_c.specs.Ends.{next_args, end_after_next};
 ghost use Rattle.waywire_c.specs.Statuses.{read_outcome, OrMemory};
 ghost use Rattle.waywire_c.specs.Reports.{event_args, of_kind, request_args, TellsArgs, told_by};
 ghost use Rattle.waywire_c.specs.Reports.{entry_told, entry_told_by, event_entry, request_entry};
 ghost use Rattle.waywire_c.specs.Reports.{told_event, told_request};
 
+use crate::held::HeldEnd;
 use crate::reports::{Report, global_told, incoming, nothing, request, unread};
 use crate::statuses::{OK, next_status};
 use crate::values::{CObject, ReportArg};
@@ -19,8 +22,27 @@ use wl_client::Client;
 use wl_objects::SlotTable;
 use wl_server::Server;
 
+/// An end reads the next message. Returns the status.
+pub fn read(end: &mut HeldEnd, report: &mut Report, args: &mut [ReportArg]) -> u32
+    ensures answer { OrMemory (front_opens end.old) (read_status end.old) result }
+    ensures takes_none { takes_none end.old ≡ true → result ≡ read_status end.old }
+    ensures report { result ≢ 11 → told_by report.new ≡ told_next (length args.old) end.old }
+    ensures entry { result ≢ 11 → entry_told_by report.new ≡ next_entry end.old }
+    ensures args { result ≢ 11 → TellsArgs (next_args end.old) args.old args.new }
+    ensures state { result ≢ 11 → end.new ≡ end_after_next end.old }
+    ensures no_report { result ≡ 11 → told_by report.new ≡ of_kind 0 }
+    ensures no_entry { result ≡ 11 → entry_told_by report.new ≡ entry_told None }
+    ensures no_args { result ≡ 11 → args.new ≡ args.old }
+    ensures unchanged { result ≡ 11 → end.new ≡ end.old }
+{
+    match end {
+        HeldEnd::Client(client) => read_event(client, report, args),
+        HeldEnd::Server(server) => read_request(server, report, args),
+    }
+}
+
 /// A client reads the next event. Returns the status.
-pub fn read_event<'t>(
+fn read_event<'t>(
     client: &mut Client<'t, SlotTable>,
     report: &mut Report,
     args: &mut [ReportArg],
@@ -61,7 +83,7 @@ pub fn read_event<'t>(
 }
 
 /// A server reads the next request. Returns the status.
-pub fn read_request<'t>(
+fn read_request<'t>(
     server: &mut Server<'t, SlotTable>,
     report: &mut Report,
     args: &mut [ReportArg],

@@ -33,6 +33,9 @@ pub const BAD_SIZES: u32 = 63;
 /// The tables have no such interface, or the object is not live.
 pub const NOT_FOUND: u32 = 64;
 
+/// A client's call of a server, or a server's of a client.
+pub const OTHER_END: u32 = 66;
+
 /// TB1: a line of a text of tables has none of the forms.
 pub const BAD_LINE: u32 = 71;
 

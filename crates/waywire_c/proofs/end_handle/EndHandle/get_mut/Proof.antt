@@ -38,13 +38,13 @@ use Rattle.core.proofs.alloc.Calls.{token}
 use Rattle.std_alloc.proofs.VecSteps.Shapes.{after}
 use Rattle.std_alloc.proofs.BoxSteps.Form.{D, R, τ, word, handle}
 use Rattle.std_alloc.proofs.BoxSteps.Steps.{box_out, box_in}
-use Rattle.waywire_c.specs.Lending.{holding_server}
-use Rattle.waywire_c.proofs.AsBox.Server.{E}
-use Rattle.waywire_c.specs.contracts.server_handle.ServerHandle as Handle
-use Rattle.waywire_c.specs.contracts.server_handle.ServerHandle.get_mut as F
-use Rattle.waywire_c.specs.contracts.server_handle.ServerHandle.get_mut.Key.{name as #self}
-use Rattle.waywire_c.proofs.server_handle.ServerHandle.get_mut.Statement as stated
-use Rattle.waywire_c.proofs.server_handle.ServerHandle.get_mut.Code as code
+use Rattle.waywire_c.specs.Lending.{holding_end}
+use Rattle.waywire_c.proofs.AsBox.End.{E}
+use Rattle.waywire_c.specs.contracts.end_handle.EndHandle as Handle
+use Rattle.waywire_c.specs.contracts.end_handle.EndHandle.get_mut as F
+use Rattle.waywire_c.specs.contracts.end_handle.EndHandle.get_mut.Key.{name as #self}
+use Rattle.waywire_c.proofs.end_handle.EndHandle.get_mut.Statement as stated
+use Rattle.waywire_c.proofs.end_handle.EndHandle.get_mut.Code as code
 
 abbrev H' : RattleType
 H' = Handle.the_row
@@ -89,22 +89,22 @@ module _ {M : Type 1} {𝓤 : Ura M} (𝓛 : Logic 𝓤) (at_mem : Memory → SP
 
       back : h.ptr ≡ block_ptr b o → (w : I'.Denot)
           → ent 𝓤 (sep 𝓤 (sem 𝓛 ((mem I').own_at w b o)) (sem 𝓛 Rest))
-          (sem 𝓛 ((mem H').own_at (holding_server h w) rb ro))
+          (sem 𝓛 ((mem H').own_at (holding_end h w) rb ro))
       unfolding part_of
       back at_b w =
           qed 𝓛 (‵ (part_at I' full_share w b o) ∷ ‵ Rest ∷ []) ∵ move ! (1 ∷ []) $ fsplit ! $ fsplit ! $ move !
           (3 ∷ []) $
           box_in E ! (boxed_with w) b o w at_b refl $ move ! (1 ∷ 0 ∷ []) $ fjoin ! $
-          fpack ! (List Val) (λ us. fsep (cell_at full_share H'.mir us rb ro) (H'.own_val (holding_server h w) us))
+          fpack ! (List Val) (λ us. fsep (cell_at full_share H'.mir us rb ro) (H'.own_val (holding_end h w) us))
           (word E hv b o ∷ []) $ done !
 
       exits : (γ' : GName)
           → ent 𝓤 (sep 𝓤 (sem 𝓛 ((MutRef (named 0) κ I').own_val
           (record { ref_ptr = (b, o); ghost_name = γ'; now = h.held }) (vptr b o ∷ [])))
-          (sep 𝓤 (A.lft κ q) (sem 𝓛 (follows H' I' γ γ' (holding_server h))))) (Post (vptr b o))
+          (sep 𝓤 (A.lft κ q) (sem 𝓛 (follows H' I' γ γ' (holding_end h))))) (Post (vptr b o))
       exits γ' =
           qed 𝓛 (‵ ((MutRef (named 0) κ I').own_val (record { ref_ptr = (b, o); ghost_name = γ'; now = h.held })
-          (vptr b o ∷ [])) ∷ ‵ (flft κ q) ∷ ‵ (follows H' I' γ γ' (holding_server h)) ∷ []) ∵
+          (vptr b o ∷ [])) ∷ ‵ (flft κ q) ∷ ‵ (follows H' I' γ γ' (holding_end h)) ∷ []) ∵
           suffices ! _ (ends_at 𝓛 F.ended stayed (F.clauses 𝓛 at_mem run) bound (vptr b o)
           (record { ref_ptr = (b, o); ghost_name = γ'; now = h.held }) (tt, tt) (tt, tt)) $
           nothing ! $ nothing ! $ fjoin ! $ join ! $ nothing ! $ move !
@@ -132,9 +132,9 @@ module _ {M : Type 1} {𝓤 : Ura M} (𝓛 : Logic 𝓤) (at_mem : Memory → SP
           sets ! (of_opd ! (get ! refl)) refl (tt, tt) $
           move ! (1 ∷ 2 ∷ []) $ fjoin ! $ move ! (2 ∷ 3 ∷ 4 ∷ 1 ∷ 0 ∷ []) $ group ! 5 $
           use1 𝓛 (later (some (λ (γ' : GName). raw
-          (Part 𝓛 H' I' (holding_server h) (named 0) κ q rb ro b o γ (sem 𝓛 (Rest b o hv))
+          (Part 𝓛 H' I' (holding_end h) (named 0) κ q rb ro b o γ (sem 𝓛 (Rest b o hv))
           (back b o hv at_b) h.held γ'))))
-          (lends_Part 𝓛 H' I' (holding_server h) (named 0) κ q rb ro b o γ (sem 𝓛 (Rest b o hv)) (back b o hv at_b)
+          (lends_Part 𝓛 H' I' (holding_end h) (named 0) κ q rb ro b o γ (sem 𝓛 (Rest b o hv)) (back b o hv at_b)
           (H'.coded.code h) (H'.coded.code h) h.held) $ await ! tt $ pick ! (λ γ'.
           returns ! (look_at ! 0 refl) $ free_all ! refl $
           keep ! (0 ∷ []) $ by ! (exits b o hv γ')))))

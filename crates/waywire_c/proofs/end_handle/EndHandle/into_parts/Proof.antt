@@ -24,11 +24,11 @@ use denote.Triple.Table.{entered}
 use denote.Triple.Walked.{says, Stays, stay_dropped, walk_of, ends_at, Goes-dropped, walk_Meets}
 use Rattle.std_alloc.proofs.BoxSteps.Form.{D, B, word, box_typed}
 use Rattle.std_alloc.proofs.BoxSteps.Steps.{box_out, box_in}
-use Rattle.waywire_c.proofs.AsBox.Server.{E, FromHandle as From}
-use Rattle.waywire_c.specs.contracts.server_handle.ServerHandle.into_parts as F
-use Rattle.waywire_c.specs.contracts.server_handle.ServerHandle.into_parts.Key.{name as #self}
-use Rattle.waywire_c.proofs.server_handle.ServerHandle.into_parts.Statement as stated
-use Rattle.waywire_c.proofs.server_handle.ServerHandle.into_parts.Code as code
+use Rattle.waywire_c.proofs.AsBox.End.{E, FromHandle as From}
+use Rattle.waywire_c.specs.contracts.end_handle.EndHandle.into_parts as F
+use Rattle.waywire_c.specs.contracts.end_handle.EndHandle.into_parts.Key.{name as #self}
+use Rattle.waywire_c.proofs.end_handle.EndHandle.into_parts.Statement as stated
+use Rattle.waywire_c.proofs.end_handle.EndHandle.into_parts.Code as code
 
 abbrev stayed : Stays (F.ended).signature.params (F.ended).kept
 stayed = (stay_dropped From yes, tt)

@@ -1,4 +1,4 @@
--- A handle of the client and its parts own what a box at the same types owns.
+-- A handle of an end and its parts own what a box at the same types owns.
 use mir.Syntax.{impl, tnil, dnil}
 use mathlib.Core.List.{[]}
 use denote.Signature.{Slot, plain}
@@ -6,10 +6,10 @@ use Rattle.std_alloc.proofs.BoxSteps.Form.{Bx}
 use Rattle.std_heap.specs.contracts.Global as Heap
 use Rattle.std_heap.specs.contracts.GlobalAllocator.TheImpl.{ghosts, dict}
 use Rattle.std_heap.proofs.Global.TheLaws as heap
-use Rattle.waywire_c.specs.contracts.held.HeldClient as Held
-use Rattle.waywire_c.proofs.held.HeldClient.TheLaws as held
+use Rattle.waywire_c.specs.contracts.held.HeldEnd as Held
+use Rattle.waywire_c.proofs.held.HeldEnd.TheLaws as held
 use Rattle.waywire_c.specs.contracts.parts.Parts as Parts
-use Rattle.waywire_c.specs.contracts.client_handle.ClientHandle as Handle
+use Rattle.waywire_c.specs.contracts.end_handle.EndHandle as Handle
 
 abbrev pub E : Bx
 E = record {
