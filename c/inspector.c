@@ -71,15 +71,16 @@ waywire_status waywire_inspector_pass(waywire_inspector *inspector, waywire_send
 	return status;
 }
 
-waywire_status waywire_inspector_lines(const waywire_inspector *inspector, const char **lines,
-	size_t *length)
+const char *waywire_inspector_lines(const waywire_inspector *inspector, size_t *length)
 {
-	const void *found;
-	if (!inspector || !lines || !length)
-		return WAYWIRE_NULL;
-	waywire_c_inspector_lines(&inspector->handle, &found, length);
-	*lines = found ? found : (const char *)nowhere;
-	return WAYWIRE_OK;
+	const void *lines;
+	if (!length)
+		return NULL;
+	*length = 0;
+	if (!inspector)
+		return NULL;
+	waywire_c_inspector_lines(&inspector->handle, &lines, length);
+	return lines ? lines : (const char *)nowhere;
 }
 
 waywire_status waywire_inspector_verdict(waywire_inspector *inspector, const char **line,

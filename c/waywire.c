@@ -150,293 +150,304 @@ static uint32_t id_after(uint32_t id, uint32_t of_client, uint32_t of_server)
 
 /* ---- what both ends have */
 
-#define CALLS_OF_BOTH(end) \
-	/* An end, the tables that it lends, the pointers of its objects, and the tokens of its last report. */ \
-	struct waywire_##end { \
-		struct handle handle; \
-		waywire_tables *tables; \
-		struct users users; \
-		size_t untold; /* the tokens that came and that no report has told */ \
-		uint32_t tokens[WAYWIRE_MAX_ARGS]; \
-	}; \
-\
-	waywire_status waywire_##end##_new(const waywire_tables *tables, const waywire_sizes *sizes, \
-		waywire_##end **made) \
-	{ \
-		if (!tables || !sizes || !made) \
-			return WAYWIRE_NULL; \
-		waywire_##end *it = malloc(sizeof *it); \
-		if (!it) \
-			return WAYWIRE_NO_MEMORY; \
-		waywire_status status = waywire_c_##end##_new(tables->handle, sizes, &it->handle.at); \
-		if (status) { \
-			free(it); \
-			return status; \
-		} \
-		it->tables = used(tables); \
-		memset(&it->users, 0, sizeof it->users); \
-		it->untold = 0; \
-		*made = it; \
-		return WAYWIRE_OK; \
-	} \
-\
-	void waywire_##end##_free(waywire_##end *it) \
-	{ \
-		if (!it) \
-			return; \
-		waywire_c_end_free(it->handle); \
-		waywire_tables_free(it->tables); \
-		free_users(&it->users); \
-		free(it); \
-	} \
-\
-	waywire_status waywire_##end##_display(const waywire_##end *it, waywire_object *display) \
-	{ \
-		if (!it || !display) \
-			return WAYWIRE_NULL; \
-		waywire_c_end_display(&it->handle, display); \
-		return WAYWIRE_OK; \
-	} \
-\
-	waywire_status waywire_##end##_live(const waywire_##end *it, waywire_object object, \
-		uint16_t *interface, uint32_t *version) \
-	{ \
-		uint16_t no_interface; \
-		uint32_t no_version; \
-		if (!it) \
-			return WAYWIRE_NULL; \
-		return waywire_c_end_live(&it->handle, object, interface ? interface : &no_interface, \
-			version ? version : &no_version); \
-	} \
-\
-	waywire_status waywire_##end##_set_user(waywire_##end *it, waywire_object object, void *user) \
-	{ \
-		waywire_status status = waywire_##end##_live(it, object, NULL, NULL); \
-		if (status) \
-			return status == WAYWIRE_NOT_FOUND ? WAYWIRE_STALE : status; \
-		return set_user(&it->users, object, user); \
-	} \
-\
-	void *waywire_##end##_user(const waywire_##end *it, waywire_object object) \
-	{ \
-		return it ? user_of(&it->users, object) : NULL; \
-	} \
-\
-	waywire_status waywire_##end##_object_count(const waywire_##end *it, size_t *count) \
-	{ \
-		if (!it || !count) \
-			return WAYWIRE_NULL; \
-		*count = (size_t)waywire_c_end_object_count(&it->handle, false) \
-			+ waywire_c_end_object_count(&it->handle, true); \
-		return WAYWIRE_OK; \
-	} \
-\
-	waywire_status waywire_##end##_object_after(const waywire_##end *it, uint32_t id, \
-		waywire_object *object) \
-	{ \
-		uint64_t birth; \
-		if (!it || !object) \
-			return WAYWIRE_NULL; \
-		uint32_t of_client = waywire_c_end_ids_used(&it->handle, false); \
-		uint32_t of_server = waywire_c_end_ids_used(&it->handle, true); \
-		while ((id = id_after(id, of_client, of_server)) != 0) { \
-			if (waywire_c_end_look(&it->handle, id, &birth)) \
-				continue; \
-			object->birth = birth; \
-			object->id = id; \
-			return WAYWIRE_OK; \
-		} \
-		return WAYWIRE_NOT_FOUND; \
-	} \
-\
-	waywire_status waywire_##end##_has_failed(const waywire_##end *it, bool *failed) \
-	{ \
-		if (!it || !failed) \
-			return WAYWIRE_NULL; \
-		*failed = waywire_c_end_has_failed(&it->handle); \
-		return WAYWIRE_OK; \
-	} \
-\
-	waywire_status waywire_##end##_in_room(const waywire_##end *it, waywire_amounts *room) \
-	{ \
-		if (!it || !room) \
-			return WAYWIRE_NULL; \
-		waywire_c_end_in_room(&it->handle, room); \
-		return WAYWIRE_OK; \
-	} \
-\
-	waywire_status waywire_##end##_is_drained(const waywire_##end *it, bool *drained) \
-	{ \
-		if (!it || !drained) \
-			return WAYWIRE_NULL; \
-		*drained = waywire_c_end_is_drained(&it->handle); \
-		return WAYWIRE_OK; \
-	} \
-\
-	waywire_status waywire_##end##_feed(waywire_##end *it, const void *bytes, size_t length, \
-		const uint32_t *tokens, size_t token_count, waywire_amounts *fed) \
-	{ \
-		const void *from = tokens; \
-		if (!it || !fed) \
-			return WAYWIRE_NULL; \
-		waywire_status status = slice(&bytes, length, 1); \
-		if (!status) \
-			status = slice(&from, token_count, sizeof *tokens); \
-		if (status) \
-			return status; \
-		waywire_c_end_feed(&it->handle, bytes, length, from, token_count, fed); \
-		it->untold += fed->tokens; \
-		return waywire_c_end_has_failed(&it->handle) ? WAYWIRE_FAILED : WAYWIRE_OK; \
-	} \
-\
-	waywire_status waywire_##end##_goes(const waywire_##end *it, size_t bytes, size_t tokens, \
-		waywire_amounts *amounts) \
-	{ \
-		if (!it || !amounts) \
-			return WAYWIRE_NULL; \
-		waywire_c_end_goes(&it->handle, bytes, tokens, amounts); \
-		return WAYWIRE_OK; \
-	} \
-\
-	waywire_status waywire_##end##_take(waywire_##end *it, void *bytes, size_t length, \
-		uint32_t *tokens, size_t token_count, waywire_amounts *taken) \
-	{ \
-		const void *to = bytes, *tokens_to = tokens; \
-		if (!it || !taken) \
-			return WAYWIRE_NULL; \
-		waywire_status status = slice(&to, length, 1); \
-		if (!status) \
-			status = slice(&tokens_to, token_count, sizeof *tokens); \
-		if (!status) \
-			waywire_c_end_take(&it->handle, (void *)to, length, (uint32_t *)tokens_to, \
-				token_count, taken); \
-		return status; \
-	} \
-\
-	waywire_status waywire_##end##_peek(const waywire_##end *it, waywire_part parts[2], \
-		uint32_t *tokens, size_t room, size_t *token_count) \
-	{ \
-		const void *to = tokens; \
-		if (!it || !parts || !token_count) \
-			return WAYWIRE_NULL; \
-		waywire_status status = slice(&to, room, sizeof *tokens); \
-		if (status) \
-			return status; \
-		waywire_c_end_peek(&it->handle, parts, token_count); \
-		for (size_t place = 0; place < *token_count && place < room; place++) \
-			waywire_c_end_token_to_go(&it->handle, place, &tokens[place]); \
-		return WAYWIRE_OK; \
-	} \
-\
-	waywire_status waywire_##end##_sent(waywire_##end *it, size_t bytes, waywire_amounts *taken) \
-	{ \
-		waywire_amounts no_amounts; \
-		if (!it) \
-			return WAYWIRE_NULL; \
-		waywire_c_end_sent(&it->handle, bytes, taken ? taken : &no_amounts); \
-		return WAYWIRE_OK; \
-	} \
-\
-	waywire_status waywire_##end##_space(waywire_##end *it, waywire_part parts[2]) \
-	{ \
-		if (!it || !parts) \
-			return WAYWIRE_NULL; \
-		waywire_c_end_space(&it->handle, parts); \
-		return WAYWIRE_OK; \
-	} \
-\
-	waywire_status waywire_##end##_received(waywire_##end *it, size_t bytes, \
-		const uint32_t *tokens, size_t token_count, waywire_amounts *fed) \
-	{ \
-		const void *from = tokens; \
-		if (!it || !fed) \
-			return WAYWIRE_NULL; \
-		waywire_status status = slice(&from, token_count, sizeof *tokens); \
-		if (status) \
-			return status; \
-		waywire_c_end_received(&it->handle, bytes, from, token_count, fed); \
-		it->untold += fed->tokens; \
-		return waywire_c_end_has_failed(&it->handle) ? WAYWIRE_FAILED : WAYWIRE_OK; \
-	} \
-\
-	waywire_status waywire_##end##_take_waiting_tokens(waywire_##end *it, uint32_t *tokens, \
-		size_t token_count, size_t *taken) \
-	{ \
-		const void *to = tokens; \
-		if (!it || !taken) \
-			return WAYWIRE_NULL; \
-		waywire_status status = slice(&to, token_count, sizeof *tokens); \
-		if (!status) \
-			waywire_c_end_take_waiting_tokens(&it->handle, (uint32_t *)to, token_count, taken); \
-		return status; \
-	} \
-\
-	waywire_status waywire_##end##_send(waywire_##end *it, waywire_object target, \
-		uint16_t opcode, const waywire_arg *args, size_t arg_count, waywire_object *made, \
-		size_t *place) \
-	{ \
-		waywire_arg copies[MAX_GIVEN]; \
-		waywire_object object; \
-		size_t refused; \
-		if (!it) \
-			return WAYWIRE_NULL; \
-		if (arg_count > MAX_GIVEN) \
-			arg_count = MAX_GIVEN; \
-		if (!have_slices(args, arg_count)) { \
-			waywire_status status = copy_args(args, arg_count, copies); \
-			if (status) \
-				return status; \
-			args = copies; \
-		} \
-		waywire_status status = waywire_c_end_send(&it->handle, target, opcode, args, arg_count, \
-			&object, &refused); \
-		if (!status && made) \
-			*made = object; \
-		if (place && (status == WAYWIRE_WRONG_ARGS || status == WAYWIRE_BAD_OBJECT)) \
-			*place = refused; \
-		return status; \
-	} \
-\
-	waywire_status waywire_##end##_next(waywire_##end *it, waywire_report *report) \
-	{ \
-		if (!it || !report) \
-			return WAYWIRE_NULL; \
-		waywire_status status = waywire_c_end_next(&it->handle, report, report->args, \
-			WAYWIRE_MAX_ARGS); \
-		if (it->untold) { \
-			list_tokens(report, it->tokens); \
-			it->untold -= report->token_count; \
-		} \
-		report->user = user_of(&it->users, report->target); \
-		report->replaced_user = report->replaced.id ? user_of(&it->users, report->replaced) : NULL; \
-		return status; \
+/* An end, the tables that it lends, its objects' pointers, and the tokens of its last report. */
+struct waywire_end {
+	struct handle handle;
+	waywire_tables *tables;
+	struct users users;
+	size_t untold; /* the tokens that came and that no report has told */
+	uint32_t tokens[WAYWIRE_MAX_ARGS];
+};
+
+/* The export that makes an end. */
+typedef uint32_t maker(struct handle tables, const waywire_sizes *, void **made);
+
+static waywire_status new_end(maker *make, const waywire_tables *tables, const waywire_sizes *sizes,
+	waywire_end **made)
+{
+	if (!tables || !sizes)
+		return WAYWIRE_NULL;
+	waywire_end *end = malloc(sizeof *end);
+	if (!end)
+		return WAYWIRE_NO_MEMORY;
+	waywire_status status = make(tables->handle, sizes, &end->handle.at);
+	if (status) {
+		free(end);
+		return status;
 	}
+	end->tables = used(tables);
+	memset(&end->users, 0, sizeof end->users);
+	end->untold = 0;
+	*made = end;
+	return WAYWIRE_OK;
+}
 
-CALLS_OF_BOTH(client)
-CALLS_OF_BOTH(server)
+void waywire_end_free(waywire_end *end)
+{
+	if (!end)
+		return;
+	waywire_c_end_free(end->handle);
+	waywire_tables_free(end->tables);
+	free_users(&end->users);
+	free(end);
+}
 
-/* ---- what one end has */
+waywire_object waywire_end_display(const waywire_end *end)
+{
+	waywire_object display = { 0, 0 };
+	if (end)
+		waywire_c_end_display(&end->handle, &display);
+	return display;
+}
 
-waywire_status waywire_client_bind(waywire_client *client, waywire_object registry, uint32_t name,
+waywire_status waywire_end_live(const waywire_end *end, waywire_object object, uint16_t *interface,
+	uint32_t *version)
+{
+	uint16_t no_interface;
+	uint32_t no_version;
+	if (!end)
+		return WAYWIRE_NULL;
+	return waywire_c_end_live(&end->handle, object, interface ? interface : &no_interface,
+		version ? version : &no_version);
+}
+
+waywire_status waywire_end_set_user(waywire_end *end, waywire_object object, void *user)
+{
+	waywire_status status = waywire_end_live(end, object, NULL, NULL);
+	if (status)
+		return status == WAYWIRE_NOT_FOUND ? WAYWIRE_STALE : status;
+	return set_user(&end->users, object, user);
+}
+
+void *waywire_end_user(const waywire_end *end, waywire_object object)
+{
+	return end ? user_of(&end->users, object) : NULL;
+}
+
+size_t waywire_end_object_count(const waywire_end *end)
+{
+	if (!end)
+		return 0;
+	return (size_t)waywire_c_end_object_count(&end->handle, false)
+		+ waywire_c_end_object_count(&end->handle, true);
+}
+
+waywire_status waywire_end_object_after(const waywire_end *end, uint32_t id, waywire_object *object)
+{
+	uint64_t birth;
+	if (!end || !object)
+		return WAYWIRE_NULL;
+	uint32_t of_client = waywire_c_end_ids_used(&end->handle, false);
+	uint32_t of_server = waywire_c_end_ids_used(&end->handle, true);
+	while ((id = id_after(id, of_client, of_server)) != 0) {
+		if (waywire_c_end_look(&end->handle, id, &birth))
+			continue;
+		object->birth = birth;
+		object->id = id;
+		return WAYWIRE_OK;
+	}
+	return WAYWIRE_NOT_FOUND;
+}
+
+bool waywire_end_has_failed(const waywire_end *end)
+{
+	return !end || waywire_c_end_has_failed(&end->handle);
+}
+
+waywire_amounts waywire_end_in_room(const waywire_end *end)
+{
+	waywire_amounts room = { 0, 0 };
+	if (end)
+		waywire_c_end_in_room(&end->handle, &room);
+	return room;
+}
+
+bool waywire_end_is_drained(const waywire_end *end)
+{
+	return !end || waywire_c_end_is_drained(&end->handle);
+}
+
+/* Counts the tokens that an end has taken in. WAYWIRE_FAILED if it takes nothing in at all. */
+static waywire_status after_feed(waywire_end *end, const waywire_amounts *fed)
+{
+	end->untold += fed->tokens;
+	return waywire_c_end_has_failed(&end->handle) ? WAYWIRE_FAILED : WAYWIRE_OK;
+}
+
+waywire_status waywire_end_feed(waywire_end *end, const void *bytes, size_t length,
+	const uint32_t *tokens, size_t token_count, waywire_amounts *fed)
+{
+	const void *from = tokens;
+	if (!end || !fed)
+		return WAYWIRE_NULL;
+	waywire_status status = slice(&bytes, length, 1);
+	if (!status)
+		status = slice(&from, token_count, sizeof *tokens);
+	if (status)
+		return status;
+	waywire_c_end_feed(&end->handle, bytes, length, from, token_count, fed);
+	return after_feed(end, fed);
+}
+
+waywire_amounts waywire_end_goes(const waywire_end *end, size_t bytes, size_t tokens)
+{
+	waywire_amounts amounts = { 0, 0 };
+	if (end)
+		waywire_c_end_goes(&end->handle, bytes, tokens, &amounts);
+	return amounts;
+}
+
+waywire_status waywire_end_take(waywire_end *end, void *bytes, size_t length, uint32_t *tokens,
+	size_t token_count, waywire_amounts *taken)
+{
+	const void *to = bytes, *tokens_to = tokens;
+	if (!end || !taken)
+		return WAYWIRE_NULL;
+	waywire_status status = slice(&to, length, 1);
+	if (!status)
+		status = slice(&tokens_to, token_count, sizeof *tokens);
+	if (!status)
+		waywire_c_end_take(&end->handle, (void *)to, length, (uint32_t *)tokens_to,
+			token_count, taken);
+	return status;
+}
+
+waywire_status waywire_end_peek(const waywire_end *end, waywire_part parts[2], uint32_t *tokens,
+	size_t room, size_t *token_count)
+{
+	const void *to = tokens;
+	if (!end || !parts || !token_count)
+		return WAYWIRE_NULL;
+	waywire_status status = slice(&to, room, sizeof *tokens);
+	if (status)
+		return status;
+	waywire_c_end_peek(&end->handle, parts, token_count);
+	for (size_t place = 0; place < *token_count && place < room; place++)
+		waywire_c_end_token_to_go(&end->handle, place, &tokens[place]);
+	return WAYWIRE_OK;
+}
+
+waywire_amounts waywire_end_sent(waywire_end *end, size_t bytes)
+{
+	waywire_amounts taken = { 0, 0 };
+	if (end)
+		waywire_c_end_sent(&end->handle, bytes, &taken);
+	return taken;
+}
+
+void waywire_end_space(waywire_end *end, waywire_part parts[2])
+{
+	if (!parts)
+		return;
+	if (end)
+		waywire_c_end_space(&end->handle, parts);
+	else
+		memset(parts, 0, 2 * sizeof *parts);
+}
+
+waywire_status waywire_end_received(waywire_end *end, size_t bytes, const uint32_t *tokens,
+	size_t token_count, waywire_amounts *fed)
+{
+	const void *from = tokens;
+	if (!end || !fed)
+		return WAYWIRE_NULL;
+	waywire_status status = slice(&from, token_count, sizeof *tokens);
+	if (status)
+		return status;
+	waywire_c_end_received(&end->handle, bytes, from, token_count, fed);
+	return after_feed(end, fed);
+}
+
+waywire_status waywire_end_take_waiting_tokens(waywire_end *end, uint32_t *tokens,
+	size_t token_count, size_t *taken)
+{
+	const void *to = tokens;
+	if (!end || !taken)
+		return WAYWIRE_NULL;
+	waywire_status status = slice(&to, token_count, sizeof *tokens);
+	if (!status)
+		waywire_c_end_take_waiting_tokens(&end->handle, (uint32_t *)to, token_count, taken);
+	return status;
+}
+
+waywire_status waywire_end_send(waywire_end *end, waywire_object target, uint16_t opcode,
+	const waywire_arg *args, size_t arg_count, waywire_object *made, size_t *place)
+{
+	waywire_arg copies[MAX_GIVEN];
+	waywire_object object;
+	size_t refused;
+	if (!end)
+		return WAYWIRE_NULL;
+	if (arg_count > MAX_GIVEN)
+		arg_count = MAX_GIVEN;
+	if (!have_slices(args, arg_count)) {
+		waywire_status status = copy_args(args, arg_count, copies);
+		if (status)
+			return status;
+		args = copies;
+	}
+	waywire_status status = waywire_c_end_send(&end->handle, target, opcode, args, arg_count,
+		&object, &refused);
+	if (!status && made)
+		*made = object;
+	if (place && (status == WAYWIRE_WRONG_ARGS || status == WAYWIRE_BAD_OBJECT))
+		*place = refused;
+	return status;
+}
+
+waywire_status waywire_end_next(waywire_end *end, waywire_report *report)
+{
+	if (!end || !report)
+		return WAYWIRE_NULL;
+	waywire_status status = waywire_c_end_next(&end->handle, report, report->args,
+		WAYWIRE_MAX_ARGS);
+	if (end->untold) {
+		list_tokens(report, end->tokens);
+		end->untold -= report->token_count;
+	}
+	report->user = user_of(&end->users, report->target);
+	report->replaced_user = report->replaced.id ? user_of(&end->users, report->replaced) : NULL;
+	return status;
+}
+
+/* ---- what a client has alone */
+
+waywire_status waywire_client_new(const waywire_tables *tables, const waywire_sizes *sizes,
+	waywire_client *client)
+{
+	return client ? new_end(waywire_c_client_new, tables, sizes, &client->end) : WAYWIRE_NULL;
+}
+
+waywire_status waywire_client_bind(waywire_client client, waywire_object registry, uint32_t name,
 	const char *interface, uint32_t version, waywire_object *bound)
 {
 	waywire_object no_object;
-	if (!client || !interface)
+	if (!client.end || !interface)
 		return WAYWIRE_NULL;
-	return waywire_c_client_bind(&client->handle, registry, name, interface, strlen(interface), version,
-		bound ? bound : &no_object);
+	return waywire_c_client_bind(&client.end->handle, registry, name, interface,
+		strlen(interface), version, bound ? bound : &no_object);
 }
 
-waywire_status waywire_client_made(const waywire_client *client, waywire_object *made)
+waywire_status waywire_client_made(waywire_client client, waywire_object *made)
 {
-	if (!client || !made)
+	if (!client.end || !made)
 		return WAYWIRE_NULL;
-	return waywire_c_client_made(&client->handle, made);
+	return waywire_c_client_made(&client.end->handle, made);
 }
 
-waywire_status waywire_server_drop_object(waywire_server *server, waywire_object object)
+/* ---- what a server has alone */
+
+waywire_status waywire_server_new(const waywire_tables *tables, const waywire_sizes *sizes,
+	waywire_server *server)
 {
-	return server ? waywire_c_server_drop_object(&server->handle, object) : WAYWIRE_NULL;
+	return server ? new_end(waywire_c_server_new, tables, sizes, &server->end) : WAYWIRE_NULL;
+}
+
+waywire_status waywire_server_drop_object(waywire_server server, waywire_object object)
+{
+	if (!server.end)
+		return WAYWIRE_NULL;
+	return waywire_c_server_drop_object(&server.end->handle, object);
 }
 
 /* How many bytes of a text an error has room for, no character of UTF-8 cut. */
@@ -451,32 +462,38 @@ static size_t error_length(const char *text)
 	return WAYWIRE_MAX_ERROR_TEXT; /* it is no UTF-8 */
 }
 
-waywire_status waywire_server_post_error(waywire_server *server, waywire_object object, uint32_t code,
-	const char *text)
+waywire_status waywire_server_post_error(waywire_server server, waywire_object object,
+	uint32_t code, const char *text)
 {
-	if (!server || !text)
+	if (!server.end || !text)
 		return WAYWIRE_NULL;
-	return waywire_c_server_post_error(&server->handle, object, code, text, error_length(text));
+	return waywire_c_server_post_error(&server.end->handle, object, code, text,
+		error_length(text));
 }
 
-waywire_status waywire_server_add_global(waywire_server *server, uint16_t interface, uint32_t version,
-	uint32_t *name)
+waywire_status waywire_server_add_global(waywire_server server, uint16_t interface,
+	uint32_t version, uint32_t *name)
 {
 	uint32_t no_name;
-	if (!server)
+	if (!server.end)
 		return WAYWIRE_NULL;
-	return waywire_c_server_add_global(&server->handle, interface, version, name ? name : &no_name);
+	return waywire_c_server_add_global(&server.end->handle, interface, version,
+		name ? name : &no_name);
 }
 
-waywire_status waywire_server_withdraw(waywire_server *server, uint32_t name)
+waywire_status waywire_server_withdraw(waywire_server server, uint32_t name)
 {
-	return server ? waywire_c_server_withdraw(&server->handle, name) : WAYWIRE_NULL;
+	if (!server.end)
+		return WAYWIRE_NULL;
+	return waywire_c_server_withdraw(&server.end->handle, name);
 }
 
-waywire_status waywire_server_announce(waywire_server *server, size_t *count)
+waywire_status waywire_server_announce(waywire_server server, size_t *count)
 {
 	size_t no_count;
-	return server ? waywire_c_server_announce(&server->handle, count ? count : &no_count) : WAYWIRE_NULL;
+	if (!server.end)
+		return WAYWIRE_NULL;
+	return waywire_c_server_announce(&server.end->handle, count ? count : &no_count);
 }
 
 /* ---- texts */

@@ -33,14 +33,14 @@ enum waywire_wl_display_error {
 };
 
 /* asks for an answer once all requests before it are done */
-static inline waywire_object waywire_wl_display_sync(waywire_client *client,
+static inline waywire_object waywire_wl_display_sync(waywire_client client,
 	waywire_object wl_display, waywire_status *status)
 {
 	waywire_arg args[1];
 	waywire_object made = { 0, 0 };
 	waywire_status done;
 	args[0] = waywire_new();
-	done = waywire_client_send(client, wl_display, WAYWIRE_WL_DISPLAY_REQUEST_SYNC, args, 1,
+	done = waywire_end_send(client.end, wl_display, WAYWIRE_WL_DISPLAY_REQUEST_SYNC, args, 1,
 		&made, NULL);
 	if (status)
 		*status = done;
@@ -48,14 +48,14 @@ static inline waywire_object waywire_wl_display_sync(waywire_client *client,
 }
 
 /* makes a registry, which tells the globals */
-static inline waywire_object waywire_wl_display_get_registry(waywire_client *client,
+static inline waywire_object waywire_wl_display_get_registry(waywire_client client,
 	waywire_object wl_display, waywire_status *status)
 {
 	waywire_arg args[1];
 	waywire_object made = { 0, 0 };
 	waywire_status done;
 	args[0] = waywire_new();
-	done = waywire_client_send(client, wl_display, WAYWIRE_WL_DISPLAY_REQUEST_GET_REGISTRY,
+	done = waywire_end_send(client.end, wl_display, WAYWIRE_WL_DISPLAY_REQUEST_GET_REGISTRY,
 		args, 1, &made, NULL);
 	if (status)
 		*status = done;
@@ -142,7 +142,7 @@ static inline bool waywire_wl_display_request_dispatcher(const void *calls, void
 #define WAYWIRE_WL_REGISTRY_EVENT_GLOBAL_REMOVE_SINCE 1
 
 /* makes an object of a global */
-static inline waywire_object waywire_wl_registry_bind(waywire_client *client,
+static inline waywire_object waywire_wl_registry_bind(waywire_client client,
 	waywire_object wl_registry, uint32_t name, const char *interface, uint32_t version,
 	waywire_status *status)
 {
@@ -233,12 +233,12 @@ static inline bool waywire_wl_registry_request_dispatcher(const void *calls, voi
 #define WAYWIRE_WL_CALLBACK_EVENT_DONE_SINCE 1
 
 /* what was waited for is done; the object ends with it */
-static inline waywire_status waywire_wl_callback_send_done(waywire_server *server,
+static inline waywire_status waywire_wl_callback_send_done(waywire_server server,
 	waywire_object wl_callback, uint32_t callback_data)
 {
 	waywire_arg args[1];
 	args[0] = waywire_uint(callback_data);
-	return waywire_server_send(server, wl_callback, WAYWIRE_WL_CALLBACK_EVENT_DONE, args, 1,
+	return waywire_end_send(server.end, wl_callback, WAYWIRE_WL_CALLBACK_EVENT_DONE, args, 1,
 		NULL, NULL);
 }
 
@@ -283,14 +283,14 @@ static inline bool waywire_wl_callback_event_dispatcher(const void *calls, void 
 #define WAYWIRE_WL_COMPOSITOR_REQUEST_CREATE_REGION_SINCE 1
 
 /* makes a surface */
-static inline waywire_object waywire_wl_compositor_create_surface(waywire_client *client,
+static inline waywire_object waywire_wl_compositor_create_surface(waywire_client client,
 	waywire_object wl_compositor, waywire_status *status)
 {
 	waywire_arg args[1];
 	waywire_object made = { 0, 0 };
 	waywire_status done;
 	args[0] = waywire_new();
-	done = waywire_client_send(client, wl_compositor,
+	done = waywire_end_send(client.end, wl_compositor,
 		WAYWIRE_WL_COMPOSITOR_REQUEST_CREATE_SURFACE, args, 1, &made, NULL);
 	if (status)
 		*status = done;
@@ -298,14 +298,14 @@ static inline waywire_object waywire_wl_compositor_create_surface(waywire_client
 }
 
 /* makes a region */
-static inline waywire_object waywire_wl_compositor_create_region(waywire_client *client,
+static inline waywire_object waywire_wl_compositor_create_region(waywire_client client,
 	waywire_object wl_compositor, waywire_status *status)
 {
 	waywire_arg args[1];
 	waywire_object made = { 0, 0 };
 	waywire_status done;
 	args[0] = waywire_new();
-	done = waywire_client_send(client, wl_compositor,
+	done = waywire_end_send(client.end, wl_compositor,
 		WAYWIRE_WL_COMPOSITOR_REQUEST_CREATE_REGION, args, 1, &made, NULL);
 	if (status)
 		*status = done;
@@ -480,7 +480,7 @@ enum waywire_wl_shm_format {
 };
 
 /* makes a pool of the memory behind a descriptor */
-static inline waywire_object waywire_wl_shm_create_pool(waywire_client *client,
+static inline waywire_object waywire_wl_shm_create_pool(waywire_client client,
 	waywire_object wl_shm, int fd, int32_t size, waywire_status *status)
 {
 	waywire_arg args[3];
@@ -489,7 +489,7 @@ static inline waywire_object waywire_wl_shm_create_pool(waywire_client *client,
 	args[0] = waywire_new();
 	args[1] = waywire_fd((uint32_t)fd);
 	args[2] = waywire_int(size);
-	done = waywire_client_send(client, wl_shm, WAYWIRE_WL_SHM_REQUEST_CREATE_POOL, args, 3,
+	done = waywire_end_send(client.end, wl_shm, WAYWIRE_WL_SHM_REQUEST_CREATE_POOL, args, 3,
 		&made, NULL);
 	if (status)
 		*status = done;
@@ -497,19 +497,19 @@ static inline waywire_object waywire_wl_shm_create_pool(waywire_client *client,
 }
 
 /* the client is done with the object */
-static inline waywire_status waywire_wl_shm_release(waywire_client *client, waywire_object wl_shm)
+static inline waywire_status waywire_wl_shm_release(waywire_client client, waywire_object wl_shm)
 {
-	return waywire_client_send(client, wl_shm, WAYWIRE_WL_SHM_REQUEST_RELEASE, NULL, 0, NULL,
+	return waywire_end_send(client.end, wl_shm, WAYWIRE_WL_SHM_REQUEST_RELEASE, NULL, 0, NULL,
 		NULL);
 }
 
 /* a pixel format that buffers may have */
-static inline waywire_status waywire_wl_shm_send_format(waywire_server *server,
+static inline waywire_status waywire_wl_shm_send_format(waywire_server server,
 	waywire_object wl_shm, uint32_t format)
 {
 	waywire_arg args[1];
 	args[0] = waywire_uint(format);
-	return waywire_server_send(server, wl_shm, WAYWIRE_WL_SHM_EVENT_FORMAT, args, 1, NULL,
+	return waywire_end_send(server.end, wl_shm, WAYWIRE_WL_SHM_EVENT_FORMAT, args, 1, NULL,
 		NULL);
 }
 
@@ -593,7 +593,7 @@ static inline bool waywire_wl_shm_request_dispatcher(const void *calls, void *da
 #define WAYWIRE_WL_SHM_POOL_REQUEST_RESIZE_SINCE 1
 
 /* makes a buffer of a part of the pool */
-static inline waywire_object waywire_wl_shm_pool_create_buffer(waywire_client *client,
+static inline waywire_object waywire_wl_shm_pool_create_buffer(waywire_client client,
 	waywire_object wl_shm_pool, int32_t offset, int32_t width, int32_t height, int32_t stride,
 	uint32_t format, waywire_status *status)
 {
@@ -606,7 +606,7 @@ static inline waywire_object waywire_wl_shm_pool_create_buffer(waywire_client *c
 	args[3] = waywire_int(height);
 	args[4] = waywire_int(stride);
 	args[5] = waywire_uint(format);
-	done = waywire_client_send(client, wl_shm_pool, WAYWIRE_WL_SHM_POOL_REQUEST_CREATE_BUFFER,
+	done = waywire_end_send(client.end, wl_shm_pool, WAYWIRE_WL_SHM_POOL_REQUEST_CREATE_BUFFER,
 		args, 6, &made, NULL);
 	if (status)
 		*status = done;
@@ -614,21 +614,21 @@ static inline waywire_object waywire_wl_shm_pool_create_buffer(waywire_client *c
 }
 
 /* ends the pool; its buffers stay */
-static inline waywire_status waywire_wl_shm_pool_destroy(waywire_client *client,
+static inline waywire_status waywire_wl_shm_pool_destroy(waywire_client client,
 	waywire_object wl_shm_pool)
 {
-	return waywire_client_send(client, wl_shm_pool, WAYWIRE_WL_SHM_POOL_REQUEST_DESTROY, NULL,
+	return waywire_end_send(client.end, wl_shm_pool, WAYWIRE_WL_SHM_POOL_REQUEST_DESTROY, NULL,
 		0, NULL, NULL);
 }
 
 /* makes the pool larger */
-static inline waywire_status waywire_wl_shm_pool_resize(waywire_client *client,
+static inline waywire_status waywire_wl_shm_pool_resize(waywire_client client,
 	waywire_object wl_shm_pool, int32_t size)
 {
 	waywire_arg args[1];
 	args[0] = waywire_int(size);
-	return waywire_client_send(client, wl_shm_pool, WAYWIRE_WL_SHM_POOL_REQUEST_RESIZE, args, 1,
-		NULL, NULL);
+	return waywire_end_send(client.end, wl_shm_pool, WAYWIRE_WL_SHM_POOL_REQUEST_RESIZE, args,
+		1, NULL, NULL);
 }
 
 struct waywire_wl_shm_pool_requests {
@@ -688,18 +688,18 @@ static inline bool waywire_wl_shm_pool_request_dispatcher(const void *calls, voi
 #define WAYWIRE_WL_BUFFER_EVENT_RELEASE_SINCE 1
 
 /* ends the buffer */
-static inline waywire_status waywire_wl_buffer_destroy(waywire_client *client,
+static inline waywire_status waywire_wl_buffer_destroy(waywire_client client,
 	waywire_object wl_buffer)
 {
-	return waywire_client_send(client, wl_buffer, WAYWIRE_WL_BUFFER_REQUEST_DESTROY, NULL, 0,
+	return waywire_end_send(client.end, wl_buffer, WAYWIRE_WL_BUFFER_REQUEST_DESTROY, NULL, 0,
 		NULL, NULL);
 }
 
 /* the server no longer reads the buffer */
-static inline waywire_status waywire_wl_buffer_send_release(waywire_server *server,
+static inline waywire_status waywire_wl_buffer_send_release(waywire_server server,
 	waywire_object wl_buffer)
 {
-	return waywire_server_send(server, wl_buffer, WAYWIRE_WL_BUFFER_EVENT_RELEASE, NULL, 0,
+	return waywire_end_send(server.end, wl_buffer, WAYWIRE_WL_BUFFER_EVENT_RELEASE, NULL, 0,
 		NULL, NULL);
 }
 
@@ -804,27 +804,27 @@ enum waywire_wl_surface_error {
 };
 
 /* ends the surface */
-static inline waywire_status waywire_wl_surface_destroy(waywire_client *client,
+static inline waywire_status waywire_wl_surface_destroy(waywire_client client,
 	waywire_object wl_surface)
 {
-	return waywire_client_send(client, wl_surface, WAYWIRE_WL_SURFACE_REQUEST_DESTROY, NULL, 0,
+	return waywire_end_send(client.end, wl_surface, WAYWIRE_WL_SURFACE_REQUEST_DESTROY, NULL, 0,
 		NULL, NULL);
 }
 
 /* sets the buffer of the next commit */
-static inline waywire_status waywire_wl_surface_attach(waywire_client *client,
+static inline waywire_status waywire_wl_surface_attach(waywire_client client,
 	waywire_object wl_surface, waywire_object buffer, int32_t x, int32_t y)
 {
 	waywire_arg args[3];
 	args[0] = buffer.id ? waywire_of(buffer) : waywire_no_object();
 	args[1] = waywire_int(x);
 	args[2] = waywire_int(y);
-	return waywire_client_send(client, wl_surface, WAYWIRE_WL_SURFACE_REQUEST_ATTACH, args, 3,
+	return waywire_end_send(client.end, wl_surface, WAYWIRE_WL_SURFACE_REQUEST_ATTACH, args, 3,
 		NULL, NULL);
 }
 
 /* marks a part as changed, in surface coordinates */
-static inline waywire_status waywire_wl_surface_damage(waywire_client *client,
+static inline waywire_status waywire_wl_surface_damage(waywire_client client,
 	waywire_object wl_surface, int32_t x, int32_t y, int32_t width, int32_t height)
 {
 	waywire_arg args[4];
@@ -832,19 +832,19 @@ static inline waywire_status waywire_wl_surface_damage(waywire_client *client,
 	args[1] = waywire_int(y);
 	args[2] = waywire_int(width);
 	args[3] = waywire_int(height);
-	return waywire_client_send(client, wl_surface, WAYWIRE_WL_SURFACE_REQUEST_DAMAGE, args, 4,
+	return waywire_end_send(client.end, wl_surface, WAYWIRE_WL_SURFACE_REQUEST_DAMAGE, args, 4,
 		NULL, NULL);
 }
 
 /* asks to be told when to draw the next frame */
-static inline waywire_object waywire_wl_surface_frame(waywire_client *client,
+static inline waywire_object waywire_wl_surface_frame(waywire_client client,
 	waywire_object wl_surface, waywire_status *status)
 {
 	waywire_arg args[1];
 	waywire_object made = { 0, 0 };
 	waywire_status done;
 	args[0] = waywire_new();
-	done = waywire_client_send(client, wl_surface, WAYWIRE_WL_SURFACE_REQUEST_FRAME, args, 1,
+	done = waywire_end_send(client.end, wl_surface, WAYWIRE_WL_SURFACE_REQUEST_FRAME, args, 1,
 		&made, NULL);
 	if (status)
 		*status = done;
@@ -852,55 +852,55 @@ static inline waywire_object waywire_wl_surface_frame(waywire_client *client,
 }
 
 /* says which part hides what is behind it */
-static inline waywire_status waywire_wl_surface_set_opaque_region(waywire_client *client,
+static inline waywire_status waywire_wl_surface_set_opaque_region(waywire_client client,
 	waywire_object wl_surface, waywire_object region)
 {
 	waywire_arg args[1];
 	args[0] = region.id ? waywire_of(region) : waywire_no_object();
-	return waywire_client_send(client, wl_surface, WAYWIRE_WL_SURFACE_REQUEST_SET_OPAQUE_REGION,
-		args, 1, NULL, NULL);
+	return waywire_end_send(client.end, wl_surface,
+		WAYWIRE_WL_SURFACE_REQUEST_SET_OPAQUE_REGION, args, 1, NULL, NULL);
 }
 
 /* says which part takes input */
-static inline waywire_status waywire_wl_surface_set_input_region(waywire_client *client,
+static inline waywire_status waywire_wl_surface_set_input_region(waywire_client client,
 	waywire_object wl_surface, waywire_object region)
 {
 	waywire_arg args[1];
 	args[0] = region.id ? waywire_of(region) : waywire_no_object();
-	return waywire_client_send(client, wl_surface, WAYWIRE_WL_SURFACE_REQUEST_SET_INPUT_REGION,
+	return waywire_end_send(client.end, wl_surface, WAYWIRE_WL_SURFACE_REQUEST_SET_INPUT_REGION,
 		args, 1, NULL, NULL);
 }
 
 /* makes all that was set since the last commit take effect */
-static inline waywire_status waywire_wl_surface_commit(waywire_client *client,
+static inline waywire_status waywire_wl_surface_commit(waywire_client client,
 	waywire_object wl_surface)
 {
-	return waywire_client_send(client, wl_surface, WAYWIRE_WL_SURFACE_REQUEST_COMMIT, NULL, 0,
+	return waywire_end_send(client.end, wl_surface, WAYWIRE_WL_SURFACE_REQUEST_COMMIT, NULL, 0,
 		NULL, NULL);
 }
 
 /* says how the buffer is turned */
-static inline waywire_status waywire_wl_surface_set_buffer_transform(waywire_client *client,
+static inline waywire_status waywire_wl_surface_set_buffer_transform(waywire_client client,
 	waywire_object wl_surface, int32_t transform)
 {
 	waywire_arg args[1];
 	args[0] = waywire_int(transform);
-	return waywire_client_send(client, wl_surface,
+	return waywire_end_send(client.end, wl_surface,
 		WAYWIRE_WL_SURFACE_REQUEST_SET_BUFFER_TRANSFORM, args, 1, NULL, NULL);
 }
 
 /* says how many pixels of the buffer one unit has */
-static inline waywire_status waywire_wl_surface_set_buffer_scale(waywire_client *client,
+static inline waywire_status waywire_wl_surface_set_buffer_scale(waywire_client client,
 	waywire_object wl_surface, int32_t scale)
 {
 	waywire_arg args[1];
 	args[0] = waywire_int(scale);
-	return waywire_client_send(client, wl_surface, WAYWIRE_WL_SURFACE_REQUEST_SET_BUFFER_SCALE,
+	return waywire_end_send(client.end, wl_surface, WAYWIRE_WL_SURFACE_REQUEST_SET_BUFFER_SCALE,
 		args, 1, NULL, NULL);
 }
 
 /* marks a part as changed, in pixels of the buffer */
-static inline waywire_status waywire_wl_surface_damage_buffer(waywire_client *client,
+static inline waywire_status waywire_wl_surface_damage_buffer(waywire_client client,
 	waywire_object wl_surface, int32_t x, int32_t y, int32_t width, int32_t height)
 {
 	waywire_arg args[4];
@@ -908,58 +908,58 @@ static inline waywire_status waywire_wl_surface_damage_buffer(waywire_client *cl
 	args[1] = waywire_int(y);
 	args[2] = waywire_int(width);
 	args[3] = waywire_int(height);
-	return waywire_client_send(client, wl_surface, WAYWIRE_WL_SURFACE_REQUEST_DAMAGE_BUFFER,
+	return waywire_end_send(client.end, wl_surface, WAYWIRE_WL_SURFACE_REQUEST_DAMAGE_BUFFER,
 		args, 4, NULL, NULL);
 }
 
 /* moves the content of the next commit */
-static inline waywire_status waywire_wl_surface_offset(waywire_client *client,
+static inline waywire_status waywire_wl_surface_offset(waywire_client client,
 	waywire_object wl_surface, int32_t x, int32_t y)
 {
 	waywire_arg args[2];
 	args[0] = waywire_int(x);
 	args[1] = waywire_int(y);
-	return waywire_client_send(client, wl_surface, WAYWIRE_WL_SURFACE_REQUEST_OFFSET, args, 2,
+	return waywire_end_send(client.end, wl_surface, WAYWIRE_WL_SURFACE_REQUEST_OFFSET, args, 2,
 		NULL, NULL);
 }
 
 /* the surface is shown on an output */
-static inline waywire_status waywire_wl_surface_send_enter(waywire_server *server,
+static inline waywire_status waywire_wl_surface_send_enter(waywire_server server,
 	waywire_object wl_surface, waywire_object output)
 {
 	waywire_arg args[1];
 	args[0] = output.id ? waywire_of(output) : waywire_no_object();
-	return waywire_server_send(server, wl_surface, WAYWIRE_WL_SURFACE_EVENT_ENTER, args, 1,
+	return waywire_end_send(server.end, wl_surface, WAYWIRE_WL_SURFACE_EVENT_ENTER, args, 1,
 		NULL, NULL);
 }
 
 /* the surface is no longer shown on an output */
-static inline waywire_status waywire_wl_surface_send_leave(waywire_server *server,
+static inline waywire_status waywire_wl_surface_send_leave(waywire_server server,
 	waywire_object wl_surface, waywire_object output)
 {
 	waywire_arg args[1];
 	args[0] = output.id ? waywire_of(output) : waywire_no_object();
-	return waywire_server_send(server, wl_surface, WAYWIRE_WL_SURFACE_EVENT_LEAVE, args, 1,
+	return waywire_end_send(server.end, wl_surface, WAYWIRE_WL_SURFACE_EVENT_LEAVE, args, 1,
 		NULL, NULL);
 }
 
 /* the scale that suits the surface */
-static inline waywire_status waywire_wl_surface_send_preferred_buffer_scale(waywire_server *server,
+static inline waywire_status waywire_wl_surface_send_preferred_buffer_scale(waywire_server server,
 	waywire_object wl_surface, int32_t factor)
 {
 	waywire_arg args[1];
 	args[0] = waywire_int(factor);
-	return waywire_server_send(server, wl_surface,
+	return waywire_end_send(server.end, wl_surface,
 		WAYWIRE_WL_SURFACE_EVENT_PREFERRED_BUFFER_SCALE, args, 1, NULL, NULL);
 }
 
 /* the transform that suits the surface */
 static inline waywire_status waywire_wl_surface_send_preferred_buffer_transform(
-	waywire_server *server, waywire_object wl_surface, uint32_t transform)
+	waywire_server server, waywire_object wl_surface, uint32_t transform)
 {
 	waywire_arg args[1];
 	args[0] = waywire_uint(transform);
-	return waywire_server_send(server, wl_surface,
+	return waywire_end_send(server.end, wl_surface,
 		WAYWIRE_WL_SURFACE_EVENT_PREFERRED_BUFFER_TRANSFORM, args, 1, NULL, NULL);
 }
 
@@ -1131,15 +1131,15 @@ static inline bool waywire_wl_surface_request_dispatcher(const void *calls, void
 #define WAYWIRE_WL_REGION_REQUEST_SUBTRACT_SINCE 1
 
 /* ends the region */
-static inline waywire_status waywire_wl_region_destroy(waywire_client *client,
+static inline waywire_status waywire_wl_region_destroy(waywire_client client,
 	waywire_object wl_region)
 {
-	return waywire_client_send(client, wl_region, WAYWIRE_WL_REGION_REQUEST_DESTROY, NULL, 0,
+	return waywire_end_send(client.end, wl_region, WAYWIRE_WL_REGION_REQUEST_DESTROY, NULL, 0,
 		NULL, NULL);
 }
 
 /* adds a rectangle */
-static inline waywire_status waywire_wl_region_add(waywire_client *client, waywire_object wl_region,
+static inline waywire_status waywire_wl_region_add(waywire_client client, waywire_object wl_region,
 	int32_t x, int32_t y, int32_t width, int32_t height)
 {
 	waywire_arg args[4];
@@ -1147,12 +1147,12 @@ static inline waywire_status waywire_wl_region_add(waywire_client *client, waywi
 	args[1] = waywire_int(y);
 	args[2] = waywire_int(width);
 	args[3] = waywire_int(height);
-	return waywire_client_send(client, wl_region, WAYWIRE_WL_REGION_REQUEST_ADD, args, 4, NULL,
+	return waywire_end_send(client.end, wl_region, WAYWIRE_WL_REGION_REQUEST_ADD, args, 4, NULL,
 		NULL);
 }
 
 /* takes a rectangle away */
-static inline waywire_status waywire_wl_region_subtract(waywire_client *client,
+static inline waywire_status waywire_wl_region_subtract(waywire_client client,
 	waywire_object wl_region, int32_t x, int32_t y, int32_t width, int32_t height)
 {
 	waywire_arg args[4];
@@ -1160,7 +1160,7 @@ static inline waywire_status waywire_wl_region_subtract(waywire_client *client,
 	args[1] = waywire_int(y);
 	args[2] = waywire_int(width);
 	args[3] = waywire_int(height);
-	return waywire_client_send(client, wl_region, WAYWIRE_WL_REGION_REQUEST_SUBTRACT, args, 4,
+	return waywire_end_send(client.end, wl_region, WAYWIRE_WL_REGION_REQUEST_SUBTRACT, args, 4,
 		NULL, NULL);
 }
 
@@ -1239,14 +1239,14 @@ enum waywire_wl_seat_error {
 };
 
 /* makes the pointer */
-static inline waywire_object waywire_wl_seat_get_pointer(waywire_client *client,
+static inline waywire_object waywire_wl_seat_get_pointer(waywire_client client,
 	waywire_object wl_seat, waywire_status *status)
 {
 	waywire_arg args[1];
 	waywire_object made = { 0, 0 };
 	waywire_status done;
 	args[0] = waywire_new();
-	done = waywire_client_send(client, wl_seat, WAYWIRE_WL_SEAT_REQUEST_GET_POINTER, args, 1,
+	done = waywire_end_send(client.end, wl_seat, WAYWIRE_WL_SEAT_REQUEST_GET_POINTER, args, 1,
 		&made, NULL);
 	if (status)
 		*status = done;
@@ -1254,14 +1254,14 @@ static inline waywire_object waywire_wl_seat_get_pointer(waywire_client *client,
 }
 
 /* makes the keyboard */
-static inline waywire_object waywire_wl_seat_get_keyboard(waywire_client *client,
+static inline waywire_object waywire_wl_seat_get_keyboard(waywire_client client,
 	waywire_object wl_seat, waywire_status *status)
 {
 	waywire_arg args[1];
 	waywire_object made = { 0, 0 };
 	waywire_status done;
 	args[0] = waywire_new();
-	done = waywire_client_send(client, wl_seat, WAYWIRE_WL_SEAT_REQUEST_GET_KEYBOARD, args, 1,
+	done = waywire_end_send(client.end, wl_seat, WAYWIRE_WL_SEAT_REQUEST_GET_KEYBOARD, args, 1,
 		&made, NULL);
 	if (status)
 		*status = done;
@@ -1269,14 +1269,14 @@ static inline waywire_object waywire_wl_seat_get_keyboard(waywire_client *client
 }
 
 /* makes the touch device */
-static inline waywire_object waywire_wl_seat_get_touch(waywire_client *client,
+static inline waywire_object waywire_wl_seat_get_touch(waywire_client client,
 	waywire_object wl_seat, waywire_status *status)
 {
 	waywire_arg args[1];
 	waywire_object made = { 0, 0 };
 	waywire_status done;
 	args[0] = waywire_new();
-	done = waywire_client_send(client, wl_seat, WAYWIRE_WL_SEAT_REQUEST_GET_TOUCH, args, 1,
+	done = waywire_end_send(client.end, wl_seat, WAYWIRE_WL_SEAT_REQUEST_GET_TOUCH, args, 1,
 		&made, NULL);
 	if (status)
 		*status = done;
@@ -1284,29 +1284,29 @@ static inline waywire_object waywire_wl_seat_get_touch(waywire_client *client,
 }
 
 /* the client is done with the object */
-static inline waywire_status waywire_wl_seat_release(waywire_client *client, waywire_object wl_seat)
+static inline waywire_status waywire_wl_seat_release(waywire_client client, waywire_object wl_seat)
 {
-	return waywire_client_send(client, wl_seat, WAYWIRE_WL_SEAT_REQUEST_RELEASE, NULL, 0, NULL,
+	return waywire_end_send(client.end, wl_seat, WAYWIRE_WL_SEAT_REQUEST_RELEASE, NULL, 0, NULL,
 		NULL);
 }
 
 /* which devices there are now */
-static inline waywire_status waywire_wl_seat_send_capabilities(waywire_server *server,
+static inline waywire_status waywire_wl_seat_send_capabilities(waywire_server server,
 	waywire_object wl_seat, uint32_t capabilities)
 {
 	waywire_arg args[1];
 	args[0] = waywire_uint(capabilities);
-	return waywire_server_send(server, wl_seat, WAYWIRE_WL_SEAT_EVENT_CAPABILITIES, args, 1,
+	return waywire_end_send(server.end, wl_seat, WAYWIRE_WL_SEAT_EVENT_CAPABILITIES, args, 1,
 		NULL, NULL);
 }
 
 /* the name of the seat */
-static inline waywire_status waywire_wl_seat_send_name(waywire_server *server,
+static inline waywire_status waywire_wl_seat_send_name(waywire_server server,
 	waywire_object wl_seat, const char *name)
 {
 	waywire_arg args[1];
 	args[0] = waywire_string(name);
-	return waywire_server_send(server, wl_seat, WAYWIRE_WL_SEAT_EVENT_NAME, args, 1, NULL,
+	return waywire_end_send(server.end, wl_seat, WAYWIRE_WL_SEAT_EVENT_NAME, args, 1, NULL,
 		NULL);
 }
 
@@ -1452,7 +1452,7 @@ enum waywire_wl_pointer_axis_source {
 #define WAYWIRE_WL_POINTER_AXIS_SOURCE_WHEEL_TILT_SINCE 6
 
 /* sets the surface that shows the pointer */
-static inline waywire_status waywire_wl_pointer_set_cursor(waywire_client *client,
+static inline waywire_status waywire_wl_pointer_set_cursor(waywire_client client,
 	waywire_object wl_pointer, uint32_t serial, waywire_object surface, int32_t hotspot_x,
 	int32_t hotspot_y)
 {
@@ -1461,20 +1461,20 @@ static inline waywire_status waywire_wl_pointer_set_cursor(waywire_client *clien
 	args[1] = surface.id ? waywire_of(surface) : waywire_no_object();
 	args[2] = waywire_int(hotspot_x);
 	args[3] = waywire_int(hotspot_y);
-	return waywire_client_send(client, wl_pointer, WAYWIRE_WL_POINTER_REQUEST_SET_CURSOR, args,
+	return waywire_end_send(client.end, wl_pointer, WAYWIRE_WL_POINTER_REQUEST_SET_CURSOR, args,
 		4, NULL, NULL);
 }
 
 /* the client is done with the object */
-static inline waywire_status waywire_wl_pointer_release(waywire_client *client,
+static inline waywire_status waywire_wl_pointer_release(waywire_client client,
 	waywire_object wl_pointer)
 {
-	return waywire_client_send(client, wl_pointer, WAYWIRE_WL_POINTER_REQUEST_RELEASE, NULL, 0,
+	return waywire_end_send(client.end, wl_pointer, WAYWIRE_WL_POINTER_REQUEST_RELEASE, NULL, 0,
 		NULL, NULL);
 }
 
 /* the pointer came onto a surface */
-static inline waywire_status waywire_wl_pointer_send_enter(waywire_server *server,
+static inline waywire_status waywire_wl_pointer_send_enter(waywire_server server,
 	waywire_object wl_pointer, uint32_t serial, waywire_object surface, int32_t surface_x,
 	int32_t surface_y)
 {
@@ -1483,35 +1483,35 @@ static inline waywire_status waywire_wl_pointer_send_enter(waywire_server *serve
 	args[1] = surface.id ? waywire_of(surface) : waywire_no_object();
 	args[2] = waywire_fixed(surface_x);
 	args[3] = waywire_fixed(surface_y);
-	return waywire_server_send(server, wl_pointer, WAYWIRE_WL_POINTER_EVENT_ENTER, args, 4,
+	return waywire_end_send(server.end, wl_pointer, WAYWIRE_WL_POINTER_EVENT_ENTER, args, 4,
 		NULL, NULL);
 }
 
 /* the pointer left a surface */
-static inline waywire_status waywire_wl_pointer_send_leave(waywire_server *server,
+static inline waywire_status waywire_wl_pointer_send_leave(waywire_server server,
 	waywire_object wl_pointer, uint32_t serial, waywire_object surface)
 {
 	waywire_arg args[2];
 	args[0] = waywire_uint(serial);
 	args[1] = surface.id ? waywire_of(surface) : waywire_no_object();
-	return waywire_server_send(server, wl_pointer, WAYWIRE_WL_POINTER_EVENT_LEAVE, args, 2,
+	return waywire_end_send(server.end, wl_pointer, WAYWIRE_WL_POINTER_EVENT_LEAVE, args, 2,
 		NULL, NULL);
 }
 
 /* the pointer moved */
-static inline waywire_status waywire_wl_pointer_send_motion(waywire_server *server,
+static inline waywire_status waywire_wl_pointer_send_motion(waywire_server server,
 	waywire_object wl_pointer, uint32_t time, int32_t surface_x, int32_t surface_y)
 {
 	waywire_arg args[3];
 	args[0] = waywire_uint(time);
 	args[1] = waywire_fixed(surface_x);
 	args[2] = waywire_fixed(surface_y);
-	return waywire_server_send(server, wl_pointer, WAYWIRE_WL_POINTER_EVENT_MOTION, args, 3,
+	return waywire_end_send(server.end, wl_pointer, WAYWIRE_WL_POINTER_EVENT_MOTION, args, 3,
 		NULL, NULL);
 }
 
 /* a button went down or up */
-static inline waywire_status waywire_wl_pointer_send_button(waywire_server *server,
+static inline waywire_status waywire_wl_pointer_send_button(waywire_server server,
 	waywire_object wl_pointer, uint32_t serial, uint32_t time, uint32_t button, uint32_t state)
 {
 	waywire_arg args[4];
@@ -1519,81 +1519,81 @@ static inline waywire_status waywire_wl_pointer_send_button(waywire_server *serv
 	args[1] = waywire_uint(time);
 	args[2] = waywire_uint(button);
 	args[3] = waywire_uint(state);
-	return waywire_server_send(server, wl_pointer, WAYWIRE_WL_POINTER_EVENT_BUTTON, args, 4,
+	return waywire_end_send(server.end, wl_pointer, WAYWIRE_WL_POINTER_EVENT_BUTTON, args, 4,
 		NULL, NULL);
 }
 
 /* a scroll by a distance */
-static inline waywire_status waywire_wl_pointer_send_axis(waywire_server *server,
+static inline waywire_status waywire_wl_pointer_send_axis(waywire_server server,
 	waywire_object wl_pointer, uint32_t time, uint32_t axis, int32_t value)
 {
 	waywire_arg args[3];
 	args[0] = waywire_uint(time);
 	args[1] = waywire_uint(axis);
 	args[2] = waywire_fixed(value);
-	return waywire_server_send(server, wl_pointer, WAYWIRE_WL_POINTER_EVENT_AXIS, args, 3, NULL,
-		NULL);
+	return waywire_end_send(server.end, wl_pointer, WAYWIRE_WL_POINTER_EVENT_AXIS, args, 3,
+		NULL, NULL);
 }
 
 /* the end of events that belong together */
-static inline waywire_status waywire_wl_pointer_send_frame(waywire_server *server,
+static inline waywire_status waywire_wl_pointer_send_frame(waywire_server server,
 	waywire_object wl_pointer)
 {
-	return waywire_server_send(server, wl_pointer, WAYWIRE_WL_POINTER_EVENT_FRAME, NULL, 0,
+	return waywire_end_send(server.end, wl_pointer, WAYWIRE_WL_POINTER_EVENT_FRAME, NULL, 0,
 		NULL, NULL);
 }
 
 /* what the scroll comes from */
-static inline waywire_status waywire_wl_pointer_send_axis_source(waywire_server *server,
+static inline waywire_status waywire_wl_pointer_send_axis_source(waywire_server server,
 	waywire_object wl_pointer, uint32_t axis_source)
 {
 	waywire_arg args[1];
 	args[0] = waywire_uint(axis_source);
-	return waywire_server_send(server, wl_pointer, WAYWIRE_WL_POINTER_EVENT_AXIS_SOURCE, args,
+	return waywire_end_send(server.end, wl_pointer, WAYWIRE_WL_POINTER_EVENT_AXIS_SOURCE, args,
 		1, NULL, NULL);
 }
 
 /* the scroll ended */
-static inline waywire_status waywire_wl_pointer_send_axis_stop(waywire_server *server,
+static inline waywire_status waywire_wl_pointer_send_axis_stop(waywire_server server,
 	waywire_object wl_pointer, uint32_t time, uint32_t axis)
 {
 	waywire_arg args[2];
 	args[0] = waywire_uint(time);
 	args[1] = waywire_uint(axis);
-	return waywire_server_send(server, wl_pointer, WAYWIRE_WL_POINTER_EVENT_AXIS_STOP, args, 2,
+	return waywire_end_send(server.end, wl_pointer, WAYWIRE_WL_POINTER_EVENT_AXIS_STOP, args, 2,
 		NULL, NULL);
 }
 
 /* a scroll by whole clicks of a wheel */
-static inline waywire_status waywire_wl_pointer_send_axis_discrete(waywire_server *server,
+static inline waywire_status waywire_wl_pointer_send_axis_discrete(waywire_server server,
 	waywire_object wl_pointer, uint32_t axis, int32_t discrete)
 {
 	waywire_arg args[2];
 	args[0] = waywire_uint(axis);
 	args[1] = waywire_int(discrete);
-	return waywire_server_send(server, wl_pointer, WAYWIRE_WL_POINTER_EVENT_AXIS_DISCRETE, args,
-		2, NULL, NULL);
+	return waywire_end_send(server.end, wl_pointer, WAYWIRE_WL_POINTER_EVENT_AXIS_DISCRETE,
+		args, 2, NULL, NULL);
 }
 
 /* a scroll in 120ths of a click */
-static inline waywire_status waywire_wl_pointer_send_axis_value120(waywire_server *server,
+static inline waywire_status waywire_wl_pointer_send_axis_value120(waywire_server server,
 	waywire_object wl_pointer, uint32_t axis, int32_t value120)
 {
 	waywire_arg args[2];
 	args[0] = waywire_uint(axis);
 	args[1] = waywire_int(value120);
-	return waywire_server_send(server, wl_pointer, WAYWIRE_WL_POINTER_EVENT_AXIS_VALUE120, args,
-		2, NULL, NULL);
+	return waywire_end_send(server.end, wl_pointer, WAYWIRE_WL_POINTER_EVENT_AXIS_VALUE120,
+		args, 2, NULL, NULL);
 }
 
 /* how the scroll relates to the finger's motion */
-static inline waywire_status waywire_wl_pointer_send_axis_relative_direction(waywire_server *server,
+static inline waywire_status waywire_wl_pointer_send_axis_relative_direction(waywire_server server,
 	waywire_object wl_pointer, uint32_t axis, uint32_t direction)
 {
 	waywire_arg args[2];
 	args[0] = waywire_uint(axis);
 	args[1] = waywire_uint(direction);
-	return waywire_server_send(server, wl_pointer,
+	return waywire_end_send(server.end, wl_pointer,
 		WAYWIRE_WL_POINTER_EVENT_AXIS_RELATIVE_DIRECTION, args, 2, NULL, NULL);
 }
 
@@ -1774,27 +1774,27 @@ enum waywire_wl_keyboard_key_state {
 };
 
 /* the client is done with the object */
-static inline waywire_status waywire_wl_keyboard_release(waywire_client *client,
+static inline waywire_status waywire_wl_keyboard_release(waywire_client client,
 	waywire_object wl_keyboard)
 {
-	return waywire_client_send(client, wl_keyboard, WAYWIRE_WL_KEYBOARD_REQUEST_RELEASE, NULL,
+	return waywire_end_send(client.end, wl_keyboard, WAYWIRE_WL_KEYBOARD_REQUEST_RELEASE, NULL,
 		0, NULL, NULL);
 }
 
 /* the keymap, behind a descriptor */
-static inline waywire_status waywire_wl_keyboard_send_keymap(waywire_server *server,
+static inline waywire_status waywire_wl_keyboard_send_keymap(waywire_server server,
 	waywire_object wl_keyboard, uint32_t format, int fd, uint32_t size)
 {
 	waywire_arg args[3];
 	args[0] = waywire_uint(format);
 	args[1] = waywire_fd((uint32_t)fd);
 	args[2] = waywire_uint(size);
-	return waywire_server_send(server, wl_keyboard, WAYWIRE_WL_KEYBOARD_EVENT_KEYMAP, args, 3,
+	return waywire_end_send(server.end, wl_keyboard, WAYWIRE_WL_KEYBOARD_EVENT_KEYMAP, args, 3,
 		NULL, NULL);
 }
 
 /* a surface got the keyboard, with these keys down */
-static inline waywire_status waywire_wl_keyboard_send_enter(waywire_server *server,
+static inline waywire_status waywire_wl_keyboard_send_enter(waywire_server server,
 	waywire_object wl_keyboard, uint32_t serial, waywire_object surface, const void *keys,
 	size_t keys_length)
 {
@@ -1802,23 +1802,23 @@ static inline waywire_status waywire_wl_keyboard_send_enter(waywire_server *serv
 	args[0] = waywire_uint(serial);
 	args[1] = surface.id ? waywire_of(surface) : waywire_no_object();
 	args[2] = waywire_array(keys, keys_length);
-	return waywire_server_send(server, wl_keyboard, WAYWIRE_WL_KEYBOARD_EVENT_ENTER, args, 3,
+	return waywire_end_send(server.end, wl_keyboard, WAYWIRE_WL_KEYBOARD_EVENT_ENTER, args, 3,
 		NULL, NULL);
 }
 
 /* a surface lost the keyboard */
-static inline waywire_status waywire_wl_keyboard_send_leave(waywire_server *server,
+static inline waywire_status waywire_wl_keyboard_send_leave(waywire_server server,
 	waywire_object wl_keyboard, uint32_t serial, waywire_object surface)
 {
 	waywire_arg args[2];
 	args[0] = waywire_uint(serial);
 	args[1] = surface.id ? waywire_of(surface) : waywire_no_object();
-	return waywire_server_send(server, wl_keyboard, WAYWIRE_WL_KEYBOARD_EVENT_LEAVE, args, 2,
+	return waywire_end_send(server.end, wl_keyboard, WAYWIRE_WL_KEYBOARD_EVENT_LEAVE, args, 2,
 		NULL, NULL);
 }
 
 /* a key went down or up */
-static inline waywire_status waywire_wl_keyboard_send_key(waywire_server *server,
+static inline waywire_status waywire_wl_keyboard_send_key(waywire_server server,
 	waywire_object wl_keyboard, uint32_t serial, uint32_t time, uint32_t key, uint32_t state)
 {
 	waywire_arg args[4];
@@ -1826,12 +1826,12 @@ static inline waywire_status waywire_wl_keyboard_send_key(waywire_server *server
 	args[1] = waywire_uint(time);
 	args[2] = waywire_uint(key);
 	args[3] = waywire_uint(state);
-	return waywire_server_send(server, wl_keyboard, WAYWIRE_WL_KEYBOARD_EVENT_KEY, args, 4,
+	return waywire_end_send(server.end, wl_keyboard, WAYWIRE_WL_KEYBOARD_EVENT_KEY, args, 4,
 		NULL, NULL);
 }
 
 /* the modifiers and the group changed */
-static inline waywire_status waywire_wl_keyboard_send_modifiers(waywire_server *server,
+static inline waywire_status waywire_wl_keyboard_send_modifiers(waywire_server server,
 	waywire_object wl_keyboard, uint32_t serial, uint32_t mods_depressed, uint32_t mods_latched,
 	uint32_t mods_locked, uint32_t group)
 {
@@ -1841,19 +1841,19 @@ static inline waywire_status waywire_wl_keyboard_send_modifiers(waywire_server *
 	args[2] = waywire_uint(mods_latched);
 	args[3] = waywire_uint(mods_locked);
 	args[4] = waywire_uint(group);
-	return waywire_server_send(server, wl_keyboard, WAYWIRE_WL_KEYBOARD_EVENT_MODIFIERS, args,
+	return waywire_end_send(server.end, wl_keyboard, WAYWIRE_WL_KEYBOARD_EVENT_MODIFIERS, args,
 		5, NULL, NULL);
 }
 
 /* how keys repeat: keys a second, and milliseconds before */
-static inline waywire_status waywire_wl_keyboard_send_repeat_info(waywire_server *server,
+static inline waywire_status waywire_wl_keyboard_send_repeat_info(waywire_server server,
 	waywire_object wl_keyboard, int32_t rate, int32_t delay)
 {
 	waywire_arg args[2];
 	args[0] = waywire_int(rate);
 	args[1] = waywire_int(delay);
-	return waywire_server_send(server, wl_keyboard, WAYWIRE_WL_KEYBOARD_EVENT_REPEAT_INFO, args,
-		2, NULL, NULL);
+	return waywire_end_send(server.end, wl_keyboard, WAYWIRE_WL_KEYBOARD_EVENT_REPEAT_INFO,
+		args, 2, NULL, NULL);
 }
 
 struct waywire_wl_keyboard_events {
@@ -1980,15 +1980,15 @@ static inline bool waywire_wl_keyboard_request_dispatcher(const void *calls, voi
 #define WAYWIRE_WL_TOUCH_EVENT_ORIENTATION_SINCE 6
 
 /* the client is done with the object */
-static inline waywire_status waywire_wl_touch_release(waywire_client *client,
+static inline waywire_status waywire_wl_touch_release(waywire_client client,
 	waywire_object wl_touch)
 {
-	return waywire_client_send(client, wl_touch, WAYWIRE_WL_TOUCH_REQUEST_RELEASE, NULL, 0,
+	return waywire_end_send(client.end, wl_touch, WAYWIRE_WL_TOUCH_REQUEST_RELEASE, NULL, 0,
 		NULL, NULL);
 }
 
 /* a touch point came onto a surface */
-static inline waywire_status waywire_wl_touch_send_down(waywire_server *server,
+static inline waywire_status waywire_wl_touch_send_down(waywire_server server,
 	waywire_object wl_touch, uint32_t serial, uint32_t time, waywire_object surface, int32_t id,
 	int32_t x, int32_t y)
 {
@@ -1999,24 +1999,24 @@ static inline waywire_status waywire_wl_touch_send_down(waywire_server *server,
 	args[3] = waywire_int(id);
 	args[4] = waywire_fixed(x);
 	args[5] = waywire_fixed(y);
-	return waywire_server_send(server, wl_touch, WAYWIRE_WL_TOUCH_EVENT_DOWN, args, 6, NULL,
+	return waywire_end_send(server.end, wl_touch, WAYWIRE_WL_TOUCH_EVENT_DOWN, args, 6, NULL,
 		NULL);
 }
 
 /* a touch point is gone */
-static inline waywire_status waywire_wl_touch_send_up(waywire_server *server,
+static inline waywire_status waywire_wl_touch_send_up(waywire_server server,
 	waywire_object wl_touch, uint32_t serial, uint32_t time, int32_t id)
 {
 	waywire_arg args[3];
 	args[0] = waywire_uint(serial);
 	args[1] = waywire_uint(time);
 	args[2] = waywire_int(id);
-	return waywire_server_send(server, wl_touch, WAYWIRE_WL_TOUCH_EVENT_UP, args, 3, NULL,
+	return waywire_end_send(server.end, wl_touch, WAYWIRE_WL_TOUCH_EVENT_UP, args, 3, NULL,
 		NULL);
 }
 
 /* a touch point moved */
-static inline waywire_status waywire_wl_touch_send_motion(waywire_server *server,
+static inline waywire_status waywire_wl_touch_send_motion(waywire_server server,
 	waywire_object wl_touch, uint32_t time, int32_t id, int32_t x, int32_t y)
 {
 	waywire_arg args[4];
@@ -2024,46 +2024,46 @@ static inline waywire_status waywire_wl_touch_send_motion(waywire_server *server
 	args[1] = waywire_int(id);
 	args[2] = waywire_fixed(x);
 	args[3] = waywire_fixed(y);
-	return waywire_server_send(server, wl_touch, WAYWIRE_WL_TOUCH_EVENT_MOTION, args, 4, NULL,
+	return waywire_end_send(server.end, wl_touch, WAYWIRE_WL_TOUCH_EVENT_MOTION, args, 4, NULL,
 		NULL);
 }
 
 /* the end of events that belong together */
-static inline waywire_status waywire_wl_touch_send_frame(waywire_server *server,
+static inline waywire_status waywire_wl_touch_send_frame(waywire_server server,
 	waywire_object wl_touch)
 {
-	return waywire_server_send(server, wl_touch, WAYWIRE_WL_TOUCH_EVENT_FRAME, NULL, 0, NULL,
+	return waywire_end_send(server.end, wl_touch, WAYWIRE_WL_TOUCH_EVENT_FRAME, NULL, 0, NULL,
 		NULL);
 }
 
 /* the touch points now belong to somebody else */
-static inline waywire_status waywire_wl_touch_send_cancel(waywire_server *server,
+static inline waywire_status waywire_wl_touch_send_cancel(waywire_server server,
 	waywire_object wl_touch)
 {
-	return waywire_server_send(server, wl_touch, WAYWIRE_WL_TOUCH_EVENT_CANCEL, NULL, 0, NULL,
+	return waywire_end_send(server.end, wl_touch, WAYWIRE_WL_TOUCH_EVENT_CANCEL, NULL, 0, NULL,
 		NULL);
 }
 
 /* the shape of a touch point */
-static inline waywire_status waywire_wl_touch_send_shape(waywire_server *server,
+static inline waywire_status waywire_wl_touch_send_shape(waywire_server server,
 	waywire_object wl_touch, int32_t id, int32_t major, int32_t minor)
 {
 	waywire_arg args[3];
 	args[0] = waywire_int(id);
 	args[1] = waywire_fixed(major);
 	args[2] = waywire_fixed(minor);
-	return waywire_server_send(server, wl_touch, WAYWIRE_WL_TOUCH_EVENT_SHAPE, args, 3, NULL,
+	return waywire_end_send(server.end, wl_touch, WAYWIRE_WL_TOUCH_EVENT_SHAPE, args, 3, NULL,
 		NULL);
 }
 
 /* the direction of a touch point */
-static inline waywire_status waywire_wl_touch_send_orientation(waywire_server *server,
+static inline waywire_status waywire_wl_touch_send_orientation(waywire_server server,
 	waywire_object wl_touch, int32_t id, int32_t orientation)
 {
 	waywire_arg args[2];
 	args[0] = waywire_int(id);
 	args[1] = waywire_fixed(orientation);
-	return waywire_server_send(server, wl_touch, WAYWIRE_WL_TOUCH_EVENT_ORIENTATION, args, 2,
+	return waywire_end_send(server.end, wl_touch, WAYWIRE_WL_TOUCH_EVENT_ORIENTATION, args, 2,
 		NULL, NULL);
 }
 
@@ -2217,15 +2217,15 @@ enum waywire_wl_output_mode {
 };
 
 /* the client is done with the object */
-static inline waywire_status waywire_wl_output_release(waywire_client *client,
+static inline waywire_status waywire_wl_output_release(waywire_client client,
 	waywire_object wl_output)
 {
-	return waywire_client_send(client, wl_output, WAYWIRE_WL_OUTPUT_REQUEST_RELEASE, NULL, 0,
+	return waywire_end_send(client.end, wl_output, WAYWIRE_WL_OUTPUT_REQUEST_RELEASE, NULL, 0,
 		NULL, NULL);
 }
 
 /* where the output is, and what it is */
-static inline waywire_status waywire_wl_output_send_geometry(waywire_server *server,
+static inline waywire_status waywire_wl_output_send_geometry(waywire_server server,
 	waywire_object wl_output, int32_t x, int32_t y, int32_t physical_width,
 	int32_t physical_height, int32_t subpixel, const char *make, const char *model,
 	int32_t transform)
@@ -2239,12 +2239,12 @@ static inline waywire_status waywire_wl_output_send_geometry(waywire_server *ser
 	args[5] = waywire_string(make);
 	args[6] = waywire_string(model);
 	args[7] = waywire_int(transform);
-	return waywire_server_send(server, wl_output, WAYWIRE_WL_OUTPUT_EVENT_GEOMETRY, args, 8,
+	return waywire_end_send(server.end, wl_output, WAYWIRE_WL_OUTPUT_EVENT_GEOMETRY, args, 8,
 		NULL, NULL);
 }
 
 /* a mode, and whether it is set or preferred */
-static inline waywire_status waywire_wl_output_send_mode(waywire_server *server,
+static inline waywire_status waywire_wl_output_send_mode(waywire_server server,
 	waywire_object wl_output, uint32_t flags, int32_t width, int32_t height, int32_t refresh)
 {
 	waywire_arg args[4];
@@ -2252,45 +2252,45 @@ static inline waywire_status waywire_wl_output_send_mode(waywire_server *server,
 	args[1] = waywire_int(width);
 	args[2] = waywire_int(height);
 	args[3] = waywire_int(refresh);
-	return waywire_server_send(server, wl_output, WAYWIRE_WL_OUTPUT_EVENT_MODE, args, 4, NULL,
+	return waywire_end_send(server.end, wl_output, WAYWIRE_WL_OUTPUT_EVENT_MODE, args, 4, NULL,
 		NULL);
 }
 
 /* the end of events that belong together */
-static inline waywire_status waywire_wl_output_send_done(waywire_server *server,
+static inline waywire_status waywire_wl_output_send_done(waywire_server server,
 	waywire_object wl_output)
 {
-	return waywire_server_send(server, wl_output, WAYWIRE_WL_OUTPUT_EVENT_DONE, NULL, 0, NULL,
+	return waywire_end_send(server.end, wl_output, WAYWIRE_WL_OUTPUT_EVENT_DONE, NULL, 0, NULL,
 		NULL);
 }
 
 /* the scale of the output */
-static inline waywire_status waywire_wl_output_send_scale(waywire_server *server,
+static inline waywire_status waywire_wl_output_send_scale(waywire_server server,
 	waywire_object wl_output, int32_t factor)
 {
 	waywire_arg args[1];
 	args[0] = waywire_int(factor);
-	return waywire_server_send(server, wl_output, WAYWIRE_WL_OUTPUT_EVENT_SCALE, args, 1, NULL,
+	return waywire_end_send(server.end, wl_output, WAYWIRE_WL_OUTPUT_EVENT_SCALE, args, 1, NULL,
 		NULL);
 }
 
 /* the name of the output */
-static inline waywire_status waywire_wl_output_send_name(waywire_server *server,
+static inline waywire_status waywire_wl_output_send_name(waywire_server server,
 	waywire_object wl_output, const char *name)
 {
 	waywire_arg args[1];
 	args[0] = waywire_string(name);
-	return waywire_server_send(server, wl_output, WAYWIRE_WL_OUTPUT_EVENT_NAME, args, 1, NULL,
+	return waywire_end_send(server.end, wl_output, WAYWIRE_WL_OUTPUT_EVENT_NAME, args, 1, NULL,
 		NULL);
 }
 
 /* the output in words */
-static inline waywire_status waywire_wl_output_send_description(waywire_server *server,
+static inline waywire_status waywire_wl_output_send_description(waywire_server server,
 	waywire_object wl_output, const char *description)
 {
 	waywire_arg args[1];
 	args[0] = waywire_string(description);
-	return waywire_server_send(server, wl_output, WAYWIRE_WL_OUTPUT_EVENT_DESCRIPTION, args, 1,
+	return waywire_end_send(server.end, wl_output, WAYWIRE_WL_OUTPUT_EVENT_DESCRIPTION, args, 1,
 		NULL, NULL);
 }
 
@@ -2407,15 +2407,15 @@ enum waywire_wl_subcompositor_error {
 };
 
 /* ends the object */
-static inline waywire_status waywire_wl_subcompositor_destroy(waywire_client *client,
+static inline waywire_status waywire_wl_subcompositor_destroy(waywire_client client,
 	waywire_object wl_subcompositor)
 {
-	return waywire_client_send(client, wl_subcompositor,
+	return waywire_end_send(client.end, wl_subcompositor,
 		WAYWIRE_WL_SUBCOMPOSITOR_REQUEST_DESTROY, NULL, 0, NULL, NULL);
 }
 
 /* makes a surface part of another */
-static inline waywire_object waywire_wl_subcompositor_get_subsurface(waywire_client *client,
+static inline waywire_object waywire_wl_subcompositor_get_subsurface(waywire_client client,
 	waywire_object wl_subcompositor, waywire_object surface, waywire_object parent,
 	waywire_status *status)
 {
@@ -2425,7 +2425,7 @@ static inline waywire_object waywire_wl_subcompositor_get_subsurface(waywire_cli
 	args[0] = waywire_new();
 	args[1] = surface.id ? waywire_of(surface) : waywire_no_object();
 	args[2] = parent.id ? waywire_of(parent) : waywire_no_object();
-	done = waywire_client_send(client, wl_subcompositor,
+	done = waywire_end_send(client.end, wl_subcompositor,
 		WAYWIRE_WL_SUBCOMPOSITOR_REQUEST_GET_SUBSURFACE, args, 3, &made, NULL);
 	if (status)
 		*status = done;
@@ -2495,57 +2495,57 @@ enum waywire_wl_subsurface_error {
 };
 
 /* takes the surface out of its parent */
-static inline waywire_status waywire_wl_subsurface_destroy(waywire_client *client,
+static inline waywire_status waywire_wl_subsurface_destroy(waywire_client client,
 	waywire_object wl_subsurface)
 {
-	return waywire_client_send(client, wl_subsurface, WAYWIRE_WL_SUBSURFACE_REQUEST_DESTROY,
+	return waywire_end_send(client.end, wl_subsurface, WAYWIRE_WL_SUBSURFACE_REQUEST_DESTROY,
 		NULL, 0, NULL, NULL);
 }
 
 /* sets where it is within its parent */
-static inline waywire_status waywire_wl_subsurface_set_position(waywire_client *client,
+static inline waywire_status waywire_wl_subsurface_set_position(waywire_client client,
 	waywire_object wl_subsurface, int32_t x, int32_t y)
 {
 	waywire_arg args[2];
 	args[0] = waywire_int(x);
 	args[1] = waywire_int(y);
-	return waywire_client_send(client, wl_subsurface,
+	return waywire_end_send(client.end, wl_subsurface,
 		WAYWIRE_WL_SUBSURFACE_REQUEST_SET_POSITION, args, 2, NULL, NULL);
 }
 
 /* puts it above a sibling */
-static inline waywire_status waywire_wl_subsurface_place_above(waywire_client *client,
+static inline waywire_status waywire_wl_subsurface_place_above(waywire_client client,
 	waywire_object wl_subsurface, waywire_object sibling)
 {
 	waywire_arg args[1];
 	args[0] = sibling.id ? waywire_of(sibling) : waywire_no_object();
-	return waywire_client_send(client, wl_subsurface, WAYWIRE_WL_SUBSURFACE_REQUEST_PLACE_ABOVE,
-		args, 1, NULL, NULL);
+	return waywire_end_send(client.end, wl_subsurface,
+		WAYWIRE_WL_SUBSURFACE_REQUEST_PLACE_ABOVE, args, 1, NULL, NULL);
 }
 
 /* puts it below a sibling */
-static inline waywire_status waywire_wl_subsurface_place_below(waywire_client *client,
+static inline waywire_status waywire_wl_subsurface_place_below(waywire_client client,
 	waywire_object wl_subsurface, waywire_object sibling)
 {
 	waywire_arg args[1];
 	args[0] = sibling.id ? waywire_of(sibling) : waywire_no_object();
-	return waywire_client_send(client, wl_subsurface, WAYWIRE_WL_SUBSURFACE_REQUEST_PLACE_BELOW,
-		args, 1, NULL, NULL);
+	return waywire_end_send(client.end, wl_subsurface,
+		WAYWIRE_WL_SUBSURFACE_REQUEST_PLACE_BELOW, args, 1, NULL, NULL);
 }
 
 /* commits take effect with the parent's */
-static inline waywire_status waywire_wl_subsurface_set_sync(waywire_client *client,
+static inline waywire_status waywire_wl_subsurface_set_sync(waywire_client client,
 	waywire_object wl_subsurface)
 {
-	return waywire_client_send(client, wl_subsurface, WAYWIRE_WL_SUBSURFACE_REQUEST_SET_SYNC,
+	return waywire_end_send(client.end, wl_subsurface, WAYWIRE_WL_SUBSURFACE_REQUEST_SET_SYNC,
 		NULL, 0, NULL, NULL);
 }
 
 /* commits take effect by themselves */
-static inline waywire_status waywire_wl_subsurface_set_desync(waywire_client *client,
+static inline waywire_status waywire_wl_subsurface_set_desync(waywire_client client,
 	waywire_object wl_subsurface)
 {
-	return waywire_client_send(client, wl_subsurface, WAYWIRE_WL_SUBSURFACE_REQUEST_SET_DESYNC,
+	return waywire_end_send(client.end, wl_subsurface, WAYWIRE_WL_SUBSURFACE_REQUEST_SET_DESYNC,
 		NULL, 0, NULL, NULL);
 }
 
@@ -2628,7 +2628,7 @@ enum waywire_wl_shell_error {
 };
 
 /* makes a surface a window */
-static inline waywire_object waywire_wl_shell_get_shell_surface(waywire_client *client,
+static inline waywire_object waywire_wl_shell_get_shell_surface(waywire_client client,
 	waywire_object wl_shell, waywire_object surface, waywire_status *status)
 {
 	waywire_arg args[2];
@@ -2636,7 +2636,7 @@ static inline waywire_object waywire_wl_shell_get_shell_surface(waywire_client *
 	waywire_status done;
 	args[0] = waywire_new();
 	args[1] = surface.id ? waywire_of(surface) : waywire_no_object();
-	done = waywire_client_send(client, wl_shell, WAYWIRE_WL_SHELL_REQUEST_GET_SHELL_SURFACE,
+	done = waywire_end_send(client.end, wl_shell, WAYWIRE_WL_SHELL_REQUEST_GET_SHELL_SURFACE,
 		args, 2, &made, NULL);
 	if (status)
 		*status = done;
@@ -2730,48 +2730,48 @@ enum waywire_wl_shell_surface_fullscreen_method {
 };
 
 /* answers a ping */
-static inline waywire_status waywire_wl_shell_surface_pong(waywire_client *client,
+static inline waywire_status waywire_wl_shell_surface_pong(waywire_client client,
 	waywire_object wl_shell_surface, uint32_t serial)
 {
 	waywire_arg args[1];
 	args[0] = waywire_uint(serial);
-	return waywire_client_send(client, wl_shell_surface, WAYWIRE_WL_SHELL_SURFACE_REQUEST_PONG,
+	return waywire_end_send(client.end, wl_shell_surface, WAYWIRE_WL_SHELL_SURFACE_REQUEST_PONG,
 		args, 1, NULL, NULL);
 }
 
 /* lets the user move the window */
-static inline waywire_status waywire_wl_shell_surface_move(waywire_client *client,
+static inline waywire_status waywire_wl_shell_surface_move(waywire_client client,
 	waywire_object wl_shell_surface, waywire_object seat, uint32_t serial)
 {
 	waywire_arg args[2];
 	args[0] = seat.id ? waywire_of(seat) : waywire_no_object();
 	args[1] = waywire_uint(serial);
-	return waywire_client_send(client, wl_shell_surface, WAYWIRE_WL_SHELL_SURFACE_REQUEST_MOVE,
+	return waywire_end_send(client.end, wl_shell_surface, WAYWIRE_WL_SHELL_SURFACE_REQUEST_MOVE,
 		args, 2, NULL, NULL);
 }
 
 /* lets the user resize the window */
-static inline waywire_status waywire_wl_shell_surface_resize(waywire_client *client,
+static inline waywire_status waywire_wl_shell_surface_resize(waywire_client client,
 	waywire_object wl_shell_surface, waywire_object seat, uint32_t serial, uint32_t edges)
 {
 	waywire_arg args[3];
 	args[0] = seat.id ? waywire_of(seat) : waywire_no_object();
 	args[1] = waywire_uint(serial);
 	args[2] = waywire_uint(edges);
-	return waywire_client_send(client, wl_shell_surface,
+	return waywire_end_send(client.end, wl_shell_surface,
 		WAYWIRE_WL_SHELL_SURFACE_REQUEST_RESIZE, args, 3, NULL, NULL);
 }
 
 /* makes it a window of its own */
-static inline waywire_status waywire_wl_shell_surface_set_toplevel(waywire_client *client,
+static inline waywire_status waywire_wl_shell_surface_set_toplevel(waywire_client client,
 	waywire_object wl_shell_surface)
 {
-	return waywire_client_send(client, wl_shell_surface,
+	return waywire_end_send(client.end, wl_shell_surface,
 		WAYWIRE_WL_SHELL_SURFACE_REQUEST_SET_TOPLEVEL, NULL, 0, NULL, NULL);
 }
 
 /* makes it a window beside another */
-static inline waywire_status waywire_wl_shell_surface_set_transient(waywire_client *client,
+static inline waywire_status waywire_wl_shell_surface_set_transient(waywire_client client,
 	waywire_object wl_shell_surface, waywire_object parent, int32_t x, int32_t y,
 	uint32_t flags)
 {
@@ -2780,24 +2780,24 @@ static inline waywire_status waywire_wl_shell_surface_set_transient(waywire_clie
 	args[1] = waywire_int(x);
 	args[2] = waywire_int(y);
 	args[3] = waywire_uint(flags);
-	return waywire_client_send(client, wl_shell_surface,
+	return waywire_end_send(client.end, wl_shell_surface,
 		WAYWIRE_WL_SHELL_SURFACE_REQUEST_SET_TRANSIENT, args, 4, NULL, NULL);
 }
 
 /* shows it over a whole output */
-static inline waywire_status waywire_wl_shell_surface_set_fullscreen(waywire_client *client,
+static inline waywire_status waywire_wl_shell_surface_set_fullscreen(waywire_client client,
 	waywire_object wl_shell_surface, uint32_t method, uint32_t framerate, waywire_object output)
 {
 	waywire_arg args[3];
 	args[0] = waywire_uint(method);
 	args[1] = waywire_uint(framerate);
 	args[2] = output.id ? waywire_of(output) : waywire_no_object();
-	return waywire_client_send(client, wl_shell_surface,
+	return waywire_end_send(client.end, wl_shell_surface,
 		WAYWIRE_WL_SHELL_SURFACE_REQUEST_SET_FULLSCREEN, args, 3, NULL, NULL);
 }
 
 /* makes it a popup */
-static inline waywire_status waywire_wl_shell_surface_set_popup(waywire_client *client,
+static inline waywire_status waywire_wl_shell_surface_set_popup(waywire_client client,
 	waywire_object wl_shell_surface, waywire_object seat, uint32_t serial,
 	waywire_object parent, int32_t x, int32_t y, uint32_t flags)
 {
@@ -2808,67 +2808,67 @@ static inline waywire_status waywire_wl_shell_surface_set_popup(waywire_client *
 	args[3] = waywire_int(x);
 	args[4] = waywire_int(y);
 	args[5] = waywire_uint(flags);
-	return waywire_client_send(client, wl_shell_surface,
+	return waywire_end_send(client.end, wl_shell_surface,
 		WAYWIRE_WL_SHELL_SURFACE_REQUEST_SET_POPUP, args, 6, NULL, NULL);
 }
 
 /* makes it as large as its output allows */
-static inline waywire_status waywire_wl_shell_surface_set_maximized(waywire_client *client,
+static inline waywire_status waywire_wl_shell_surface_set_maximized(waywire_client client,
 	waywire_object wl_shell_surface, waywire_object output)
 {
 	waywire_arg args[1];
 	args[0] = output.id ? waywire_of(output) : waywire_no_object();
-	return waywire_client_send(client, wl_shell_surface,
+	return waywire_end_send(client.end, wl_shell_surface,
 		WAYWIRE_WL_SHELL_SURFACE_REQUEST_SET_MAXIMIZED, args, 1, NULL, NULL);
 }
 
 /* sets the title */
-static inline waywire_status waywire_wl_shell_surface_set_title(waywire_client *client,
+static inline waywire_status waywire_wl_shell_surface_set_title(waywire_client client,
 	waywire_object wl_shell_surface, const char *title)
 {
 	waywire_arg args[1];
 	args[0] = waywire_string(title);
-	return waywire_client_send(client, wl_shell_surface,
+	return waywire_end_send(client.end, wl_shell_surface,
 		WAYWIRE_WL_SHELL_SURFACE_REQUEST_SET_TITLE, args, 1, NULL, NULL);
 }
 
 /* sets the class */
-static inline waywire_status waywire_wl_shell_surface_set_class(waywire_client *client,
+static inline waywire_status waywire_wl_shell_surface_set_class(waywire_client client,
 	waywire_object wl_shell_surface, const char *class_)
 {
 	waywire_arg args[1];
 	args[0] = waywire_string(class_);
-	return waywire_client_send(client, wl_shell_surface,
+	return waywire_end_send(client.end, wl_shell_surface,
 		WAYWIRE_WL_SHELL_SURFACE_REQUEST_SET_CLASS, args, 1, NULL, NULL);
 }
 
 /* asks whether the client is alive */
-static inline waywire_status waywire_wl_shell_surface_send_ping(waywire_server *server,
+static inline waywire_status waywire_wl_shell_surface_send_ping(waywire_server server,
 	waywire_object wl_shell_surface, uint32_t serial)
 {
 	waywire_arg args[1];
 	args[0] = waywire_uint(serial);
-	return waywire_server_send(server, wl_shell_surface, WAYWIRE_WL_SHELL_SURFACE_EVENT_PING,
+	return waywire_end_send(server.end, wl_shell_surface, WAYWIRE_WL_SHELL_SURFACE_EVENT_PING,
 		args, 1, NULL, NULL);
 }
 
 /* suggests another size */
-static inline waywire_status waywire_wl_shell_surface_send_configure(waywire_server *server,
+static inline waywire_status waywire_wl_shell_surface_send_configure(waywire_server server,
 	waywire_object wl_shell_surface, uint32_t edges, int32_t width, int32_t height)
 {
 	waywire_arg args[3];
 	args[0] = waywire_uint(edges);
 	args[1] = waywire_int(width);
 	args[2] = waywire_int(height);
-	return waywire_server_send(server, wl_shell_surface,
+	return waywire_end_send(server.end, wl_shell_surface,
 		WAYWIRE_WL_SHELL_SURFACE_EVENT_CONFIGURE, args, 3, NULL, NULL);
 }
 
 /* the popup is to be closed */
-static inline waywire_status waywire_wl_shell_surface_send_popup_done(waywire_server *server,
+static inline waywire_status waywire_wl_shell_surface_send_popup_done(waywire_server server,
 	waywire_object wl_shell_surface)
 {
-	return waywire_server_send(server, wl_shell_surface,
+	return waywire_end_send(server.end, wl_shell_surface,
 		WAYWIRE_WL_SHELL_SURFACE_EVENT_POPUP_DONE, NULL, 0, NULL, NULL);
 }
 
@@ -3029,20 +3029,20 @@ static inline bool waywire_wl_shell_surface_request_dispatcher(const void *calls
 #define WAYWIRE_WL_FIXES_REQUEST_DESTROY_REGISTRY_SINCE 1
 
 /* ends the object */
-static inline waywire_status waywire_wl_fixes_destroy(waywire_client *client,
+static inline waywire_status waywire_wl_fixes_destroy(waywire_client client,
 	waywire_object wl_fixes)
 {
-	return waywire_client_send(client, wl_fixes, WAYWIRE_WL_FIXES_REQUEST_DESTROY, NULL, 0,
+	return waywire_end_send(client.end, wl_fixes, WAYWIRE_WL_FIXES_REQUEST_DESTROY, NULL, 0,
 		NULL, NULL);
 }
 
 /* ends a registry */
-static inline waywire_status waywire_wl_fixes_destroy_registry(waywire_client *client,
+static inline waywire_status waywire_wl_fixes_destroy_registry(waywire_client client,
 	waywire_object wl_fixes, waywire_object registry)
 {
 	waywire_arg args[1];
 	args[0] = registry.id ? waywire_of(registry) : waywire_no_object();
-	return waywire_client_send(client, wl_fixes, WAYWIRE_WL_FIXES_REQUEST_DESTROY_REGISTRY,
+	return waywire_end_send(client.end, wl_fixes, WAYWIRE_WL_FIXES_REQUEST_DESTROY_REGISTRY,
 		args, 1, NULL, NULL);
 }
 

@@ -4,14 +4,18 @@
  * each end has. Nothing here opens a socket, waits or starts a thread: a call turns arguments into
  * bytes, or bytes into a report, and the caller moves the bytes.
  *
- *  1. Send.   waywire_client_send and waywire_client_bind write requests; waywire_server_send,
- *             _announce, _drop_object and _post_error write events. They wait in the end's outbox.
+ *  1. Send.   waywire_end_send writes a request at a client and an event at a server. A client's requests
+ *             are also written by waywire_client_bind, a server's events by waywire_server_announce,
+ *             _drop_object and _post_error. They wait in the end's outbox.
  *  2. Take.   `take` moves what waits into the caller's memory: write it to the socket. Or write from
  *             where `peek` points, and tell `sent` how much of it went.
  *  3. Feed.   `feed` moves what came from the socket into the end's inbox, cut anywhere. Or read to where
  *             `space` points, and tell `received` how much came.
  *  4. Next.   `next` reads one message and writes its report, which is valid until the next call that may
  *             change the end. Repeat it until the report says WAYWIRE_NOTHING.
+ *
+ * Ends.  waywire_client_new makes a waywire_client, and waywire_server_new a waywire_server. Both are structs with
+ * one member, `end`: a call waywire_end_.. takes that pointer and serves both, so a program writes its loop once.
  *
  * Tokens.  File descriptors are not among the bytes. A token is a number of the caller's choice
  * that stands for one, say the descriptor itself. `take` returns it with the first byte of its
@@ -27,13 +31,12 @@
  * server's, so it takes the id and the birth to tell an object. An object of one connection may equal one of
  * another, and no call can tell them apart: keep an object with its end.
  *
- * Memory.  Tables, a client, a server and an inspector belong to the caller, who frees each once. Tables may
- * be freed before the ends and inspectors made with them, which keep them as long as they need them. The
- * library calls `malloc`, `realloc` and `free`, and nothing else of the system. After `new` an end allocates
- * only when it opens an object (`send`, `bind`, `next`), in `set_user` and in `add_global`; an inspector
- * allocates in `pass` and `verdict`. A client's `next` does so only at an event that makes an object whose id
- * the server has never used before, and so never where the tables have no such event. If an allocation fails,
- * nothing is lost.
+ * Memory.  Tables, an end and an inspector belong to the caller, who frees each once. Tables may be freed
+ * before the ends and inspectors made with them, which keep them as long as they need them. The library calls
+ * `malloc`, `realloc` and `free`, and nothing else of the system. After `new` an end allocates only when it opens
+ * an object (`send`, `bind`, `next`), in `set_user` and in `add_global`; an inspector allocates in `pass` and
+ * `verdict`. A client's `next` does so only at an event that makes an object whose id the server has never used
+ * before, and so never where the tables have no such event. If an allocation fails, nothing is lost.
  *
  * Threads.  Nothing is bound to the thread that made it. Tables never change: any threads may use them at
  * once, and make and free ends and inspectors over them. Only one call at a time may use an end, on any
@@ -45,8 +48,9 @@
  * Statuses.  Each call that can refuse returns a waywire_status. Unless its own text says otherwise,
  * with a status other than WAYWIRE_OK nothing has changed and nothing was written to what the caller
  * passed. A null pointer where one is needed is WAYWIRE_NULL, and a length above PTRDIFF_MAX is
- * WAYWIRE_TOO_LARGE. Passing a pointer to memory that is not there, or an end or an inspector that was
- * freed, is undefined behaviour.
+ * WAYWIRE_TOO_LARGE. A call that refuses nothing returns its value; it takes a null end for one that has failed,
+ * and has no objects (waywire_end_display returns id 0) and empty queues without room. Passing a pointer to
+ * memory that is not there, or an end or an inspector that was freed, is undefined behaviour.
  *
  * Processors.  The library is for x86-64, little-endian, with the instructions of x86-64-v2 (SSE4.2, from
  * 2009 on).
@@ -116,7 +120,7 @@ typedef enum waywire_status {
 	WAYWIRE_BAD_SIZES = 63,      /* sizes that no end can have, or a limit that no message has */
 	WAYWIRE_NOT_FOUND = 64,      /* no such interface, or the object is not live */
 	WAYWIRE_TOO_LARGE = 65,      /* a length above PTRDIFF_MAX */
-	WAYWIRE_OTHER_END = 66,      /* a call of a client for a server, or of a server for a client */
+	WAYWIRE_OTHER_END = 66,      /* a client made of a server's end, or the other way round */
 
 	/* Why no tables are read from a text. */
 	WAYWIRE_BAD_LINE = 71,       /* a line has none of the forms of such a text */
@@ -323,11 +327,12 @@ typedef enum waywire_report_kind {
 	                        * stream at which the message begins. The end has failed */
 } waywire_report_kind;
 
-/* What `next` read. It points into the end, and is valid until the next call that takes the end without `const`.
- * That call itself may still be given its pointers, as the interface of a `global` to `bind`. Strings end with a
- * NUL that their length does not count. Only the first `arg_count` of `args` are written. `tokens` has the tokens
- * of all descriptors of the message, whatever the report's kind, in their order: the caller closes or keeps what
- * they stand for. Those of WAYWIRE_MESSAGE are the ones in its `args`, so close each once. */
+/* What `next` read. It points into the end, and is valid until the next call that may change the end: any but
+ * waywire_client_made and those that take a `const waywire_end *`. That call itself may still be given its
+ * pointers, as the interface of a `global` to `bind`. Strings end with a NUL that their length does not count.
+ * Only the first `arg_count` of `args` are written. `tokens` has the tokens of all descriptors of the message,
+ * whatever the report's kind, in their order: the caller closes or keeps what they stand for. Those of
+ * WAYWIRE_MESSAGE are the ones in its `args`, so close each once. */
 typedef struct waywire_report {
 	uint32_t kind; /* a waywire_report_kind */
 	uint32_t opcode;
@@ -352,7 +357,7 @@ typedef struct waywire_report {
 	uint16_t interface;
 	bool forgotten; /* whether it is wl_registry.global, and the client does not remember the global */
 	uint32_t version;
-	void *user; /* what the caller has set for the target, as by waywire_client_set_user; else null */
+	void *user; /* what the caller has set for the target, as by waywire_end_set_user; else null */
 	void *replaced_user; /* what the caller has set for `replaced`; else null */
 	waywire_arg args[WAYWIRE_MAX_ARGS];
 } waywire_report;
@@ -509,148 +514,158 @@ static inline bool waywire_dispatch(const waywire_tables *tables, const waywire_
 	return false;
 }
 
-/* ---- a client */
+/* ---- an end, whichever of the two: the calls that both have */
 
-/* The client's end of a connection: its objects, its inbox and outbox, and the globals that were announced to
- * it. It remembers 1,024 globals at a time. A global beyond these, or one whose interface is not in the tables,
- * is not remembered, as its report says (`forgotten`), and cannot be bound. */
-typedef struct waywire_client waywire_client;
+/* An end of one connection: its objects, its inbox and its outbox. */
+typedef struct waywire_end waywire_end;
 
-/* Makes a client with wl_display alone, an empty inbox and an empty outbox. The caller frees it.
- * WAYWIRE_BAD_SIZES, WAYWIRE_NO_MEMORY. */
-waywire_status waywire_client_new(const waywire_tables *tables, const waywire_sizes *sizes,
-	waywire_client **client);
+/* A client's end, and a server's. `end` is what the calls of both take. These are two types, so that a program
+ * which passes one where the other belongs does not compile. They are passed by value, which costs what a pointer
+ * costs. A call that takes a waywire_client returns WAYWIRE_OTHER_END if its `end` is a server's, and so does a
+ * call that takes a waywire_server if its `end` is a client's. */
+typedef struct waywire_client { waywire_end *end; } waywire_client;
+typedef struct waywire_server { waywire_end *end; } waywire_server;
 
-/* Frees a client. What it pointed to is gone with it. Null is allowed. */
-void waywire_client_free(waywire_client *client);
+/* Frees an end. What it pointed to is gone with it. Null is allowed. */
+void waywire_end_free(waywire_end *end);
 
 /* wl_display, which every connection has: id 1, birth 0. */
-waywire_status waywire_client_display(const waywire_client *client, waywire_object *display);
+waywire_object waywire_end_display(const waywire_end *end);
 
-/* The interface and version of an object that is live, also at a failed client. WAYWIRE_NOT_FOUND
- * if it is not live. `interface` and `version` may be null. */
-waywire_status waywire_client_live(const waywire_client *client, waywire_object object,
-	uint16_t *interface, uint32_t *version);
+/* The interface and version of an object that is live, also at a failed end. WAYWIRE_NOT_FOUND if it is not
+ * live. `interface` and `version` may be null. */
+waywire_status waywire_end_live(const waywire_end *end, waywire_object object, uint16_t *interface,
+	uint32_t *version);
 
 /* Sets the caller's own pointer for an object that is live, in place of the one set before; null is none. Each
- * report whose target is the object has it, also after the client has destroyed the object (WAYWIRE_DISCARDED)
+ * report whose target is the object has it, also after a client has destroyed the object (WAYWIRE_DISCARDED)
  * and when the object ends (WAYWIRE_DELETED). The library never follows it. The caller frees what it points to:
- * at the object's last report, and for the objects that are left (`object_after`) before the client is freed. No
+ * at the object's last report, and for the objects that are left (`object_after`) before the end is freed. No
  * WAYWIRE_DELETED comes for an object that the server made: free what it has before you destroy it, or at an event
  * that says that it is finished, and set null. If a new object replaces it while it is live, the report has what is
  * still set as `replaced_user`: free that. The call may allocate: at most 32 bytes for each id up to the object's,
  * from the first that its maker gives (1 or 0xff000000) on. WAYWIRE_STALE if the object is not live,
  * WAYWIRE_NO_MEMORY. */
-waywire_status waywire_client_set_user(waywire_client *client, waywire_object object, void *user);
+waywire_status waywire_end_set_user(waywire_end *end, waywire_object object, void *user);
 
 /* The pointer that was set for an object, also once it has ended, as long as none was set for a later object
  * with its id; else null. */
-void *waywire_client_user(const waywire_client *client, waywire_object object);
+void *waywire_end_user(const waywire_end *end, waywire_object object);
 
-/* How many objects the client has, without going through them: wl_display, those that are live, and those that
- * it destroyed and that have not ended yet. WAYWIRE_DELETED ends one that the client made; one that the server
- * made ends when its id is used again. A server has none that are destroyed. */
-waywire_status waywire_client_object_count(const waywire_client *client, size_t *count);
+/* How many objects the end has, without going through them: wl_display, those that are live, and at a client
+ * those that it destroyed and that have not ended yet. WAYWIRE_DELETED ends one that the client made; one that the
+ * server made ends when its id is used again. */
+size_t waywire_end_object_count(const waywire_end *end);
 
-/* The object with the least id above `id`, of those that `object_count` counts, also at a failed client. From 0 on
+/* The object with the least id above `id`, of those that `object_count` counts, also at a failed end. From 0 on
  * this goes through all of them, even if objects are made and destroyed on the way:
- *     for (waywire_object it = { 0, 0 }; !waywire_client_object_after(client, it.id, &it);)
- *             free(waywire_client_user(client, it));
+ *     for (waywire_object it = { 0, 0 }; !waywire_end_object_after(end, it.id, &it);)
+ *             free(waywire_end_user(end, it));
  * All of it takes time linear in the number of ids that were ever used. WAYWIRE_NOT_FOUND if there is none. */
-waywire_status waywire_client_object_after(const waywire_client *client, uint32_t id,
-	waywire_object *object);
+waywire_status waywire_end_object_after(const waywire_end *end, uint32_t id, waywire_object *object);
 
-/* Whether the client has failed. It fails for good when `next` reads a message at fault or wl_display.error, and
- * by `take_waiting_tokens`; a refused call never makes it fail. It then reads and writes nothing more, and what
- * waits in its outbox can still be taken. This call can be made at any time, refuses only a null pointer, and
- * changes nothing. */
-waywire_status waywire_client_has_failed(const waywire_client *client, bool *failed);
+/* Whether the end has failed. It fails for good when `next` reads a message at fault, and by `take_waiting_tokens`;
+ * a client also when `next` reads wl_display.error, and a server by `post_error`. A refused call never makes it
+ * fail. It then reads and writes nothing more, and what waits in its outbox can still be taken. */
+bool waywire_end_has_failed(const waywire_end *end);
 
-/* The free bytes and tokens of the inbox; zeros at a failed client. */
-waywire_status waywire_client_in_room(const waywire_client *client, waywire_amounts *room);
+/* The free bytes and tokens of the inbox; zeros at a failed end. */
+waywire_amounts waywire_end_in_room(const waywire_end *end);
 
 /* Whether nothing waits in the inbox or the outbox. */
-waywire_status waywire_client_is_drained(const waywire_client *client, bool *drained);
-
-/* Writes a request. If one of its arguments is WAYWIRE_NEW, the request makes an object, which is
- * written to `made`; else `made` gets id 0. An object that the request destroys is dead afterwards:
- * events for it may still come (WAYWIRE_DISCARDED), until WAYWIRE_DELETED ends it. No WAYWIRE_DELETED comes for
- * an object that the server made: it is dead until an event makes one with its id.
- * wl_registry.bind is WAYWIRE_NO_SUCH_MESSAGE: waywire_client_bind writes it.
- * Statuses, in the order in which they are tested: WAYWIRE_BAD_VALUE, WAYWIRE_FAILED, WAYWIRE_STALE,
- * WAYWIRE_NO_SUCH_MESSAGE, WAYWIRE_TOO_OLD, WAYWIRE_WRONG_ARGS, WAYWIRE_BAD_OBJECT, WAYWIRE_TOO_LONG,
- * WAYWIRE_FULL, WAYWIRE_NO_IDS, WAYWIRE_NO_MEMORY. `made` and `place` may be null; `place` is written with
- * WAYWIRE_WRONG_ARGS and WAYWIRE_BAD_OBJECT, counted from 0. */
-waywire_status waywire_client_send(waywire_client *client, waywire_object target, uint16_t opcode,
-	const waywire_arg *args, size_t arg_count, waywire_object *made, size_t *place);
-
-/* Binds a global that was announced to the client, of this name and interface (which ends with a NUL), and
- * writes the new object to `bound`, which may be null. WAYWIRE_FAILED, WAYWIRE_STALE,
- * WAYWIRE_NO_SUCH_MESSAGE if `registry` is no wl_registry, WAYWIRE_BAD_BIND, WAYWIRE_FULL,
- * WAYWIRE_NO_IDS, WAYWIRE_NO_MEMORY. */
-waywire_status waywire_client_bind(waywire_client *client, waywire_object registry, uint32_t name,
-	const char *interface, uint32_t version, waywire_object *bound);
+bool waywire_end_is_drained(const waywire_end *end);
 
 /* Copies what came into the inbox: as many tokens as fit, and if these are all, as many bytes as fit.
- * `fed` says how much that was; feed the rest later, after `next`. A failed client takes nothing in:
+ * `fed` says how much that was; feed the rest later, after `next`. A failed end takes nothing in:
  * WAYWIRE_FAILED, and `fed` gets zeros. `bytes` and `tokens` may be null if their length is 0. */
-waywire_status waywire_client_feed(waywire_client *client, const void *bytes, size_t length,
+waywire_status waywire_end_feed(waywire_end *end, const void *bytes, size_t length,
 	const uint32_t *tokens, size_t token_count, waywire_amounts *fed);
 
 /* How much a `take` into memory of these lengths would take. */
-waywire_status waywire_client_goes(const waywire_client *client, size_t bytes, size_t tokens,
-	waywire_amounts *amounts);
+waywire_amounts waywire_end_goes(const waywire_end *end, size_t bytes, size_t tokens);
 
-/* Moves what waits in the outbox into the caller's memory, as much as it holds, also at a failed client. The
+/* Moves what waits in the outbox into the caller's memory, as much as it holds, also at a failed end. The
  * tokens of a message go with its first byte: pass their descriptors on with these bytes. What was
  * taken is gone from the outbox. */
-waywire_status waywire_client_take(waywire_client *client, void *bytes, size_t length,
-	uint32_t *tokens, size_t token_count, waywire_amounts *taken);
+waywire_status waywire_end_take(waywire_end *end, void *bytes, size_t length, uint32_t *tokens,
+	size_t token_count, waywire_amounts *taken);
 
 /* Writes to `parts` where the bytes lie that can go at one time, for sendmsg. Writes to `tokens` the first
  * `room` of the tokens that go with the first of these bytes, and to `token_count` how many go with it, at most
  * WAYWIRE_MAX_ARGS. Nothing is taken out: after a sendmsg of n bytes call `sent` with n, and after one of none
  * do not call it. No message that has tokens begins behind the first byte, so all these tokens have gone however
- * few bytes went. The parts are valid until the client's next call of any kind. */
-waywire_status waywire_client_peek(const waywire_client *client, waywire_part parts[2], uint32_t *tokens,
+ * few bytes went. The parts are valid until the end's next call of any kind. */
+waywire_status waywire_end_peek(const waywire_end *end, waywire_part parts[2], uint32_t *tokens,
 	size_t room, size_t *token_count);
 
 /* Takes this many bytes out of the outbox, or all that wait if they are fewer, with the tokens of the messages
- * that begin in them, as `take` does. `taken` says how much that was, and may be null. */
-waywire_status waywire_client_sent(waywire_client *client, size_t bytes, waywire_amounts *taken);
+ * that begin in them, as `take` does. Returns how much that was. */
+waywire_amounts waywire_end_sent(waywire_end *end, size_t bytes);
 
-/* Writes to `parts` where the free bytes of the inbox lie, for recvmsg; none at a failed client. The caller may
- * write to the parts until the client's next call of any kind. The second may be empty. */
-waywire_status waywire_client_space(waywire_client *client, waywire_part parts[2]);
+/* Writes to `parts` where the free bytes of the inbox lie, for recvmsg; none at a failed end. The caller may
+ * write to the parts until the end's next call of any kind. The second may be empty. If `parts` is null, nothing
+ * is written. */
+void waywire_end_space(waywire_end *end, waywire_part parts[2]);
 
 /* Takes in tokens, and this many of the bytes that were written where `space` said, as `feed` does and with its
  * statuses. If not all tokens fit, no byte is taken in, and what was written stays there: call `next` until the
  * other tokens fit, and then this again with these and the same number of bytes. Once bytes were taken in, what
  * was written behind them is lost: call `space` again. */
-waywire_status waywire_client_received(waywire_client *client, size_t bytes, const uint32_t *tokens,
+waywire_status waywire_end_received(waywire_end *end, size_t bytes, const uint32_t *tokens,
 	size_t token_count, waywire_amounts *fed);
 
-/* Gives the client up, as at the end of its connection, and moves the tokens that wait in its inbox and its
+/* Gives the end up, as when its connection is closed, and moves the tokens that wait in its inbox and its
  * outbox into the caller's memory, so that their descriptors can be closed. Each token that was fed comes out
  * either in a report or by this call, and each that was sent either by `take` or by this call. The tokens of the
  * inbox come first, of these a message at fault's, then those of the outbox, all of a message at once. `taken`
- * gets their number: repeat the call until that is 0, with room for at least WAYWIRE_MAX_ARGS tokens. The client
+ * gets their number: repeat the call until that is 0, with room for at least WAYWIRE_MAX_ARGS tokens. The end
  * has failed afterwards, and what waited in its outbox is dropped with its tokens: `take` before what is still
- * to be sent. Send nothing after: each call drops bytes from the front of the outbox, so what a `take` gives
- * between two of them does not follow on what was taken before, and the stream would have a hole. */
-waywire_status waywire_client_take_waiting_tokens(waywire_client *client, uint32_t *tokens,
+ * to be sent. After the first of these calls, discard what `take` gives: the stream has a gap already. */
+waywire_status waywire_end_take_waiting_tokens(waywire_end *end, uint32_t *tokens,
 	size_t token_count, size_t *taken);
 
-/* Reads the next message once it is whole; `report` says WAYWIRE_NOTHING before. The report is valid
- * as waywire_report says. An event by which the server makes an object opens it. If its id is that of a live
- * object, that is gone: the report has it as `replaced`, and the caller frees what `replaced_user` points to.
- * With a status of WAYWIRE_FAULT_.. the report is written too (kind WAYWIRE_FAULT) and the client has
- * failed for good, as it has after a report WAYWIRE_ERROR. It writes nothing to the server about that; what
- * waited in the outbox can still be taken. WAYWIRE_NO_MEMORY if there is no memory for the object that an event
- * makes: the event stays, and can be read again. That can be only where its id is the next that the server has
- * never used; nothing else allocates. WAYWIRE_FAILED if it had failed before. With these two statuses the
- * report says WAYWIRE_NOTHING. */
-waywire_status waywire_client_next(waywire_client *client, waywire_report *report);
+/* Writes a message: a client a request, a server an event. If one of its arguments is WAYWIRE_NEW, the message
+ * makes an object of the end's, which is written to `made`; else `made` gets id 0.
+ * An object that a request destroys is dead afterwards: events for it may still come (WAYWIRE_DISCARDED), until
+ * WAYWIRE_DELETED ends it. No WAYWIRE_DELETED comes for an object that the server made: it is dead until an event
+ * makes one with its id. An event that destroys its object is followed by its delete_id: both are written, or
+ * nothing. WAYWIRE_NO_SUCH_MESSAGE for what other calls write: wl_registry.bind (waywire_client_bind), and the
+ * events of wl_display and wl_registry (those of a server below).
+ * Statuses, in the order in which they are tested: WAYWIRE_BAD_VALUE, WAYWIRE_FAILED, WAYWIRE_STALE,
+ * WAYWIRE_NO_SUCH_MESSAGE, WAYWIRE_TOO_OLD, WAYWIRE_WRONG_ARGS, WAYWIRE_BAD_OBJECT, WAYWIRE_TOO_LONG,
+ * WAYWIRE_FULL, WAYWIRE_NO_IDS, WAYWIRE_NO_MEMORY. `made` and `place` may be null; `place` is written with
+ * WAYWIRE_WRONG_ARGS and WAYWIRE_BAD_OBJECT, counted from 0. */
+waywire_status waywire_end_send(waywire_end *end, waywire_object target, uint16_t opcode,
+	const waywire_arg *args, size_t arg_count, waywire_object *made, size_t *place);
+
+/* Reads the next message once it is whole, a client an event and a server a request; `report` says
+ * WAYWIRE_NOTHING before. The report is valid as waywire_report says.
+ * An event by which the server makes an object opens it. If its id is that of a live object, that is gone: the
+ * report has it as `replaced`, and the caller frees what `replaced_user` points to. A request that destroys an
+ * object closes it, and if the client made that, writes its delete_id at once.
+ * With a status of WAYWIRE_FAULT_.. the report is written too (kind WAYWIRE_FAULT) and the end has failed for
+ * good. A client writes nothing to the server about that; of a server, wl_display.error is then the last that
+ * waits to be taken. After a report WAYWIRE_ERROR a client has failed as well.
+ * WAYWIRE_OUT_FULL if a server's outbox has no room for a delete_id, and WAYWIRE_NO_MEMORY if there is no memory
+ * for the object that the message opens: the message stays, and can be read again. At a client that can be only
+ * where the id of the object is the next that the server has never used; nothing else allocates.
+ * WAYWIRE_FAILED if the end had failed before. With these three statuses the report says WAYWIRE_NOTHING. */
+waywire_status waywire_end_next(waywire_end *end, waywire_report *report);
+
+/* ---- a client: the calls that it alone has */
+
+/* Makes a client with wl_display alone, an empty inbox and an empty outbox. The caller frees its end. It remembers
+ * 1,024 of the announced globals at a time. A global beyond these, or one whose interface is not in the tables, is
+ * not remembered, as its report says (`forgotten`), and cannot be bound. WAYWIRE_BAD_SIZES, WAYWIRE_NO_MEMORY. */
+waywire_status waywire_client_new(const waywire_tables *tables, const waywire_sizes *sizes,
+	waywire_client *client);
+
+/* Binds a global that was announced to the client, of this name and interface (which ends with a NUL), and
+ * writes the new object to `bound`, which may be null. WAYWIRE_FAILED, WAYWIRE_STALE,
+ * WAYWIRE_NO_SUCH_MESSAGE if `registry` is no wl_registry, WAYWIRE_BAD_BIND, WAYWIRE_FULL,
+ * WAYWIRE_NO_IDS, WAYWIRE_NO_MEMORY. */
+waywire_status waywire_client_bind(waywire_client client, waywire_object registry, uint32_t name,
+	const char *interface, uint32_t version, waywire_object *bound);
 
 /* The object that the last message read has made: one of the server's, also where its report was
  * WAYWIRE_DISCARDED, so that it can be destroyed. `made` gets id 0 if that message has made none, and before the
@@ -659,53 +674,24 @@ waywire_status waywire_client_next(waywire_client *client, waywire_report *repor
  * zwlr_output_head_v1 of version 2: the server destroys such an object on its own, and uses its id again. The
  * report of the message then has the old object as `replaced`. That is no longer live, and `object_after` passes
  * over it. */
-waywire_status waywire_client_made(const waywire_client *client, waywire_object *made);
+waywire_status waywire_client_made(waywire_client client, waywire_object *made);
 
-/* ---- a server */
+/* ---- a server: the calls that it alone has */
 
-/* The server's end of one connection: its objects, its inbox and outbox, and the globals it advertises. */
-typedef struct waywire_server waywire_server;
-
-/* As for a client. A new server has no globals. A server fails when `next` reads a message at fault, and by
- * `post_error` and `take_waiting_tokens`; the wl_display.error that it writes is the last that can be taken. */
+/* Makes a server with wl_display alone, an empty inbox, an empty outbox and no globals. The caller frees its end.
+ * WAYWIRE_BAD_SIZES, WAYWIRE_NO_MEMORY. */
 waywire_status waywire_server_new(const waywire_tables *tables, const waywire_sizes *sizes,
-	waywire_server **server);
-void waywire_server_free(waywire_server *server);
-waywire_status waywire_server_display(const waywire_server *server, waywire_object *display);
-waywire_status waywire_server_live(const waywire_server *server, waywire_object object,
-	uint16_t *interface, uint32_t *version);
-waywire_status waywire_server_set_user(waywire_server *server, waywire_object object, void *user);
-void *waywire_server_user(const waywire_server *server, waywire_object object);
-waywire_status waywire_server_object_count(const waywire_server *server, size_t *count);
-waywire_status waywire_server_object_after(const waywire_server *server, uint32_t id,
-	waywire_object *object);
-waywire_status waywire_server_has_failed(const waywire_server *server, bool *failed);
-waywire_status waywire_server_in_room(const waywire_server *server, waywire_amounts *room);
-waywire_status waywire_server_is_drained(const waywire_server *server, bool *drained);
-waywire_status waywire_server_feed(waywire_server *server, const void *bytes, size_t length,
-	const uint32_t *tokens, size_t token_count, waywire_amounts *fed);
-waywire_status waywire_server_goes(const waywire_server *server, size_t bytes, size_t tokens,
-	waywire_amounts *amounts);
-waywire_status waywire_server_take(waywire_server *server, void *bytes, size_t length,
-	uint32_t *tokens, size_t token_count, waywire_amounts *taken);
-waywire_status waywire_server_peek(const waywire_server *server, waywire_part parts[2], uint32_t *tokens,
-	size_t room, size_t *token_count);
-waywire_status waywire_server_sent(waywire_server *server, size_t bytes, waywire_amounts *taken);
-waywire_status waywire_server_space(waywire_server *server, waywire_part parts[2]);
-waywire_status waywire_server_received(waywire_server *server, size_t bytes, const uint32_t *tokens,
-	size_t token_count, waywire_amounts *fed);
-waywire_status waywire_server_take_waiting_tokens(waywire_server *server, uint32_t *tokens,
-	size_t token_count, size_t *taken);
+	waywire_server *server);
 
 /* Adds a global of an interface, by its place in the tables, and writes its name to `name`, which may
  * be null. waywire_server_announce writes it to the registries. WAYWIRE_FAILED, WAYWIRE_BAD_GLOBAL,
  * WAYWIRE_TOO_MANY_GLOBALS, WAYWIRE_NO_MEMORY. */
-waywire_status waywire_server_add_global(waywire_server *server, uint16_t interface,
+waywire_status waywire_server_add_global(waywire_server server, uint16_t interface,
 	uint32_t version, uint32_t *name);
 
 /* Withdraws a global. It can still be bound; waywire_server_announce tells the registries to which it was
  * announced. WAYWIRE_FAILED, WAYWIRE_NO_SUCH_GLOBAL. */
-waywire_status waywire_server_withdraw(waywire_server *server, uint32_t name);
+waywire_status waywire_server_withdraw(waywire_server server, uint32_t name);
 
 /* Writes to each open registry which globals were added and withdrawn that it has not been told of yet
  * (wl_registry.global, global_remove), as far as that fits. `count`, which may be null, gets the number of these
@@ -716,36 +702,19 @@ waywire_status waywire_server_withdraw(waywire_server *server, uint32_t name);
  * such, its time is linear in the events that it writes, in the globals that were ever added, and in these
  * registries. At each of these it looks at the globals 64 at a time, and one by one if the registry is owed one
  * of the 64. WAYWIRE_FAILED. */
-waywire_status waywire_server_announce(waywire_server *server, size_t *count);
-
-/* Writes an event. If one of its arguments is WAYWIRE_NEW, the event makes an object of the server's, which is
- * written to `made`. One that destroys its object is followed by its delete_id: both are written, or
- * nothing. The events of wl_display and wl_registry are WAYWIRE_NO_SUCH_MESSAGE: other calls write
- * them. Otherwise as waywire_client_send. */
-waywire_status waywire_server_send(waywire_server *server, waywire_object target, uint16_t opcode,
-	const waywire_arg *args, size_t arg_count, waywire_object *made, size_t *place);
+waywire_status waywire_server_announce(waywire_server server, size_t *count);
 
 /* Ends an object without the event that would destroy it, as a callback that nobody waits for, and writes its
  * delete_id.
  * WAYWIRE_FAILED, WAYWIRE_STALE, WAYWIRE_NOT_DROPPABLE, WAYWIRE_FULL. */
-waywire_status waywire_server_drop_object(waywire_server *server, waywire_object object);
+waywire_status waywire_server_drop_object(waywire_server server, waywire_object object);
 
 /* Ends the connection with wl_display.error about an object. The text ends with a NUL. Its first
  * WAYWIRE_MAX_ERROR_TEXT bytes are written, or up to 3 fewer where a character of UTF-8 would be cut. The
  * outbox always has room for it. The server has failed afterwards: take what waits, write it and close the
  * socket. WAYWIRE_FAILED, WAYWIRE_STALE. */
-waywire_status waywire_server_post_error(waywire_server *server, waywire_object object, uint32_t code,
-	const char *text);
-
-/* Reads the next request once it is whole; `report` says WAYWIRE_NOTHING before. The report is valid
- * as waywire_report says. A request that destroys an object closes it, and if the client
- * made that, writes its delete_id at once.
- * WAYWIRE_OUT_FULL if the outbox has no room for that, and WAYWIRE_NO_MEMORY if there is no memory for
- * the object that the request opens: the request stays, and can be read again. With a status of
- * WAYWIRE_FAULT_.. the report is written too (kind WAYWIRE_FAULT), wl_display.error is the last that
- * waits to be taken, and the server has failed for good. WAYWIRE_FAILED if it had failed before.
- * With any other status than WAYWIRE_OK and WAYWIRE_FAULT_.. the report says WAYWIRE_NOTHING. */
-waywire_status waywire_server_next(waywire_server *server, waywire_report *report);
+waywire_status waywire_server_post_error(waywire_server server, waywire_object object,
+	uint32_t code, const char *text);
 
 /* ---- an inspector */
 
@@ -771,10 +740,10 @@ waywire_status waywire_inspector_pass(waywire_inspector *inspector, waywire_send
 	const void *bytes, size_t length, size_t token_count);
 
 /* The lines of the messages that the last piece completed, each ended by a line feed; none before the first
- * piece. A message that breaks a rule has no line. They do not end with a NUL, and are valid until the
- * inspector's next `pass` or `verdict`. */
-waywire_status waywire_inspector_lines(const waywire_inspector *inspector, const char **lines,
-	size_t *length);
+ * piece. A message that breaks a rule has no line. `length` gets how many bytes they have: they do not end with a
+ * NUL. They are valid until the inspector's next `pass` or `verdict`. Returns null, with length 0, for a null
+ * inspector, and null if `length` is null. */
+const char *waywire_inspector_lines(const waywire_inspector *inspector, size_t *length);
 
 /* The verdict on all pieces so far, as the line that `waywire check` prints, ended by a line feed and not by a
  * NUL. It is valid until the inspector's next `pass` or `verdict`. `broken`, which may be null, gets whether a

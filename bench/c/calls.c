@@ -9,42 +9,45 @@
 #include "../../tests/c/must.h"
 #include <string.h>
 
-static waywire_client *client;
-static waywire_server *server;
+static waywire_client client;
+static waywire_server server;
 static waywire_tables *tables;
 static unsigned char bytes[131072];
 static waywire_report report;
 
-static void up(void)
+static void carry(waywire_end *from, waywire_end *to)
 {
 	waywire_amounts taken, fed;
-	MUST(!waywire_client_take(client, bytes, sizeof bytes, NULL, 0, &taken));
-	MUST(!waywire_server_feed(server, bytes, taken.bytes, NULL, 0, &fed));
+	MUST(!waywire_end_take(from, bytes, sizeof bytes, NULL, 0, &taken));
+	MUST(!waywire_end_feed(to, bytes, taken.bytes, NULL, 0, &fed));
+}
+
+static void up(void)
+{
+	carry(client.end, server.end);
 }
 
 static void down(void)
 {
-	waywire_amounts taken, fed;
-	MUST(!waywire_server_take(server, bytes, sizeof bytes, NULL, 0, &taken));
-	MUST(!waywire_client_feed(client, bytes, taken.bytes, NULL, 0, &fed));
+	carry(server.end, client.end);
 }
 
 static waywire_object make(waywire_object target, uint16_t opcode)
 {
 	waywire_arg place = waywire_new();
 	waywire_object made;
-	MUST(!waywire_client_send(client, target, opcode, &place, 1, &made, NULL));
+	MUST(!waywire_end_send(client.end, target, opcode, &place, 1, &made, NULL));
 	return made;
 }
 
 static void request(void)
 {
-	MUST(!waywire_server_next(server, &report) && report.kind == WAYWIRE_MESSAGE);
+	MUST(!waywire_end_next(server.end, &report) && report.kind == WAYWIRE_MESSAGE);
 }
 
 static void event(void)
 {
-	MUST(!waywire_client_next(client, &report) && report.kind != WAYWIRE_NOTHING);
+	MUST(!waywire_end_next(client.end, &report) && report.kind != WAYWIRE_NOTHING);
 }
 
 static void add(const char *name, uint32_t version)
@@ -81,7 +84,7 @@ static void open_ends(void)
 	surface = make(compositor, WAYWIRE_WL_COMPOSITOR_REQUEST_CREATE_SURFACE);
 	pointer = make(seat, WAYWIRE_WL_SEAT_REQUEST_GET_POINTER);
 	waywire_arg args[] = { waywire_new(), waywire_of(surface) };
-	MUST(!waywire_client_send(client, shell, WAYWIRE_WL_SHELL_REQUEST_GET_SHELL_SURFACE, args, 2,
+	MUST(!waywire_end_send(client.end, shell, WAYWIRE_WL_SHELL_REQUEST_GET_SHELL_SURFACE, args, 2,
 		&shell_surface, NULL));
 	up();
 	for (int each = 0; each < 6; each++)
@@ -91,21 +94,21 @@ static void open_ends(void)
 static void send_damage(void)
 {
 	waywire_arg args[] = { waywire_int(1), waywire_int(2), waywire_int(3), waywire_int(4) };
-	MUST(!waywire_client_send(client, surface, WAYWIRE_WL_SURFACE_REQUEST_DAMAGE, args, 4, NULL,
+	MUST(!waywire_end_send(client.end, surface, WAYWIRE_WL_SURFACE_REQUEST_DAMAGE, args, 4, NULL,
 		NULL));
 }
 
 static void send_motion(void)
 {
 	waywire_arg args[] = { waywire_uint(1), waywire_fixed(256), waywire_fixed(77) };
-	MUST(!waywire_server_send(server, pointer, WAYWIRE_WL_POINTER_EVENT_MOTION, args, 3, NULL,
+	MUST(!waywire_end_send(server.end, pointer, WAYWIRE_WL_POINTER_EVENT_MOTION, args, 3, NULL,
 		NULL));
 }
 
 static void send_surface(void)
 {
 	waywire_object it = make(compositor, WAYWIRE_WL_COMPOSITOR_REQUEST_CREATE_SURFACE);
-	MUST(!waywire_client_send(client, it, WAYWIRE_WL_SURFACE_REQUEST_DESTROY, NULL, 0, NULL, NULL));
+	MUST(!waywire_end_send(client.end, it, WAYWIRE_WL_SURFACE_REQUEST_DESTROY, NULL, 0, NULL, NULL));
 }
 
 static void send_title(void)
@@ -114,7 +117,7 @@ static void send_title(void)
 	if (!title[0])
 		memset(title, 'a', 1000);
 	waywire_arg args[] = { waywire_string(title) };
-	MUST(!waywire_client_send(client, shell_surface, WAYWIRE_WL_SHELL_SURFACE_REQUEST_SET_TITLE,
+	MUST(!waywire_end_send(client.end, shell_surface, WAYWIRE_WL_SHELL_SURFACE_REQUEST_SET_TITLE,
 		args, 1, NULL, NULL));
 }
 
@@ -150,7 +153,7 @@ int main(int argc, char **argv)
 		for (long each = 0; each < batch * cases[at].events; each++)
 			event();
 	}
-	waywire_client_free(client);
-	waywire_server_free(server);
+	waywire_end_free(client.end);
+	waywire_end_free(server.end);
 	return 0;
 }

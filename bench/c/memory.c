@@ -11,14 +11,14 @@ int main(int argc, char **argv)
 	MUST(argc == 3);
 	MUST(!waywire_tables_core(&tables));
 	for (long left = atol(argv[2]); left > 0; left--) {
-		waywire_client *client = NULL;
-		waywire_server *server = NULL;
+		waywire_client client = { NULL };
+		waywire_server server = { NULL };
 		if (!strcmp(argv[1], "client"))
 			MUST(!waywire_client_new(tables, &sizes, &client));
 		else
 			MUST(!waywire_server_new(tables, &sizes, &server));
-		waywire_client_free(client);
-		waywire_server_free(server);
+		waywire_end_free(client.end);
+		waywire_end_free(server.end);
 	}
 	return 0;
 }

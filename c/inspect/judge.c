@@ -247,9 +247,8 @@ static void judge(struct judging *judging, int from, const unsigned char *bytes,
 	bool is_broken = false;
 	waywire_status status = waywire_inspector_pass(judging->inspector, (waywire_sender)from, bytes, length,
 		descriptor_count);
-	if (!status)
-		status = waywire_inspector_lines(judging->inspector, &lines, &lines_length);
 	if (!status) {
+		lines = waywire_inspector_lines(judging->inspector, &lines_length);
 		print_judged(judging, from, lines, lines_length);
 		status = waywire_inspector_verdict(judging->inspector, &lines, &lines_length, &is_broken);
 	}

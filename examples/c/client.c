@@ -14,7 +14,7 @@
 #define COLOUR 0xff336699u
 
 static struct connection connection;
-static waywire_client *client;
+static waywire_client client;
 static waywire_object compositor, shm, wm_base;
 static bool configured;
 
@@ -75,7 +75,7 @@ int main(void)
 {
 	if (!connection_open(&connection, WW_XDG_SHELL_TABLES))
 		err(1, "the compositor");
-	client = connection.link.client;
+	client = connection.client;
 	waywire_object registry = waywire_wl_display_get_registry(client, connection.display, NULL);
 	connection_listen(&connection, registry, waywire_wl_registry_event_dispatcher, &registry_events,
 		NULL);

@@ -27,12 +27,13 @@ bool connection_open(struct connection *connection, const char *text)
 {
 	waywire_status status = read_tables(connection, text);
 	if (!status)
-		status = waywire_client_new(connection->tables, &sizes, &connection->link.client);
+		status = waywire_client_new(connection->tables, &sizes, &connection->client);
 	if (status) {
 		errno = status == WAYWIRE_NO_MEMORY ? ENOMEM : EINVAL;
 		return false;
 	}
-	waywire_client_display(connection->link.client, &connection->display);
+	connection->link.end = connection->client.end;
+	connection->display = waywire_end_display(connection->link.end);
 	connection->link.socket = link_connect();
 	return connection->link.socket >= 0;
 }
@@ -41,12 +42,13 @@ bool connection_serve(struct connection *connection, int socket, const char *tex
 {
 	waywire_status status = read_tables(connection, text);
 	if (!status)
-		status = waywire_server_new(connection->tables, &sizes, &connection->link.server);
+		status = waywire_server_new(connection->tables, &sizes, &connection->server);
 	if (status) {
 		errno = status == WAYWIRE_NO_MEMORY ? ENOMEM : EINVAL;
 		return false;
 	}
-	waywire_server_display(connection->link.server, &connection->display);
+	connection->link.end = connection->server.end;
+	connection->display = waywire_end_display(connection->link.end);
 	connection->link.socket = socket;
 	return true;
 }
@@ -55,7 +57,7 @@ bool connection_add_global(struct connection *connection, const char *interface,
 {
 	uint16_t place;
 	return !waywire_tables_interface(connection->tables, interface, &place)
-		&& !waywire_server_add_global(connection->link.server, place, version, NULL);
+		&& !waywire_server_add_global(connection->server, place, version, NULL);
 }
 
 /* ---- objects */
@@ -149,9 +151,7 @@ void *connection_data(const struct connection *connection, waywire_object object
 
 static bool is_live(const struct connection *connection, waywire_object object, uint16_t *interface)
 {
-	const struct link *link = &connection->link;
-	return !(link->client ? waywire_client_live(link->client, object, interface, NULL)
-		: waywire_server_live(link->server, object, interface, NULL));
+	return !waywire_end_live(connection->link.end, object, interface, NULL);
 }
 
 /* Learns the listener of a live object's interface. It cannot be asked for once the object is gone. */
@@ -170,13 +170,13 @@ static void learn(struct connection *connection, waywire_object object)
  * It stays where its interface has none, or the outbox no room. */
 static void destroy_made(struct connection *connection)
 {
-	waywire_client *client = connection->link.client;
+	waywire_client client = connection->client;
 	waywire_object made;
 	uint16_t interface;
 	uint32_t version;
 	waywire_message request;
 	if (waywire_client_made(client, &made)
-		|| waywire_client_live(client, made, &interface, &version))
+		|| waywire_end_live(client.end, made, &interface, &version))
 		return;
 	const struct known *it = find(connection, made);
 	if (it && it->listener.dispatch)
@@ -185,7 +185,7 @@ static void destroy_made(struct connection *connection)
 			WAYWIRE_FROM_CLIENT, opcode, &request, NULL, NULL); opcode++)
 		if (request.destroys == WAYWIRE_DESTROYS_TARGET && !request.arg_count
 			&& request.since <= version) {
-			waywire_client_send(client, made, opcode, NULL, 0, NULL, NULL);
+			waywire_end_send(client.end, made, opcode, NULL, 0, NULL, NULL);
 			return;
 		}
 }
@@ -196,7 +196,7 @@ static void drop(struct connection *connection, const waywire_report *report)
 	for (size_t each = 0; each < report->token_count; each++)
 		close((int)report->tokens[each]);
 	/* With nothing read, what the last event made may be a callback's. */
-	if (connection->link.client && report->kind != WAYWIRE_NOTHING)
+	if (connection->client.end && report->kind != WAYWIRE_NOTHING)
 		destroy_made(connection);
 }
 
@@ -216,7 +216,7 @@ static void hear(struct connection *connection, const waywire_report *report)
 		drop(connection, report);
 	it = find(connection, report->target);
 	if (it && (report->kind == WAYWIRE_DELETED
-		|| (connection->link.server && !is_live(connection, report->target, NULL))))
+		|| (connection->server.end && !is_live(connection, report->target, NULL))))
 		forget(it);
 }
 
@@ -226,14 +226,12 @@ static void hear(struct connection *connection, const waywire_report *report)
 /* Ends a client with an error where it opens too many objects. 0, or -1 where it did. */
 static int bound_objects(struct connection *connection)
 {
-	waywire_server *server = connection->link.server;
-	size_t count = 0;
-	waywire_server_object_count(server, &count);
+	size_t count = waywire_end_object_count(connection->link.end);
 	if (count <= MOST_OBJECTS)
 		return 0;
 	fprintf(stderr, "connection: it has %zu objects\n", count);
-	waywire_server_post_error(server, connection->display, WAYWIRE_WL_DISPLAY_ERROR_NO_MEMORY,
-		"too many objects");
+	waywire_server_post_error(connection->server, connection->display,
+		WAYWIRE_WL_DISPLAY_ERROR_NO_MEMORY, "too many objects");
 	errno = EPROTO;
 	return -1; /* connection_close writes the error and closes */
 }
@@ -242,15 +240,10 @@ static int bound_objects(struct connection *connection)
 static int next(struct connection *connection, waywire_report *report)
 {
 	struct link *link = &connection->link;
-	waywire_status status;
-	if (link->client) {
-		status = waywire_client_next(link->client, report);
-	} else {
-		/* What was written before is on its way, so that there is room for what this one asks for. */
-		if (bound_objects(connection) || link_drain(link, 120000) < 0)
-			return -1;
-		status = waywire_server_next(link->server, report);
-	}
+	/* What a server wrote before is on its way, so that there is room for what this one asks for. */
+	if (connection->server.end && (bound_objects(connection) || link_drain(link, 120000) < 0))
+		return -1;
+	waywire_status status = waywire_end_next(link->end, report);
 	if (!status && report->kind != WAYWIRE_ERROR)
 		return 0;
 	if (status)
@@ -272,8 +265,8 @@ int connection_dispatch(struct connection *connection, int milliseconds)
 		if (next(connection, &report) < 0)
 			return -1;
 		hear(connection, &report);
-		if (connection->link.server) /* it may have made a registry */
-			waywire_server_announce(connection->link.server, NULL);
+		if (connection->server.end) /* it may have made a registry */
+			waywire_server_announce(connection->server, NULL);
 	} while (report.kind != WAYWIRE_NOTHING);
 	return 1;
 }
@@ -289,8 +282,7 @@ int connection_roundtrip(struct connection *connection)
 	static const struct waywire_wl_callback_events events = { .done = on_done };
 	bool done = false;
 	int came = 1;
-	waywire_object callback = waywire_wl_display_sync(connection->link.client, connection->display,
-		NULL);
+	waywire_object callback = waywire_wl_display_sync(connection->client, connection->display, NULL);
 	errno = EPROTO;
 	if (!callback.id)
 		return -1;
@@ -314,8 +306,7 @@ void connection_close(struct connection *connection)
 {
 	link_flush(&connection->link);
 	link_close(&connection->link);
-	waywire_client_free(connection->link.client);
-	waywire_server_free(connection->link.server);
+	waywire_end_free(connection->link.end);
 	waywire_tables_free(connection->tables);
 	forget_all(&connection->of_client);
 	forget_all(&connection->of_server);

@@ -32,7 +32,9 @@ struct known_range {
 };
 
 struct connection {
-	struct link link; /* with the client or the server */
+	struct link link; /* with the end of one of these two, whose other's end is null */
+	waywire_client client;
+	waywire_server server;
 	waywire_tables *tables;
 	waywire_object display;
 	struct known_range of_client, of_server; /* by who makes the objects */

@@ -44,7 +44,7 @@ struct devices {
 };
 
 static struct connection connection;
-static waywire_server *server;
+static waywire_server server;
 static uint32_t serial;
 static struct devices keyboards, pointers;
 
@@ -73,7 +73,7 @@ static uint32_t milliseconds(void)
 
 static bool is_live(waywire_object object)
 {
-	return object.id && !waywire_server_live(server, object, NULL, NULL);
+	return object.id && !waywire_end_live(server.end, object, NULL, NULL);
 }
 
 /* Memory for data of an object, which goes with it. */
@@ -367,7 +367,7 @@ static void open_server(int socket)
 	for (size_t each = 0; each < sizeof globals / sizeof *globals; each++)
 		if (!connection_add_global(&connection, globals[each].name, globals[each].version))
 			errx(1, "%s", globals[each].name);
-	server = connection.link.server;
+	server = connection.server;
 	implement(WAYWIRE_WL_DISPLAY_NAME, waywire_wl_display_request_dispatcher, &display_requests);
 	implement(WAYWIRE_WL_REGISTRY_NAME, waywire_wl_registry_request_dispatcher, &registry_requests);
 	implement(WAYWIRE_WL_COMPOSITOR_NAME, waywire_wl_compositor_request_dispatcher, &compositor_requests);

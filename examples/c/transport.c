@@ -56,10 +56,7 @@ static size_t peek(const struct link *link, struct iovec data[2], uint32_t token
 {
 	waywire_part parts[2] = { { NULL, 0 }, { NULL, 0 } };
 	size_t count = 0;
-	if (link->client)
-		waywire_client_peek(link->client, parts, tokens, WAYWIRE_MAX_ARGS, &count);
-	else
-		waywire_server_peek(link->server, parts, tokens, WAYWIRE_MAX_ARGS, &count);
+	waywire_end_peek(link->end, parts, tokens, WAYWIRE_MAX_ARGS, &count);
 	for (int part = 0; part < 2; part++)
 		data[part] = (struct iovec){ parts[part].bytes, parts[part].length };
 	return count;
@@ -101,10 +98,7 @@ int link_flush(struct link *link)
 			return errno == EAGAIN ? 0 : -1;
 		while (count) /* they went with the first byte */
 			close((int)tokens[--count]);
-		if (link->client)
-			waywire_client_sent(link->client, (size_t)sent, NULL);
-		else
-			waywire_server_sent(link->server, (size_t)sent, NULL);
+		waywire_end_sent(link->end, (size_t)sent);
 	}
 	return 0;
 }
@@ -147,15 +141,9 @@ int link_fill(struct link *link)
 		char bytes[CMSG_SPACE(LINK_DESCRIPTORS * sizeof(int))];
 		struct cmsghdr aligned;
 	} control;
-	waywire_amounts room = { 0, 0 }, fed;
-	waywire_part parts[2] = { { NULL, 0 }, { NULL, 0 } };
-	if (link->client) {
-		waywire_client_in_room(link->client, &room);
-		waywire_client_space(link->client, parts);
-	} else {
-		waywire_server_in_room(link->server, &room);
-		waywire_server_space(link->server, parts);
-	}
+	waywire_amounts room = waywire_end_in_room(link->end), fed;
+	waywire_part parts[2];
+	waywire_end_space(link->end, parts);
 	if (!room.bytes || room.tokens < LINK_DESCRIPTORS) {
 		errno = ENOBUFS;
 		return -1;
@@ -171,10 +159,7 @@ int link_fill(struct link *link)
 	if (came <= 0)
 		return -1;
 	size_t count = received(&message, tokens);
-	if (link->client)
-		waywire_client_received(link->client, (size_t)came, tokens, count, &fed);
-	else
-		waywire_server_received(link->server, (size_t)came, tokens, count, &fed);
+	waywire_end_received(link->end, (size_t)came, tokens, count, &fed);
 	return 1;
 }
 
@@ -204,10 +189,7 @@ void link_close(struct link *link)
 	do {
 		while (count)
 			close((int)tokens[--count]);
-		if (link->client)
-			waywire_client_take_waiting_tokens(link->client, tokens, LINK_DESCRIPTORS, &count);
-		else if (link->server)
-			waywire_server_take_waiting_tokens(link->server, tokens, LINK_DESCRIPTORS, &count);
+		waywire_end_take_waiting_tokens(link->end, tokens, LINK_DESCRIPTORS, &count);
 	} while (count);
 	close(link->socket);
 }

@@ -13,8 +13,7 @@
 
 struct link {
 	int socket;
-	waywire_client *client; /* one of the two is null */
-	waywire_server *server;
+	waywire_end *end; /* a client's or a server's */
 };
 
 /* A socket that is connected to the compositor of WAYLAND_DISPLAY; -1 with errno set. */

@@ -31,20 +31,20 @@ static int new_descriptor(void)
 }
 
 /* A server at one end of a new pair of sockets; returns the other. */
-static int serve(struct link *link)
+static int serve(struct link *link, waywire_server *server)
 {
 	int sockets[2];
 	MUST(!socketpair(AF_UNIX, SOCK_STREAM | SOCK_CLOEXEC, 0, sockets));
-	memset(link, 0, sizeof *link);
 	link->socket = sockets[0];
-	MUST(!waywire_server_new(tables, &sizes, &link->server));
+	MUST(!waywire_server_new(tables, &sizes, server));
+	link->end = server->end;
 	return sockets[1];
 }
 
-static void end_server(struct link *link)
+static void end(struct link *link)
 {
 	link_close(link);
-	waywire_server_free(link->server);
+	waywire_end_free(link->end);
 }
 
 /* Sends bytes with as many descriptors as go at once. */
@@ -74,15 +74,16 @@ static void send_with_descriptors(int socket, const void *bytes, size_t length)
 static void broken(const void *bytes, size_t length)
 {
 	struct link link;
+	waywire_server server;
 	waywire_report report;
 	unsigned char told[256];
-	int client = serve(&link);
+	int client = serve(&link, &server);
 	size_t before = count_open();
 	send_with_descriptors(client, bytes, length);
 	MUST(link_fill(&link) == 1 && count_open() == before + LINK_DESCRIPTORS);
-	MUST(waywire_is_fault(waywire_server_next(link.server, &report)));
+	MUST(waywire_is_fault(waywire_end_next(server.end, &report)));
 	MUST(!link_drain(&link, 120000) && recv(client, told, sizeof told, MSG_DONTWAIT) >= 20);
-	end_server(&link);
+	end(&link);
 	MUST(count_open() == before - 1);
 	close(client);
 }
@@ -92,14 +93,15 @@ static void cut_off(void)
 {
 	static const unsigned char half[] = { 1, 0, 0, 0 };
 	struct link link;
+	waywire_server server;
 	waywire_report report;
-	int client = serve(&link);
+	int client = serve(&link, &server);
 	send_with_descriptors(client, half, sizeof half);
 	close(client);
 	MUST(link_fill(&link) == 1);
-	MUST(!waywire_server_next(link.server, &report) && report.kind == WAYWIRE_NOTHING);
+	MUST(!waywire_end_next(server.end, &report) && report.kind == WAYWIRE_NOTHING);
 	MUST(link_fill(&link) == -1 && !errno);
-	end_server(&link);
+	end(&link);
 }
 
 /* All that one end wrote is read by the other. */
@@ -108,8 +110,7 @@ static waywire_report pass(struct link *from, struct link *to)
 	waywire_report report, last = { 0 };
 	MUST(!link_flush(from) && link_fill(to) == 1);
 	for (;;) {
-		MUST(!(to->client ? waywire_client_next(to->client, &report)
-			: waywire_server_next(to->server, &report)));
+		MUST(!waywire_end_next(to->end, &report));
 		if (report.kind == WAYWIRE_NOTHING)
 			return last;
 		last = report;
@@ -119,26 +120,27 @@ static waywire_report pass(struct link *from, struct link *to)
 /* A client gives up with descriptors in its outbox, of which some messages have one and others none. */
 static void not_sent(void)
 {
-	struct link one = { 0 }, other;
-	waywire_object display, registry, shm, pool;
+	struct link one, other;
+	waywire_client client;
+	waywire_server server;
+	waywire_object registry, shm, pool;
 	uint16_t place;
-	one.socket = serve(&other);
-	MUST(!waywire_client_new(tables, &sizes, &one.client));
-	MUST(!waywire_client_display(one.client, &display));
-	registry = waywire_wl_display_get_registry(one.client, display, NULL);
+	one.socket = serve(&other, &server);
+	MUST(!waywire_client_new(tables, &sizes, &client));
+	one.end = client.end;
+	registry = waywire_wl_display_get_registry(client, waywire_end_display(client.end), NULL);
 	pass(&one, &other);
 	MUST(!waywire_tables_interface(tables, WAYWIRE_WL_SHM_NAME, &place));
-	MUST(!waywire_server_add_global(other.server, place, 1, NULL));
-	MUST(!waywire_server_announce(other.server, NULL));
+	MUST(!waywire_server_add_global(server, place, 1, NULL));
+	MUST(!waywire_server_announce(server, NULL));
 	pass(&other, &one);
-	shm = waywire_wl_registry_bind(one.client, registry, 1, WAYWIRE_WL_SHM_NAME, 1, NULL);
+	shm = waywire_wl_registry_bind(client, registry, 1, WAYWIRE_WL_SHM_NAME, 1, NULL);
 	for (int each = 0; each < 40; each++) {
-		pool = waywire_wl_shm_create_pool(one.client, shm, new_descriptor(), 4096, NULL);
-		MUST(pool.id && !waywire_wl_shm_pool_destroy(one.client, pool));
+		pool = waywire_wl_shm_create_pool(client, shm, new_descriptor(), 4096, NULL);
+		MUST(pool.id && !waywire_wl_shm_pool_destroy(client, pool));
 	}
-	link_close(&one);
-	waywire_client_free(one.client);
-	end_server(&other);
+	end(&one);
+	end(&other);
 }
 
 /* The tokens that wait, in order: those that came, then those that were not sent. Nothing is read or written
@@ -148,22 +150,21 @@ static void in_order(void)
 	static const unsigned char bytes[] = { 9, 0, 0, 0 };
 	uint32_t tokens[3], fed[LINK_DESCRIPTORS];
 	waywire_amounts amounts;
-	waywire_object display;
-	waywire_server *server;
+	waywire_server server;
 	size_t count;
 	for (uint32_t each = 0; each < LINK_DESCRIPTORS; each++)
 		fed[each] = 100 + each;
-	MUST(!waywire_server_new(tables, &sizes, &server) && !waywire_server_display(server, &display));
-	MUST(!waywire_server_feed(server, bytes, 4, fed, LINK_DESCRIPTORS, &amounts));
+	MUST(!waywire_server_new(tables, &sizes, &server));
+	MUST(!waywire_end_feed(server.end, bytes, 4, fed, LINK_DESCRIPTORS, &amounts));
 	for (uint32_t next = 100; next < 100 + LINK_DESCRIPTORS; next += (uint32_t)count) {
-		MUST(!waywire_server_take_waiting_tokens(server, tokens, 3, &count) && count);
+		MUST(!waywire_end_take_waiting_tokens(server.end, tokens, 3, &count) && count);
 		for (uint32_t each = 0; each < count; each++)
 			MUST(tokens[each] == next + each);
 	}
-	MUST(!waywire_server_take_waiting_tokens(server, tokens, 3, &count) && !count);
-	MUST(waywire_server_feed(server, bytes, 4, fed, 1, &amounts) == WAYWIRE_FAILED);
-	MUST(waywire_server_post_error(server, display, 0, "") == WAYWIRE_FAILED);
-	waywire_server_free(server);
+	MUST(!waywire_end_take_waiting_tokens(server.end, tokens, 3, &count) && !count);
+	MUST(waywire_end_feed(server.end, bytes, 4, fed, 1, &amounts) == WAYWIRE_FAILED);
+	MUST(waywire_server_post_error(server, waywire_end_display(server.end), 0, "") == WAYWIRE_FAILED);
+	waywire_end_free(server.end);
 }
 
 int main(void)

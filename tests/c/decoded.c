@@ -106,39 +106,40 @@ static void refusals(void)
 static void objects(void)
 {
 	static const waywire_sizes sizes = { 65536, 64, 4096, 20, 0 };
-	waywire_object display, made[4], it = { 0, 0 }, untouched = { 7, 7 };
+	waywire_object made[4], it = { 0, 0 }, untouched = { 7, 7 };
 	waywire_arg new = waywire_new();
-	waywire_client *client;
-	waywire_server *server;
+	waywire_client client;
+	waywire_server server;
 	waywire_amounts amounts;
 	waywire_report report;
 	unsigned char bytes[256];
 	size_t count = 0;
 	MUST(!waywire_client_new(tables, &sizes, &client) && !waywire_server_new(tables, &sizes, &server));
-	MUST(!waywire_client_display(client, &display));
+	waywire_object display = waywire_end_display(client.end);
 	for (int each = 0; each < 4; each++)
-		MUST(!waywire_client_send(client, display, WAYWIRE_WL_DISPLAY_REQUEST_SYNC, &new, 1, &made[each], NULL));
-	while (!waywire_client_object_after(client, it.id, &it)) {
+		MUST(!waywire_end_send(client.end, display, WAYWIRE_WL_DISPLAY_REQUEST_SYNC, &new, 1, &made[each],
+			NULL));
+	while (!waywire_end_object_after(client.end, it.id, &it)) {
 		MUST(waywire_object_equal(it, count ? made[count - 1] : display));
 		count++;
 	}
 	MUST(count == 5);
-	MUST(!waywire_client_take(client, bytes, sizeof bytes, NULL, 0, &amounts));
-	MUST(!waywire_server_feed(server, bytes, amounts.bytes, NULL, 0, &amounts));
+	MUST(!waywire_end_take(client.end, bytes, sizeof bytes, NULL, 0, &amounts));
+	MUST(!waywire_end_feed(server.end, bytes, amounts.bytes, NULL, 0, &amounts));
 	for (int each = 0; each < 4; each++)
-		MUST(!waywire_server_next(server, &report) && report.kind == WAYWIRE_MESSAGE);
-	MUST(!waywire_server_object_after(server, 1, &it) && waywire_object_equal(it, made[0]));
+		MUST(!waywire_end_next(server.end, &report) && report.kind == WAYWIRE_MESSAGE);
+	MUST(!waywire_end_object_after(server.end, 1, &it) && waywire_object_equal(it, made[0]));
 	MUST(!waywire_server_drop_object(server, made[1]));
-	MUST(!waywire_server_object_after(server, it.id, &it) && waywire_object_equal(it, made[2]));
-	MUST(!waywire_server_take_waiting_tokens(server, NULL, 0, &count)); /* also at a failed end */
-	MUST(!waywire_server_object_after(server, it.id, &it) && waywire_object_equal(it, made[3]));
-	MUST(waywire_server_object_after(server, it.id, &untouched) == WAYWIRE_NOT_FOUND);
-	MUST(waywire_server_object_after(server, UINT32_MAX, &untouched) == WAYWIRE_NOT_FOUND);
+	MUST(!waywire_end_object_after(server.end, it.id, &it) && waywire_object_equal(it, made[2]));
+	MUST(!waywire_end_take_waiting_tokens(server.end, NULL, 0, &count)); /* also at a failed end */
+	MUST(!waywire_end_object_after(server.end, it.id, &it) && waywire_object_equal(it, made[3]));
+	MUST(waywire_end_object_after(server.end, it.id, &untouched) == WAYWIRE_NOT_FOUND);
+	MUST(waywire_end_object_after(server.end, UINT32_MAX, &untouched) == WAYWIRE_NOT_FOUND);
 	MUST(untouched.id == 7 && untouched.birth == 7);
-	MUST(waywire_server_object_after(NULL, 0, &it) == WAYWIRE_NULL);
-	MUST(waywire_client_object_after(client, 0, NULL) == WAYWIRE_NULL);
-	waywire_client_free(client);
-	waywire_server_free(server);
+	MUST(waywire_end_object_after(NULL, 0, &it) == WAYWIRE_NULL);
+	MUST(waywire_end_object_after(client.end, 0, NULL) == WAYWIRE_NULL);
+	waywire_end_free(client.end);
+	waywire_end_free(server.end);
 }
 
 int main(void)

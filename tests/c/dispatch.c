@@ -98,8 +98,8 @@ static void stray(void)
 	static const unsigned char delete_9[] = { 1, 0, 0, 0, 1, 0, 12, 0, 9, 0, 0, 0 };
 	waywire_amounts fed;
 	open_pair();
-	MUST(!waywire_client_feed(client, delete_9, sizeof delete_9, NULL, 0, &fed));
-	MUST(!waywire_client_next(client, &report) && report.kind == WAYWIRE_STRAY);
+	MUST(!waywire_end_feed(client.end, delete_9, sizeof delete_9, NULL, 0, &fed));
+	MUST(!waywire_end_next(client.end, &report) && report.kind == WAYWIRE_STRAY);
 	MUST(waywire_wl_display_dispatch_event(&display_events, &mark, &report));
 	MUST(calls_that_came == 1 && number == 9);
 	close_pair();
@@ -140,8 +140,8 @@ static void by_interface(void)
 	MUST(calls_that_came == 1 && !strcmp(heard, "wl_compositor"));
 	MUST(!waywire_dispatch(tables, listeners + 1, 1, &mark, &report)); /* no listener for wl_registry */
 	MUST(!waywire_dispatch(tables, NULL, 0, &mark, &report));
-	MUST(!waywire_client_feed(client, delete_9, sizeof delete_9, NULL, 0, &fed));
-	MUST(!waywire_client_next(client, &report) && report.kind == WAYWIRE_STRAY);
+	MUST(!waywire_end_feed(client.end, delete_9, sizeof delete_9, NULL, 0, &fed));
+	MUST(!waywire_end_next(client.end, &report) && report.kind == WAYWIRE_STRAY);
 	MUST(waywire_dispatch(tables, listeners, 2, &mark, &report));
 	MUST(calls_that_came == 2 && number == 9);
 	MUST(!waywire_dispatch(tables, listeners, 2, &mark, &nothing));

@@ -1,6 +1,6 @@
 /* What passes through the library's pointers, at its edges: places, names, spellings, the last slot of a
  * report, sizes, tables over tables, a full outbox; an inspector's values and lines; a report behind calls that
- * only ask; and the numbers and texts that the header makes itself. */
+ * only ask; calls of one end with the other; and the numbers and texts that the header makes itself. */
 #include "must.h"
 
 #include <limits.h>
@@ -10,29 +10,29 @@ static waywire_tables *tables;
 static const waywire_sizes sizes = { 65536, 64, 65536, 64 };
 
 struct pair {
-	waywire_client *client;
-	waywire_server *server;
+	waywire_client client;
+	waywire_server server;
 	waywire_object display, registry;
 };
 
-static void to_server(struct pair *pair)
+static void carry(waywire_end *from, waywire_end *to)
 {
 	unsigned char bytes[65536];
 	uint32_t tokens[64];
 	waywire_amounts taken, fed;
-	MUST(!waywire_client_take(pair->client, bytes, sizeof bytes, tokens, 64, &taken));
-	MUST(!waywire_server_feed(pair->server, bytes, taken.bytes, tokens, taken.tokens, &fed));
+	MUST(!waywire_end_take(from, bytes, sizeof bytes, tokens, 64, &taken));
+	MUST(!waywire_end_feed(to, bytes, taken.bytes, tokens, taken.tokens, &fed));
 	MUST(fed.bytes == taken.bytes && fed.tokens == taken.tokens);
+}
+
+static void to_server(struct pair *pair)
+{
+	carry(pair->client.end, pair->server.end);
 }
 
 static void to_client(struct pair *pair)
 {
-	unsigned char bytes[65536];
-	uint32_t tokens[64];
-	waywire_amounts taken, fed;
-	MUST(!waywire_server_take(pair->server, bytes, sizeof bytes, tokens, 64, &taken));
-	MUST(!waywire_client_feed(pair->client, bytes, taken.bytes, tokens, taken.tokens, &fed));
-	MUST(fed.bytes == taken.bytes && fed.tokens == taken.tokens);
+	carry(pair->server.end, pair->client.end);
 }
 
 static void open_pair(struct pair *pair, const waywire_tables *of)
@@ -40,16 +40,16 @@ static void open_pair(struct pair *pair, const waywire_tables *of)
 	waywire_report report;
 	MUST(!waywire_client_new(of, &sizes, &pair->client));
 	MUST(!waywire_server_new(of, &sizes, &pair->server));
-	MUST(!waywire_client_display(pair->client, &pair->display));
+	pair->display = waywire_end_display(pair->client.end);
 	pair->registry = waywire_wl_display_get_registry(pair->client, pair->display, NULL);
 	to_server(pair);
-	MUST(!waywire_server_next(pair->server, &report) && report.kind == WAYWIRE_MESSAGE);
+	MUST(!waywire_end_next(pair->server.end, &report) && report.kind == WAYWIRE_MESSAGE);
 }
 
 static void close_pair(struct pair *pair)
 {
-	waywire_client_free(pair->client);
-	waywire_server_free(pair->server);
+	waywire_end_free(pair->client.end);
+	waywire_end_free(pair->server.end);
 }
 
 /* Advertises an interface, and returns an object of it that both ends have. */
@@ -65,14 +65,14 @@ static waywire_object bound(struct pair *pair, const waywire_tables *of, const c
 	MUST(!waywire_server_announce(pair->server, NULL));
 	to_client(pair);
 	do {
-		MUST(!waywire_client_next(pair->client, &report));
+		MUST(!waywire_end_next(pair->client.end, &report));
 		if (report.kind == WAYWIRE_MESSAGE)
 			last = report.args[0].u;
 	} while (report.kind != WAYWIRE_NOTHING);
 	MUST(name == last); /* the name that is returned is the one that is told */
 	MUST(!waywire_client_bind(pair->client, pair->registry, name, interface, version, &made));
 	to_server(pair);
-	MUST(!waywire_server_next(pair->server, &report) && report.kind == WAYWIRE_MESSAGE);
+	MUST(!waywire_end_next(pair->server.end, &report) && report.kind == WAYWIRE_MESSAGE);
 	MUST(waywire_object_equal(report.args[1].object, made) && report.args[1].u == version);
 	return made;
 }
@@ -88,21 +88,21 @@ static void places(void)
 	waywire_arg args[] = { waywire_new(), waywire_of(one), waywire_of(compositor) };
 	waywire_object made = { 5, 6 };
 	size_t place = 77;
-	MUST(waywire_client_send(pair.client, subcompositor, 1, args, 3, &made, &place)
+	MUST(waywire_end_send(pair.client.end, subcompositor, 1, args, 3, &made, &place)
 		== WAYWIRE_BAD_OBJECT);
 	MUST(place == 2 && made.id == 6 && made.birth == 5);
 	args[2] = waywire_no_object();
-	MUST(waywire_client_send(pair.client, subcompositor, 1, args, 3, NULL, &place)
+	MUST(waywire_end_send(pair.client.end, subcompositor, 1, args, 3, NULL, &place)
 		== WAYWIRE_WRONG_ARGS);
 	MUST(place == 2);
 	args[2] = waywire_of(made); /* OBJECT with an id is an object, whatever it is */
 	args[2].object.id = 0;
-	MUST(waywire_client_send(pair.client, subcompositor, 1, args, 3, NULL, &place)
+	MUST(waywire_end_send(pair.client.end, subcompositor, 1, args, 3, NULL, &place)
 		== WAYWIRE_BAD_OBJECT);
 	place = 77;
-	MUST(waywire_client_send(pair.client, made, 1, args, 3, NULL, &place) == WAYWIRE_STALE);
+	MUST(waywire_end_send(pair.client.end, made, 1, args, 3, NULL, &place) == WAYWIRE_STALE);
 	MUST(place == 77);
-	MUST(!waywire_client_send(pair.client, one, WAYWIRE_WL_SURFACE_REQUEST_COMMIT, NULL, 0, &made, &place));
+	MUST(!waywire_end_send(pair.client.end, one, WAYWIRE_WL_SURFACE_REQUEST_COMMIT, NULL, 0, &made, &place));
 	MUST(made.id == 0); /* nothing is made */
 	close_pair(&pair);
 }
@@ -117,7 +117,7 @@ static void object_without_id(void)
 	waywire_object none = { 0, 0 };
 	waywire_arg args[] = { waywire_of(none), waywire_int(0), waywire_int(0) };
 	size_t place = 7;
-	MUST(waywire_client_send(pair.client, surface, WAYWIRE_WL_SURFACE_REQUEST_ATTACH, args, 3, NULL, &place)
+	MUST(waywire_end_send(pair.client.end, surface, WAYWIRE_WL_SURFACE_REQUEST_ATTACH, args, 3, NULL, &place)
 		== WAYWIRE_BAD_OBJECT && place == 0);
 	close_pair(&pair);
 }
@@ -129,8 +129,8 @@ static waywire_report fault(const unsigned char *bytes, size_t length, waywire_s
 	waywire_report report;
 	waywire_amounts fed;
 	open_pair(&pair, tables);
-	MUST(!waywire_server_feed(pair.server, bytes, length, NULL, 0, &fed) && fed.bytes == length);
-	MUST(waywire_server_next(pair.server, &report) == wanted && report.kind == WAYWIRE_FAULT);
+	MUST(!waywire_end_feed(pair.server.end, bytes, length, NULL, 0, &fed) && fed.bytes == length);
+	MUST(waywire_end_next(pair.server.end, &report) == wanted && report.kind == WAYWIRE_FAULT);
 	MUST(report.offset == 12);
 	close_pair(&pair);
 	return report;
@@ -179,10 +179,10 @@ static void unused(void)
 				args[each].length = each % 2 ? SIZE_MAX : 1;
 		}
 		args[6] = waywire_new();
-		MUST(!waywire_client_send(pair.client, some, opcode, args, 6 + opcode, &args[0].object, NULL));
+		MUST(!waywire_end_send(pair.client.end, some, opcode, args, 6 + opcode, &args[0].object, NULL));
 		MUST(!args[0].object.id == !opcode);
 		to_server(&pair);
-		MUST(!waywire_server_next(pair.server, &report) && report.arg_count == 6u + opcode);
+		MUST(!waywire_end_next(pair.server.end, &report) && report.arg_count == 6u + opcode);
 		for (int each = 0; each < 6; each++)
 			MUST(report.args[each].kind == WAYWIRE_INT && report.args[each].i == 10 * form + each
 				&& !report.args[each].bytes && !report.args[each].length);
@@ -211,11 +211,11 @@ static void twenty(void)
 	waywire_object many = bound(&pair, again, "many");
 	for (int each = 0; each < 21; each++)
 		args[each] = waywire_int(each + 1);
-	MUST(waywire_client_send(pair.client, many, 0, args, 21, NULL, &place) == WAYWIRE_WRONG_ARGS);
+	MUST(waywire_end_send(pair.client.end, many, 0, args, 21, NULL, &place) == WAYWIRE_WRONG_ARGS);
 	MUST(place == 20);
-	MUST(!waywire_client_send(pair.client, many, 0, args, 20, NULL, NULL));
+	MUST(!waywire_end_send(pair.client.end, many, 0, args, 20, NULL, NULL));
 	to_server(&pair);
-	MUST(!waywire_server_next(pair.server, &report) && report.arg_count == 20);
+	MUST(!waywire_end_next(pair.server.end, &report) && report.arg_count == 20);
 	for (int each = 0; each < 20; each++)
 		MUST(report.args[each].kind == WAYWIRE_INT && report.args[each].i == each + 1);
 	close_pair(&pair);
@@ -231,28 +231,28 @@ static void full(void)
 	waywire_amounts taken;
 	waywire_report report;
 	open_pair(&pair, tables);
-	waywire_server_free(pair.server);
+	waywire_end_free(pair.server.end);
 	MUST(!waywire_server_new(tables, &narrow, &pair.server));
-	waywire_client_free(pair.client);
+	waywire_end_free(pair.client.end);
 	MUST(!waywire_client_new(tables, &sizes, &pair.client));
 	pair.registry = waywire_wl_display_get_registry(pair.client, pair.display, NULL);
 	to_server(&pair);
-	MUST(!waywire_server_next(pair.server, &report));
+	MUST(!waywire_end_next(pair.server.end, &report));
 	waywire_object compositor = bound(&pair, tables, "wl_compositor");
 	waywire_object region = waywire_wl_compositor_create_region(pair.client, compositor, NULL);
 	waywire_object callback = waywire_wl_display_sync(pair.client, pair.display, NULL);
 	MUST(!waywire_wl_region_destroy(pair.client, region));
 	to_server(&pair);
-	MUST(!waywire_server_next(pair.server, &report) && !waywire_server_next(pair.server, &report));
+	MUST(!waywire_end_next(pair.server.end, &report) && !waywire_end_next(pair.server.end, &report));
 	MUST(!waywire_wl_callback_send_done(pair.server, callback, 1)); /* 24 bytes; 16 are left */
-	MUST(!waywire_server_next(pair.server, &report) && report.kind == WAYWIRE_MESSAGE); /* 4 are left */
+	MUST(!waywire_end_next(pair.server.end, &report) && report.kind == WAYWIRE_MESSAGE); /* 4 are left */
 	region = waywire_wl_compositor_create_region(pair.client, compositor, NULL);
 	MUST(!waywire_wl_region_destroy(pair.client, region));
 	to_server(&pair);
-	MUST(!waywire_server_next(pair.server, &report));
-	MUST(waywire_server_next(pair.server, &report) == WAYWIRE_OUT_FULL && report.kind == WAYWIRE_NOTHING);
-	MUST(!waywire_server_take(pair.server, bytes, sizeof bytes, NULL, 0, &taken) && taken.bytes == 36);
-	MUST(!waywire_server_next(pair.server, &report) && report.kind == WAYWIRE_MESSAGE);
+	MUST(!waywire_end_next(pair.server.end, &report));
+	MUST(waywire_end_next(pair.server.end, &report) == WAYWIRE_OUT_FULL && report.kind == WAYWIRE_NOTHING);
+	MUST(!waywire_end_take(pair.server.end, bytes, sizeof bytes, NULL, 0, &taken) && taken.bytes == 36);
+	MUST(!waywire_end_next(pair.server.end, &report) && report.kind == WAYWIRE_MESSAGE);
 	MUST(waywire_object_equal(report.target, region));
 	close_pair(&pair);
 }
@@ -266,13 +266,13 @@ static void errors(void)
 	waywire_object compositor = bound(&pair, tables, "wl_compositor");
 	waywire_object region = waywire_wl_compositor_create_region(pair.client, compositor, NULL);
 	to_server(&pair);
-	MUST(!waywire_server_next(pair.server, &report));
+	MUST(!waywire_end_next(pair.server.end, &report));
 	MUST(!waywire_wl_region_destroy(pair.client, region));
 	/* 39 bytes, and then a character of two: the 40th byte would cut it */
 	MUST(!waywire_server_post_error(pair.server, region, 3,
 		"a text that has thirty-nine bytes of it" "\xc3\xa9" " and more"));
 	to_client(&pair);
-	MUST(!waywire_client_next(pair.client, &report) && report.kind == WAYWIRE_ERROR);
+	MUST(!waywire_end_next(pair.client.end, &report) && report.kind == WAYWIRE_ERROR);
 	MUST(report.named == WAYWIRE_DEAD_OBJECT && waywire_object_equal(report.target, region));
 	MUST(report.id == region.id && report.code == 3 && report.text_length == 39);
 	MUST(!strcmp(report.text, "a text that has thirty-nine bytes of it"));
@@ -283,11 +283,11 @@ static void errors(void)
 static void greatest(void)
 {
 	waywire_sizes most = { 16777216, 65536, 16777216, 65536 }, more;
-	waywire_amounts room;
-	waywire_client *client = NULL;
+	waywire_client client;
 	MUST(!waywire_client_new(tables, &most, &client));
-	MUST(!waywire_client_in_room(client, &room) && room.bytes == 16777216 && room.tokens == 65536);
-	waywire_client_free(client);
+	waywire_amounts room = waywire_end_in_room(client.end);
+	MUST(room.bytes == 16777216 && room.tokens == 65536);
+	waywire_end_free(client.end);
 	more = most, more.in_bytes++;
 	MUST(waywire_client_new(tables, &more, &client) == WAYWIRE_BAD_SIZES);
 	more = most, more.out_bytes++;
@@ -298,12 +298,12 @@ static void greatest(void)
 	MUST(waywire_client_new(tables, &more, &client) == WAYWIRE_BAD_SIZES);
 	/* the outbox is as large as it was asked for, and not as the inbox: a request of 12 bytes is too much */
 	waywire_sizes unlike = { 8, 1, 4096, 20 };
-	waywire_object display, none;
+	waywire_object none;
 	waywire_status status;
-	MUST(!waywire_client_new(tables, &unlike, &client) && !waywire_client_display(client, &display));
-	none = waywire_wl_display_sync(client, display, &status);
+	MUST(!waywire_client_new(tables, &unlike, &client));
+	none = waywire_wl_display_sync(client, waywire_end_display(client.end), &status);
 	MUST(status == WAYWIRE_FULL && none.id == 0);
-	waywire_client_free(client);
+	waywire_end_free(client.end);
 }
 
 /* Which limits an inspector takes. */
@@ -327,10 +327,9 @@ static void limits(void)
 /* Whether the last piece printed this. */
 static bool has_lines(const waywire_inspector *inspector, const char *wanted)
 {
-	const char *lines = NULL;
 	size_t length = 7;
-	MUST(!waywire_inspector_lines(inspector, &lines, &length) && lines);
-	return length == strlen(wanted) && !memcmp(lines, wanted, length);
+	const char *lines = waywire_inspector_lines(inspector, &length);
+	return lines && length == strlen(wanted) && !memcmp(lines, wanted, length);
 }
 
 /* Whether this is the verdict. */
@@ -383,8 +382,7 @@ static void inspected(void)
 	MUST(waywire_inspector_pass(it, WAYWIRE_FROM_CLIENT, NULL, 1, 0) == WAYWIRE_NULL);
 	MUST(waywire_inspector_pass(it, WAYWIRE_FROM_CLIENT, sync, SIZE_MAX, 0) == WAYWIRE_TOO_LARGE);
 	MUST(waywire_inspector_pass(NULL, WAYWIRE_FROM_CLIENT, sync, sizeof sync, 0) == WAYWIRE_NULL);
-	MUST(waywire_inspector_lines(it, NULL, &length) == WAYWIRE_NULL && length == 7);
-	MUST(waywire_inspector_lines(it, &text, NULL) == WAYWIRE_NULL && text == line);
+	MUST(!waywire_inspector_lines(it, NULL));
 	MUST(waywire_inspector_verdict(it, NULL, &length, NULL) == WAYWIRE_NULL && length == 7);
 	MUST(waywire_inspector_verdict(it, &text, NULL, NULL) == WAYWIRE_NULL && text == line);
 	MUST(!waywire_inspector_verdict(it, &text, &length, NULL) && length == strlen(lawful));
@@ -423,65 +421,47 @@ static void lines(void)
 	waywire_object compositor = bound(&pair, tables, "wl_compositor");
 	waywire_object surface = waywire_wl_compositor_create_surface(pair.client, compositor, NULL);
 	to_server(&pair);
-	MUST(!waywire_server_next(pair.server, &report));
+	MUST(!waywire_end_next(pair.server.end, &report));
 	is_line(WAYWIRE_FROM_CLIENT, &report, "wl_compositor", 6,
 		"-> wl_compositor@3.create_surface(new id wl_surface@4)");
-	MUST(!waywire_server_next(pair.server, &report));
+	MUST(!waywire_end_next(pair.server.end, &report));
 	is_line(WAYWIRE_FROM_CLIENT, &report, NULL, 0, "");
-	MUST(!waywire_server_send(pair.server, surface, WAYWIRE_WL_SURFACE_EVENT_PREFERRED_BUFFER_SCALE,
+	MUST(!waywire_end_send(pair.server.end, surface, WAYWIRE_WL_SURFACE_EVENT_PREFERRED_BUFFER_SCALE,
 		&scale, 1, NULL, NULL));
 	to_client(&pair);
-	MUST(!waywire_client_next(pair.client, &report));
+	MUST(!waywire_end_next(pair.client.end, &report));
 	is_line(WAYWIRE_FROM_SERVER, &report, "wl_surface", 6, "<- wl_surface@4.preferred_buffer_scale(2)");
-	MUST(!waywire_server_send(pair.server, surface, WAYWIRE_WL_SURFACE_EVENT_PREFERRED_BUFFER_SCALE,
+	MUST(!waywire_end_send(pair.server.end, surface, WAYWIRE_WL_SURFACE_EVENT_PREFERRED_BUFFER_SCALE,
 		&scale, 1, NULL, NULL));
 	waywire_wl_surface_destroy(pair.client, surface);
 	to_server(&pair);
-	MUST(!waywire_server_next(pair.server, &report));
+	MUST(!waywire_end_next(pair.server.end, &report));
 	is_line(WAYWIRE_FROM_CLIENT, &report, "wl_surface", 6, "-> wl_surface@4.destroy()");
 	MUST(!waywire_server_post_error(pair.server, compositor, 7, "no \"way\""));
 	to_client(&pair);
-	MUST(!waywire_client_next(pair.client, &report) && report.kind == WAYWIRE_DISCARDED);
+	MUST(!waywire_end_next(pair.client.end, &report) && report.kind == WAYWIRE_DISCARDED);
 	is_line(WAYWIRE_FROM_SERVER, &report, "wl_surface", 6, "<- wl_surface@4.preferred_buffer_scale(..)");
-	MUST(!waywire_client_next(pair.client, &report) && report.kind == WAYWIRE_DELETED);
+	MUST(!waywire_end_next(pair.client.end, &report) && report.kind == WAYWIRE_DELETED);
 	is_line(WAYWIRE_FROM_SERVER, &report, "wl_surface", 6, "<- wl_display@1.delete_id(4)");
-	MUST(!waywire_client_next(pair.client, &report) && report.kind == WAYWIRE_ERROR);
+	MUST(!waywire_end_next(pair.client.end, &report) && report.kind == WAYWIRE_ERROR);
 	is_line(WAYWIRE_FROM_SERVER, &report, "wl_compositor", 6,
 		"<- wl_display@1.error(wl_compositor@3, 7, \"no \\x22way\\x22\")");
 	close_pair(&pair);
 }
 
 /* Each call that only asks, to which its end is const. */
-static void ask_client(const waywire_client *client)
+static void ask(const waywire_end *end)
 {
-	waywire_object object;
-	waywire_amounts amounts;
+	waywire_object object = waywire_end_display(end);
 	waywire_part parts[2];
 	uint32_t tokens[WAYWIRE_MAX_ARGS];
 	size_t count;
-	bool is;
-	MUST(!waywire_client_display(client, &object) && !waywire_client_live(client, object, NULL, NULL));
-	MUST(!waywire_client_user(client, object) && !waywire_client_object_count(client, &count));
-	MUST(!waywire_client_object_after(client, 0, &object) && !waywire_client_made(client, &object));
-	MUST(!waywire_client_has_failed(client, &is) && !waywire_client_is_drained(client, &is));
-	MUST(!waywire_client_in_room(client, &amounts) && !waywire_client_goes(client, 99, 9, &amounts));
-	MUST(!waywire_client_peek(client, parts, tokens, WAYWIRE_MAX_ARGS, &count) && parts[0].length);
-}
-
-static void ask_server(const waywire_server *server)
-{
-	waywire_object object;
-	waywire_amounts amounts;
-	waywire_part parts[2];
-	uint32_t tokens[WAYWIRE_MAX_ARGS];
-	size_t count;
-	bool is;
-	MUST(!waywire_server_display(server, &object) && !waywire_server_live(server, object, NULL, NULL));
-	MUST(!waywire_server_user(server, object) && !waywire_server_object_count(server, &count));
-	MUST(!waywire_server_object_after(server, 0, &object));
-	MUST(!waywire_server_has_failed(server, &is) && !waywire_server_is_drained(server, &is));
-	MUST(!waywire_server_in_room(server, &amounts) && !waywire_server_goes(server, 99, 9, &amounts));
-	MUST(!waywire_server_peek(server, parts, tokens, WAYWIRE_MAX_ARGS, &count) && parts[0].length);
+	MUST(object.id == 1 && object.birth == 0 && !waywire_end_live(end, object, NULL, NULL));
+	MUST(!waywire_end_user(end, object) && waywire_end_object_count(end) > 1);
+	MUST(!waywire_end_object_after(end, 0, &object) && object.id == 1);
+	MUST(!waywire_end_has_failed(end) && !waywire_end_is_drained(end));
+	MUST(waywire_end_in_room(end).tokens == 64 && waywire_end_goes(end, 9, 9).bytes == 9);
+	MUST(!waywire_end_peek(end, parts, tokens, WAYWIRE_MAX_ARGS, &count) && parts[0].length);
 }
 
 static bool names(const waywire_arg *arg, const char *interface)
@@ -495,6 +475,7 @@ static void asked(void)
 	static const char seat[] = "wl_seat";
 	uint16_t place;
 	uint32_t name;
+	waywire_object made;
 	waywire_report report;
 	struct pair pair;
 	open_pair(&pair, tables);
@@ -503,16 +484,97 @@ static void asked(void)
 	MUST(!waywire_server_announce(pair.server, NULL));
 	to_client(&pair);
 	MUST(waywire_wl_display_sync(pair.client, pair.display, NULL).id);
-	MUST(!waywire_client_next(pair.client, &report) && report.arg_count == 3);
-	ask_client(pair.client);
+	MUST(!waywire_end_next(pair.client.end, &report) && report.arg_count == 3);
+	ask(pair.client.end);
+	MUST(!waywire_client_made(pair.client, &made) && !made.id);
 	MUST(names(&report.args[1], seat));
 	MUST(!waywire_client_bind(pair.client, pair.registry, name, seat, 1, NULL));
 	to_server(&pair);
 	MUST(!waywire_server_withdraw(pair.server, name) && !waywire_server_announce(pair.server, NULL));
-	MUST(!waywire_server_next(pair.server, &report) && report.arg_count == 1);
-	MUST(!waywire_server_next(pair.server, &report) && report.arg_count == 2);
-	ask_server(pair.server);
+	MUST(!waywire_end_next(pair.server.end, &report) && report.arg_count == 1);
+	MUST(!waywire_end_next(pair.server.end, &report) && report.arg_count == 2);
+	ask(pair.server.end);
 	MUST(names(&report.args[1], seat));
+	close_pair(&pair);
+}
+
+/* What an end has, as far as calls that only ask say it. */
+struct state {
+	size_t numbers[7];
+};
+
+static struct state state_of(const waywire_end *end)
+{
+	waywire_amounts room = waywire_end_in_room(end), goes = waywire_end_goes(end, SIZE_MAX, SIZE_MAX);
+	return (struct state){ { room.bytes, room.tokens, goes.bytes, goes.tokens,
+		waywire_end_object_count(end), waywire_end_has_failed(end), waywire_end_is_drained(end) } };
+}
+
+static bool is_state_of(const waywire_end *end, struct state state)
+{
+	struct state now = state_of(end);
+	return !memcmp(now.numbers, state.numbers, sizeof now.numbers);
+}
+
+/* A client's calls refuse a server, and change nothing. */
+static void refused_by_client(const struct pair *pair)
+{
+	waywire_client wrong = { pair->server.end };
+	struct state before = state_of(wrong.end);
+	waywire_object object = { 7, 7 };
+	MUST(waywire_client_bind(wrong, pair->registry, 1, "wl_seat", 1, &object) == WAYWIRE_OTHER_END);
+	MUST(waywire_client_bind(wrong, pair->registry, 1, "wl_seat", 1, NULL) == WAYWIRE_OTHER_END);
+	MUST(waywire_client_made(wrong, &object) == WAYWIRE_OTHER_END);
+	MUST(object.id == 7 && object.birth == 7);
+	MUST(is_state_of(wrong.end, before));
+}
+
+/* A server's calls refuse a client, and change nothing. */
+static void refused_by_server(const struct pair *pair)
+{
+	waywire_server wrong = { pair->client.end };
+	struct state before = state_of(wrong.end);
+	uint16_t seat;
+	uint32_t name = 7;
+	size_t count = 7;
+	MUST(!waywire_tables_interface(tables, "wl_seat", &seat));
+	MUST(waywire_server_add_global(wrong, seat, 1, &name) == WAYWIRE_OTHER_END && name == 7);
+	MUST(waywire_server_add_global(wrong, seat, 1, NULL) == WAYWIRE_OTHER_END);
+	MUST(waywire_server_withdraw(wrong, 1) == WAYWIRE_OTHER_END);
+	MUST(waywire_server_announce(wrong, &count) == WAYWIRE_OTHER_END && count == 7);
+	MUST(waywire_server_announce(wrong, NULL) == WAYWIRE_OTHER_END);
+	MUST(waywire_server_drop_object(wrong, pair->registry) == WAYWIRE_OTHER_END);
+	MUST(waywire_server_post_error(wrong, pair->display, 1, "x") == WAYWIRE_OTHER_END);
+	MUST(is_state_of(wrong.end, before));
+}
+
+/* Each call of one end alone with the other end: where that has something to read and to write, and once it has
+ * failed. The connection goes on as if none had been made. */
+static void other_end(void)
+{
+	struct pair pair;
+	waywire_report report;
+	size_t count;
+	open_pair(&pair, tables);
+	waywire_object compositor = bound(&pair, tables, "wl_compositor");
+	waywire_object surface = waywire_wl_compositor_create_surface(pair.client, compositor, NULL);
+	refused_by_client(&pair);
+	refused_by_server(&pair);
+	to_server(&pair);
+	refused_by_client(&pair);
+	MUST(!waywire_end_next(pair.server.end, &report) && report.kind == WAYWIRE_MESSAGE);
+	MUST(waywire_object_equal(report.args[0].object, surface));
+	MUST(!waywire_wl_surface_destroy(pair.client, surface));
+	to_server(&pair);
+	MUST(!waywire_end_next(pair.server.end, &report) && report.kind == WAYWIRE_MESSAGE);
+	to_client(&pair);
+	refused_by_server(&pair);
+	MUST(!waywire_end_next(pair.client.end, &report) && report.kind == WAYWIRE_DELETED);
+	MUST(waywire_object_equal(report.target, surface));
+	MUST(!waywire_end_take_waiting_tokens(pair.client.end, NULL, 0, &count));
+	MUST(!waywire_end_take_waiting_tokens(pair.server.end, NULL, 0, &count));
+	refused_by_client(&pair);
+	refused_by_server(&pair);
 	close_pair(&pair);
 }
 
@@ -544,6 +606,7 @@ int main(void)
 	inspected();
 	lines();
 	asked();
+	other_end();
 	numbers();
 	waywire_tables_free(tables);
 	printf("edges: ok\n");

@@ -15,8 +15,8 @@ struct value {
 };
 
 static waywire_tables *tables;
-static waywire_client *client;
-static waywire_server *server;
+static waywire_client client;
+static waywire_server server;
 static waywire_inspector *inspector;
 static waywire_object registry, target, made_here, made_there;
 static const waywire_object no_object = { 0, 0 };
@@ -48,25 +48,14 @@ static inline void read_tables(const char *path)
 static unsigned char bytes[4096];
 static size_t carried;
 
-static inline void carry_to_server(void)
+static inline void carry(waywire_end *from, waywire_end *to, waywire_sender sender)
 {
 	uint32_t tokens[28];
 	waywire_amounts taken, fed;
-	MUST(!waywire_client_take(client, bytes, sizeof bytes, tokens, 28, &taken));
-	MUST(!waywire_server_feed(server, bytes, taken.bytes, tokens, taken.tokens, &fed));
+	MUST(!waywire_end_take(from, bytes, sizeof bytes, tokens, 28, &taken));
+	MUST(!waywire_end_feed(to, bytes, taken.bytes, tokens, taken.tokens, &fed));
 	MUST(fed.bytes == taken.bytes && fed.tokens == taken.tokens);
-	MUST(!waywire_inspector_pass(inspector, WAYWIRE_FROM_CLIENT, bytes, taken.bytes, taken.tokens));
-	carried = taken.bytes;
-}
-
-static inline void carry_to_client(void)
-{
-	uint32_t tokens[28];
-	waywire_amounts taken, fed;
-	MUST(!waywire_server_take(server, bytes, sizeof bytes, tokens, 28, &taken));
-	MUST(!waywire_client_feed(client, bytes, taken.bytes, tokens, taken.tokens, &fed));
-	MUST(fed.bytes == taken.bytes && fed.tokens == taken.tokens);
-	MUST(!waywire_inspector_pass(inspector, WAYWIRE_FROM_SERVER, bytes, taken.bytes, taken.tokens));
+	MUST(!waywire_inspector_pass(inspector, sender, bytes, taken.bytes, taken.tokens));
 	carried = taken.bytes;
 }
 
@@ -121,24 +110,23 @@ static inline void must_come_apart(waywire_sender sender)
 static inline void must_be_called(const char *arrow, const char *interface, const char *message)
 {
 	char wanted[256];
-	const char *lines;
 	size_t length, most;
 	most = (size_t)snprintf(wanted, sizeof wanted, "%s %s@%u.%s(", arrow, interface, target.id, message);
-	MUST(!waywire_inspector_lines(inspector, &lines, &length));
+	const char *lines = waywire_inspector_lines(inspector, &length);
 	MUST(most < sizeof wanted && most <= length && !memcmp(lines, wanted, most));
 }
 
 static inline void carry_and_read_at_server(void)
 {
-	carry_to_server();
-	MUST(!waywire_server_next(server, &report));
+	carry(client.end, server.end, WAYWIRE_FROM_CLIENT);
+	MUST(!waywire_end_next(server.end, &report));
 	must_come_apart(WAYWIRE_FROM_CLIENT);
 }
 
 static inline void carry_and_read_at_client(void)
 {
-	carry_to_client();
-	MUST(!waywire_client_next(client, &report));
+	carry(server.end, client.end, WAYWIRE_FROM_SERVER);
+	MUST(!waywire_end_next(client.end, &report));
 	must_come_apart(WAYWIRE_FROM_SERVER);
 }
 
@@ -146,15 +134,13 @@ static inline void open_pair(void)
 {
 	waywire_sizes sizes = { .out_bytes = 65536, .out_tokens = 64, .in_bytes = 65536, .in_tokens = 64 };
 	waywire_arg args[1];
-	waywire_object display;
 	status = WAYWIRE_OK;
 	MUST(!waywire_client_new(tables, &sizes, &client));
 	MUST(!waywire_server_new(tables, &sizes, &server));
 	MUST(!waywire_inspector_new(tables, WAYWIRE_USUAL_LIMIT, &inspector));
-	MUST(!waywire_client_display(client, &display));
 	args[0] = waywire_new();
-	MUST(!waywire_client_send(client, display, WAYWIRE_WL_DISPLAY_REQUEST_GET_REGISTRY, args, 1,
-		&registry, NULL));
+	MUST(!waywire_end_send(client.end, waywire_end_display(client.end),
+		WAYWIRE_WL_DISPLAY_REQUEST_GET_REGISTRY, args, 1, &registry, NULL));
 	carry_and_read_at_server();
 	memset(want, 0, sizeof want);
 	made_here = made_there = no_object;
@@ -163,8 +149,8 @@ static inline void open_pair(void)
 
 static inline void close_pair(void)
 {
-	waywire_client_free(client);
-	waywire_server_free(server);
+	waywire_end_free(client.end);
+	waywire_end_free(server.end);
 	waywire_inspector_free(inspector);
 }
 
@@ -194,10 +180,8 @@ static inline waywire_object object_of(const char *interface)
 {
 	waywire_object made;
 	uint32_t version;
-	if (!strcmp(interface, "wl_display")) {
-		MUST(!waywire_client_display(client, &made));
-		return made;
-	}
+	if (!strcmp(interface, "wl_display"))
+		return waywire_end_display(client.end);
 	if (!strcmp(interface, "wl_registry"))
 		return registry;
 	uint32_t name = advertise(interface, &version);

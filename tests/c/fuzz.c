@@ -150,16 +150,6 @@ static void goes(struct way *way, const struct message *message)
 /* What stood where a call writes. */
 static const waywire_object stood = { 7, 7 };
 
-static waywire_status send_by(int by, bool null_end, const struct call *call, const waywire_arg *args,
-	waywire_object *made, size_t *place)
-{
-	if (by == BY_CLIENT)
-		return waywire_client_send(null_end ? NULL : client, call->target, call->opcode, args, call->arg_count, made,
-			place);
-	return waywire_server_send(null_end ? NULL : server, call->target, call->opcode, args, call->arg_count, made,
-		place);
-}
-
 /* Writes a message of an end, perhaps by a call that has a mistake, where without it this is expected.
  * `following` is the delete_id that goes with it. Returns whether it was written, and in `new` what it made. */
 static bool sends(int by, const struct message *message, waywire_object target, struct expected expected,
@@ -179,8 +169,9 @@ static bool sends(int by, const struct message *message, waywire_object target, 
 		expected = (struct expected){ WAYWIRE_NULL, NO_PLACE };
 	*new = stood;
 	refuse_some();
-	waywire_status status = send_by(by, mistake == NULL_END, &call, mistake == NULL_ARGS ? NULL : call.args,
-		asks_made ? new : NULL, asks_place ? &place : NULL);
+	waywire_status status = waywire_end_send(mistake == NULL_END ? NULL : ends[by], call.target, call.opcode,
+		mistake == NULL_ARGS ? NULL : call.args, call.arg_count, asks_made ? new : NULL,
+		asks_place ? &place : NULL);
 	refuse_none();
 	if (status == WAYWIRE_NO_MEMORY && was_refused && makes && !expected.status)
 		expected.status = status;
@@ -343,12 +334,9 @@ static bool same_amounts(waywire_amounts one, waywire_amounts other)
 static waywire_amounts take(int by, unsigned char *bytes, size_t length, uint32_t *tokens, size_t count)
 {
 	struct way *way = &ways[by];
-	waywire_amounts wanted = takes(way, length, count), told, taken;
-	MUST(!(by == BY_CLIENT ? waywire_client_goes(client, length, count, &told)
-		: waywire_server_goes(server, length, count, &told)));
-	MUST(!(by == BY_CLIENT ? waywire_client_take(client, bytes, length, tokens, count, &taken)
-		: waywire_server_take(server, bytes, length, tokens, count, &taken)));
-	MUST(same_amounts(told, wanted) && same_amounts(taken, wanted));
+	waywire_amounts wanted = takes(way, length, count), taken;
+	MUST(same_amounts(waywire_end_goes(ends[by], length, count), wanted));
+	MUST(!waywire_end_take(ends[by], bytes, length, tokens, count, &taken) && same_amounts(taken, wanted));
 	MUST(!memcmp(bytes, way->bytes + way->sent, taken.bytes));
 	for (size_t each = 0; each < taken.tokens; each++)
 		MUST(tokens[each] == way->tokens[way->tokens_sent + each].token);
@@ -451,8 +439,7 @@ static void reads(int by)
 	no_room = by == BY_CLIENT && whole && message->target != 1 && message->opcode == END
 		&& !fits(&ways[BY_SERVER], 12, 0);
 	refuse_some();
-	waywire_status status = by == BY_CLIENT ? waywire_server_next(server, &report)
-		: waywire_client_next(client, &report);
+	waywire_status status = waywire_end_next(ends[1 - by], &report);
 	refuse_none();
 	if (status == WAYWIRE_NO_MEMORY)
 		MUST(was_refused && by == BY_CLIENT && whole && message->args[0].kind == WAYWIRE_NEW);
@@ -487,10 +474,9 @@ static waywire_amounts least(waywire_amounts room, size_t bytes, size_t tokens)
 static void feeds(int by, const unsigned char *bytes, size_t length, const uint32_t *tokens, size_t count)
 {
 	while (length || count) {
-		waywire_amounts room, fed;
-		MUST(!(by == BY_CLIENT ? waywire_server_in_room(server, &room) : waywire_client_in_room(client, &room)));
-		MUST(!(by == BY_CLIENT ? waywire_server_feed(server, length ? bytes : NULL, length, tokens, count, &fed)
-			: waywire_client_feed(client, bytes, length, count ? tokens : NULL, count, &fed)));
+		waywire_end *reader = ends[1 - by];
+		waywire_amounts room = waywire_end_in_room(reader), fed;
+		MUST(!waywire_end_feed(reader, length ? bytes : NULL, length, count ? tokens : NULL, count, &fed));
 		MUST(same_amounts(fed, least(room, length, count)));
 		came[by] += fed.bytes;
 		bytes += fed.bytes;
@@ -526,23 +512,6 @@ static void carries(int by, size_t length, size_t count)
 
 /* ---- other calls */
 
-static waywire_status set_user_of(int by, waywire_object object, void *user)
-{
-	return by == BY_CLIENT ? waywire_client_set_user(client, object, user)
-		: waywire_server_set_user(server, object, user);
-}
-
-static void *user_of(int by, waywire_object object)
-{
-	return by == BY_CLIENT ? waywire_client_user(client, object) : waywire_server_user(server, object);
-}
-
-static waywire_status live_of(int by, waywire_object object, uint16_t *interface, uint32_t *version)
-{
-	return by == BY_CLIENT ? waywire_client_live(client, object, interface, version)
-		: waywire_server_live(server, object, interface, version);
-}
-
 /* What is said of any object of an end, and its pointer is set. */
 static void asks(int by)
 {
@@ -552,15 +521,15 @@ static void asks(int by)
 	uint32_t version = 999;
 	if (!object->it.id)
 		return;
-	waywire_status status = live_of(by, object->it, &interface, &version);
+	waywire_status status = waywire_end_live(ends[by], object->it, &interface, &version);
 	MUST(status == (object->life == LIVE ? WAYWIRE_OK : WAYWIRE_NOT_FOUND));
 	MUST(!waywire_tables_interface(tables, object->is_all ? "fz_all" : object->it.id == REGISTRY_ID ? "wl_registry"
 		: "wl_callback", &wanted));
 	MUST(interface == (status ? 999 : wanted) && version == (status ? 999 : 1));
 	if (object->life != FREE)
-		MUST(user_of(by, object->it) == object->user);
+		MUST(waywire_end_user(ends[by], object->it) == object->user);
 	refuse_some();
-	status = set_user_of(by, object->it, user);
+	status = waywire_end_set_user(ends[by], object->it, user);
 	refuse_none();
 	if (status == WAYWIRE_NO_MEMORY)
 		MUST(was_refused && object->life == LIVE && user);
@@ -570,28 +539,29 @@ static void asks(int by)
 		object->user = user;
 }
 
-/* Null where a pointer is needed, and lengths that no slice has. */
+/* Null where a pointer is needed, lengths that no slice has, and calls of one end with the other. */
 static void misuses(void)
 {
 	waywire_amounts amounts = { 9, 9 };
+	waywire_client wrong_client = { server.end };
+	waywire_server wrong_server = { client.end };
 	uint32_t token = 0;
 	char byte = 0;
-	bool drained;
-	MUST(waywire_client_feed(chance(2) ? NULL : client, &byte, SIZE_MAX, &token, 0, &amounts) != WAYWIRE_OK);
-	MUST(waywire_client_feed(client, NULL, 1, NULL, 0, &amounts) == WAYWIRE_NULL);
-	MUST(waywire_server_feed(server, NULL, 0, NULL, 1, &amounts) == WAYWIRE_NULL);
-	MUST(waywire_server_feed(server, &byte, 1, &token, 1, NULL) == WAYWIRE_NULL);
-	MUST(waywire_server_take(server, NULL, 1, NULL, 0, &amounts) == WAYWIRE_NULL);
-	MUST(waywire_client_take(client, &byte, 1, &token, (size_t)PTRDIFF_MAX, &amounts) == WAYWIRE_TOO_LARGE);
-	MUST(waywire_client_goes(client, 1, 1, NULL) == WAYWIRE_NULL);
-	MUST(waywire_server_next(server, NULL) == WAYWIRE_NULL);
-	MUST(waywire_client_set_user(NULL, display, &byte) == WAYWIRE_NULL);
-	MUST(!waywire_server_user(NULL, display));
+	MUST(waywire_end_feed(chance(2) ? NULL : client.end, &byte, SIZE_MAX, &token, 0, &amounts) != WAYWIRE_OK);
+	MUST(waywire_end_feed(client.end, NULL, 1, NULL, 0, &amounts) == WAYWIRE_NULL);
+	MUST(waywire_end_feed(server.end, NULL, 0, NULL, 1, &amounts) == WAYWIRE_NULL);
+	MUST(waywire_end_feed(server.end, &byte, 1, &token, 1, NULL) == WAYWIRE_NULL);
+	MUST(waywire_end_take(server.end, NULL, 1, NULL, 0, &amounts) == WAYWIRE_NULL);
+	MUST(waywire_end_take(client.end, &byte, 1, &token, (size_t)PTRDIFF_MAX, &amounts) == WAYWIRE_TOO_LARGE);
+	MUST(!waywire_end_goes(NULL, 1, 1).bytes);
+	MUST(waywire_end_next(server.end, NULL) == WAYWIRE_NULL);
+	MUST(waywire_end_set_user(NULL, display, &byte) == WAYWIRE_NULL);
+	MUST(!waywire_end_user(NULL, display));
+	MUST(waywire_client_bind(wrong_client, display, 1, "fz_all", 1, NULL) == WAYWIRE_OTHER_END);
+	MUST(waywire_server_post_error(wrong_server, display, 1, "x") == WAYWIRE_OTHER_END);
 	MUST(amounts.bytes == 9 && amounts.tokens == 9);
-	MUST(!waywire_client_is_drained(client, &drained));
-	MUST(drained == (ways[BY_CLIENT].sent == ways[BY_CLIENT].length && !came[BY_SERVER]));
-	MUST(!waywire_server_is_drained(server, &drained));
-	MUST(drained == (ways[BY_SERVER].sent == ways[BY_SERVER].length && !came[BY_CLIENT]));
+	for (int by = BY_CLIENT; by <= BY_SERVER; by++)
+		MUST(waywire_end_is_drained(ends[by]) == (ways[by].sent == ways[by].length && !came[1 - by]));
 }
 
 /* ---- the whole session */
@@ -611,16 +581,14 @@ static void settles(void)
 	MUST(!ways[BY_CLIENT].count && !ways[BY_SERVER].count);
 }
 
-static void carry_raw(bool to_server)
+static void carry_raw(int by)
 {
 	unsigned char bytes[OUT_BYTES];
 	waywire_amounts taken, fed;
-	MUST(!(to_server ? waywire_client_take(client, bytes, sizeof bytes, NULL, 0, &taken)
-		: waywire_server_take(server, bytes, sizeof bytes, NULL, 0, &taken)));
-	MUST(!waywire_inspector_pass(inspector, to_server ? WAYWIRE_FROM_CLIENT : WAYWIRE_FROM_SERVER, bytes, taken.bytes,
-		0));
-	MUST(!(to_server ? waywire_server_feed(server, bytes, taken.bytes, NULL, 0, &fed)
-		: waywire_client_feed(client, bytes, taken.bytes, NULL, 0, &fed)));
+	MUST(!waywire_end_take(ends[by], bytes, sizeof bytes, NULL, 0, &taken));
+	MUST(!waywire_inspector_pass(inspector, by == BY_CLIENT ? WAYWIRE_FROM_CLIENT : WAYWIRE_FROM_SERVER, bytes,
+		taken.bytes, 0));
+	MUST(!waywire_end_feed(ends[1 - by], bytes, taken.bytes, NULL, 0, &fed));
 	MUST(fed.bytes == taken.bytes);
 }
 
@@ -639,21 +607,25 @@ static void begins(void)
 	MUST(!waywire_tables_core(&core) && !waywire_tables_read(core, text, strlen(text), &tables, NULL, NULL));
 	waywire_tables_free(core);
 	MUST(!waywire_client_new(tables, &sizes, &client) && !waywire_server_new(tables, &sizes, &server));
+	ends[BY_CLIENT] = client.end;
+	ends[BY_SERVER] = server.end;
 	MUST(!waywire_inspector_new(tables, WAYWIRE_USUAL_LIMIT, &inspector));
 	MUST(!waywire_tables_interface(tables, "fz_all", &all) && !waywire_server_add_global(server, all, 1, &name));
-	MUST(!waywire_client_send(client, display, WAYWIRE_WL_DISPLAY_REQUEST_GET_REGISTRY, &new, 1, &registry, NULL));
-	carry_raw(true);
-	MUST(!waywire_server_next(server, &report) && registry.id == REGISTRY_ID);
+	MUST(!waywire_end_send(client.end, display, WAYWIRE_WL_DISPLAY_REQUEST_GET_REGISTRY, &new, 1, &registry,
+		NULL));
+	carry_raw(BY_CLIENT);
+	MUST(!waywire_end_next(server.end, &report) && registry.id == REGISTRY_ID);
 	other = report.args[0].object;
 	opens(BY_CLIENT, registry, false);
 	opens(BY_SERVER, other, false);
 	MUST(!waywire_server_announce(server, &count) && count == 1);
-	carry_raw(false);
-	MUST(!waywire_client_next(client, &report) && report.args[0].u == name);
+	carry_raw(BY_SERVER);
+	MUST(!waywire_end_next(client.end, &report) && report.args[0].u == name);
 	MUST(waywire_client_bind(client, registry, name, "fz_all", 2, &bound) == WAYWIRE_BAD_BIND);
 	MUST(!waywire_client_bind(client, registry, name, "fz_all", 1, &bound) && bound.id == BOUND_ID);
-	carry_raw(true);
-	MUST(!waywire_server_next(server, &report) && report.args[1].kind == WAYWIRE_BOUND && report.args[1].u == 1);
+	carry_raw(BY_CLIENT);
+	MUST(!waywire_end_next(server.end, &report));
+	MUST(report.args[1].kind == WAYWIRE_BOUND && report.args[1].u == 1);
 	opens(BY_CLIENT, bound, true);
 	opens(BY_SERVER, report.args[1].object, true);
 }
@@ -693,8 +665,8 @@ static void session(unsigned long messages)
 	}
 	settles();
 	judges(3);
-	waywire_client_free(client);
-	waywire_server_free(server);
+	waywire_end_free(client.end);
+	waywire_end_free(server.end);
 	waywire_inspector_free(inspector);
 	waywire_tables_free(tables);
 }

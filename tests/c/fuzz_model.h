@@ -112,8 +112,9 @@ struct object {
 static struct way ways[2]; /* of requests, and of events */
 static struct object objects[2][MOST_IDS];
 static waywire_tables *tables;
-static waywire_client *client;
-static waywire_server *server;
+static waywire_client client;
+static waywire_server server;
+static waywire_end *ends[2]; /* theirs */
 static waywire_inspector *inspector;
 static unsigned long read_messages;
 

@@ -66,40 +66,41 @@ enum { RELEASE = 0, MADE = 0, SHOW = 1, DESTROY = 0 };
 struct pair {
 	waywire_tables *tables;
 	uint16_t off;
-	waywire_client *client;
-	waywire_server *server;
+	waywire_client client;
+	waywire_server server;
 	waywire_object dev;
 	waywire_report at_client, at_server;
 };
 
-/* Moves all that waits to the client, and returns how many bytes that was. */
-static size_t to_client(struct pair *pair, unsigned char *bytes, size_t room)
+/* Moves all that waits at one end to the other, and returns how many bytes that was. */
+static size_t carry(waywire_end *from, waywire_end *to, unsigned char *bytes, size_t room)
 {
 	waywire_amounts taken, fed;
-	MUST(!waywire_server_take(pair->server, bytes, room, NULL, 0, &taken));
-	MUST(!waywire_client_feed(pair->client, bytes, taken.bytes, NULL, 0, &fed));
+	MUST(!waywire_end_take(from, bytes, room, NULL, 0, &taken));
+	MUST(!waywire_end_feed(to, bytes, taken.bytes, NULL, 0, &fed));
 	MUST(fed.bytes == taken.bytes);
 	return taken.bytes;
+}
+
+static size_t to_client(struct pair *pair, unsigned char *bytes, size_t room)
+{
+	return carry(pair->server.end, pair->client.end, bytes, room);
 }
 
 static size_t to_server(struct pair *pair, unsigned char *bytes, size_t room)
 {
-	waywire_amounts taken, fed;
-	MUST(!waywire_client_take(pair->client, bytes, room, NULL, 0, &taken));
-	MUST(!waywire_server_feed(pair->server, bytes, taken.bytes, NULL, 0, &fed));
-	MUST(fed.bytes == taken.bytes);
-	return taken.bytes;
+	return carry(pair->client.end, pair->server.end, bytes, room);
 }
 
 static uint32_t read_event(struct pair *pair)
 {
-	MUST(!waywire_client_next(pair->client, &pair->at_client));
+	MUST(!waywire_end_next(pair->client.end, &pair->at_client));
 	return pair->at_client.kind;
 }
 
 static uint32_t read_request(struct pair *pair)
 {
-	MUST(!waywire_server_next(pair->server, &pair->at_server));
+	MUST(!waywire_end_next(pair->server.end, &pair->at_server));
 	return pair->at_server.kind;
 }
 
@@ -109,13 +110,12 @@ static void bind_dev(struct pair *pair)
 	unsigned char bytes[256];
 	uint16_t dev;
 	uint32_t name;
-	waywire_object display, registry;
+	waywire_object registry;
 	waywire_arg new = waywire_new();
 	MUST(!waywire_tables_interface(pair->tables, "dev", &dev));
 	MUST(!waywire_server_add_global(pair->server, dev, 3, &name));
-	MUST(!waywire_client_display(pair->client, &display));
-	MUST(!waywire_client_send(pair->client, display, WAYWIRE_WL_DISPLAY_REQUEST_GET_REGISTRY, &new, 1,
-		&registry, NULL));
+	MUST(!waywire_end_send(pair->client.end, waywire_end_display(pair->client.end),
+		WAYWIRE_WL_DISPLAY_REQUEST_GET_REGISTRY, &new, 1, &registry, NULL));
 	to_server(pair, bytes, sizeof bytes);
 	MUST(read_request(pair) == WAYWIRE_MESSAGE && !waywire_server_announce(pair->server, NULL));
 	to_client(pair, bytes, sizeof bytes);
@@ -139,8 +139,8 @@ static void begin(struct pair *pair)
 
 static void end(struct pair *pair)
 {
-	waywire_client_free(pair->client);
-	waywire_server_free(pair->server);
+	waywire_end_free(pair->client.end);
+	waywire_end_free(pair->server.end);
 	waywire_tables_free(pair->tables);
 	MUST(live == 0);
 }
@@ -149,7 +149,7 @@ static waywire_object makes(struct pair *pair)
 {
 	waywire_object made;
 	waywire_arg new = waywire_new();
-	MUST(!waywire_server_send(pair->server, pair->dev, MADE, &new, 1, &made, NULL));
+	MUST(!waywire_end_send(pair->server.end, pair->dev, MADE, &new, 1, &made, NULL));
 	return made;
 }
 
@@ -168,16 +168,12 @@ static waywire_object made_last(const struct pair *pair)
 
 static size_t counted_by_client(const struct pair *pair)
 {
-	size_t count;
-	MUST(!waywire_client_object_count(pair->client, &count));
-	return count;
+	return waywire_end_object_count(pair->client.end);
 }
 
 static size_t counted_by_server(const struct pair *pair)
 {
-	size_t count;
-	MUST(!waywire_server_object_count(pair->server, &count));
-	return count;
+	return waywire_end_object_count(pair->server.end);
 }
 
 /* An id is used again once the server has read that its object ended. */
@@ -197,9 +193,9 @@ static void same_id_again(void)
 	MUST(waywire_object_equal(pair.at_client.args[0].object, first));
 	MUST(waywire_object_equal(made_last(&pair), first));
 
-	MUST(!waywire_client_send(pair.client, first, DESTROY, NULL, 0, NULL, NULL));
+	MUST(!waywire_end_send(pair.client.end, first, DESTROY, NULL, 0, NULL, NULL));
 	waywire_arg named = waywire_of(first);
-	MUST(!waywire_server_send(pair.server, pair.dev, SHOW, &named, 1, NULL, NULL));
+	MUST(!waywire_end_send(pair.server.end, pair.dev, SHOW, &named, 1, NULL, NULL));
 	MUST(to_client(&pair, bytes, sizeof bytes) == sizeof shown && !memcmp(bytes, shown, sizeof shown));
 	MUST(read_event(&pair) == WAYWIRE_MESSAGE && pair.at_client.args[0].kind == WAYWIRE_DEAD_OBJECT);
 	MUST(waywire_object_equal(pair.at_client.args[0].object, first) && made_last(&pair).id == 0);
@@ -229,26 +225,26 @@ static void both_ranges_are_gone_through(void)
 	to_client(&pair, bytes, sizeof bytes);
 	MUST(read_event(&pair) == WAYWIRE_MESSAGE && read_event(&pair) == WAYWIRE_MESSAGE);
 	MUST(counted_by_client(&pair) == 5);
-	MUST(!waywire_client_live(pair.client, second, &interface, &version));
+	MUST(!waywire_end_live(pair.client.end, second, &interface, &version));
 	MUST(interface == pair.off && version == 3);
-	MUST(!waywire_client_set_user(pair.client, pair.dev, &users[0]));
-	MUST(!waywire_client_set_user(pair.client, first, &users[1]));
-	MUST(!waywire_client_set_user(pair.client, second, &users[2]));
+	MUST(!waywire_end_set_user(pair.client.end, pair.dev, &users[0]));
+	MUST(!waywire_end_set_user(pair.client.end, first, &users[1]));
+	MUST(!waywire_end_set_user(pair.client.end, second, &users[2]));
 
 	static const uint32_t ids[] = { 1, 2, 3, FIRST_SERVER_ID, FIRST_SERVER_ID + 1 };
 	void *wanted[] = { NULL, NULL, &users[0], &users[1], &users[2] };
 	size_t at = 0;
-	for (waywire_object it = { 0, 0 }; !waywire_client_object_after(pair.client, it.id, &it); at++)
-		MUST(at < 5 && it.id == ids[at] && waywire_client_user(pair.client, it) == wanted[at]);
+	for (waywire_object it = { 0, 0 }; !waywire_end_object_after(pair.client.end, it.id, &it); at++)
+		MUST(at < 5 && it.id == ids[at] && waywire_end_user(pair.client.end, it) == wanted[at]);
 	MUST(at == 5);
 	at = 0;
-	for (waywire_object it = { 0, 0 }; !waywire_server_object_after(pair.server, it.id, &it); at++)
+	for (waywire_object it = { 0, 0 }; !waywire_end_object_after(pair.server.end, it.id, &it); at++)
 		MUST(at < 5 && it.id == ids[at]);
 	MUST(at == 5);
 	waywire_object none;
 	static const uint32_t behind[] = { FIRST_SERVER_ID + 1, FIRST_SERVER_ID + 2, UINT32_MAX };
 	for (at = 0; at < 3; at++)
-		MUST(waywire_client_object_after(pair.client, behind[at], &none) == WAYWIRE_NOT_FOUND);
+		MUST(waywire_end_object_after(pair.client.end, behind[at], &none) == WAYWIRE_NOT_FOUND);
 	end(&pair);
 }
 
@@ -259,10 +255,10 @@ static void discarded_event_makes(void)
 	struct pair pair;
 	begin(&pair);
 	waywire_object made = makes(&pair);
-	MUST(!waywire_client_send(pair.client, pair.dev, RELEASE, NULL, 0, NULL, NULL));
+	MUST(!waywire_end_send(pair.client.end, pair.dev, RELEASE, NULL, 0, NULL, NULL));
 	to_client(&pair, bytes, sizeof bytes);
 	MUST(read_event(&pair) == WAYWIRE_DISCARDED && waywire_object_equal(made_last(&pair), made));
-	MUST(!waywire_client_send(pair.client, made, DESTROY, NULL, 0, NULL, NULL));
+	MUST(!waywire_end_send(pair.client.end, made, DESTROY, NULL, 0, NULL, NULL));
 	to_server(&pair, bytes, sizeof bytes);
 	MUST(read_request(&pair) == WAYWIRE_MESSAGE && read_request(&pair) == WAYWIRE_MESSAGE);
 	MUST(counted_by_server(&pair) == 2);
@@ -280,11 +276,11 @@ static void refused(void)
 	waywire_object made = makes(&pair);
 	to_client(&pair, bytes, sizeof bytes);
 	refuses = true;
-	MUST(waywire_client_next(pair.client, &pair.at_client) == WAYWIRE_NO_MEMORY);
+	MUST(waywire_end_next(pair.client.end, &pair.at_client) == WAYWIRE_NO_MEMORY);
 	refuses = false;
 	MUST(pair.at_client.kind == WAYWIRE_NOTHING && counted_by_client(&pair) == 3);
 	MUST(read_event(&pair) == WAYWIRE_MESSAGE && waywire_object_equal(made_last(&pair), made));
-	MUST(!waywire_client_send(pair.client, made, DESTROY, NULL, 0, NULL, NULL));
+	MUST(!waywire_end_send(pair.client.end, made, DESTROY, NULL, 0, NULL, NULL));
 	to_server(&pair, bytes, sizeof bytes);
 	MUST(read_request(&pair) == WAYWIRE_MESSAGE);
 	makes(&pair);
@@ -308,7 +304,7 @@ static void in_turn(void)
 		to_client(&pair, bytes, sizeof bytes);
 		MUST(read_event(&pair) == WAYWIRE_MESSAGE);
 		MUST(waywire_object_equal(pair.at_client.args[0].object, made));
-		MUST(!waywire_client_send(pair.client, made, DESTROY, NULL, 0, NULL, NULL));
+		MUST(!waywire_end_send(pair.client.end, made, DESTROY, NULL, 0, NULL, NULL));
 		to_server(&pair, bytes, sizeof bytes);
 		MUST(read_request(&pair) == WAYWIRE_MESSAGE);
 		if (round == 1)
@@ -329,7 +325,7 @@ static void hostile_server(void)
 	for (uint32_t place = 0; place < MOST_BY_SERVER; place++) {
 		uint32_t id = FIRST_SERVER_ID + place;
 		memcpy(event + 8, &id, sizeof id);
-		MUST(!waywire_client_feed(pair.client, event, sizeof event, NULL, 0, &fed));
+		MUST(!waywire_end_feed(pair.client.end, event, sizeof event, NULL, 0, &fed));
 		MUST(read_event(&pair) == WAYWIRE_MESSAGE && is(made_last(&pair), id, place + 1));
 		MUST(place < 1000 || live - before <= 48 * (size_t)(place + 2));
 	}
@@ -337,8 +333,8 @@ static void hostile_server(void)
 	MUST(counted_by_client(&pair) == MOST_BY_SERVER + 3);
 	uint32_t past = FIRST_SERVER_ID + MOST_BY_SERVER;
 	memcpy(event + 8, &past, sizeof past);
-	MUST(!waywire_client_feed(pair.client, event, sizeof event, NULL, 0, &fed));
-	MUST(waywire_client_next(pair.client, &pair.at_client) == WAYWIRE_FAULT_TOO_MANY_OBJECTS);
+	MUST(!waywire_end_feed(pair.client.end, event, sizeof event, NULL, 0, &fed));
+	MUST(waywire_end_next(pair.client.end, &pair.at_client) == WAYWIRE_FAULT_TOO_MANY_OBJECTS);
 	end(&pair);
 }
 
@@ -351,8 +347,8 @@ static struct asks asks_over(const char *more)
 {
 	struct asks asked;
 	waywire_tables *core, *tables;
-	waywire_client *client;
-	waywire_server *server;
+	waywire_client client;
+	waywire_server server;
 	MUST(!waywire_tables_core(&core));
 	MUST(!waywire_tables_read(core, more, strlen(more), &tables, NULL, NULL));
 	waywire_tables_free(core);
@@ -362,8 +358,8 @@ static struct asks asks_over(const char *more)
 	before = asks;
 	MUST(!waywire_server_new(tables, &sizes, &server));
 	asked.server = asks - before;
-	waywire_client_free(client);
-	waywire_server_free(server);
+	waywire_end_free(client.end);
+	waywire_end_free(server.end);
 	waywire_tables_free(tables);
 	MUST(live == 0);
 	return asked;

@@ -179,6 +179,7 @@ static int serve(int fd)
 /* ---- our client */
 
 static struct link link_to;
+static waywire_client client;
 static waywire_object display, registry, compositor_at, shm_at, seat_at, pointer_at;
 static waywire_object callback, frame_callback, keyboard;
 static uint32_t round_number, keymaps;
@@ -189,8 +190,7 @@ static waywire_object request(waywire_object target, uint16_t opcode, const wayw
 	size_t count)
 {
 	waywire_object made;
-	waywire_status status = waywire_client_send(link_to.client, target, opcode, args, count, &made,
-		NULL);
+	waywire_status status = waywire_end_send(client.end, target, opcode, args, count, &made, NULL);
 	if (status)
 		fprintf(stderr, "%u/%u opcode %u: %s\n", target.id, (unsigned)target.birth, opcode,
 			waywire_strerror(status));
@@ -213,8 +213,7 @@ static void told(const waywire_report *report)
 	waywire_object *object = !strcmp(interface, "wl_compositor") ? &compositor_at
 		: !strcmp(interface, "wl_shm") ? &shm_at : !strcmp(interface, "wl_seat") ? &seat_at : NULL;
 	if (object)
-		MUST(!waywire_client_bind(link_to.client, registry, name, interface, report->args[2].u,
-			object));
+		MUST(!waywire_client_bind(client, registry, name, interface, report->args[2].u, object));
 }
 
 static void pointed(const waywire_report *report)
@@ -280,7 +279,7 @@ static void read_all(void)
 	MUST(link_wait(&link_to, 120000) > 0);
 	for (;;) {
 		waywire_report report;
-		waywire_status status = waywire_client_next(link_to.client, &report);
+		waywire_status status = waywire_end_next(client.end, &report);
 		if (status == WAYWIRE_FAILED && ended)
 			return;
 		if (status)
@@ -334,7 +333,7 @@ static void play_round(void)
 
 static void play(void)
 {
-	waywire_client_display(link_to.client, &display);
+	display = waywire_end_display(client.end);
 	registry = make(display, WAYWIRE_WL_DISPLAY_REQUEST_GET_REGISTRY);
 	round_trip();
 	MUST(compositor_at.id && shm_at.id && seat_at.id);
@@ -368,12 +367,12 @@ int main(void)
 	}
 	close(sockets[1]);
 	MUST(!waywire_tables_core(&tables));
-	MUST(!waywire_client_new(tables, &sizes, &link_to.client));
-	link_to.socket = sockets[0];
+	MUST(!waywire_client_new(tables, &sizes, &client));
+	link_to = (struct link){ sockets[0], client.end };
 	play();
 	waywire_tables_free(tables);
 	link_close(&link_to);
-	waywire_client_free(link_to.client);
+	waywire_end_free(client.end);
 	MUST(waitpid(child, &status, 0) == child && status == 0);
 	printf("%zu messages, %zu discarded, %zu objects let go\n", messages, discarded, deleted);
 	return 0;

@@ -171,6 +171,7 @@ static int be_client(int fd)
 
 static waywire_tables *tables;
 static struct link link_to;
+static waywire_server server;
 static waywire_object pointer_at;
 static uint32_t pools, keyboards;
 static size_t messages;
@@ -178,8 +179,7 @@ static bool ended;
 
 static void event(waywire_object target, uint16_t opcode, const waywire_arg *args, size_t count)
 {
-	waywire_status status = waywire_server_send(link_to.server, target, opcode, args, count, NULL,
-		NULL);
+	waywire_status status = waywire_end_send(server.end, target, opcode, args, count, NULL, NULL);
 	if (status)
 		fprintf(stderr, "%u/%u opcode %u: %s\n", target.id, (unsigned)target.birth, opcode,
 			waywire_strerror(status));
@@ -237,14 +237,14 @@ static void on_surface(const waywire_report *report)
 	case WAYWIRE_WL_SURFACE_REQUEST_COMMIT:
 		time = waywire_uint(damaged);
 		event(frame_at, WAYWIRE_WL_CALLBACK_EVENT_DONE, &time, 1);
-		MUST(waywire_server_live(link_to.server, frame_at, NULL, NULL) == WAYWIRE_NOT_FOUND);
+		MUST(waywire_end_live(server.end, frame_at, NULL, NULL) == WAYWIRE_NOT_FOUND);
 		break;
 	case WAYWIRE_WL_SURFACE_REQUEST_SET_INPUT_REGION:
 		MUST(args[0].kind == WAYWIRE_OBJECT || args[0].kind == WAYWIRE_NULL_OBJECT);
 		break;
 	case WAYWIRE_WL_SURFACE_REQUEST_SET_BUFFER_SCALE:
 		MUST(args[0].i == -1);
-		MUST(!waywire_server_post_error(link_to.server, report->target, ERROR_CODE, ERROR_TEXT));
+		MUST(!waywire_server_post_error(server, report->target, ERROR_CODE, ERROR_TEXT));
 		ended = true;
 		break;
 	}
@@ -268,7 +268,7 @@ static void read_request(const waywire_report *report)
 	waywire_arg number = waywire_uint(0);
 	messages++;
 	MUST(report->kind == WAYWIRE_MESSAGE);
-	if (waywire_server_live(link_to.server, report->target, &interface, NULL))
+	if (waywire_end_live(server.end, report->target, &interface, NULL))
 		return; /* it was destroyed */
 	MUST(!waywire_tables_name(tables, interface, &name, &length));
 	if (is(name, length, "wl_display") && report->opcode == WAYWIRE_WL_DISPLAY_REQUEST_SYNC)
@@ -301,7 +301,7 @@ static void serve(void)
 {
 	while (!ended) {
 		waywire_report report;
-		waywire_status status = waywire_server_next(link_to.server, &report);
+		waywire_status status = waywire_end_next(server.end, &report);
 		if (status)
 			fprintf(stderr, "%s at %zu\n", waywire_strerror(status), (size_t)report.offset);
 		MUST(!status);
@@ -313,14 +313,14 @@ static void serve(void)
 			on_keyboard_made(&report);
 	}
 	if (!ended)
-		MUST(!waywire_server_announce(link_to.server, NULL));
+		MUST(!waywire_server_announce(server, NULL));
 }
 
 static void add(const char *name, uint32_t version)
 {
 	uint16_t interface;
 	MUST(!waywire_tables_interface(tables, name, &interface));
-	MUST(!waywire_server_add_global(link_to.server, interface, version, NULL));
+	MUST(!waywire_server_add_global(server, interface, version, NULL));
 }
 
 int main(void)
@@ -336,8 +336,8 @@ int main(void)
 	}
 	close(sockets[1]);
 	MUST(!waywire_tables_core(&tables));
-	MUST(!waywire_server_new(tables, &sizes, &link_to.server));
-	link_to.socket = sockets[0];
+	MUST(!waywire_server_new(tables, &sizes, &server));
+	link_to = (struct link){ sockets[0], server.end };
 	add("wl_compositor", 4);
 	add("wl_shm", 1);
 	add("wl_seat", 5);
@@ -348,7 +348,7 @@ int main(void)
 	MUST(waitpid(child, &status, 0) == child && status == 0);
 	waywire_tables_free(tables);
 	link_close(&link_to);
-	waywire_server_free(link_to.server);
+	waywire_end_free(server.end);
 	printf("%zu messages\n", messages);
 	return 0;
 }

@@ -14,7 +14,9 @@
 /* Room for some messages, of no common divisor with their lengths. */
 static const waywire_sizes sizes = { 4099, 64, 4097, 64 };
 static waywire_tables *tables;
-static struct link client, server;
+static waywire_client client;
+static waywire_server server;
+static struct link of_client, of_server;
 static int next_pool;
 
 /* A descriptor that is known by the length of its file. */
@@ -30,7 +32,7 @@ static void read_requests(void)
 {
 	waywire_report report;
 	struct stat file;
-	while (!waywire_server_next(server.server, &report) && report.kind != WAYWIRE_NOTHING) {
+	while (!waywire_end_next(server.end, &report) && report.kind != WAYWIRE_NOTHING) {
 		MUST(report.kind == WAYWIRE_MESSAGE);
 		if (report.arg_count != 3)
 			continue;
@@ -45,7 +47,7 @@ static void read_events(void)
 {
 	waywire_report report;
 	do
-		MUST(!waywire_client_next(client.client, &report));
+		MUST(!waywire_end_next(client.end, &report));
 	while (report.kind != WAYWIRE_NOTHING);
 }
 
@@ -55,12 +57,12 @@ static int carry(void)
 	int full = 0;
 	bool drained = false;
 	for (;; full++) {
-		MUST(!link_flush(&client));
+		MUST(!link_flush(&of_client));
 		waywire_part parts[2];
 		size_t count;
-		MUST(!waywire_client_peek(client.client, parts, NULL, 0, &count));
+		MUST(!waywire_end_peek(client.end, parts, NULL, 0, &count));
 		drained = !parts[0].length && !parts[1].length;
-		while (link_fill(&server) == 1)
+		while (link_fill(&of_server) == 1)
 			read_requests();
 		if (drained)
 			return full;
@@ -69,17 +71,15 @@ static int carry(void)
 
 static waywire_object bind_shm(void)
 {
-	waywire_object display, registry;
+	waywire_object registry = waywire_wl_display_get_registry(client, waywire_end_display(client.end), NULL);
 	waywire_report report;
 	uint16_t place;
-	MUST(!waywire_client_display(client.client, &display));
-	registry = waywire_wl_display_get_registry(client.client, display, NULL);
 	carry();
 	MUST(!waywire_tables_interface(tables, WAYWIRE_WL_SHM_NAME, &place));
-	MUST(!waywire_server_add_global(server.server, place, 1, NULL));
-	MUST(!waywire_server_announce(server.server, NULL) && !link_flush(&server));
-	MUST(link_fill(&client) == 1 && !waywire_client_next(client.client, &report));
-	waywire_object shm = waywire_wl_registry_bind(client.client, registry, 1, WAYWIRE_WL_SHM_NAME, 1, NULL);
+	MUST(!waywire_server_add_global(server, place, 1, NULL));
+	MUST(!waywire_server_announce(server, NULL) && !link_flush(&of_server));
+	MUST(link_fill(&of_client) == 1 && !waywire_end_next(client.end, &report));
+	waywire_object shm = waywire_wl_registry_bind(client, registry, 1, WAYWIRE_WL_SHM_NAME, 1, NULL);
 	MUST(shm.id);
 	carry();
 	return shm;
@@ -94,17 +94,17 @@ static int send_pools(waywire_object shm)
 		waywire_object pool;
 		int descriptor = new_descriptor(each);
 		for (;;) {
-			pool = waywire_wl_shm_create_pool(client.client, shm, descriptor, each, &status);
+			pool = waywire_wl_shm_create_pool(client, shm, descriptor, each, &status);
 			if (status != WAYWIRE_FULL)
 				break;
 			full += carry();
 		}
 		MUST(!status);
-		while ((status = waywire_wl_shm_pool_destroy(client.client, pool)) == WAYWIRE_FULL)
+		while ((status = waywire_wl_shm_pool_destroy(client, pool)) == WAYWIRE_FULL)
 			full += carry();
 		MUST(!status);
-		MUST(!link_flush(&server));
-		if (link_fill(&client) == 1)
+		MUST(!link_flush(&of_server));
+		if (link_fill(&of_client) == 1)
 			read_events();
 	}
 	return full + carry();
@@ -117,17 +117,15 @@ static void refused(void)
 	uint32_t token;
 	size_t count;
 	waywire_amounts amounts;
-	MUST(waywire_client_peek(NULL, parts, &token, 1, &count) == WAYWIRE_NULL);
-	MUST(waywire_client_peek(client.client, NULL, &token, 1, &count) == WAYWIRE_NULL);
-	MUST(waywire_client_peek(client.client, parts, NULL, 1, &count) == WAYWIRE_NULL);
-	MUST(waywire_client_peek(client.client, parts, &token, 1, NULL) == WAYWIRE_NULL);
-	MUST(waywire_client_sent(NULL, 0, &amounts) == WAYWIRE_NULL);
-	MUST(waywire_server_space(NULL, parts) == WAYWIRE_NULL);
-	MUST(waywire_server_space(server.server, NULL) == WAYWIRE_NULL);
-	MUST(waywire_server_received(NULL, 0, NULL, 0, &amounts) == WAYWIRE_NULL);
-	MUST(waywire_server_received(server.server, 0, NULL, 1, &amounts) == WAYWIRE_NULL);
-	MUST(waywire_server_received(server.server, 0, NULL, 0, NULL) == WAYWIRE_NULL);
-	MUST(!waywire_client_sent(client.client, 1000, &amounts) && !amounts.bytes && !amounts.tokens);
+	MUST(waywire_end_peek(NULL, parts, &token, 1, &count) == WAYWIRE_NULL);
+	MUST(waywire_end_peek(client.end, NULL, &token, 1, &count) == WAYWIRE_NULL);
+	MUST(waywire_end_peek(client.end, parts, NULL, 1, &count) == WAYWIRE_NULL);
+	MUST(waywire_end_peek(client.end, parts, &token, 1, NULL) == WAYWIRE_NULL);
+	MUST(waywire_end_received(NULL, 0, NULL, 0, &amounts) == WAYWIRE_NULL);
+	MUST(waywire_end_received(server.end, 0, NULL, 1, &amounts) == WAYWIRE_NULL);
+	MUST(waywire_end_received(server.end, 0, NULL, 0, NULL) == WAYWIRE_NULL);
+	amounts = waywire_end_sent(client.end, 1000);
+	MUST(!amounts.bytes && !amounts.tokens);
 }
 
 /* A failed end has no space, and what waits there can go. */
@@ -139,16 +137,18 @@ static void failed(void)
 	waywire_report report;
 	uint32_t tokens[WAYWIRE_MAX_ARGS];
 	size_t count;
-	MUST(!waywire_server_space(server.server, parts) && parts[0].length + parts[1].length == sizes.in_bytes);
+	waywire_end_space(server.end, parts);
+	MUST(parts[0].length + parts[1].length == sizes.in_bytes);
 	memcpy(parts[0].bytes, bad_size, sizeof bad_size < parts[0].length ? sizeof bad_size : parts[0].length);
 	if (parts[0].length < sizeof bad_size)
 		memcpy(parts[1].bytes, bad_size + parts[0].length, sizeof bad_size - parts[0].length);
-	MUST(!waywire_server_received(server.server, sizeof bad_size, NULL, 0, &amounts));
+	MUST(!waywire_end_received(server.end, sizeof bad_size, NULL, 0, &amounts));
 	MUST(amounts.bytes == sizeof bad_size && !amounts.tokens);
-	MUST(waywire_is_fault(waywire_server_next(server.server, &report)));
-	MUST(!waywire_server_space(server.server, parts) && !parts[0].length && !parts[1].length);
-	MUST(waywire_server_received(server.server, 1, NULL, 0, &amounts) == WAYWIRE_FAILED && !amounts.bytes);
-	MUST(!waywire_server_peek(server.server, parts, tokens, WAYWIRE_MAX_ARGS, &count));
+	MUST(waywire_is_fault(waywire_end_next(server.end, &report)));
+	waywire_end_space(server.end, parts);
+	MUST(!parts[0].length && !parts[1].length);
+	MUST(waywire_end_received(server.end, 1, NULL, 0, &amounts) == WAYWIRE_FAILED && !amounts.bytes);
+	MUST(!waywire_end_peek(server.end, parts, tokens, WAYWIRE_MAX_ARGS, &count));
 	MUST(parts[0].length + parts[1].length >= 20 && !count);
 }
 
@@ -158,18 +158,18 @@ int main(void)
 	MUST(!socketpair(AF_UNIX, SOCK_STREAM | SOCK_CLOEXEC, 0, sockets));
 	MUST(!setsockopt(sockets[0], SOL_SOCKET, SO_SNDBUF, &smallest, sizeof smallest));
 	MUST(!waywire_tables_core(&tables));
-	client.socket = sockets[0];
-	server.socket = sockets[1];
-	MUST(!waywire_client_new(tables, &sizes, &client.client));
-	MUST(!waywire_server_new(tables, &sizes, &server.server));
+	MUST(!waywire_client_new(tables, &sizes, &client));
+	MUST(!waywire_server_new(tables, &sizes, &server));
+	of_client = (struct link){ sockets[0], client.end };
+	of_server = (struct link){ sockets[1], server.end };
 	int full = send_pools(bind_shm());
 	MUST(full && next_pool == POOLS);
 	refused();
 	failed();
-	link_close(&client);
-	link_close(&server);
-	waywire_client_free(client.client);
-	waywire_server_free(server.server);
+	link_close(&of_client);
+	link_close(&of_server);
+	waywire_end_free(client.end);
+	waywire_end_free(server.end);
 	waywire_tables_free(tables);
 	printf("parts: ok\n");
 	return 0;

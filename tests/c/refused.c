@@ -44,8 +44,8 @@ static const waywire_sizes sizes = { 4096, 64, 4096, 64 };
 static const char text[] = "interface wp_one 2\nrequest destroy D\nrequest name ?s\nevent done u @2\n"
 	"interface wp_two 1\nevent at f f\n";
 static waywire_tables *core, *made_tables;
-static waywire_client *client;
-static waywire_server *server;
+static waywire_client client;
+static waywire_server server;
 static waywire_inspector *inspector, *passing;
 
 static waywire_status makes_core(void)
@@ -76,12 +76,12 @@ static waywire_status makes_inspector(void)
 static void frees(void)
 {
 	waywire_tables_free(made_tables);
-	waywire_client_free(client);
-	waywire_server_free(server);
+	waywire_end_free(client.end);
+	waywire_end_free(server.end);
 	waywire_inspector_free(inspector);
 	made_tables = NULL;
-	client = NULL;
-	server = NULL;
+	client.end = NULL;
+	server.end = NULL;
 	inspector = NULL;
 }
 
@@ -97,7 +97,7 @@ static void each_refused(const char *name, waywire_status (*call)(void))
 		left = -1;
 		if (refused) {
 			MUST(status == WAYWIRE_NO_MEMORY);
-			MUST(!made_tables && !client && !server && !inspector && used == before);
+			MUST(!made_tables && !client.end && !server.end && !inspector && used == before);
 		}
 	} while (refused);
 	MUST(!status && number > 2);
@@ -112,9 +112,8 @@ static const char line[] = "-> wl_display@1.sync(new id wl_callback@2)\n";
 /* Whether the inspector's last piece printed this. */
 static bool has_lines(const char *wanted)
 {
-	const char *lines;
 	size_t length;
-	MUST(!waywire_inspector_lines(passing, &lines, &length));
+	const char *lines = waywire_inspector_lines(passing, &length);
 	return length == strlen(wanted) && !memcmp(lines, wanted, length);
 }
 

@@ -17,15 +17,15 @@
 
 static const waywire_sizes sizes = { 65536, 64, 65536, 64, 0 };
 static const waywire_tables *tables;
-static waywire_server *server;
+static waywire_server server;
 static uint32_t next_id, fixes, compositor;
 
 static void request(const uint32_t *words, size_t count)
 {
 	waywire_amounts fed;
 	waywire_report report;
-	MUST(!waywire_server_feed(server, words, 4 * count, NULL, 0, &fed) && fed.bytes == 4 * count);
-	MUST(!waywire_server_next(server, &report) && report.kind == WAYWIRE_MESSAGE);
+	MUST(!waywire_end_feed(server.end, words, 4 * count, NULL, 0, &fed) && fed.bytes == 4 * count);
+	MUST(!waywire_end_next(server.end, &report) && report.kind == WAYWIRE_MESSAGE);
 }
 
 static uint32_t get_registry(void)
@@ -55,7 +55,7 @@ static size_t announce(void)
 	waywire_amounts taken;
 	size_t count;
 	MUST(!waywire_server_announce(server, &count));
-	MUST(!waywire_server_take(server, bytes, sizeof bytes, NULL, 0, &taken));
+	MUST(!waywire_end_take(server.end, bytes, sizeof bytes, NULL, 0, &taken));
 	return count;
 }
 
@@ -180,7 +180,7 @@ static void measure(const char *name, uint32_t open)
 		MUST(announce() == GLOBALS);
 	}
 	printf("%zu\n", measured(work, first, open));
-	waywire_server_free(server);
+	waywire_end_free(server.end);
 }
 
 /* The most memory that this program has had at once, in KB. That of getrusage begins with what was there before
@@ -207,7 +207,7 @@ static void take_little_memory(void)
 	long took = kilobytes() - before;
 	fprintf(stderr, "registries: %ld KB\n", took);
 	MUST(took < 40000);
-	waywire_server_free(server);
+	waywire_end_free(server.end);
 }
 
 int main(int count, char **words)

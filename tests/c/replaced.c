@@ -20,7 +20,7 @@ enum { RELEASE = 0, HEAD = 0, AGAIN = 0 };
 /* A client that has bound a manager, and what it read last. */
 struct session {
 	waywire_tables *tables;
-	waywire_client *client;
+	waywire_client client;
 	waywire_object manager;
 	waywire_report report;
 };
@@ -32,13 +32,13 @@ static void comes(struct session *it, uint32_t target, uint32_t opcode, const ui
 	waywire_amounts fed;
 	MUST(count <= 30);
 	memcpy(message + 2, words, 4 * count);
-	MUST(!waywire_client_feed(it->client, message, 8 + 4 * count, NULL, 0, &fed));
+	MUST(!waywire_end_feed(it->client.end, message, 8 + 4 * count, NULL, 0, &fed));
 	MUST(fed.bytes == 8 + 4 * count);
 }
 
 static uint32_t reads(struct session *it)
 {
-	MUST(!waywire_client_next(it->client, &it->report));
+	MUST(!waywire_end_next(it->client.end, &it->report));
 	return it->report.kind;
 }
 
@@ -58,14 +58,13 @@ static void begin(struct session *it, const char *tables, const char *manager, u
 	uint32_t global[30] = { 1 };
 	waywire_arg new = waywire_new();
 	waywire_tables *core;
-	waywire_object display, registry;
+	waywire_object registry;
 	MUST(!waywire_tables_core(&core));
 	MUST(!waywire_tables_read(core, tables, strlen(tables), &it->tables, NULL, NULL));
 	waywire_tables_free(core);
 	MUST(!waywire_client_new(it->tables, &sizes, &it->client));
-	MUST(!waywire_client_display(it->client, &display));
-	MUST(!waywire_client_send(it->client, display, WAYWIRE_WL_DISPLAY_REQUEST_GET_REGISTRY, &new, 1, &registry,
-		NULL));
+	MUST(!waywire_end_send(it->client.end, waywire_end_display(it->client.end),
+		WAYWIRE_WL_DISPLAY_REQUEST_GET_REGISTRY, &new, 1, &registry, NULL));
 	size_t count = 1 + put_string(global + 1, manager);
 	global[count++] = version;
 	comes(it, registry.id, WAYWIRE_WL_REGISTRY_EVENT_GLOBAL, global, count);
@@ -75,7 +74,7 @@ static void begin(struct session *it, const char *tables, const char *manager, u
 
 static void end(struct session *it)
 {
-	waywire_client_free(it->client);
+	waywire_end_free(it->client.end);
 	waywire_tables_free(it->tables);
 }
 
@@ -110,16 +109,14 @@ static bool has_replaced_none(const struct session *it)
 static bool is_listed(const struct session *it, waywire_object object)
 {
 	bool listed = false;
-	for (waywire_object each = { 0, 0 }; !waywire_client_object_after(it->client, each.id, &each);)
+	for (waywire_object each = { 0, 0 }; !waywire_end_object_after(it->client.end, each.id, &each);)
 		listed |= waywire_object_equal(each, object);
 	return listed;
 }
 
 static size_t counted(const struct session *it)
 {
-	size_t count;
-	MUST(!waywire_client_object_count(it->client, &count));
-	return count;
+	return waywire_end_object_count(it->client.end);
 }
 
 static void report_has_the_old_object(void)
@@ -131,15 +128,16 @@ static void report_has_the_old_object(void)
 	MUST(has_replaced_none(&it));
 	waywire_object other = head(&it, FIRST_SERVER_ID + 1);
 	MUST(has_replaced_none(&it) && counted(&it) == 5);
-	MUST(!waywire_client_set_user(it.client, first, &one) && !waywire_client_set_user(it.client, other, &two));
+	MUST(!waywire_end_set_user(it.client.end, first, &one));
+	MUST(!waywire_end_set_user(it.client.end, other, &two));
 
 	waywire_object second = head(&it, FIRST_SERVER_ID);
 	MUST(has_replaced(&it, first, &one) && !waywire_object_equal(second, first) && counted(&it) == 5);
-	MUST(!waywire_client_user(it.client, second) && waywire_client_user(it.client, other) == &two);
+	MUST(!waywire_end_user(it.client.end, second) && waywire_end_user(it.client.end, other) == &two);
 	MUST(!is_listed(&it, first) && is_listed(&it, second) && is_listed(&it, other));
-	MUST(waywire_client_live(it.client, first, NULL, NULL) == WAYWIRE_NOT_FOUND);
-	MUST(waywire_client_set_user(it.client, first, &three) == WAYWIRE_STALE);
-	MUST(!waywire_client_set_user(it.client, second, &three) && !waywire_client_user(it.client, first));
+	MUST(waywire_end_live(it.client.end, first, NULL, NULL) == WAYWIRE_NOT_FOUND);
+	MUST(waywire_end_set_user(it.client.end, first, &three) == WAYWIRE_STALE);
+	MUST(!waywire_end_set_user(it.client.end, second, &three) && !waywire_end_user(it.client.end, first));
 	MUST(has_replaced(&it, first, &one));
 
 	/* One that has no pointer, at the last id; then no message, and one that replaces none. */
@@ -164,11 +162,11 @@ static void target_is_replaced(void)
 	struct session it;
 	begin(&it, text, "manager", 2);
 	waywire_object first = head(&it, id);
-	MUST(!waywire_client_set_user(it.client, first, &one));
+	MUST(!waywire_end_set_user(it.client.end, first, &one));
 	comes(&it, id, AGAIN, &id, 1);
 	MUST(reads(&it) == WAYWIRE_MESSAGE && waywire_object_equal(it.report.target, first));
 	MUST(it.report.user == &one && has_replaced(&it, first, &one));
-	MUST(it.report.version == 2 && !waywire_client_user(it.client, made_last(&it)));
+	MUST(it.report.version == 2 && !waywire_end_user(it.client.end, made_last(&it)));
 	end(&it);
 }
 
@@ -180,12 +178,12 @@ static void discarded_event_replaces(void)
 	struct session it;
 	begin(&it, text, "manager", 2);
 	waywire_object first = head(&it, id);
-	MUST(!waywire_client_set_user(it.client, first, &one));
-	MUST(!waywire_client_send(it.client, it.manager, RELEASE, NULL, 0, NULL, NULL));
+	MUST(!waywire_end_set_user(it.client.end, first, &one));
+	MUST(!waywire_end_send(it.client.end, it.manager, RELEASE, NULL, 0, NULL, NULL));
 	comes(&it, it.manager.id, HEAD, &id, 1);
 	MUST(reads(&it) == WAYWIRE_DISCARDED && has_replaced(&it, first, &one) && !it.report.user);
-	MUST(!waywire_client_live(it.client, made_last(&it), NULL, NULL) && !is_listed(&it, first));
-	MUST(!waywire_client_user(it.client, made_last(&it)));
+	MUST(!waywire_end_live(it.client.end, made_last(&it), NULL, NULL) && !is_listed(&it, first));
+	MUST(!waywire_end_user(it.client.end, made_last(&it)));
 	end(&it);
 }
 
@@ -197,15 +195,15 @@ static void ended_by_request(void)
 	struct session it;
 	begin(&it, text, "manager", 3);
 	waywire_object first = head(&it, id);
-	MUST(!waywire_client_set_user(it.client, first, &one));
-	MUST(!waywire_client_send(it.client, first, RELEASE, NULL, 0, NULL, NULL));
+	MUST(!waywire_end_set_user(it.client.end, first, &one));
+	MUST(!waywire_end_send(it.client.end, first, RELEASE, NULL, 0, NULL, NULL));
 	waywire_object second = head(&it, id);
-	MUST(has_replaced_none(&it) && !waywire_client_user(it.client, second));
-	MUST(!waywire_client_set_user(it.client, second, &one));
+	MUST(has_replaced_none(&it) && !waywire_end_user(it.client.end, second));
+	MUST(!waywire_end_set_user(it.client.end, second, &one));
 	comes(&it, it.manager.id, HEAD, &id, 1);
-	MUST(waywire_client_next(it.client, &it.report) == WAYWIRE_FAULT_BAD_NEW_ID && it.report.place == 0);
+	MUST(waywire_end_next(it.client.end, &it.report) == WAYWIRE_FAULT_BAD_NEW_ID && it.report.place == 0);
 	MUST(it.report.kind == WAYWIRE_FAULT && has_replaced_none(&it));
-	MUST(waywire_client_user(it.client, second) == &one);
+	MUST(waywire_end_user(it.client.end, second) == &one);
 	end(&it);
 }
 
@@ -241,7 +239,7 @@ static void hear(struct session *it)
 			waywire_object object = it->report.args[0].object;
 			MUST((output = calloc(1, sizeof *output)));
 			outputs++;
-			MUST(!waywire_client_set_user(it->client, object, output));
+			MUST(!waywire_end_set_user(it->client.end, object, output));
 		} else if (it->report.opcode == NAME) {
 			MUST((output->name = malloc(it->report.args[0].length + 1)));
 			strcpy(output->name, it->report.args[0].bytes);
@@ -280,8 +278,8 @@ static void nothing_is_lost(const char *path)
 		hear(&it);
 		MUST(outputs == OUTPUTS && counted(&it) == 3 + OUTPUTS);
 	}
-	for (waywire_object each = { 0, 0 }; !waywire_client_object_after(it.client, each.id, &each);)
-		free_output(waywire_client_user(it.client, each));
+	for (waywire_object each = { 0, 0 }; !waywire_end_object_after(it.client.end, each.id, &each);)
+		free_output(waywire_end_user(it.client.end, each));
 	MUST(outputs == 0);
 	end(&it);
 }

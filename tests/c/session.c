@@ -6,8 +6,8 @@
 #include "must.h"
 
 static waywire_tables *tables;
-static waywire_client *client;
-static waywire_server *server;
+static waywire_client client;
+static waywire_server server;
 static FILE *recording;
 static waywire_inspector *inspector;
 
@@ -58,11 +58,10 @@ static void show(const char *arrow, const waywire_report *report)
 
 static void record(char arrow, const unsigned char *bytes, size_t length)
 {
-	const char *lines;
 	size_t lines_length;
 	waywire_sender sender = arrow == '>' ? WAYWIRE_FROM_CLIENT : WAYWIRE_FROM_SERVER;
 	MUST(!waywire_inspector_pass(inspector, sender, bytes, length, 0));
-	MUST(!waywire_inspector_lines(inspector, &lines, &lines_length));
+	const char *lines = waywire_inspector_lines(inspector, &lines_length);
 	strncat(passed, lines, lines_length);
 	if (!recording)
 		return;
@@ -72,31 +71,17 @@ static void record(char arrow, const unsigned char *bytes, size_t length)
 	fprintf(recording, "\n");
 }
 
-/* Carries what the client wrote to the server, at most `most` bytes a time. */
-static void to_server(size_t most)
+/* Carries what one end wrote to the other, at most `most` bytes a time. */
+static void carry(waywire_end *from, waywire_end *to, char arrow, size_t most)
 {
 	unsigned char bytes[4096];
 	waywire_amounts taken, fed;
 	for (;;) {
-		MUST(!waywire_client_take(client, bytes, most, NULL, 0, &taken));
+		MUST(!waywire_end_take(from, bytes, most, NULL, 0, &taken));
 		if (!taken.bytes)
 			return;
-		record('>', bytes, taken.bytes);
-		MUST(!waywire_server_feed(server, bytes, taken.bytes, NULL, 0, &fed));
-		MUST(fed.bytes == taken.bytes);
-	}
-}
-
-static void to_client(size_t most)
-{
-	unsigned char bytes[4096];
-	waywire_amounts taken, fed;
-	for (;;) {
-		MUST(!waywire_server_take(server, bytes, most, NULL, 0, &taken));
-		if (!taken.bytes)
-			return;
-		record('<', bytes, taken.bytes);
-		MUST(!waywire_client_feed(client, bytes, taken.bytes, NULL, 0, &fed));
+		record(arrow, bytes, taken.bytes);
+		MUST(!waywire_end_feed(to, bytes, taken.bytes, NULL, 0, &fed));
 		MUST(fed.bytes == taken.bytes);
 	}
 }
@@ -105,17 +90,16 @@ static void to_client(size_t most)
 static void serve(void)
 {
 	waywire_report report;
-	waywire_object display;
-	MUST(!waywire_server_display(server, &display));
+	waywire_object display = waywire_end_display(server.end);
 	for (;;) {
-		MUST(!waywire_server_next(server, &report));
+		MUST(!waywire_end_next(server.end, &report));
 		if (report.kind == WAYWIRE_NOTHING)
 			break;
 		show("->", &report);
 		if (waywire_object_equal(report.target, display)
 				&& report.opcode == WAYWIRE_WL_DISPLAY_REQUEST_SYNC) {
 			waywire_arg one = waywire_uint(1);
-			MUST(!waywire_server_send(server, report.args[0].object,
+			MUST(!waywire_end_send(server.end, report.args[0].object,
 				WAYWIRE_WL_CALLBACK_EVENT_DONE, &one, 1, NULL, NULL));
 		}
 	}
@@ -126,7 +110,7 @@ static void hear(void)
 {
 	waywire_report report;
 	for (;;) {
-		MUST(!waywire_client_next(client, &report));
+		MUST(!waywire_end_next(client.end, &report));
 		if (report.kind == WAYWIRE_NOTHING)
 			return;
 		show("<-", &report);
@@ -135,9 +119,9 @@ static void hear(void)
 
 static void turn(size_t most)
 {
-	to_server(most);
+	carry(client.end, server.end, '>', most);
 	serve();
-	to_client(most);
+	carry(server.end, client.end, '<', most);
 	hear();
 }
 
@@ -145,7 +129,7 @@ static waywire_object make(waywire_object target, uint16_t opcode)
 {
 	waywire_arg place = waywire_new();
 	waywire_object made;
-	MUST(!waywire_client_send(client, target, opcode, &place, 1, &made, NULL));
+	MUST(!waywire_end_send(client.end, target, opcode, &place, 1, &made, NULL));
 	return made;
 }
 
@@ -158,10 +142,9 @@ static void add(const char *name, uint32_t version)
 
 static void play(size_t most)
 {
-	waywire_object display, registry, compositor, seat, surface;
+	waywire_object display = waywire_end_display(client.end), registry, compositor, seat, surface;
 	add("wl_compositor", 6);
 	add("wl_seat", 9);
-	MUST(!waywire_client_display(client, &display));
 	registry = make(display, WAYWIRE_WL_DISPLAY_REQUEST_GET_REGISTRY);
 	turn(most);
 	MUST(!waywire_client_bind(client, registry, 1, "wl_compositor", 6, &compositor));
@@ -169,27 +152,25 @@ static void play(size_t most)
 	make(display, WAYWIRE_WL_DISPLAY_REQUEST_SYNC);
 	turn(most);
 	surface = make(compositor, WAYWIRE_WL_COMPOSITOR_REQUEST_CREATE_SURFACE);
-	MUST(!waywire_client_send(client, surface, WAYWIRE_WL_SURFACE_REQUEST_COMMIT, NULL, 0, NULL,
+	MUST(!waywire_end_send(client.end, surface, WAYWIRE_WL_SURFACE_REQUEST_COMMIT, NULL, 0, NULL,
 		NULL));
-	MUST(!waywire_client_send(client, surface, WAYWIRE_WL_SURFACE_REQUEST_DESTROY, NULL, 0, NULL,
+	MUST(!waywire_end_send(client.end, surface, WAYWIRE_WL_SURFACE_REQUEST_DESTROY, NULL, 0, NULL,
 		NULL));
 	turn(most);
-	MUST(waywire_client_live(client, surface, NULL, NULL) == WAYWIRE_NOT_FOUND);
-	MUST(waywire_server_live(server, surface, NULL, NULL) == WAYWIRE_NOT_FOUND);
+	MUST(waywire_end_live(client.end, surface, NULL, NULL) == WAYWIRE_NOT_FOUND);
+	MUST(waywire_end_live(server.end, surface, NULL, NULL) == WAYWIRE_NOT_FOUND);
 }
 
 /* Nothing waits, and both ends have the same four objects. */
 static void agree(void)
 {
-	bool drained;
-	MUST(!waywire_client_is_drained(client, &drained) && drained);
-	MUST(!waywire_server_is_drained(server, &drained) && drained);
+	MUST(waywire_end_is_drained(client.end) && waywire_end_is_drained(server.end));
 	for (uint32_t id = 1; id <= 4; id++) {
 		waywire_object object = { id - 1, id };
 		uint16_t interface, its_interface;
 		uint32_t version, its_version;
-		MUST(!waywire_client_live(client, object, &interface, &version));
-		MUST(!waywire_server_live(server, object, &its_interface, &its_version));
+		MUST(!waywire_end_live(client.end, object, &interface, &version));
+		MUST(!waywire_end_live(server.end, object, &its_interface, &its_version));
 		MUST(interface == its_interface && version == its_version);
 	}
 	printf("agree: 4 objects\n");
@@ -210,8 +191,8 @@ int main(int argc, char **argv)
 	agree();
 	MUST(*told && !strcmp(told, passed));
 	waywire_inspector_free(inspector);
-	waywire_client_free(client);
-	waywire_server_free(server);
+	waywire_end_free(client.end);
+	waywire_end_free(server.end);
 	waywire_tables_free(tables);
 	if (recording)
 		fclose(recording);

@@ -12,8 +12,8 @@ static const waywire_sizes sizes = { 4096, 64, 4096, 64 };
 struct pair {
 	pthread_t thread;
 	const waywire_tables *tables;
-	waywire_client *client;
-	waywire_server *server;
+	waywire_client client;
+	waywire_server server;
 	waywire_inspector *inspector;
 };
 
@@ -22,17 +22,15 @@ static bool asks(struct pair *pair)
 {
 	unsigned char bytes[4096];
 	waywire_amounts taken, fed;
-	waywire_object display, callback;
+	waywire_object callback;
 	waywire_report report;
-	const char *lines;
 	size_t length;
-	MUST(!waywire_client_display(pair->client, &display));
-	callback = waywire_wl_display_sync(pair->client, display, NULL);
-	MUST(!waywire_client_take(pair->client, bytes, sizeof bytes, NULL, 0, &taken));
+	callback = waywire_wl_display_sync(pair->client, waywire_end_display(pair->client.end), NULL);
+	MUST(!waywire_end_take(pair->client.end, bytes, sizeof bytes, NULL, 0, &taken));
 	MUST(!waywire_inspector_pass(pair->inspector, WAYWIRE_FROM_CLIENT, bytes, taken.bytes, 0));
-	MUST(!waywire_inspector_lines(pair->inspector, &lines, &length) && length > 0);
-	MUST(!waywire_server_feed(pair->server, bytes, taken.bytes, NULL, 0, &fed));
-	MUST(!waywire_server_next(pair->server, &report) && report.kind == WAYWIRE_MESSAGE);
+	MUST(waywire_inspector_lines(pair->inspector, &length) && length > 0);
+	MUST(!waywire_end_feed(pair->server.end, bytes, taken.bytes, NULL, 0, &fed));
+	MUST(!waywire_end_next(pair->server.end, &report) && report.kind == WAYWIRE_MESSAGE);
 	return waywire_object_equal(report.args[0].object, callback);
 }
 
@@ -45,8 +43,8 @@ static void opens(struct pair *pair)
 
 static void closes(struct pair *pair)
 {
-	waywire_client_free(pair->client);
-	waywire_server_free(pair->server);
+	waywire_end_free(pair->client.end);
+	waywire_end_free(pair->server.end);
 	waywire_inspector_free(pair->inspector);
 }
 

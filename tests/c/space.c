@@ -9,7 +9,7 @@
 
 /* As many tokens as one message may have, and fewer than the requests below bring. */
 static const waywire_sizes sizes = { 4096, 64, 4096, 20 };
-static waywire_server *server;
+static waywire_server server;
 
 /* wl_shm.create_pool of wl_shm@3, whose token and length in bytes are the id of its pool. */
 static void create_pool(uint32_t words[4], uint32_t pool)
@@ -22,7 +22,7 @@ static void create_pool(uint32_t words[4], uint32_t pool)
 static void feed(const uint32_t *words, size_t count, const uint32_t *tokens, size_t token_count)
 {
 	waywire_amounts fed;
-	MUST(!waywire_server_feed(server, words, 4 * count, tokens, token_count, &fed));
+	MUST(!waywire_end_feed(server.end, words, 4 * count, tokens, token_count, &fed));
 	MUST(fed.bytes == 4 * count && fed.tokens == token_count);
 }
 
@@ -39,7 +39,7 @@ static waywire_object bind_shm(const waywire_tables *tables)
 	feed(registry, 3, NULL, 0);
 	feed(bind, 8, NULL, 0);
 	for (int each = 0; each < 2; each++)
-		MUST(!waywire_server_next(server, &report) && report.kind == WAYWIRE_MESSAGE);
+		MUST(!waywire_end_next(server.end, &report) && report.kind == WAYWIRE_MESSAGE);
 	MUST(report.arg_count == 2 && report.args[1].kind == WAYWIRE_BOUND && report.args[1].object.id == 3);
 	return report.args[1].object;
 }
@@ -48,7 +48,7 @@ static waywire_object bind_shm(const waywire_tables *tables)
 static void read_pool(uint32_t pool)
 {
 	waywire_report report;
-	MUST(!waywire_server_next(server, &report) && report.kind == WAYWIRE_MESSAGE && report.arg_count == 3);
+	MUST(!waywire_end_next(server.end, &report) && report.kind == WAYWIRE_MESSAGE && report.arg_count == 3);
 	MUST(report.args[0].object.id == pool);
 	MUST(report.args[1].u == pool && report.args[2].i == (int32_t)pool);
 }
@@ -60,7 +60,8 @@ static void write_pools(uint32_t first)
 	uint32_t words[4 * POOLS];
 	for (uint32_t each = 0; each < POOLS; each++)
 		create_pool(words + 4 * each, first + each);
-	MUST(!waywire_server_space(server, parts) && parts[0].length + parts[1].length >= sizeof words);
+	waywire_end_space(server.end, parts);
+	MUST(parts[0].length + parts[1].length >= sizeof words);
 	size_t front = parts[0].length < sizeof words ? parts[0].length : sizeof words;
 	memcpy(parts[0].bytes, words, front);
 	if (front < sizeof words)
@@ -81,17 +82,17 @@ int main(void)
 	create_pool(words, FIRST_POOL);
 	feed(words, 4, tokens, 1);
 	write_pools(FIRST_POOL + 1);
-	MUST(!waywire_server_received(server, 16 * POOLS, tokens + 1, POOLS, &fed));
+	MUST(!waywire_end_received(server.end, 16 * POOLS, tokens + 1, POOLS, &fed));
 	MUST(!fed.bytes && fed.tokens == POOLS - 1);
 	read_pool(FIRST_POOL);
 	MUST(!waywire_wl_shm_send_format(server, shm, WAYWIRE_WL_SHM_FORMAT_XRGB8888));
-	MUST(!waywire_server_received(server, 16 * POOLS, tokens + POOLS, 1, &fed));
+	MUST(!waywire_end_received(server.end, 16 * POOLS, tokens + POOLS, 1, &fed));
 	MUST(fed.bytes == 16 * POOLS && fed.tokens == 1);
 	for (uint32_t each = 1; each <= POOLS; each++)
 		read_pool(FIRST_POOL + each);
-	MUST(!waywire_server_next(server, &report) && report.kind == WAYWIRE_NOTHING);
+	MUST(!waywire_end_next(server.end, &report) && report.kind == WAYWIRE_NOTHING);
 
-	waywire_server_free(server);
+	waywire_end_free(server.end);
 	waywire_tables_free(tables);
 	printf("space: ok\n");
 	return 0;

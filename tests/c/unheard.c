@@ -28,7 +28,7 @@ static void on_global(void *data, waywire_object registry, uint32_t name, const 
 	uint32_t version)
 {
 	(void)data;
-	MUST(!waywire_client_bind(client.link.client, registry, name, interface, version, &maker));
+	MUST(!waywire_client_bind(client.client, registry, name, interface, version, &maker));
 }
 
 static const struct waywire_wl_registry_events registry_events = { .global = on_global };
@@ -57,12 +57,12 @@ static void begin(const char *path)
 	MUST(connection_serve(&server, accept(listening, NULL, NULL), text));
 	close(listening);
 	MUST(connection_add_global(&server, "maker", 1));
-	waywire_object registry = waywire_wl_display_get_registry(client.link.client, client.display, NULL);
+	waywire_object registry = waywire_wl_display_get_registry(client.client, client.display, NULL);
 	connection_listen(&client, registry, waywire_wl_registry_event_dispatcher, &registry_events, NULL);
 	MUST(!link_flush(&client.link) && connection_dispatch(&server, WAIT) == 1);
 	MUST(!link_flush(&server.link) && connection_dispatch(&client, WAIT) == 1 && maker.id);
 	MUST(!link_flush(&client.link) && connection_dispatch(&server, WAIT) == 1);
-	MUST(!waywire_server_live(server.link.server, maker, NULL, NULL));
+	MUST(!waywire_end_live(server.link.end, maker, NULL, NULL));
 }
 
 /* What the server wrote goes to the client, which may answer. */
@@ -78,7 +78,7 @@ static waywire_object makes(bool answered)
 {
 	waywire_object made;
 	waywire_arg new = waywire_new();
-	MUST(!waywire_server_send(server.link.server, maker, MADE, &new, 1, &made, NULL));
+	MUST(!waywire_end_send(server.link.end, maker, MADE, &new, 1, &made, NULL));
 	goes(answered);
 	return made;
 }
@@ -91,7 +91,7 @@ static waywire_object lends(void)
 	waywire_object made;
 	MUST(!pipe(ends));
 	waywire_arg args[] = { waywire_new(), waywire_fd((uint32_t)ends[1]) };
-	MUST(!waywire_server_send(server.link.server, maker, LENT, args, 2, &made, NULL));
+	MUST(!waywire_end_send(server.link.end, maker, LENT, args, 2, &made, NULL));
 	goes(false);
 	struct pollfd ended = { .fd = ends[0], .events = POLLIN };
 	MUST(poll(&ended, 1, WAIT) == 1 && read(ends[0], &byte, 1) == 0);
@@ -111,26 +111,26 @@ static void replaces(void)
 	int destroyed = 0;
 	waywire_object made, other;
 	waywire_arg new = waywire_new();
-	MUST(!waywire_server_send(server.link.server, maker, PLUGGED, &new, 1, &made, NULL));
+	MUST(!waywire_end_send(server.link.end, maker, PLUGGED, &new, 1, &made, NULL));
 	goes(false);
 	connection_set_data(&client, made, &destroyed, on_destroy);
 	uint32_t again[] = { maker.id, 12 << 16 | PLUGGED, made.id };
 	MUST(write(server.link.socket, again, sizeof again) == sizeof again);
 	MUST(connection_dispatch(&client, WAIT) == 1 && destroyed == 1 && !connection_data(&client, made));
-	MUST(!waywire_client_made(client.link.client, &other) && other.id == made.id);
-	MUST(!waywire_client_live(client.link.client, other, NULL, NULL));
+	MUST(!waywire_client_made(client.client, &other) && other.id == made.id);
+	MUST(!waywire_end_live(client.link.end, other, NULL, NULL));
 }
 
 static bool lives(waywire_object object)
 {
-	return !waywire_client_live(client.link.client, object, NULL, NULL)
-		&& !waywire_server_live(server.link.server, object, NULL, NULL);
+	return !waywire_end_live(client.link.end, object, NULL, NULL)
+		&& !waywire_end_live(server.link.end, object, NULL, NULL);
 }
 
 static bool is_gone(waywire_object object)
 {
-	return waywire_client_live(client.link.client, object, NULL, NULL) == WAYWIRE_NOT_FOUND
-		&& waywire_server_live(server.link.server, object, NULL, NULL) == WAYWIRE_NOT_FOUND;
+	return waywire_end_live(client.link.end, object, NULL, NULL) == WAYWIRE_NOT_FOUND
+		&& waywire_end_live(server.link.end, object, NULL, NULL) == WAYWIRE_NOT_FOUND;
 }
 
 int main(int count, char **words)
@@ -143,7 +143,7 @@ int main(int count, char **words)
 	MUST(is_gone(makes(true)) && lives(lends()));
 	connection_implement(&client, "thing", on_gone, NULL);
 	made = makes(false);
-	MUST(lives(made) && !waywire_server_send(server.link.server, made, GONE, NULL, 0, NULL, NULL));
+	MUST(lives(made) && !waywire_end_send(server.link.end, made, GONE, NULL, 0, NULL, NULL));
 	goes(false);
 	MUST(waywire_object_equal(made, gone));
 	connection_implement(&client, "thing", NULL, NULL);
@@ -153,7 +153,7 @@ int main(int count, char **words)
 	made = makes(false);
 	MUST(lives(made) && waywire_object_equal(made, heard));
 	/* It has destroyed the maker, and the server sends the event before it reads that. */
-	MUST(!waywire_client_send(client.link.client, maker, RELEASE, NULL, 0, NULL, NULL));
+	MUST(!waywire_end_send(client.link.end, maker, RELEASE, NULL, 0, NULL, NULL));
 	MUST(is_gone(makes(true)) && is_gone(maker) && lives(made));
 	connection_close(&client);
 	connection_close(&server);

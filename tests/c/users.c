@@ -35,7 +35,7 @@ static const waywire_object first = { 1, 0xff000000 }, second = { 2, 0xff000001 
 static char one, other, third;
 
 /* Calls know no object of a server's id, and ask for no memory. */
-static void end_has_none(waywire_client *client, waywire_server *server)
+static void end_has_none(waywire_end *end)
 {
 	static const uint32_t ids[] = { FIRST_SERVER_ID - 1, FIRST_SERVER_ID, FIRST_SERVER_ID + 1,
 		FIRST_SERVER_ID + 2, LAST_SERVER_ID, UINT32_MAX };
@@ -43,11 +43,9 @@ static void end_has_none(waywire_client *client, waywire_server *server)
 	for (size_t at = 0; at < sizeof ids / sizeof *ids; at++)
 		for (uint64_t birth = 0; birth < 3; birth++) {
 			waywire_object object = { birth, ids[at] };
-			MUST(!waywire_client_user(client, object) && !waywire_server_user(server, object));
-			MUST(waywire_client_set_user(client, object, &one) == WAYWIRE_STALE);
-			MUST(waywire_server_set_user(server, object, &one) == WAYWIRE_STALE);
-			MUST(waywire_client_set_user(client, object, NULL) == WAYWIRE_STALE);
-			MUST(waywire_server_set_user(server, object, NULL) == WAYWIRE_STALE);
+			MUST(!waywire_end_user(end, object));
+			MUST(waywire_end_set_user(end, object, &one) == WAYWIRE_STALE);
+			MUST(waywire_end_set_user(end, object, NULL) == WAYWIRE_STALE);
 		}
 	MUST(asks == before);
 }
@@ -56,19 +54,21 @@ static void ends_have_none(void)
 {
 	static const waywire_sizes sizes = { 4096, 64, 4096, 64, 0 };
 	waywire_tables *tables;
-	waywire_client *client;
-	waywire_server *server;
+	waywire_client client;
+	waywire_server server;
 	MUST(!waywire_tables_core(&tables));
 	MUST(!waywire_client_new(tables, &sizes, &client));
 	MUST(!waywire_server_new(tables, &sizes, &server));
-	end_has_none(client, server);
-	MUST(!waywire_client_set_user(client, display, &one) && asked == 2 * sizeof(struct user));
-	MUST(!waywire_server_set_user(server, display, &other) && asked == 2 * sizeof(struct user));
-	end_has_none(client, server);
-	MUST(waywire_client_user(client, display) == &one);
-	MUST(waywire_server_user(server, display) == &other);
-	waywire_client_free(client);
-	waywire_server_free(server);
+	end_has_none(client.end);
+	end_has_none(server.end);
+	MUST(!waywire_end_set_user(client.end, display, &one) && asked == 2 * sizeof(struct user));
+	MUST(!waywire_end_set_user(server.end, display, &other) && asked == 2 * sizeof(struct user));
+	end_has_none(client.end);
+	end_has_none(server.end);
+	MUST(waywire_end_user(client.end, display) == &one);
+	MUST(waywire_end_user(server.end, display) == &other);
+	waywire_end_free(client.end);
+	waywire_end_free(server.end);
 	waywire_tables_free(tables);
 }
 

@@ -1,25 +1,12 @@
-/* Wrong values are statuses: null, lengths, kinds, sizes, opcodes, places; and each status has a text. */
+/* Wrong values are statuses: null, lengths, kinds, sizes, opcodes, places; and each status has a text. A call that
+ * returns no status takes a null end for one that has failed. */
 #include "must.h"
 
 static const waywire_sizes sizes = { 65536, 64, 4096, 20 };
 static waywire_tables *tables;
-static waywire_client *client;
-static waywire_server *server;
+static waywire_client client;
+static waywire_server server;
 static waywire_object display = { 0, 1 };
-
-static bool client_failed(const waywire_client *it)
-{
-	bool failed;
-	MUST(!waywire_client_has_failed(it, &failed));
-	return failed;
-}
-
-static bool server_failed(const waywire_server *it)
-{
-	bool failed;
-	MUST(!waywire_server_has_failed(it, &failed));
-	return failed;
-}
 
 static void nulls(void)
 {
@@ -27,31 +14,67 @@ static void nulls(void)
 	waywire_report report;
 	uint16_t interface;
 	size_t count = 7;
-	bool failed = true;
 	MUST(waywire_tables_core(NULL) == WAYWIRE_NULL);
 	MUST(waywire_tables_interface(NULL, "wl_seat", &interface) == WAYWIRE_NULL);
 	MUST(waywire_tables_interface(tables, NULL, &interface) == WAYWIRE_NULL);
 	MUST(waywire_client_new(tables, NULL, &client) == WAYWIRE_NULL);
-	MUST(waywire_client_next(NULL, &report) == WAYWIRE_NULL);
-	MUST(waywire_server_next(server, NULL) == WAYWIRE_NULL);
-	MUST(waywire_client_take(client, NULL, 1, NULL, 0, &amounts) == WAYWIRE_NULL);
-	MUST(waywire_client_take(client, NULL, 0, NULL, 1, &amounts) == WAYWIRE_NULL);
-	MUST(waywire_client_take(client, NULL, 0, NULL, 0, &amounts) == WAYWIRE_OK);
-	MUST(waywire_client_take_waiting_tokens(client, NULL, 1, &count) == WAYWIRE_NULL);
-	MUST(waywire_client_take_waiting_tokens(client, NULL, 0, NULL) == WAYWIRE_NULL);
-	MUST(waywire_server_take_waiting_tokens(NULL, NULL, 0, &count) == WAYWIRE_NULL && count == 7);
-	MUST(waywire_server_feed(server, NULL, 4, NULL, 0, &amounts) == WAYWIRE_NULL);
-	MUST(waywire_server_feed(server, NULL, 0, NULL, 0, &amounts) == WAYWIRE_OK);
-	MUST(waywire_client_send(client, display, 0, NULL, 1, NULL, NULL) == WAYWIRE_NULL);
+	MUST(waywire_end_next(NULL, &report) == WAYWIRE_NULL);
+	MUST(waywire_end_next(server.end, NULL) == WAYWIRE_NULL);
+	MUST(waywire_end_take(client.end, NULL, 1, NULL, 0, &amounts) == WAYWIRE_NULL);
+	MUST(waywire_end_take(client.end, NULL, 0, NULL, 1, &amounts) == WAYWIRE_NULL);
+	MUST(waywire_end_take(client.end, NULL, 0, NULL, 0, &amounts) == WAYWIRE_OK);
+	MUST(waywire_end_take_waiting_tokens(client.end, NULL, 1, &count) == WAYWIRE_NULL);
+	MUST(waywire_end_take_waiting_tokens(client.end, NULL, 0, NULL) == WAYWIRE_NULL);
+	MUST(waywire_end_take_waiting_tokens(NULL, NULL, 0, &count) == WAYWIRE_NULL && count == 7);
+	MUST(waywire_end_feed(server.end, NULL, 4, NULL, 0, &amounts) == WAYWIRE_NULL);
+	MUST(waywire_end_feed(server.end, NULL, 0, NULL, 0, &amounts) == WAYWIRE_OK);
+	MUST(waywire_end_send(client.end, display, 0, NULL, 1, NULL, NULL) == WAYWIRE_NULL);
 	MUST(waywire_client_bind(client, display, 1, NULL, 1, NULL) == WAYWIRE_NULL);
-	MUST(waywire_client_object_count(NULL, &count) == WAYWIRE_NULL && count == 7);
-	MUST(waywire_server_object_count(server, NULL) == WAYWIRE_NULL);
-	MUST(waywire_server_has_failed(NULL, &failed) == WAYWIRE_NULL && failed);
-	MUST(waywire_client_has_failed(client, NULL) == WAYWIRE_NULL);
 	MUST(waywire_server_post_error(server, display, 0, NULL) == WAYWIRE_NULL);
 	waywire_tables_free(NULL);
-	waywire_client_free(NULL);
-	waywire_server_free(NULL);
+	waywire_end_free(NULL);
+}
+
+static bool is_none(waywire_amounts amounts)
+{
+	return !amounts.bytes && !amounts.tokens;
+}
+
+/* The calls of one end alone without their end, or without what they write to. */
+static void null_of_one_end(void)
+{
+	static const waywire_client no_client = { NULL };
+	static const waywire_server no_server = { NULL };
+	waywire_object made = { 7, 7 };
+	MUST(waywire_client_new(tables, &sizes, NULL) == WAYWIRE_NULL);
+	MUST(waywire_client_bind(no_client, display, 1, "wl_seat", 1, &made) == WAYWIRE_NULL);
+	MUST(waywire_client_made(no_client, &made) == WAYWIRE_NULL && made.id == 7 && made.birth == 7);
+	MUST(waywire_client_made(client, NULL) == WAYWIRE_NULL);
+	MUST(waywire_server_new(tables, &sizes, NULL) == WAYWIRE_NULL);
+	MUST(waywire_server_add_global(no_server, 0, 1, NULL) == WAYWIRE_NULL);
+	MUST(waywire_server_withdraw(no_server, 1) == WAYWIRE_NULL);
+	MUST(waywire_server_announce(no_server, NULL) == WAYWIRE_NULL);
+	MUST(waywire_server_drop_object(no_server, display) == WAYWIRE_NULL);
+	MUST(waywire_server_post_error(no_server, display, 0, "x") == WAYWIRE_NULL);
+}
+
+/* What calls without a status return for null. */
+static void null_end(void)
+{
+	char byte;
+	waywire_part parts[2] = { { &byte, 1 }, { &byte, 1 } };
+	size_t length = 7;
+	MUST(!waywire_end_display(NULL).id && !waywire_end_display(NULL).birth);
+	MUST(!waywire_end_object_count(NULL) && !waywire_end_user(NULL, display));
+	MUST(waywire_end_has_failed(NULL) && waywire_end_is_drained(NULL));
+	MUST(is_none(waywire_end_in_room(NULL)) && is_none(waywire_end_goes(NULL, 9, 9)));
+	MUST(is_none(waywire_end_sent(NULL, 9)));
+	waywire_end_space(NULL, parts);
+	MUST(!parts[0].length && !parts[1].length && !parts[0].bytes && !parts[1].bytes);
+	waywire_end_space(NULL, NULL);
+	waywire_end_space(client.end, NULL);
+	MUST(!waywire_inspector_lines(NULL, &length) && !length);
+	MUST(!waywire_inspector_lines(NULL, NULL));
 }
 
 static void lengths(void)
@@ -63,22 +86,22 @@ static void lengths(void)
 	uint32_t token = 0;
 	waywire_arg args[21];
 	size_t place = 9;
-	MUST(waywire_client_feed(client, &byte, SIZE_MAX, NULL, 0, &amounts) == WAYWIRE_TOO_LARGE);
-	MUST(waywire_client_feed(client, &byte, 0, &token, SIZE_MAX / 4, &amounts)
+	MUST(waywire_end_feed(client.end, &byte, SIZE_MAX, NULL, 0, &amounts) == WAYWIRE_TOO_LARGE);
+	MUST(waywire_end_feed(client.end, &byte, 0, &token, SIZE_MAX / 4, &amounts)
 		== WAYWIRE_TOO_LARGE);
-	MUST(waywire_client_peek(client, parts, &token, SIZE_MAX / 4, &count) == WAYWIRE_TOO_LARGE);
-	MUST(waywire_client_peek(client, parts, NULL, 1, &count) == WAYWIRE_NULL && count == 7);
-	MUST(!waywire_client_peek(client, parts, NULL, 0, &count) && !count);
+	MUST(waywire_end_peek(client.end, parts, &token, SIZE_MAX / 4, &count) == WAYWIRE_TOO_LARGE);
+	MUST(waywire_end_peek(client.end, parts, NULL, 1, &count) == WAYWIRE_NULL && count == 7);
+	MUST(!waywire_end_peek(client.end, parts, NULL, 0, &count) && !count);
 	args[0] = waywire_array(&byte, (size_t)PTRDIFF_MAX + 1);
-	MUST(waywire_client_send(client, display, 0, args, 1, NULL, NULL) == WAYWIRE_TOO_LARGE);
+	MUST(waywire_end_send(client.end, display, 0, args, 1, NULL, NULL) == WAYWIRE_TOO_LARGE);
 	args[0] = waywire_array(NULL, 1);
-	MUST(waywire_client_send(client, display, 0, args, 1, NULL, NULL) == WAYWIRE_NULL);
+	MUST(waywire_end_send(client.end, display, 0, args, 1, NULL, NULL) == WAYWIRE_NULL);
 	for (size_t each = 0; each < 21; each++)
 		args[each] = waywire_new();
-	MUST(waywire_client_send(client, display, 0, args, 21, NULL, &place) == WAYWIRE_WRONG_ARGS);
+	MUST(waywire_end_send(client.end, display, 0, args, 21, NULL, &place) == WAYWIRE_WRONG_ARGS);
 	MUST(place == 1);
-	MUST(waywire_client_send(client, display, 0, args, SIZE_MAX, NULL, NULL) == WAYWIRE_WRONG_ARGS);
-	MUST(waywire_client_send(client, display, 0, NULL, 0, NULL, &place) == WAYWIRE_WRONG_ARGS);
+	MUST(waywire_end_send(client.end, display, 0, args, SIZE_MAX, NULL, NULL) == WAYWIRE_WRONG_ARGS);
+	MUST(waywire_end_send(client.end, display, 0, NULL, 0, NULL, &place) == WAYWIRE_WRONG_ARGS);
 	MUST(place == 0);
 }
 
@@ -88,11 +111,11 @@ static void kinds(void)
 	for (uint32_t kind = 0; kind < 20; kind++)
 		if (kind < WAYWIRE_INT || kind > WAYWIRE_FD) {
 			arg.kind = kind;
-			MUST(waywire_client_send(client, display, 0, &arg, 1, NULL, NULL)
+			MUST(waywire_end_send(client.end, display, 0, &arg, 1, NULL, NULL)
 				== WAYWIRE_BAD_VALUE);
 		}
 	arg = waywire_int(2); /* of another kind than the signature's */
-	MUST(waywire_client_send(client, display, 0, &arg, 1, NULL, NULL) == WAYWIRE_WRONG_ARGS);
+	MUST(waywire_end_send(client.end, display, 0, &arg, 1, NULL, NULL) == WAYWIRE_WRONG_ARGS);
 }
 
 static void calls(void)
@@ -100,16 +123,16 @@ static void calls(void)
 	waywire_object stale = { 7, 1 }, object;
 	waywire_arg place = waywire_new();
 	waywire_sizes small = { 0, 0, 4095, 20 };
-	waywire_client *none = NULL;
+	waywire_client none = { NULL };
 	uint16_t interface = 999;
 	uint32_t version, name;
 	size_t count = 9;
-	MUST(waywire_client_new(tables, &small, &none) == WAYWIRE_BAD_SIZES && !none);
-	MUST(waywire_client_send(client, stale, 0, &place, 1, NULL, NULL) == WAYWIRE_STALE);
-	MUST(waywire_client_send(client, display, 65535, &place, 1, NULL, NULL)
+	MUST(waywire_client_new(tables, &small, &none) == WAYWIRE_BAD_SIZES && !none.end);
+	MUST(waywire_end_send(client.end, stale, 0, &place, 1, NULL, NULL) == WAYWIRE_STALE);
+	MUST(waywire_end_send(client.end, display, 65535, &place, 1, NULL, NULL)
 		== WAYWIRE_NO_SUCH_MESSAGE);
 	MUST(waywire_client_bind(client, display, 1, "wl_seat", 1, NULL) == WAYWIRE_NO_SUCH_MESSAGE);
-	MUST(waywire_client_live(client, stale, NULL, NULL) == WAYWIRE_NOT_FOUND);
+	MUST(waywire_end_live(client.end, stale, NULL, NULL) == WAYWIRE_NOT_FOUND);
 	MUST(waywire_tables_interface(tables, "no_such", &interface) == WAYWIRE_NOT_FOUND);
 	MUST(interface == 999);
 	MUST(waywire_tables_version(tables, 999, &version) == WAYWIRE_NOT_FOUND);
@@ -118,11 +141,10 @@ static void calls(void)
 	MUST(waywire_server_drop_object(server, display) == WAYWIRE_NOT_DROPPABLE);
 	MUST(waywire_server_drop_object(server, stale) == WAYWIRE_STALE);
 	MUST(!waywire_server_announce(server, &count) && count == 0);
-	MUST(!waywire_client_object_count(client, &count) && count == 1);
-	MUST(!waywire_client_send(client, display, 0, &place, 1, &object, NULL));
+	MUST(waywire_end_object_count(client.end) == 1);
+	MUST(!waywire_end_send(client.end, display, 0, &place, 1, &object, NULL));
 	MUST(object.id == 2 && object.birth == 1);
-	MUST(!waywire_client_object_count(client, &count) && count == 2);
-	MUST(!waywire_server_object_count(server, &count) && count == 1);
+	MUST(waywire_end_object_count(client.end) == 2 && waywire_end_object_count(server.end) == 1);
 }
 
 /* A message that breaks a rule: the fault, and the error that the server then writes. */
@@ -132,24 +154,26 @@ static void faults(void)
 	unsigned char bytes[256];
 	waywire_report report;
 	waywire_amounts amounts;
-	MUST(!waywire_server_feed(server, bad_new_id, sizeof bad_new_id, NULL, 0, &amounts));
-	MUST(!server_failed(server));
-	MUST(waywire_server_next(server, &report) == WAYWIRE_FAULT_BAD_NEW_ID && server_failed(server));
+	MUST(!waywire_end_feed(server.end, bad_new_id, sizeof bad_new_id, NULL, 0, &amounts));
+	MUST(!waywire_end_has_failed(server.end));
+	MUST(waywire_end_next(server.end, &report) == WAYWIRE_FAULT_BAD_NEW_ID);
+	MUST(waywire_end_has_failed(server.end));
 	MUST(report.kind == WAYWIRE_FAULT && report.place == 0 && report.offset == 0);
-	MUST(waywire_server_next(server, &report) == WAYWIRE_FAILED);
+	MUST(waywire_end_next(server.end, &report) == WAYWIRE_FAILED);
 	MUST(waywire_server_post_error(server, display, 1, "x") == WAYWIRE_FAILED);
-	MUST(waywire_server_feed(server, bytes, 1, NULL, 0, &amounts) == WAYWIRE_FAILED);
+	MUST(waywire_end_feed(server.end, bytes, 1, NULL, 0, &amounts) == WAYWIRE_FAILED);
 	MUST(amounts.bytes == 0 && amounts.tokens == 0);
-	MUST(waywire_server_feed(server, NULL, 0, NULL, 0, &amounts) == WAYWIRE_FAILED);
-	MUST(!waywire_server_take(server, bytes, sizeof bytes, NULL, 0, &amounts));
+	MUST(waywire_end_feed(server.end, NULL, 0, NULL, 0, &amounts) == WAYWIRE_FAILED);
+	MUST(!waywire_end_take(server.end, bytes, sizeof bytes, NULL, 0, &amounts));
 	MUST(amounts.bytes == 32); /* what was asked of it since left nothing there */
-	MUST(!waywire_client_feed(client, bytes, amounts.bytes, NULL, 0, &amounts));
-	MUST(!client_failed(client) && !waywire_client_next(client, &report) && client_failed(client));
+	MUST(!waywire_end_feed(client.end, bytes, amounts.bytes, NULL, 0, &amounts));
+	MUST(!waywire_end_has_failed(client.end) && !waywire_end_next(client.end, &report));
+	MUST(waywire_end_has_failed(client.end));
 	MUST(report.kind == WAYWIRE_ERROR && report.id == 1 && report.code == 1);
 	MUST(report.named == WAYWIRE_OBJECT && waywire_object_equal(report.target, display));
 	MUST(!strcmp(report.text, "bad new id") && report.text_length == 10);
-	MUST(waywire_client_next(client, &report) == WAYWIRE_FAILED);
-	MUST(waywire_client_feed(client, bytes, 1, NULL, 0, &amounts) == WAYWIRE_FAILED);
+	MUST(waywire_end_next(client.end, &report) == WAYWIRE_FAILED);
+	MUST(waywire_end_feed(client.end, bytes, 1, NULL, 0, &amounts) == WAYWIRE_FAILED);
 	MUST(amounts.bytes == 0 && amounts.tokens == 0);
 }
 
@@ -158,49 +182,52 @@ static void full(void)
 {
 	static unsigned char bytes[4096];
 	static const uint32_t tokens[20] = { 0 };
-	waywire_server *other;
+	waywire_server other;
 	waywire_amounts amounts;
 	MUST(!waywire_server_new(tables, &sizes, &other));
-	MUST(!waywire_server_feed(other, bytes, sizeof bytes, tokens, 20, &amounts));
+	MUST(!waywire_end_feed(other.end, bytes, sizeof bytes, tokens, 20, &amounts));
 	MUST(amounts.bytes == 4096 && amounts.tokens == 20);
-	MUST(!waywire_server_feed(other, bytes, 1, tokens, 1, &amounts));
-	MUST(amounts.bytes == 0 && amounts.tokens == 0 && !server_failed(other));
-	waywire_server_free(other);
+	MUST(!waywire_end_feed(other.end, bytes, 1, tokens, 1, &amounts));
+	MUST(is_none(amounts) && !waywire_end_has_failed(other.end));
+	waywire_end_free(other.end);
 }
 
 /* An end fails where an error is posted, and where it is given up; not by a call that is refused. */
 static void failing(void)
 {
 	waywire_object stale = { 7, 1 };
-	waywire_client *one;
-	waywire_server *other;
+	waywire_client one;
+	waywire_server other;
 	waywire_amounts amounts;
 	unsigned char bytes[64];
 	size_t count;
 	MUST(!waywire_client_new(tables, &sizes, &one) && !waywire_server_new(tables, &sizes, &other));
-	MUST(waywire_server_post_error(other, stale, 1, "x") == WAYWIRE_STALE && !server_failed(other));
-	MUST(!waywire_server_post_error(other, display, 1, "x") && server_failed(other));
-	MUST(!waywire_server_take(other, bytes, sizeof bytes, NULL, 0, &amounts) && amounts.bytes > 0);
-	MUST(server_failed(other));
-	MUST(waywire_client_send(one, stale, 0, NULL, 0, NULL, NULL) == WAYWIRE_STALE && !client_failed(one));
-	MUST(!waywire_client_take_waiting_tokens(one, NULL, 0, &count) && count == 0 && client_failed(one));
-	waywire_client_free(one);
-	waywire_server_free(other);
+	MUST(waywire_server_post_error(other, stale, 1, "x") == WAYWIRE_STALE);
+	MUST(!waywire_end_has_failed(other.end));
+	MUST(!waywire_server_post_error(other, display, 1, "x") && waywire_end_has_failed(other.end));
+	MUST(!waywire_end_take(other.end, bytes, sizeof bytes, NULL, 0, &amounts) && amounts.bytes > 0);
+	MUST(waywire_end_has_failed(other.end));
+	MUST(waywire_end_send(one.end, stale, 0, NULL, 0, NULL, NULL) == WAYWIRE_STALE);
+	MUST(!waywire_end_has_failed(one.end));
+	MUST(!waywire_end_take_waiting_tokens(one.end, NULL, 0, &count) && count == 0);
+	MUST(waywire_end_has_failed(one.end));
+	waywire_end_free(one.end);
+	waywire_end_free(other.end);
 }
 
 static void misspelled(void)
 {
 	static const unsigned char bind[] = { 1, 0, 0, 0, 1, 0, 12, 0, 2, 0, 0, 0, 2, 0, 0, 0, 0, 0, 24, 0,
 		1, 0, 0, 0, 0, 0, 0, 0, 1, 0, 0, 0, 3, 0, 0, 0 };
-	waywire_server *other;
+	waywire_server other;
 	waywire_report report;
 	waywire_amounts amounts;
 	MUST(!waywire_server_new(tables, &sizes, &other));
-	MUST(!waywire_server_feed(other, bind, sizeof bind, NULL, 0, &amounts));
-	MUST(!waywire_server_next(other, &report) && report.kind == WAYWIRE_MESSAGE);
-	MUST(waywire_server_next(other, &report) == WAYWIRE_FAULT_BAD_ARGUMENT);
+	MUST(!waywire_end_feed(other.end, bind, sizeof bind, NULL, 0, &amounts));
+	MUST(!waywire_end_next(other.end, &report) && report.kind == WAYWIRE_MESSAGE);
+	MUST(waywire_end_next(other.end, &report) == WAYWIRE_FAULT_BAD_ARGUMENT);
 	MUST(report.place == 1 && report.spelling == 2 && report.offset == 12);
-	waywire_server_free(other);
+	waywire_end_free(other.end);
 }
 
 /* A text of tables: read, with a bad line, and with a line that breaks a rule. */
@@ -293,20 +320,13 @@ static void server_objects(void)
 }
 
 /* All that one end wrote is fed to the other, which reads a message. */
-static void carry(waywire_client *one, waywire_server *other, bool to_server, waywire_report *report)
+static void carry(waywire_end *from, waywire_end *to, waywire_report *report)
 {
 	static unsigned char bytes[65536];
 	waywire_amounts taken, fed;
-	if (to_server) {
-		MUST(!waywire_client_take(one, bytes, sizeof bytes, NULL, 0, &taken));
-		MUST(!waywire_server_feed(other, bytes, taken.bytes, NULL, 0, &fed) && fed.bytes == taken.bytes);
-		MUST(!waywire_server_next(other, report));
-	} else {
-		MUST(!waywire_server_take(other, bytes, sizeof bytes, NULL, 0, &taken));
-		MUST(!waywire_client_feed(one, bytes, taken.bytes, NULL, 0, &fed) && fed.bytes == taken.bytes);
-		MUST(!waywire_client_next(one, report));
-	}
-	MUST(report->kind == WAYWIRE_MESSAGE);
+	MUST(!waywire_end_take(from, bytes, sizeof bytes, NULL, 0, &taken));
+	MUST(!waywire_end_feed(to, bytes, taken.bytes, NULL, 0, &fed) && fed.bytes == taken.bytes);
+	MUST(!waywire_end_next(to, report) && report->kind == WAYWIRE_MESSAGE);
 }
 
 /* Both ends speak a wl_seat that a text extends: what it adds stands behind what was there. */
@@ -316,8 +336,8 @@ static void newer_seat(void)
 	static const char lower[] = "extend wl_seat 10\nextend wl_seat 8\n";
 	waywire_sizes wide = { 65536, 64, 65536, 64, 4096 };
 	waywire_tables *more;
-	waywire_client *one;
-	waywire_server *other;
+	waywire_client one;
+	waywire_server other;
 	waywire_object registry, seat, pad;
 	waywire_report report;
 	waywire_arg arg = waywire_new();
@@ -331,21 +351,22 @@ static void newer_seat(void)
 	MUST(!waywire_tables_version(more, interface, &version) && version == 10);
 	MUST(!waywire_client_new(more, &wide, &one) && !waywire_server_new(more, &wide, &other));
 	MUST(!waywire_server_add_global(other, interface, 10, &name));
-	MUST(!waywire_client_send(one, display, WAYWIRE_WL_DISPLAY_REQUEST_GET_REGISTRY, &arg, 1, &registry, NULL));
-	carry(one, other, true, &report);
+	MUST(!waywire_end_send(one.end, display, WAYWIRE_WL_DISPLAY_REQUEST_GET_REGISTRY, &arg, 1, &registry,
+		NULL));
+	carry(one.end, other.end, &report);
 	MUST(!waywire_server_announce(other, NULL));
-	carry(one, other, false, &report);
+	carry(other.end, one.end, &report);
 	MUST(!waywire_client_bind(one, registry, name, "wl_seat", 10, &seat));
-	carry(one, other, true, &report);
-	MUST(!waywire_client_send(one, seat, 4, &arg, 1, &pad, NULL));
-	carry(one, other, true, &report);
+	carry(one.end, other.end, &report);
+	MUST(!waywire_end_send(one.end, seat, 4, &arg, 1, &pad, NULL));
+	carry(one.end, other.end, &report);
 	MUST(report.opcode == 4 && report.arg_count == 1);
 	arg = waywire_uint(7);
-	MUST(!waywire_server_send(other, report.target, 2, &arg, 1, NULL, NULL));
-	carry(one, other, false, &report);
+	MUST(!waywire_end_send(other.end, report.target, 2, &arg, 1, NULL, NULL));
+	carry(other.end, one.end, &report);
 	MUST(report.opcode == 2 && report.arg_count == 1 && report.args[0].u == 7);
-	waywire_client_free(one);
-	waywire_server_free(other);
+	waywire_end_free(one.end);
+	waywire_end_free(other.end);
 	waywire_tables_free(more);
 }
 
@@ -354,8 +375,8 @@ static void at_limit(const waywire_tables *more, uint32_t limit, waywire_status 
 {
 	static char bytes[60000];
 	waywire_sizes wide = { 65536, 64, 65536, 64, limit };
-	waywire_client *one;
-	waywire_server *other;
+	waywire_client one;
+	waywire_server other;
 	waywire_object registry, thing;
 	waywire_report report;
 	waywire_arg arg = waywire_new();
@@ -364,20 +385,21 @@ static void at_limit(const waywire_tables *more, uint32_t limit, waywire_status 
 	MUST(!waywire_client_new(more, &wide, &one) && !waywire_server_new(more, &wide, &other));
 	MUST(!waywire_tables_interface(more, "wp_thing", &interface));
 	MUST(!waywire_server_add_global(other, interface, 1, &name));
-	MUST(!waywire_client_send(one, display, WAYWIRE_WL_DISPLAY_REQUEST_GET_REGISTRY, &arg, 1, &registry, NULL));
-	carry(one, other, true, &report);
+	MUST(!waywire_end_send(one.end, display, WAYWIRE_WL_DISPLAY_REQUEST_GET_REGISTRY, &arg, 1, &registry,
+		NULL));
+	carry(one.end, other.end, &report);
 	MUST(!waywire_server_announce(other, NULL));
-	carry(one, other, false, &report);
+	carry(other.end, one.end, &report);
 	MUST(!waywire_client_bind(one, registry, name, "wp_thing", 1, &thing));
-	carry(one, other, true, &report);
+	carry(one.end, other.end, &report);
 	arg = waywire_array(bytes, sizeof bytes);
-	MUST(waywire_client_send(one, thing, 0, &arg, 1, NULL, NULL) == wanted);
+	MUST(waywire_end_send(one.end, thing, 0, &arg, 1, NULL, NULL) == wanted);
 	if (!wanted) {
-		carry(one, other, true, &report);
+		carry(one.end, other.end, &report);
 		MUST(report.arg_count == 1 && report.args[0].length == sizeof bytes);
 	}
-	waywire_client_free(one);
-	waywire_server_free(other);
+	waywire_end_free(one.end);
+	waywire_end_free(other.end);
 }
 
 /* Limits that messages can have. */
@@ -387,7 +409,7 @@ static void limits(void)
 	static const uint32_t wrong[] = { 1, 4095, 4098, 65533, 65536, UINT32_MAX };
 	waywire_sizes narrow = { 65536, 64, 4096, 64, 4100 };
 	waywire_tables *more;
-	waywire_client *one;
+	waywire_client one;
 	for (size_t each = 0; each < sizeof wrong / sizeof *wrong; each++) {
 		waywire_sizes bad = { 65536, 64, 65536, 64, wrong[each] };
 		MUST(waywire_client_new(tables, &bad, &one) == WAYWIRE_BAD_SIZES);
@@ -405,47 +427,46 @@ static void limits(void)
 /* Pointers of the caller's, at objects; and how many objects there are. */
 static void users(void)
 {
-	waywire_client *one;
-	waywire_server *other;
+	waywire_client one;
+	waywire_server other;
 	waywire_arg new = waywire_new(), serial = waywire_uint(7);
 	waywire_object callback, there, next;
 	waywire_report report;
 	waywire_amounts amounts;
 	unsigned char bytes[256];
-	size_t count;
 	int here, later;
 	MUST(!waywire_client_new(tables, &sizes, &one) && !waywire_server_new(tables, &sizes, &other));
-	MUST(!waywire_client_send(one, display, WAYWIRE_WL_DISPLAY_REQUEST_SYNC, &new, 1, &callback, NULL));
-	MUST(!waywire_client_user(one, callback) && !waywire_client_set_user(one, callback, &here));
-	MUST(waywire_client_user(one, callback) == &here && !waywire_client_user(one, display));
-	MUST(!waywire_client_take(one, bytes, sizeof bytes, NULL, 0, &amounts));
-	MUST(!waywire_server_feed(other, bytes, amounts.bytes, NULL, 0, &amounts));
-	MUST(!waywire_server_next(other, &report) && !report.user);
+	MUST(!waywire_end_send(one.end, display, WAYWIRE_WL_DISPLAY_REQUEST_SYNC, &new, 1, &callback, NULL));
+	MUST(!waywire_end_user(one.end, callback) && !waywire_end_set_user(one.end, callback, &here));
+	MUST(waywire_end_user(one.end, callback) == &here && !waywire_end_user(one.end, display));
+	MUST(!waywire_end_take(one.end, bytes, sizeof bytes, NULL, 0, &amounts));
+	MUST(!waywire_end_feed(other.end, bytes, amounts.bytes, NULL, 0, &amounts));
+	MUST(!waywire_end_next(other.end, &report) && !report.user);
 	there = report.args[0].object;
-	MUST(!waywire_server_object_count(other, &count) && count == 2);
-	MUST(!waywire_server_set_user(other, there, &later) && waywire_server_user(other, there) == &later);
-	MUST(!waywire_server_send(other, there, WAYWIRE_WL_CALLBACK_EVENT_DONE, &serial, 1, NULL, NULL));
-	MUST(waywire_server_set_user(other, there, NULL) == WAYWIRE_STALE);
-	MUST(!waywire_server_object_count(other, &count) && count == 1);
-	MUST(!waywire_server_take(other, bytes, sizeof bytes, NULL, 0, &amounts));
-	MUST(!waywire_client_feed(one, bytes, amounts.bytes, NULL, 0, &amounts));
-	MUST(!waywire_client_next(one, &report) && report.kind == WAYWIRE_MESSAGE && report.user == &here);
-	MUST(waywire_client_set_user(one, callback, &later) == WAYWIRE_STALE);
-	MUST(!waywire_client_object_count(one, &count) && count == 2); /* it is dead, and not yet gone */
-	MUST(!waywire_client_next(one, &report) && report.kind == WAYWIRE_DELETED && report.user == &here);
-	MUST(!waywire_client_object_count(one, &count) && count == 1);
-	MUST(!waywire_client_next(one, &report) && report.kind == WAYWIRE_NOTHING && !report.user);
-	MUST(!waywire_client_send(one, display, WAYWIRE_WL_DISPLAY_REQUEST_SYNC, &new, 1, &next, NULL));
-	MUST(next.id == callback.id && !waywire_client_user(one, next));
-	MUST(!waywire_client_set_user(one, next, &later) && waywire_client_user(one, next) == &later);
-	MUST(!waywire_client_user(one, callback));
-	MUST(!waywire_client_set_user(one, next, NULL) && !waywire_client_user(one, next));
-	waywire_client_free(one);
-	waywire_server_free(other);
+	MUST(waywire_end_object_count(other.end) == 2);
+	MUST(!waywire_end_set_user(other.end, there, &later) && waywire_end_user(other.end, there) == &later);
+	MUST(!waywire_end_send(other.end, there, WAYWIRE_WL_CALLBACK_EVENT_DONE, &serial, 1, NULL, NULL));
+	MUST(waywire_end_set_user(other.end, there, NULL) == WAYWIRE_STALE);
+	MUST(waywire_end_object_count(other.end) == 1);
+	MUST(!waywire_end_take(other.end, bytes, sizeof bytes, NULL, 0, &amounts));
+	MUST(!waywire_end_feed(one.end, bytes, amounts.bytes, NULL, 0, &amounts));
+	MUST(!waywire_end_next(one.end, &report) && report.kind == WAYWIRE_MESSAGE && report.user == &here);
+	MUST(waywire_end_set_user(one.end, callback, &later) == WAYWIRE_STALE);
+	MUST(waywire_end_object_count(one.end) == 2); /* it is dead, and not yet gone */
+	MUST(!waywire_end_next(one.end, &report) && report.kind == WAYWIRE_DELETED && report.user == &here);
+	MUST(waywire_end_object_count(one.end) == 1);
+	MUST(!waywire_end_next(one.end, &report) && report.kind == WAYWIRE_NOTHING && !report.user);
+	MUST(!waywire_end_send(one.end, display, WAYWIRE_WL_DISPLAY_REQUEST_SYNC, &new, 1, &next, NULL));
+	MUST(next.id == callback.id && !waywire_end_user(one.end, next));
+	MUST(!waywire_end_set_user(one.end, next, &later) && waywire_end_user(one.end, next) == &later);
+	MUST(!waywire_end_user(one.end, callback));
+	MUST(!waywire_end_set_user(one.end, next, NULL) && !waywire_end_user(one.end, next));
+	waywire_end_free(one.end);
+	waywire_end_free(other.end);
 }
 
 /* What a client's report of wl_registry.global says: whether the client does not remember the global. */
-static bool forgets(waywire_client *one, uint32_t name, const char *interface)
+static bool forgets(waywire_client one, uint32_t name, const char *interface)
 {
 	waywire_report report;
 	waywire_amounts fed;
@@ -453,8 +474,8 @@ static bool forgets(waywire_client *one, uint32_t name, const char *interface)
 	uint32_t words[16] = { 2, size << 16 | WAYWIRE_WL_REGISTRY_EVENT_GLOBAL, name, length };
 	memcpy(words + 4, interface, length);
 	words[last] = 1;
-	MUST(!waywire_client_feed(one, words, size, NULL, 0, &fed) && fed.bytes == size);
-	MUST(!waywire_client_next(one, &report) && report.kind == WAYWIRE_MESSAGE && report.arg_count == 3);
+	MUST(!waywire_end_feed(one.end, words, size, NULL, 0, &fed) && fed.bytes == size);
+	MUST(!waywire_end_next(one.end, &report) && report.kind == WAYWIRE_MESSAGE && report.arg_count == 3);
 	return report.forgotten;
 }
 
@@ -462,13 +483,14 @@ static bool forgets(waywire_client *one, uint32_t name, const char *interface)
 static void globals(void)
 {
 	static const uint32_t remove[] = { 2, 12 << 16 | WAYWIRE_WL_REGISTRY_EVENT_GLOBAL_REMOVE, 7 };
-	waywire_client *one;
+	waywire_client one;
 	waywire_arg new = waywire_new();
 	waywire_object registry;
 	waywire_report report;
 	waywire_amounts fed;
 	MUST(!waywire_client_new(tables, &sizes, &one));
-	MUST(!waywire_client_send(one, display, WAYWIRE_WL_DISPLAY_REQUEST_GET_REGISTRY, &new, 1, &registry, NULL));
+	MUST(!waywire_end_send(one.end, display, WAYWIRE_WL_DISPLAY_REQUEST_GET_REGISTRY, &new, 1, &registry,
+		NULL));
 	MUST(forgets(one, 1, "no_such"));
 	for (uint32_t name = 1; name <= 1024; name++)
 		MUST(!forgets(one, name, "wl_seat"));
@@ -476,18 +498,18 @@ static void globals(void)
 	MUST(waywire_client_bind(one, registry, 1025, "wl_seat", 1, NULL) == WAYWIRE_BAD_BIND);
 	MUST(!waywire_client_bind(one, registry, 1024, "wl_seat", 1, NULL));
 	MUST(!forgets(one, 7, "wl_output")); /* in the place of the one that had its name */
-	MUST(!waywire_client_feed(one, remove, sizeof remove, NULL, 0, &fed) && fed.bytes == sizeof remove);
-	MUST(!waywire_client_next(one, &report) && report.opcode == WAYWIRE_WL_REGISTRY_EVENT_GLOBAL_REMOVE);
+	MUST(!waywire_end_feed(one.end, remove, sizeof remove, NULL, 0, &fed) && fed.bytes == sizeof remove);
+	MUST(!waywire_end_next(one.end, &report) && report.opcode == WAYWIRE_WL_REGISTRY_EVENT_GLOBAL_REMOVE);
 	MUST(report.kind == WAYWIRE_MESSAGE && !report.forgotten);
 	MUST(!forgets(one, 1025, "wl_seat") && forgets(one, 1026, "wl_seat") && forgets(one, 1025, "no_such"));
 	MUST(waywire_client_bind(one, registry, 1025, "wl_seat", 1, NULL) == WAYWIRE_BAD_BIND);
-	waywire_client_free(one);
+	waywire_end_free(one.end);
 }
 
 static void texts(void)
 {
 	static const int all[] = { 0, 1, 2, 3, 4, 5, 6, 7, 8, 9, 10, 11, 12, 22, 23, 25, 31, 32, 33, 34,
-		35, 36, 37, 38, 39, 40, 51, 61, 62, 63, 64, 65, 71, 72 };
+		35, 36, 37, 38, 39, 40, 51, 61, 62, 63, 64, 65, 66, 71, 72 };
 	for (size_t each = 0; each < sizeof all / sizeof *all; each++) {
 		const char *text = waywire_strerror((waywire_status)all[each]);
 		MUST(*text && strcmp(text, "unknown status"));
@@ -528,6 +550,8 @@ int main(void)
 	MUST(!waywire_client_new(tables, &sizes, &client));
 	MUST(!waywire_server_new(tables, &sizes, &server));
 	nulls();
+	null_of_one_end();
+	null_end();
 	lengths();
 	kinds();
 	calls();
@@ -545,8 +569,8 @@ int main(void)
 	globals();
 	texts();
 	recordings();
-	waywire_client_free(client);
-	waywire_server_free(server);
+	waywire_end_free(client.end);
+	waywire_end_free(server.end);
 	waywire_tables_free(tables);
 	printf("values: ok\n");
 	return 0;
