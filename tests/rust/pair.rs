@@ -5,7 +5,9 @@
 
 use std::sync::OnceLock;
 use waywire::wayland::wl_registry::WlRegistry;
-use waywire::{Client, Fixed, Handle, Incoming, Object, OwnedMessage, Server, Sizes, Tables};
+use waywire::{
+    Client, Connection, Fixed, Handle, Incoming, Object, OwnedMessage, Server, Sizes, Tables,
+};
 
 static TABLES: OnceLock<Tables> = OnceLock::new();
 
@@ -29,6 +31,13 @@ macro_rules! said {
     ($($it:expr),*) => {
         [$(format!("{:?}", $it)),*].join(", ")
     };
+}
+
+/// Carries what waits at one end to the other.
+fn carry<A, B>(from: &mut Connection<A>, to: &mut Connection<B>) {
+    let (mut bytes, mut tokens) = ([0; 4096], [0; 28]);
+    let taken = from.take(&mut bytes, &mut tokens);
+    assert_eq!(to.feed(&bytes[..taken.bytes], &tokens[..taken.tokens]), Ok(taken));
 }
 
 /// A client and a server with nothing between.
@@ -69,7 +78,7 @@ impl Pair {
         let version = tables.version(place).unwrap();
         let name = self.server.add_global(place, version).unwrap();
         assert_eq!(self.server.announce(), Ok(1));
-        self.carry_to_client();
+        carry(&mut self.server, &mut self.client);
         while self.client.next().unwrap().is_some() {}
         let bound = self.client.bind(self.registry.0, name, interface, version).unwrap();
         assert_eq!(self.request().target, self.registry.0);
@@ -78,21 +87,13 @@ impl Pair {
 
     /// The request that was written, as the server reads it.
     pub fn request(&mut self) -> OwnedMessage {
-        let (mut bytes, mut tokens) = ([0; 4096], [0; 28]);
-        let took = self.client.take(&mut bytes, &mut tokens);
-        assert_eq!(self.server.feed(&bytes[..took.bytes], &tokens[..took.tokens]), Ok(took));
+        carry(&mut self.client, &mut self.server);
         self.server.next().unwrap().unwrap().into_owned()
-    }
-
-    fn carry_to_client(&mut self) {
-        let (mut bytes, mut tokens) = ([0; 4096], [0; 28]);
-        let took = self.server.take(&mut bytes, &mut tokens);
-        assert_eq!(self.client.feed(&bytes[..took.bytes], &tokens[..took.tokens]), Ok(took));
     }
 
     /// The event that was written, as the client reads it.
     pub fn event(&mut self) -> OwnedMessage {
-        self.carry_to_client();
+        carry(&mut self.server, &mut self.client);
         match self.client.next().unwrap() {
             Some(Incoming::Event(event)) => event.into_owned(),
             other => panic!("{other:?}"),

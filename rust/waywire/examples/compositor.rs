@@ -34,7 +34,7 @@ use waywire::wayland::wl_shm::{self, Format, WlShm};
 use waywire::wayland::wl_shm_pool::{self, WlShmPool};
 use waywire::wayland::wl_subcompositor::WlSubcompositor;
 use waywire::wayland::wl_surface::{self, WlSurface};
-use waywire::{Fixed, Handle, Object, OwnedMessage, SendError, Server, Sizes, Tables};
+use waywire::{AsServer, Fixed, Handle, Object, OwnedMessage, SendError, Server, Sizes, Tables};
 
 /// The tables of the clipboard, without which GTK has no seat. Its requests are read, and have no answer.
 const CLIPBOARD: &[u8] = include_bytes!("../../../examples/tables/data-device.tables");
@@ -61,7 +61,7 @@ struct Surface {
 }
 
 struct Compositor {
-    link: Link<Server>,
+    link: Link<AsServer>,
     began: Instant,
     serial: u32,
     pools: HashMap<WlShmPool, Rc<File>>,

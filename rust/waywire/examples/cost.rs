@@ -4,7 +4,7 @@
 //!     cost damage|motion|surface|title BATCH TIMES
 
 use std::hint::black_box;
-use waywire::{event, request, Arg, Client, Fixed, Object, Server, Sizes, Tables};
+use waywire::{event, request, Arg, Client, Connection, Fixed, Object, Server, Sizes, Tables};
 
 /// Room for 100 of any of the messages.
 const SIZES: Sizes =
@@ -16,17 +16,19 @@ struct Pair {
     bytes: Box<[u8]>,
 }
 
+/// Carries what waits at one end to the other.
+fn carry<A, B>(from: &mut Connection<A>, to: &mut Connection<B>, bytes: &mut [u8]) {
+    let taken = from.take(bytes, &mut []);
+    assert_eq!(to.feed(&bytes[..taken.bytes], &[]), Ok(taken));
+}
+
 impl Pair {
     fn up(&mut self) {
-        let taken = self.client.take(&mut self.bytes, &mut []);
-        let fed = self.server.feed(&self.bytes[..taken.bytes], &[]);
-        assert_eq!(fed, Ok(taken));
+        carry(&mut self.client, &mut self.server, &mut self.bytes);
     }
 
     fn down(&mut self) {
-        let taken = self.server.take(&mut self.bytes, &mut []);
-        let fed = self.client.feed(&self.bytes[..taken.bytes], &[]);
-        assert_eq!(fed, Ok(taken));
+        carry(&mut self.server, &mut self.client, &mut self.bytes);
     }
 
     fn make(&mut self, target: Object, opcode: u16) -> Object {

@@ -10,13 +10,13 @@
 mod common;
 
 use common::xdg_shell;
-use common::{compositor_path, socket, End, Failure, Link};
+use common::{compositor_path, socket, Failure, Link};
 use std::collections::HashMap;
 use std::os::unix::net::{UnixListener, UnixStream};
 use std::path::{Path, PathBuf};
 use waywire::{
-    event, request, Arg, Client, Destroys, Incoming, Object, SendError, Sender, Server, Sizes,
-    Tables, Value,
+    event, request, Arg, AsClient, AsServer, Client, Destroys, Incoming, Object, SendError, Sender,
+    Server, Sizes, Tables, Value,
 };
 
 /// The first id of a compositor's range: it makes objects with ids from here on.
@@ -24,8 +24,8 @@ const FIRST_SERVER_ID: u32 = 0xff00_0000;
 
 struct Proxy {
     tables: Tables,
-    client_side: Link<Server>,
-    compositor_side: Link<Client>,
+    client_side: Link<AsServer>,
+    compositor_side: Link<AsClient>,
     /// Of the objects that the client knows, those that the compositor knows, and the other way.
     to_compositor: HashMap<Object, Object>,
     to_client: HashMap<Object, Object>,
@@ -104,7 +104,7 @@ impl Passed {
     }
 
     /// Hands its descriptors over to the link that it is sent by. Their tokens stay the same.
-    fn hand_over<A: End, B: End>(&self, from: &mut Link<A>, to: &mut Link<B>) {
+    fn hand_over<A, B>(&self, from: &mut Link<A>, to: &mut Link<B>) {
         for &token in &self.tokens {
             if let Some(descriptor) = from.descriptor(token) {
                 to.token(descriptor);

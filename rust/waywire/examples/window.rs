@@ -7,7 +7,7 @@ use common::{compositor_path, socket, Failure, Link};
 use std::{collections::HashMap, io::Write, os::unix::net::UnixStream};
 use waywire::wayland::wl_shm::{Format, WlShm};
 use waywire::wayland::{wl_compositor::WlCompositor, wl_display::WlDisplay, wl_registry};
-use waywire::{Client, Handle, Sizes, Tables};
+use waywire::{AsClient, Client, Handle, Sizes, Tables};
 
 const SIDE: i32 = 64;
 /// The bytes of a pixel: blue, green, red.
@@ -29,7 +29,7 @@ impl xdg_surface::Events for Told {
     }
 }
 
-fn round_trip(link: &mut Link<Client>, tables: &Tables, told: &mut Told) -> Result<(), Failure> {
+fn round_trip(link: &mut Link<AsClient>, tables: &Tables, told: &mut Told) -> Result<(), Failure> {
     link.round_trip(|event| {
         let _is_known = wl_registry::dispatch_event(told, tables, event)
             || xdg_surface::dispatch_event(told, tables, event);

@@ -10,15 +10,16 @@
 //!
 //! # The loop
 //!
-//! An end, a [`Client`] or a [`Server`], turns calls into bytes and bytes into messages. Your code
-//! owns the socket, the event loop and the file descriptors, which an end knows as *tokens*: numbers
-//! of your choice, say the descriptors themselves.
+//! An end, a [`Client`] or a [`Server`], turns calls into bytes and bytes into messages. Both are
+//! a [`Connection`], which has the calls that they share. Your code owns the socket, the event loop
+//! and the file descriptors, which an end knows as *tokens*: numbers of your choice, say the
+//! descriptors themselves.
 //!
-//! 1. [`Client::send`] and the like write a message; it waits in the end's outbox.
-//! 2. [`Client::take`] moves out what waits. Write it to the socket, its tokens' descriptors with the
-//!    first byte.
-//! 3. [`Client::feed`] takes in what came from the socket, in any cut.
-//! 4. [`Client::next`] reads one message, until it returns `None`.
+//! 1. [`send`](Connection::send) and the like write a message; it waits in the end's outbox.
+//! 2. [`take`](Connection::take) moves out what waits. Write it to the socket, its tokens'
+//!    descriptors with the first byte.
+//! 3. [`feed`](Connection::feed) takes in what came from the socket, in any cut.
+//! 4. [`next`](Client::next) reads one message, until it returns `None`.
 //!
 //! ```
 //! use waywire::{Arg, Client, Incoming, Server, Sizes, Tables, event, request};
@@ -154,10 +155,10 @@ extern crate self as waywire;
 mod amounts;
 mod args;
 mod client;
+mod connection;
 mod decoded;
 mod error;
 pub mod event;
-mod in_place;
 mod inspector;
 mod owned;
 mod report;
@@ -173,11 +174,11 @@ pub mod wayland;
 pub use amounts::{Amounts, Sizes};
 pub use args::{Arg, Args, Fixed, Value};
 pub use client::Client;
+pub use connection::{AsClient, AsServer, Connection, Waiting};
 pub use decoded::{Decoded, Spelled};
 pub use error::{
     Failed, Fault, FaultKind, GlobalError, NewError, NextError, NoMemory, SendError, TablesError,
 };
-pub use in_place::Waiting;
 pub use inspector::{Inspector, Sender, Verdict};
 pub use owned::{OwnedMessage, OwnedValue};
 pub use report::{Event, Incoming, Message, Named, ProtocolError, Replaced, Request};

@@ -48,8 +48,8 @@ impl<'a> Message<'a> {
         self.report.opcode()
     }
 
-    /// What was set for its target by [`Client::set_user`](crate::Client::set_user) or
-    /// [`Server::set_user`](crate::Server::set_user), also where the message destroyed the target; else 0.
+    /// What was set for its target by [`Connection::set_user`](crate::Connection::set_user), also
+    /// where the message destroyed the target; else 0.
     #[inline]
     pub fn user(&self) -> usize {
         self.report.user()
@@ -107,7 +107,7 @@ impl fmt::Debug for Message<'_> {
 pub struct Replaced {
     /// The object.
     pub object: Object,
-    /// What was set for it by [`Client::set_user`](crate::Client::set_user); else 0.
+    /// What was set for it by [`Connection::set_user`](crate::Connection::set_user); else 0.
     pub user: usize,
 }
 

@@ -11,24 +11,22 @@
 //!   a time, since it is not `Sync`;
 //! - a slice's pointer and length are those of a Rust slice.
 
-use crate::amounts::{Amounts, Sizes};
 use crate::args::Arg;
-use crate::error::{Failed, Fault, FaultKind, GlobalError, NewError, NextError, SendError};
+use crate::error::{Fault, FaultKind, NextError};
 use crate::inspector::Sender;
 use crate::report::{Named, Replaced};
 use crate::tables::{Interface, Object};
-use std::ffi::{c_char, c_void, CStr, CString};
-use std::mem::MaybeUninit;
-use std::ptr::{self, NonNull};
+use std::ffi::{c_char, c_void, CStr};
+use std::ptr;
 use std::slice;
 
 mod decoded;
-mod in_place;
+mod end;
 mod inspector;
 mod tables;
 
 pub use decoded::Decoded;
-pub use in_place::Tokens;
+pub use end::{End, Tokens};
 pub use inspector::Inspector;
 use tables::RawTables;
 pub use tables::Tables;
@@ -424,79 +422,6 @@ impl<'a> ArgOf<'a> {
     }
 }
 
-type RawEnd = c_void;
-
-macro_rules! end_calls {
-    ($new:ident $free:ident $display:ident $live:ident $set_user:ident $user:ident
-     $object_count:ident $object_after:ident $has_failed:ident
-     $in_room:ident $is_drained:ident $feed:ident $goes:ident $take:ident
-     $take_waiting_tokens:ident $send:ident $next:ident) => {
-        extern "C" {
-            fn $new(tables: *const RawTables, sizes: *const Sizes, made: *mut *mut RawEnd) -> u32;
-            fn $free(end: *mut RawEnd);
-            fn $display(end: *const RawEnd, display: *mut Object) -> u32;
-            fn $live(
-                end: *const RawEnd,
-                object: Object,
-                interface: *mut u16,
-                version: *mut u32,
-            ) -> u32;
-            fn $set_user(end: *mut RawEnd, object: Object, user: *mut c_void) -> u32;
-            fn $user(end: *const RawEnd, object: Object) -> *mut c_void;
-            fn $object_count(end: *const RawEnd, count: *mut usize) -> u32;
-            fn $object_after(end: *const RawEnd, id: u32, object: *mut Object) -> u32;
-            fn $has_failed(end: *const RawEnd, failed: *mut bool) -> u32;
-            fn $in_room(end: *const RawEnd, room: *mut Amounts) -> u32;
-            fn $is_drained(end: *const RawEnd, drained: *mut bool) -> u32;
-            fn $feed(
-                end: *mut RawEnd,
-                bytes: *const c_void,
-                length: usize,
-                tokens: *const u32,
-                token_count: usize,
-                fed: *mut Amounts,
-            ) -> u32;
-            fn $goes(end: *const RawEnd, bytes: usize, tokens: usize, amounts: *mut Amounts)
-                -> u32;
-            fn $take(
-                end: *mut RawEnd,
-                bytes: *mut c_void,
-                length: usize,
-                tokens: *mut u32,
-                token_count: usize,
-                taken: *mut Amounts,
-            ) -> u32;
-            fn $take_waiting_tokens(
-                end: *mut RawEnd,
-                tokens: *mut u32,
-                token_count: usize,
-                taken: *mut usize,
-            ) -> u32;
-            fn $send(
-                end: *mut RawEnd,
-                target: Object,
-                opcode: u16,
-                args: *const RawArg,
-                arg_count: usize,
-                made: *mut Object,
-                place: *mut usize,
-            ) -> u32;
-            fn $next(end: *mut RawEnd, report: *mut Report) -> u32;
-        }
-    };
-}
-
-end_calls!(waywire_client_new waywire_client_free waywire_client_display waywire_client_live
-    waywire_client_set_user waywire_client_user waywire_client_object_count
-    waywire_client_object_after waywire_client_has_failed waywire_client_in_room
-    waywire_client_is_drained waywire_client_feed waywire_client_goes waywire_client_take
-    waywire_client_take_waiting_tokens waywire_client_send waywire_client_next);
-end_calls!(waywire_server_new waywire_server_free waywire_server_display waywire_server_live
-    waywire_server_set_user waywire_server_user waywire_server_object_count
-    waywire_server_object_after waywire_server_has_failed waywire_server_in_room
-    waywire_server_is_drained waywire_server_feed waywire_server_goes waywire_server_take
-    waywire_server_take_waiting_tokens waywire_server_send waywire_server_next);
-
 extern "C" {
     fn waywire_strerror(status: u32) -> *const c_char;
     fn waywire_strspelling(spelling: u32) -> *const c_char;
@@ -507,30 +432,6 @@ extern "C" {
         line: *mut c_char,
         room: usize,
     ) -> usize;
-    fn waywire_client_made(client: *const RawEnd, made: *mut Object) -> u32;
-    fn waywire_client_bind(
-        client: *mut RawEnd,
-        registry: Object,
-        name: u32,
-        interface: *const c_char,
-        version: u32,
-        bound: *mut Object,
-    ) -> u32;
-    fn waywire_server_add_global(
-        server: *mut RawEnd,
-        interface: u16,
-        version: u32,
-        name: *mut u32,
-    ) -> u32;
-    fn waywire_server_withdraw(server: *mut RawEnd, name: u32) -> u32;
-    fn waywire_server_announce(server: *mut RawEnd, count: *mut usize) -> u32;
-    fn waywire_server_drop_object(server: *mut RawEnd, object: Object) -> u32;
-    fn waywire_server_post_error(
-        server: *mut RawEnd,
-        object: Object,
-        code: u32,
-        text: *const c_char,
-    ) -> u32;
 }
 
 /// The text of a static string of the library.
@@ -551,291 +452,10 @@ pub fn spelling_of(spelling: u32) -> &'static str {
     static_text(unsafe { waywire_strspelling(spelling) })
 }
 
-/// Why a message was not written.
-fn send_error(status: u32, place: usize) -> SendError {
-    match status {
-        FAILED => SendError::Failed,
-        STALE => SendError::Stale,
-        TOO_OLD => SendError::TooOld,
-        WRONG_ARGS => SendError::WrongArgs { place },
-        BAD_OBJECT => SendError::BadObject { place },
-        BAD_BIND => SendError::BadBind,
-        TOO_LONG => SendError::TooLong,
-        FULL => SendError::Full,
-        NO_IDS => SendError::NoIds,
-        NO_MEMORY => SendError::NoMemory,
-        NOT_DROPPABLE => SendError::NotDroppable,
-        _ => SendError::NoSuchMessage,
-    }
-}
-
-fn sent(status: u32) -> Result<(), SendError> {
-    match status {
-        OK => Ok(()),
-        _ => Err(send_error(status, 0)),
-    }
-}
-
-fn global_error(status: u32) -> GlobalError {
-    match status {
-        FAILED => GlobalError::Failed,
-        TOO_MANY_GLOBALS => GlobalError::TooMany,
-        NO_SUCH_GLOBAL => GlobalError::NoSuchGlobal,
-        NO_MEMORY => GlobalError::NoMemory,
-        _ => GlobalError::BadGlobal,
-    }
-}
-
-macro_rules! end {
-    ($(#[$doc:meta])* $name:ident: $new:ident $free:ident $display:ident $live:ident
-     $set_user:ident $user:ident $object_count:ident $object_after:ident $has_failed:ident
-     $in_room:ident $is_drained:ident $feed:ident $goes:ident $take:ident $take_waiting_tokens:ident $send:ident $next:ident) => {
-        $(#[$doc])*
-        #[derive(Debug)]
-        pub struct $name {
-            at: NonNull<RawEnd>,
-        }
-
-        // Safety: the header says so: an end is bound to no thread, and used by one call at a time,
-        // which it is since it is not `Sync`.
-        unsafe impl Send for $name {}
-
-        impl Drop for $name {
-            fn drop(&mut self) {
-                // Safety: the end is the library's, and freed here alone.
-                unsafe { $free(self.at.as_ptr()) }
-            }
-        }
-
-        // Safety, for each call below: the end is the library's and lives as long as `self`, which
-        // is borrowed for the call; every other pointer leads to a local value or to a slice of the
-        // caller's that lasts longer than the call. None is null, so each call with a status that is
-        // not read answers OK.
-        impl $name {
-            pub fn new(tables: &Tables, sizes: &Sizes) -> Result<$name, NewError> {
-                let mut made = ptr::null_mut();
-                match unsafe { $new(tables.at(), sizes, &mut made) } {
-                    BAD_SIZES => Err(NewError::BadSizes),
-                    _ => match NonNull::new(made) {
-                        Some(at) => Ok($name { at }),
-                        None => Err(NewError::NoMemory),
-                    },
-                }
-            }
-
-            pub fn display(&self) -> Object {
-                let mut display = Object::NONE;
-                unsafe { $display(self.at.as_ptr(), &mut display) };
-                display
-            }
-
-            #[inline]
-            pub fn live(&self, object: Object) -> Option<(Interface, u32)> {
-                let (mut interface, mut version) = (0, 0);
-                let status =
-                    unsafe { $live(self.at.as_ptr(), object, &mut interface, &mut version) };
-                (status == OK).then_some((Interface(interface), version))
-            }
-
-            pub fn set_user(&mut self, object: Object, user: usize) -> Result<(), SendError> {
-                sent(unsafe { $set_user(self.at.as_ptr(), object, user as *mut c_void) })
-            }
-
-            pub fn user(&self, object: Object) -> usize {
-                (unsafe { $user(self.at.as_ptr(), object) }) as usize
-            }
-
-            pub fn object_after(&self, id: u32) -> Option<Object> {
-                let mut object = Object::NONE;
-                let status = unsafe { $object_after(self.at.as_ptr(), id, &mut object) };
-                (status == OK).then_some(object)
-            }
-
-            pub fn object_count(&self) -> usize {
-                let mut count = 0;
-                unsafe { $object_count(self.at.as_ptr(), &mut count) };
-                count
-            }
-
-            pub fn has_failed(&self) -> bool {
-                let mut failed = false;
-                unsafe { $has_failed(self.at.as_ptr(), &mut failed) };
-                failed
-            }
-
-            pub fn in_room(&self) -> Amounts {
-                let mut room = Amounts::default();
-                unsafe { $in_room(self.at.as_ptr(), &mut room) };
-                room
-            }
-
-            pub fn is_drained(&self) -> bool {
-                let mut drained = false;
-                unsafe { $is_drained(self.at.as_ptr(), &mut drained) };
-                drained
-            }
-
-            #[inline]
-            pub fn feed(&mut self, bytes: &[u8], tokens: &[u32]) -> Result<Amounts, Failed> {
-                let mut fed = Amounts::default();
-                let status = unsafe {
-                    $feed(self.at.as_ptr(), bytes.as_ptr().cast(), bytes.len(), tokens.as_ptr(),
-                        tokens.len(), &mut fed)
-                };
-                match status {
-                    OK => Ok(fed),
-                    _ => Err(Failed),
-                }
-            }
-
-            #[inline]
-            pub fn goes(&self, bytes: usize, tokens: usize) -> Amounts {
-                let mut amounts = Amounts::default();
-                unsafe { $goes(self.at.as_ptr(), bytes, tokens, &mut amounts) };
-                amounts
-            }
-
-            #[inline]
-            pub fn take(&mut self, bytes: &mut [u8], tokens: &mut [u32]) -> Amounts {
-                let mut taken = Amounts::default();
-                unsafe {
-                    $take(self.at.as_ptr(), bytes.as_mut_ptr().cast(), bytes.len(),
-                        tokens.as_mut_ptr(), tokens.len(), &mut taken)
-                };
-                taken
-            }
-
-            pub fn take_waiting_tokens(&mut self, tokens: &mut [u32]) -> usize {
-                let mut taken = 0;
-                unsafe {
-                    $take_waiting_tokens(self.at.as_ptr(), tokens.as_mut_ptr(), tokens.len(),
-                        &mut taken)
-                };
-                taken
-            }
-
-            #[inline]
-            pub fn send(
-                &mut self,
-                target: Object,
-                opcode: u16,
-                args: &[Arg<'_>],
-            ) -> Result<Option<Object>, SendError> {
-                // One more than a message can have, so that too many are refused at their place.
-                const MOST: usize = MAX_ARGS as usize + 1;
-                let mut given = [const { MaybeUninit::<RawArg>::uninit() }; MOST];
-                let count = args.len().min(MOST);
-                for (slot, arg) in given.iter_mut().zip(args) {
-                    slot.write(RawArg::of(arg));
-                }
-                let (mut made, mut place) = (Object::NONE, 0);
-                // Safety, besides: the first `count` arguments were written.
-                let status = unsafe {
-                    $send(self.at.as_ptr(), target, opcode, given.as_ptr().cast(), count,
-                        &mut made, &mut place)
-                };
-                match status {
-                    OK => Ok((made != Object::NONE).then_some(made)),
-                    _ => Err(send_error(status, place)),
-                }
-            }
-
-            #[inline]
-            pub fn next(&mut self, report: &mut Report) -> Result<(), NextError> {
-                let status = unsafe { $next(self.at.as_ptr(), report) };
-                report.result(status)
-            }
-        }
-    };
-}
-
-end!(
-    /// A client's end, freed when it is dropped.
-    Client: waywire_client_new waywire_client_free waywire_client_display waywire_client_live
-    waywire_client_set_user waywire_client_user waywire_client_object_count
-    waywire_client_object_after waywire_client_has_failed waywire_client_in_room
-    waywire_client_is_drained waywire_client_feed waywire_client_goes waywire_client_take
-    waywire_client_take_waiting_tokens waywire_client_send waywire_client_next
-);
-end!(
-    /// A server's end, freed when it is dropped.
-    Server: waywire_server_new waywire_server_free waywire_server_display waywire_server_live
-    waywire_server_set_user waywire_server_user waywire_server_object_count
-    waywire_server_object_after waywire_server_has_failed waywire_server_in_room
-    waywire_server_is_drained waywire_server_feed waywire_server_goes waywire_server_take
-    waywire_server_take_waiting_tokens waywire_server_send waywire_server_next
-);
-
-// Safety, for each call of these two: as for the calls that both ends have.
-impl Client {
-    pub fn made(&self) -> Option<Object> {
-        let mut made = Object::NONE;
-        unsafe { waywire_client_made(self.at.as_ptr(), &mut made) };
-        (made != Object::NONE).then_some(made)
-    }
-
-    pub fn bind(
-        &mut self,
-        registry: Object,
-        name: u32,
-        interface: &str,
-        version: u32,
-    ) -> Result<Object, SendError> {
-        // No interface has a NUL in its name.
-        let interface = CString::new(interface).map_err(|_| SendError::BadBind)?;
-        let mut bound = Object::NONE;
-        let status = unsafe {
-            waywire_client_bind(
-                self.at.as_ptr(),
-                registry,
-                name,
-                interface.as_ptr(),
-                version,
-                &mut bound,
-            )
-        };
-        sent(status).map(|()| bound)
-    }
-}
-
-impl Server {
-    pub fn add_global(&mut self, interface: u16, version: u32) -> Result<u32, GlobalError> {
-        let mut name = 0;
-        let status =
-            unsafe { waywire_server_add_global(self.at.as_ptr(), interface, version, &mut name) };
-        match status {
-            OK => Ok(name),
-            _ => Err(global_error(status)),
-        }
-    }
-
-    pub fn withdraw(&mut self, name: u32) -> Result<(), GlobalError> {
-        match unsafe { waywire_server_withdraw(self.at.as_ptr(), name) } {
-            OK => Ok(()),
-            status => Err(global_error(status)),
-        }
-    }
-
-    pub fn announce(&mut self) -> Result<usize, SendError> {
-        let mut count = 0;
-        let status = unsafe { waywire_server_announce(self.at.as_ptr(), &mut count) };
-        sent(status).map(|()| count)
-    }
-
-    pub fn drop_object(&mut self, object: Object) -> Result<(), SendError> {
-        sent(unsafe { waywire_server_drop_object(self.at.as_ptr(), object) })
-    }
-
-    pub fn post_error(&mut self, object: Object, code: u32, text: &str) -> Result<(), SendError> {
-        let text = text.split('\0').next().unwrap_or("");
-        let text = CString::new(text).unwrap_or_default();
-        sent(unsafe { waywire_server_post_error(self.at.as_ptr(), object, code, text.as_ptr()) })
-    }
-}
-
 #[cfg(test)]
 mod tests {
     use super::*;
+    use crate::amounts::{Amounts, Sizes};
     use std::mem::{offset_of, size_of};
     use std::process::Command;
 
@@ -888,8 +508,8 @@ mod tests {
                 replaced_user args;
         };
         wanted.extend(decoded::tests::layout());
+        wanted.extend(end::tests::layout());
         wanted.extend(tables::tests::layout());
-        wanted.extend(layout! { in_place::RawPart, "waywire_part": bytes length; });
         wanted.push(("sizeof(waywire_object)".into(), size_of::<Object>()));
         wanted.push(("sizeof(waywire_status)".into(), size_of::<u32>()));
         wanted.push(("sizeof(waywire_sender)".into(), size_of::<u32>()));

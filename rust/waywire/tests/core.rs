@@ -6,7 +6,7 @@ mod common;
 use common::{core_messages, repository, Core};
 use std::fs;
 use waywire::{
-    event, request, Amounts, Arg, ArgKind, Client, Decoded, Destroys, Failed, FaultKind, Fixed,
+    event, request, Arg, ArgKind, Client, Connection, Decoded, Destroys, Failed, FaultKind, Fixed,
     Incoming, NextError, Object, Replaced, SendError, Sender, Server, Sizes, Spelled, Tables,
     Value,
 };
@@ -19,8 +19,12 @@ struct Pair {
     registry: Object,
 }
 
-fn must_all(took: Result<Amounts, Failed>, wanted: Amounts) {
-    assert_eq!(took, Ok(wanted));
+/// Carries what waits at one end to the other, and returns its bytes.
+fn carry<A, B>(from: &mut Connection<A>, to: &mut Connection<B>) -> Vec<u8> {
+    let (mut bytes, mut tokens) = ([0; 4096], [0; 28]);
+    let taken = from.take(&mut bytes, &mut tokens);
+    assert_eq!(to.feed(&bytes[..taken.bytes], &tokens[..taken.tokens]), Ok(taken));
+    bytes[..taken.bytes].to_vec()
 }
 
 impl Pair {
@@ -36,17 +40,11 @@ impl Pair {
     }
 
     fn carry_to_server(&mut self) -> Vec<u8> {
-        let (mut bytes, mut tokens) = ([0; 4096], [0; 28]);
-        let took = self.client.take(&mut bytes, &mut tokens);
-        must_all(self.server.feed(&bytes[..took.bytes], &tokens[..took.tokens]), took);
-        bytes[..took.bytes].to_vec()
+        carry(&mut self.client, &mut self.server)
     }
 
     fn carry_to_client(&mut self) -> Vec<u8> {
-        let (mut bytes, mut tokens) = ([0; 4096], [0; 28]);
-        let took = self.server.take(&mut bytes, &mut tokens);
-        must_all(self.client.feed(&bytes[..took.bytes], &tokens[..took.tokens]), took);
-        bytes[..took.bytes].to_vec()
+        carry(&mut self.server, &mut self.client)
     }
 
     /// An object of an interface at its newest version, which both ends have.

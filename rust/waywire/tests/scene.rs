@@ -7,7 +7,7 @@ use common::{core_messages, repository, Core};
 use std::collections::{HashMap, HashSet};
 use std::{fmt::Write, fs};
 use waywire::{
-    Amounts, Arg, Args, Client, Fixed, Incoming, Inspector, Message, Named, NextError, Object,
+    Arg, Args, Client, Connection, Fixed, Incoming, Inspector, Message, Named, NextError, Object,
     Sender, Server, Sizes, Tables, Value,
 };
 
@@ -148,6 +148,22 @@ fn arguments(args: Args<'_>) -> String {
     text
 }
 
+/// Moves at most so many bytes from one end to the other, and no more than the reader has room for.
+/// Returns them and their tokens.
+fn moved<A, B>(
+    from: &mut Connection<A>,
+    to: &mut Connection<B>,
+    most: usize,
+) -> (Vec<u8>, Vec<u32>) {
+    let room = to.in_room();
+    let (mut bytes, mut tokens) = (vec![0; most.min(room.bytes)], vec![0; room.tokens]);
+    let taken = from.take(&mut bytes, &mut tokens);
+    bytes.truncate(taken.bytes);
+    tokens.truncate(taken.tokens);
+    assert_eq!(to.feed(&bytes, &tokens), Ok(taken));
+    (bytes, tokens)
+}
+
 fn stopped(why: NextError) -> String {
     match why {
         NextError::Failed => "failed".into(),
@@ -230,27 +246,18 @@ impl Player {
         self.names.learn(bound, interface)
     }
 
-    /// Carries so many bytes at most, as one piece, and no more than the reader has room for.
+    /// Carries so many bytes at most, as one piece.
     fn carry(&mut self, to_server: bool, most: usize) -> String {
-        let room = if to_server { self.server.in_room() } else { self.client.in_room() };
-        let (mut bytes, mut tokens) = (vec![0; most.min(room.bytes)], vec![0; room.tokens]);
-        let taken = if to_server {
-            self.client.take(&mut bytes, &mut tokens)
+        let (client, server) = (&mut self.client, &mut self.server);
+        let (sign, sender, (bytes, tokens)) = if to_server {
+            ('>', Sender::Client, moved(client, server, most))
         } else {
-            self.server.take(&mut bytes, &mut tokens)
+            ('<', Sender::Server, moved(server, client, most))
         };
-        let (bytes, tokens) = (&bytes[..taken.bytes], &tokens[..taken.tokens]);
-        let (sign, sender, fed) = if to_server {
-            ('>', Sender::Client, self.server.feed(bytes, tokens))
-        } else {
-            ('<', Sender::Server, self.client.feed(bytes, tokens))
-        };
-        assert_eq!(fed, Ok(taken));
-        self.inspector.pass(sender, bytes, tokens.len()).unwrap();
+        self.inspector.pass(sender, &bytes, tokens.len()).unwrap();
         let count = if tokens.is_empty() { String::new() } else { format!(" +{}", tokens.len()) };
-        self.pieces.push(format!("{sign} {}{count}", hex(bytes)));
-        let Amounts { bytes, tokens } = taken;
-        format!("{bytes} bytes, {tokens} tokens")
+        self.pieces.push(format!("{sign} {}{count}", hex(&bytes)));
+        format!("{} bytes, {} tokens", bytes.len(), tokens.len())
     }
 
     fn server_reads(&mut self) -> String {

@@ -4,7 +4,7 @@
 use waywire::wayland::{
     wl_compositor, wl_display, wl_output, wl_registry, wl_seat, wl_shm, wl_surface,
 };
-use waywire::{Amounts, Client, Handle, Incoming, Object, Server, Sizes, Tables};
+use waywire::{Amounts, Client, Connection, Handle, Incoming, Object, Server, Sizes, Tables};
 
 /// All that handlers were called with.
 #[derive(Default)]
@@ -67,20 +67,18 @@ fn copy(from: [&[u8]; 2], to: [&mut [u8]; 2]) -> usize {
 }
 
 /// Passes all that waits at one end to the other.
-macro_rules! carry {
-    ($from:expr, $to:expr) => {
-        loop {
-            let waiting = $from.peek();
-            if waiting.is_empty() {
-                break;
-            }
-            let tokens = waiting.tokens().to_vec();
-            let count = copy(waiting.parts, $to.space());
-            let amounts = Amounts { bytes: count, tokens: tokens.len() };
-            assert_eq!($to.received(count, &tokens), Ok(amounts));
-            assert_eq!($from.sent(count), amounts);
+fn carry<A, B>(from: &mut Connection<A>, to: &mut Connection<B>) {
+    loop {
+        let waiting = from.peek();
+        if waiting.is_empty() {
+            return;
         }
-    };
+        let tokens = waiting.tokens().to_vec();
+        let count = copy(waiting.parts, to.space());
+        let amounts = Amounts { bytes: count, tokens: tokens.len() };
+        assert_eq!(to.received(count, &tokens), Ok(amounts));
+        assert_eq!(from.sent(count), amounts);
+    }
 }
 
 impl Pair {
@@ -93,7 +91,7 @@ impl Pair {
             server.add_global(place, tables.version(place).unwrap()).unwrap();
         }
         let registry = wl_display::WlDisplay(client.display()).get_registry(&mut client).unwrap();
-        carry!(client, server);
+        carry(&mut client, &mut server);
         assert!(server.next().unwrap().is_some());
         server.announce().unwrap();
         Pair { tables, client, server, registry }
@@ -102,7 +100,7 @@ impl Pair {
     /// The events that came, as the handler of registries and surfaces saw them.
     fn events(&mut self) -> Vec<String> {
         let mut seen = Seen::default();
-        carry!(self.server, self.client);
+        carry(&mut self.server, &mut self.client);
         while let Some(incoming) = self.client.next().unwrap() {
             let Incoming::Event(event) = incoming else { continue };
             assert!(
@@ -117,7 +115,7 @@ impl Pair {
         let version = T::VERSION;
         let bound: T = self.registry.bind(&mut self.client, name, version).unwrap();
         let mut seen = Seen::default();
-        carry!(self.client, self.server);
+        carry(&mut self.client, &mut self.server);
         let message = self.server.next().unwrap().unwrap();
         assert!(wl_registry::dispatch_request(&mut seen, &self.tables, &message));
         assert_eq!(seen.0, [format!("bind {name} {} {version} {:?}", T::NAME, bound.object())]);
@@ -143,7 +141,7 @@ fn an_event_may_name_an_object_that_is_gone() {
     let compositor: wl_compositor::WlCompositor = pair.bind(1);
     let output: wl_output::WlOutput = pair.bind(2);
     let surface = compositor.create_surface(&mut pair.client).unwrap();
-    carry!(pair.client, pair.server);
+    carry(&mut pair.client, &mut pair.server);
     assert!(pair.server.next().unwrap().is_some());
     surface.send_enter(&mut pair.server, output).unwrap();
     output.release(&mut pair.client).unwrap();
@@ -157,7 +155,7 @@ fn a_message_of_another_interface_is_not_dispatched() {
     assert_eq!(pair.events().len(), 1);
     let shm: wl_shm::WlShm = pair.bind(1);
     shm.create_pool(&mut pair.client, 7, 4096).unwrap();
-    carry!(pair.client, pair.server);
+    carry(&mut pair.client, &mut pair.server);
     let message = pair.server.next().unwrap().unwrap().into_owned();
     assert_eq!(message.opcode, wl_shm::request::CREATE_POOL);
     let mut seen = Seen::default();

@@ -14,62 +14,34 @@ use std::os::unix::net::UnixStream;
 use std::path::PathBuf;
 use std::time::Duration;
 use waywire::wayland::wl_display::WlDisplay;
-use waywire::{Amounts, Client, Event, Failed, Incoming, Server};
+use waywire::{AsClient, Connection, Event, Incoming};
 
 pub type Failure = Box<dyn std::error::Error>;
 
-/// What a link asks of its end.
-pub trait End {
-    fn take(&mut self, bytes: &mut [u8], tokens: &mut [u32]) -> Amounts;
-    fn feed(&mut self, bytes: &[u8], tokens: &[u32]) -> Result<Amounts, Failed>;
-    fn in_room(&self) -> Amounts;
-}
-
-macro_rules! end {
-    ($type:ty) => {
-        impl End for $type {
-            fn take(&mut self, bytes: &mut [u8], tokens: &mut [u32]) -> Amounts {
-                <$type>::take(self, bytes, tokens)
-            }
-
-            fn feed(&mut self, bytes: &[u8], tokens: &[u32]) -> Result<Amounts, Failed> {
-                <$type>::feed(self, bytes, tokens)
-            }
-
-            fn in_room(&self) -> Amounts {
-                <$type>::in_room(self)
-            }
-        }
-    };
-}
-
-end!(Client);
-end!(Server);
-
-/// An end and its socket. A token is the number of a descriptor that the link owns.
-pub struct Link<E> {
-    pub end: E,
+/// A client or a server, and its socket. A token is the number of a descriptor that the link owns.
+pub struct Link<R> {
+    pub end: Connection<R>,
     socket: UnixStream,
     descriptors: HashMap<RawFd, OwnedFd>,
 }
 
 /// A link is used as its end is.
-impl<E> Deref for Link<E> {
-    type Target = E;
+impl<R> Deref for Link<R> {
+    type Target = Connection<R>;
 
-    fn deref(&self) -> &E {
+    fn deref(&self) -> &Connection<R> {
         &self.end
     }
 }
 
-impl<E> DerefMut for Link<E> {
-    fn deref_mut(&mut self) -> &mut E {
+impl<R> DerefMut for Link<R> {
+    fn deref_mut(&mut self) -> &mut Connection<R> {
         &mut self.end
     }
 }
 
-impl<E: End> Link<E> {
-    pub fn new(end: E, socket: UnixStream) -> Link<E> {
+impl<R> Link<R> {
+    pub fn new(end: Connection<R>, socket: UnixStream) -> Link<R> {
         Link { end, socket, descriptors: HashMap::new() }
     }
 
@@ -145,7 +117,7 @@ impl<E: End> Link<E> {
     }
 }
 
-impl Link<Client> {
+impl Link<AsClient> {
     /// Goes round until the compositor has read all that was written. What comes meanwhile is given
     /// to a dispatch.
     pub fn round_trip(&mut self, mut dispatch: impl FnMut(&Event)) -> Result<(), Failure> {

@@ -22,11 +22,8 @@ extern "C" {
         length: usize,
         token_count: usize,
     ) -> u32;
-    fn waywire_inspector_lines(
-        inspector: *const RawInspector,
-        lines: *mut *const c_char,
-        length: *mut usize,
-    ) -> u32;
+    fn waywire_inspector_lines(inspector: *const RawInspector, length: *mut usize)
+        -> *const c_char;
     fn waywire_inspector_verdict(
         inspector: *mut RawInspector,
         line: *mut *const c_char,
@@ -70,8 +67,8 @@ impl Inspector {
     }
 
     pub fn lines(&self) -> &[u8] {
-        let (mut lines, mut length) = (ptr::null(), 0);
-        unsafe { waywire_inspector_lines(self.0.as_ptr(), &mut lines, &mut length) };
+        let mut length = 0;
+        let lines = unsafe { waywire_inspector_lines(self.0.as_ptr(), &mut length) };
         // Safety: they are lent until the next `pass` or `verdict`, which take the inspector by a
         // `&mut`, and this borrows it.
         unsafe { lent(lines.cast(), length) }

@@ -1,0 +1,240 @@
+//! One end of a connection, and the calls that a client and a server both have.
+
+use crate::amounts::Amounts;
+use crate::args::Arg;
+use crate::error::{Failed, SendError};
+use crate::sys;
+use crate::tables::{Interface, Object};
+use std::marker::PhantomData;
+
+/// One end of a connection: its objects, its inbox and its outbox. The role `R` says which end it
+/// is: [`Client`](crate::Client) is `Connection<AsClient>`, [`Server`](crate::Server) is
+/// `Connection<AsServer>`.
+///
+/// The calls of `Connection<R>` are those that both ends have. A function that needs only these
+/// takes either end:
+///
+/// ```
+/// use waywire::wayland::wl_display::WlDisplay;
+/// use waywire::{Client, Connection, Failed, Server, Sizes, Tables};
+///
+/// /// Passes what waits at one end to the other.
+/// fn pass<A, B>(from: &mut Connection<A>, to: &mut Connection<B>) -> Result<(), Failed> {
+///     let (mut bytes, mut tokens) = ([0; 4096], [0; 28]);
+///     let taken = from.take(&mut bytes, &mut tokens);
+///     let fed = to.feed(&bytes[..taken.bytes], &tokens[..taken.tokens])?;
+///     assert_eq!(fed, taken);
+///     Ok(())
+/// }
+///
+/// # fn main() -> Result<(), Box<dyn std::error::Error>> {
+/// let tables = Tables::core()?;
+/// let mut client = Client::new(&tables, &Sizes::default())?;
+/// let mut server = Server::new(&tables, &Sizes::default())?;
+/// let callback = WlDisplay(client.display()).sync(&mut client)?;
+/// pass(&mut client, &mut server)?;
+/// assert!(server.next()?.is_some());
+/// callback.send_done(&mut server, 7)?;
+/// pass(&mut server, &mut client)?;
+/// assert!(client.next()?.is_some());
+/// # Ok(())
+/// # }
+/// ```
+///
+/// A call that the other end alone has does not compile:
+///
+/// ```compile_fail,E0599
+/// # use waywire::{Server, Sizes, Tables};
+/// # let tables = Tables::core().unwrap();
+/// # let mut server = Server::new(&tables, &Sizes::default()).unwrap();
+/// # let registry = server.display();
+/// server.bind(registry, 1, "wl_seat", 9);
+/// ```
+#[derive(Debug)]
+pub struct Connection<R> {
+    pub(crate) end: sys::End,
+    pub(crate) report: Box<sys::Report>,
+    role: PhantomData<R>,
+}
+
+/// The role of a [`Client`](crate::Client). It has no values, and only appears in types.
+#[derive(Debug)]
+pub enum AsClient {}
+
+/// The role of a [`Server`](crate::Server). It has no values, and only appears in types.
+#[derive(Debug)]
+pub enum AsServer {}
+
+impl<R> Connection<R> {
+    /// A new connection, by an end that was made for the role `R`.
+    pub(crate) fn of(end: sys::End) -> Connection<R> {
+        Connection { end, report: Box::new(sys::Report::nothing()), role: PhantomData }
+    }
+
+    /// wl_display, which every connection has.
+    pub fn display(&self) -> Object {
+        self.end.display()
+    }
+
+    /// The interface and version of an object that is live, also at a failed end.
+    #[inline]
+    pub fn live(&self, object: Object) -> Option<(Interface, u32)> {
+        self.end.live(object)
+    }
+
+    /// How many objects the end has: wl_display, those that are live, and at a client those that it
+    /// destroyed and that have not ended yet. [`Incoming::Deleted`](crate::Incoming::Deleted) ends
+    /// one that the client made; one that the server made ends when its id is used again.
+    pub fn object_count(&self) -> usize {
+        self.end.object_count()
+    }
+
+    /// Sets a number of the caller's own for an object that is live, such as its place in a list; 0
+    /// is none. Each message to the object has it ([`Message::user`](crate::Message::user)).
+    ///
+    /// At a client, drop what it stands for at [`Incoming::Deleted`](crate::Incoming::Deleted).
+    /// That does not come for an object that the server made: drop it when you destroy the object,
+    /// and when another replaces it ([`Client::replaced`](crate::Client::replaced)).
+    pub fn set_user(&mut self, object: Object, user: usize) -> Result<(), SendError> {
+        self.end.set_user(object, user)
+    }
+
+    /// The number that was set for an object, also once it has ended, as long as none was set for a
+    /// later object with its id; else 0.
+    pub fn user(&self, object: Object) -> usize {
+        self.end.user(object)
+    }
+
+    /// The objects that [`object_count`](Connection::object_count) counts, by their ids.
+    pub fn objects(&self) -> impl Iterator<Item = Object> + '_ {
+        let first = self.end.object_after(0);
+        std::iter::successors(first, |last| self.end.object_after(last.id()))
+    }
+
+    /// Whether the end has failed. It fails for good when `next` reads a message at fault, and by
+    /// [`take_waiting_tokens`](Connection::take_waiting_tokens). A client also fails when it reads
+    /// wl_display.error, and a server by [`Server::post_error`](crate::Server::post_error). What
+    /// waits in the outbox can still be taken; a server's wl_display.error is the last of it.
+    pub fn has_failed(&self) -> bool {
+        self.end.has_failed()
+    }
+
+    /// The free bytes and tokens of the inbox; zeros at a failed end.
+    pub fn in_room(&self) -> Amounts {
+        self.end.in_room()
+    }
+
+    /// Whether nothing waits in the inbox or the outbox.
+    pub fn is_drained(&self) -> bool {
+        self.end.is_drained()
+    }
+
+    /// Writes a message, and returns the object that it makes, if it makes one. A client writes
+    /// requests, a server events.
+    ///
+    /// At a client, an object that the request destroys is dead afterwards. Events for it may still
+    /// come ([`Incoming::Discarded`](crate::Incoming::Discarded)), until
+    /// [`Incoming::Deleted`](crate::Incoming::Deleted) ends it. That does not come for an object
+    /// that the server made, which is dead until an event makes one with its id. wl_registry.bind
+    /// is [`SendError::NoSuchMessage`]: [`Client::bind`](crate::Client::bind) writes it.
+    ///
+    /// At a server, an event that destroys its object is followed by its delete_id: both are
+    /// written, or nothing. The events of wl_display and wl_registry are
+    /// [`SendError::NoSuchMessage`]: other calls write them.
+    #[inline]
+    pub fn send(
+        &mut self,
+        target: Object,
+        opcode: u16,
+        args: &[Arg<'_>],
+    ) -> Result<Option<Object>, SendError> {
+        self.end.send(target, opcode, args)
+    }
+
+    /// Moves what came into the inbox: as many tokens as fit, and if these are all, as many bytes
+    /// as fit. Feed the rest again later. An end that has failed takes nothing, which is an error.
+    #[inline]
+    pub fn feed(&mut self, bytes: &[u8], tokens: &[u32]) -> Result<Amounts, Failed> {
+        self.end.feed(bytes, tokens)
+    }
+
+    /// How much [`take`](Connection::take) into slices of these lengths would take.
+    #[inline]
+    pub fn goes(&self, bytes: usize, tokens: usize) -> Amounts {
+        self.end.goes(bytes, tokens)
+    }
+
+    /// Moves what waits to be sent into the slices, as much as they hold, also at a failed end. The
+    /// tokens of a message go with its first byte: pass their descriptors on with these bytes.
+    #[inline]
+    pub fn take(&mut self, bytes: &mut [u8], tokens: &mut [u32]) -> Amounts {
+        self.end.take(bytes, tokens)
+    }
+
+    /// What can go at one time, for `sendmsg`, also at a failed end. Nothing is taken out: after
+    /// `n` bytes went call [`sent`](Connection::sent) with `n`, and after none do not call it.
+    ///
+    /// It borrows the end for itself, since the parts are valid until the end's next call.
+    pub fn peek(&mut self) -> Waiting<'_> {
+        let (parts, tokens) = self.end.peek();
+        Waiting { parts, tokens }
+    }
+
+    /// Takes so many bytes out of the outbox, or all that wait where they are fewer, with the
+    /// tokens of the messages that begin in them, as [`take`](Connection::take) does.
+    pub fn sent(&mut self, bytes: usize) -> Amounts {
+        self.end.sent(bytes)
+    }
+
+    /// Where the free bytes of the inbox lie, for `recvmsg`: the first part is to be filled first.
+    /// The second may be empty, and at a failed end both are. What is written there comes in by
+    /// [`received`](Connection::received).
+    pub fn space(&mut self) -> [&mut [u8]; 2] {
+        self.end.space()
+    }
+
+    /// Takes in tokens, and so many of the bytes that were written where
+    /// [`space`](Connection::space) said, as [`feed`](Connection::feed) does. An end that has
+    /// failed takes nothing, which is an error.
+    ///
+    /// If not all tokens fit, no byte is taken in, and what was written stays there: read messages
+    /// until the other tokens fit, and then call this with these and the same number of bytes. Once
+    /// bytes were taken in, what was written behind them is lost: call `space` again.
+    pub fn received(&mut self, bytes: usize, tokens: &[u32]) -> Result<Amounts, Failed> {
+        self.end.received(bytes, tokens)
+    }
+
+    /// Gives the end up, and moves the tokens that wait in it into the slice, so that their
+    /// descriptors can be closed. Returns their number: repeat it until that is 0, with room for at
+    /// least 20 tokens, the most that a message has.
+    ///
+    /// First come those that were fed and not reported, then those that were to be sent, all of a
+    /// message at once. The end has failed afterwards, and what waited to be sent is dropped with
+    /// its tokens: take first what is still to be sent. After the first of these calls, discard
+    /// what [`take`](Connection::take) returns: the stream has a gap already.
+    pub fn take_waiting_tokens(&mut self, tokens: &mut [u32]) -> usize {
+        self.end.take_waiting_tokens(tokens)
+    }
+}
+
+/// What waits at an end and can go at one time.
+#[derive(Clone, Debug)]
+pub struct Waiting<'a> {
+    /// The bytes, in the order in which they go. The second part may be empty.
+    pub parts: [&'a [u8]; 2],
+    tokens: sys::Tokens,
+}
+
+impl Waiting<'_> {
+    /// The tokens whose descriptors go with the first byte. No message that has tokens begins
+    /// behind that, so all have gone however few bytes went.
+    pub fn tokens(&self) -> &[u32] {
+        let (tokens, count) = &self.tokens;
+        &tokens[..*count]
+    }
+
+    /// Whether nothing waits.
+    pub fn is_empty(&self) -> bool {
+        self.parts[0].is_empty()
+    }
+}
