@@ -10,6 +10,274 @@
 extern "C" {
 #endif
 
+/* Objects of each interface. Two headers may name the same. */
+
+#ifndef WAYWIRE_WL_DISPLAY_IS_KNOWN
+#define WAYWIRE_WL_DISPLAY_IS_KNOWN
+typedef struct waywire_wl_display {
+	waywire_object object;
+} waywire_wl_display;
+
+static inline waywire_wl_display waywire_wl_display_of(waywire_object object)
+{
+	waywire_wl_display it;
+	it.object = object;
+	return it;
+}
+#endif
+
+#ifndef WAYWIRE_WL_REGISTRY_IS_KNOWN
+#define WAYWIRE_WL_REGISTRY_IS_KNOWN
+typedef struct waywire_wl_registry {
+	waywire_object object;
+} waywire_wl_registry;
+
+static inline waywire_wl_registry waywire_wl_registry_of(waywire_object object)
+{
+	waywire_wl_registry it;
+	it.object = object;
+	return it;
+}
+#endif
+
+#ifndef WAYWIRE_WL_CALLBACK_IS_KNOWN
+#define WAYWIRE_WL_CALLBACK_IS_KNOWN
+typedef struct waywire_wl_callback {
+	waywire_object object;
+} waywire_wl_callback;
+
+static inline waywire_wl_callback waywire_wl_callback_of(waywire_object object)
+{
+	waywire_wl_callback it;
+	it.object = object;
+	return it;
+}
+#endif
+
+#ifndef WAYWIRE_WL_COMPOSITOR_IS_KNOWN
+#define WAYWIRE_WL_COMPOSITOR_IS_KNOWN
+typedef struct waywire_wl_compositor {
+	waywire_object object;
+} waywire_wl_compositor;
+
+static inline waywire_wl_compositor waywire_wl_compositor_of(waywire_object object)
+{
+	waywire_wl_compositor it;
+	it.object = object;
+	return it;
+}
+#endif
+
+#ifndef WAYWIRE_WL_SHM_IS_KNOWN
+#define WAYWIRE_WL_SHM_IS_KNOWN
+typedef struct waywire_wl_shm {
+	waywire_object object;
+} waywire_wl_shm;
+
+static inline waywire_wl_shm waywire_wl_shm_of(waywire_object object)
+{
+	waywire_wl_shm it;
+	it.object = object;
+	return it;
+}
+#endif
+
+#ifndef WAYWIRE_WL_SHM_POOL_IS_KNOWN
+#define WAYWIRE_WL_SHM_POOL_IS_KNOWN
+typedef struct waywire_wl_shm_pool {
+	waywire_object object;
+} waywire_wl_shm_pool;
+
+static inline waywire_wl_shm_pool waywire_wl_shm_pool_of(waywire_object object)
+{
+	waywire_wl_shm_pool it;
+	it.object = object;
+	return it;
+}
+#endif
+
+#ifndef WAYWIRE_WL_BUFFER_IS_KNOWN
+#define WAYWIRE_WL_BUFFER_IS_KNOWN
+typedef struct waywire_wl_buffer {
+	waywire_object object;
+} waywire_wl_buffer;
+
+static inline waywire_wl_buffer waywire_wl_buffer_of(waywire_object object)
+{
+	waywire_wl_buffer it;
+	it.object = object;
+	return it;
+}
+#endif
+
+#ifndef WAYWIRE_WL_SURFACE_IS_KNOWN
+#define WAYWIRE_WL_SURFACE_IS_KNOWN
+typedef struct waywire_wl_surface {
+	waywire_object object;
+} waywire_wl_surface;
+
+static inline waywire_wl_surface waywire_wl_surface_of(waywire_object object)
+{
+	waywire_wl_surface it;
+	it.object = object;
+	return it;
+}
+#endif
+
+#ifndef WAYWIRE_WL_REGION_IS_KNOWN
+#define WAYWIRE_WL_REGION_IS_KNOWN
+typedef struct waywire_wl_region {
+	waywire_object object;
+} waywire_wl_region;
+
+static inline waywire_wl_region waywire_wl_region_of(waywire_object object)
+{
+	waywire_wl_region it;
+	it.object = object;
+	return it;
+}
+#endif
+
+#ifndef WAYWIRE_WL_SEAT_IS_KNOWN
+#define WAYWIRE_WL_SEAT_IS_KNOWN
+typedef struct waywire_wl_seat {
+	waywire_object object;
+} waywire_wl_seat;
+
+static inline waywire_wl_seat waywire_wl_seat_of(waywire_object object)
+{
+	waywire_wl_seat it;
+	it.object = object;
+	return it;
+}
+#endif
+
+#ifndef WAYWIRE_WL_POINTER_IS_KNOWN
+#define WAYWIRE_WL_POINTER_IS_KNOWN
+typedef struct waywire_wl_pointer {
+	waywire_object object;
+} waywire_wl_pointer;
+
+static inline waywire_wl_pointer waywire_wl_pointer_of(waywire_object object)
+{
+	waywire_wl_pointer it;
+	it.object = object;
+	return it;
+}
+#endif
+
+#ifndef WAYWIRE_WL_KEYBOARD_IS_KNOWN
+#define WAYWIRE_WL_KEYBOARD_IS_KNOWN
+typedef struct waywire_wl_keyboard {
+	waywire_object object;
+} waywire_wl_keyboard;
+
+static inline waywire_wl_keyboard waywire_wl_keyboard_of(waywire_object object)
+{
+	waywire_wl_keyboard it;
+	it.object = object;
+	return it;
+}
+#endif
+
+#ifndef WAYWIRE_WL_TOUCH_IS_KNOWN
+#define WAYWIRE_WL_TOUCH_IS_KNOWN
+typedef struct waywire_wl_touch {
+	waywire_object object;
+} waywire_wl_touch;
+
+static inline waywire_wl_touch waywire_wl_touch_of(waywire_object object)
+{
+	waywire_wl_touch it;
+	it.object = object;
+	return it;
+}
+#endif
+
+#ifndef WAYWIRE_WL_OUTPUT_IS_KNOWN
+#define WAYWIRE_WL_OUTPUT_IS_KNOWN
+typedef struct waywire_wl_output {
+	waywire_object object;
+} waywire_wl_output;
+
+static inline waywire_wl_output waywire_wl_output_of(waywire_object object)
+{
+	waywire_wl_output it;
+	it.object = object;
+	return it;
+}
+#endif
+
+#ifndef WAYWIRE_WL_SUBCOMPOSITOR_IS_KNOWN
+#define WAYWIRE_WL_SUBCOMPOSITOR_IS_KNOWN
+typedef struct waywire_wl_subcompositor {
+	waywire_object object;
+} waywire_wl_subcompositor;
+
+static inline waywire_wl_subcompositor waywire_wl_subcompositor_of(waywire_object object)
+{
+	waywire_wl_subcompositor it;
+	it.object = object;
+	return it;
+}
+#endif
+
+#ifndef WAYWIRE_WL_SUBSURFACE_IS_KNOWN
+#define WAYWIRE_WL_SUBSURFACE_IS_KNOWN
+typedef struct waywire_wl_subsurface {
+	waywire_object object;
+} waywire_wl_subsurface;
+
+static inline waywire_wl_subsurface waywire_wl_subsurface_of(waywire_object object)
+{
+	waywire_wl_subsurface it;
+	it.object = object;
+	return it;
+}
+#endif
+
+#ifndef WAYWIRE_WL_SHELL_IS_KNOWN
+#define WAYWIRE_WL_SHELL_IS_KNOWN
+typedef struct waywire_wl_shell {
+	waywire_object object;
+} waywire_wl_shell;
+
+static inline waywire_wl_shell waywire_wl_shell_of(waywire_object object)
+{
+	waywire_wl_shell it;
+	it.object = object;
+	return it;
+}
+#endif
+
+#ifndef WAYWIRE_WL_SHELL_SURFACE_IS_KNOWN
+#define WAYWIRE_WL_SHELL_SURFACE_IS_KNOWN
+typedef struct waywire_wl_shell_surface {
+	waywire_object object;
+} waywire_wl_shell_surface;
+
+static inline waywire_wl_shell_surface waywire_wl_shell_surface_of(waywire_object object)
+{
+	waywire_wl_shell_surface it;
+	it.object = object;
+	return it;
+}
+#endif
+
+#ifndef WAYWIRE_WL_FIXES_IS_KNOWN
+#define WAYWIRE_WL_FIXES_IS_KNOWN
+typedef struct waywire_wl_fixes {
+	waywire_object object;
+} waywire_wl_fixes;
+
+static inline waywire_wl_fixes waywire_wl_fixes_of(waywire_object object)
+{
+	waywire_wl_fixes it;
+	it.object = object;
+	return it;
+}
+#endif
+
 /* ---- wl_display */
 
 /* the connection itself, object 1 */
@@ -33,47 +301,38 @@ enum waywire_wl_display_error {
 };
 
 /* asks for an answer once all requests before it are done */
-static inline waywire_object waywire_wl_display_sync(waywire_client client,
-	waywire_object wl_display, waywire_status *status)
+static inline waywire_status waywire_wl_display_sync(waywire_client client,
+	waywire_wl_display wl_display, waywire_wl_callback *made)
 {
 	waywire_arg args[1];
-	waywire_object made = { 0, 0 };
-	waywire_status done;
 	args[0] = waywire_new();
-	done = waywire_end_send(client.end, wl_display, WAYWIRE_WL_DISPLAY_REQUEST_SYNC, args, 1,
-		&made, NULL);
-	if (status)
-		*status = done;
-	return made;
+	return waywire_end_send(client.end, wl_display.object, WAYWIRE_WL_DISPLAY_REQUEST_SYNC,
+		args, 1, made ? &made->object : NULL, NULL);
 }
 
 /* makes a registry, which tells the globals */
-static inline waywire_object waywire_wl_display_get_registry(waywire_client client,
-	waywire_object wl_display, waywire_status *status)
+static inline waywire_status waywire_wl_display_get_registry(waywire_client client,
+	waywire_wl_display wl_display, waywire_wl_registry *made)
 {
 	waywire_arg args[1];
-	waywire_object made = { 0, 0 };
-	waywire_status done;
 	args[0] = waywire_new();
-	done = waywire_end_send(client.end, wl_display, WAYWIRE_WL_DISPLAY_REQUEST_GET_REGISTRY,
-		args, 1, &made, NULL);
-	if (status)
-		*status = done;
-	return made;
+	return waywire_end_send(client.end, wl_display.object,
+		WAYWIRE_WL_DISPLAY_REQUEST_GET_REGISTRY, args, 1, made ? &made->object : NULL,
+		NULL);
 }
 
 struct waywire_wl_display_events {
 	/* a fatal error, after which the connection ends */
-	void (*error)(void *data, waywire_object wl_display, waywire_object object_id,
+	void (*error)(void *data, waywire_wl_display wl_display, waywire_object object_id,
 		uint32_t code, const char *message);
 	/* the server is done with an object, and its id is free again */
-	void (*delete_id)(void *data, waywire_object wl_display, uint32_t id);
+	void (*delete_id)(void *data, waywire_wl_display wl_display, uint32_t id);
 };
 
 static inline bool waywire_wl_display_dispatch_event(const struct waywire_wl_display_events *calls,
 	void *data, const waywire_report *report)
 {
-	const waywire_object display = { 0, 1 };
+	const waywire_wl_display display = { { 0, 1 } };
 	if (report->kind == WAYWIRE_ERROR && calls->error)
 		calls->error(data, display, report->target, report->code, report->text);
 	else if (report->kind == WAYWIRE_DELETED && calls->delete_id)
@@ -94,9 +353,10 @@ static inline bool waywire_wl_display_event_dispatcher(const void *calls, void *
 
 struct waywire_wl_display_requests {
 	/* asks for an answer once all requests before it are done */
-	void (*sync)(void *data, waywire_object wl_display, waywire_object callback);
+	void (*sync)(void *data, waywire_wl_display wl_display, waywire_wl_callback callback);
 	/* makes a registry, which tells the globals */
-	void (*get_registry)(void *data, waywire_object wl_display, waywire_object registry);
+	void (*get_registry)(void *data, waywire_wl_display wl_display,
+		waywire_wl_registry registry);
 };
 
 static inline bool waywire_wl_display_dispatch_request(
@@ -109,12 +369,14 @@ static inline bool waywire_wl_display_dispatch_request(
 	case WAYWIRE_WL_DISPLAY_REQUEST_SYNC:
 		if (!calls->sync)
 			return false;
-		calls->sync(data, report->target, args[0].object);
+		calls->sync(data, waywire_wl_display_of(report->target),
+			waywire_wl_callback_of(args[0].object));
 		return true;
 	case WAYWIRE_WL_DISPLAY_REQUEST_GET_REGISTRY:
 		if (!calls->get_registry)
 			return false;
-		calls->get_registry(data, report->target, args[0].object);
+		calls->get_registry(data, waywire_wl_display_of(report->target),
+			waywire_wl_registry_of(args[0].object));
 		return true;
 	default:
 		return false;
@@ -142,24 +404,19 @@ static inline bool waywire_wl_display_request_dispatcher(const void *calls, void
 #define WAYWIRE_WL_REGISTRY_EVENT_GLOBAL_REMOVE_SINCE 1
 
 /* makes an object of a global */
-static inline waywire_object waywire_wl_registry_bind(waywire_client client,
-	waywire_object wl_registry, uint32_t name, const char *interface, uint32_t version,
-	waywire_status *status)
+static inline waywire_status waywire_wl_registry_bind(waywire_client client,
+	waywire_wl_registry wl_registry, uint32_t name, const char *interface, uint32_t version,
+	waywire_object *made)
 {
-	waywire_object made = { 0, 0 };
-	waywire_status done = waywire_client_bind(client, wl_registry, name, interface, version,
-		&made);
-	if (status)
-		*status = done;
-	return made;
+	return waywire_client_bind(client, wl_registry.object, name, interface, version, made);
 }
 
 struct waywire_wl_registry_events {
 	/* a global is there */
-	void (*global)(void *data, waywire_object wl_registry, uint32_t name, const char *interface,
-		uint32_t version);
+	void (*global)(void *data, waywire_wl_registry wl_registry, uint32_t name,
+		const char *interface, uint32_t version);
 	/* a global is gone */
-	void (*global_remove)(void *data, waywire_object wl_registry, uint32_t name);
+	void (*global_remove)(void *data, waywire_wl_registry wl_registry, uint32_t name);
 };
 
 static inline bool waywire_wl_registry_dispatch_event(
@@ -172,13 +429,13 @@ static inline bool waywire_wl_registry_dispatch_event(
 	case WAYWIRE_WL_REGISTRY_EVENT_GLOBAL:
 		if (!calls->global)
 			return false;
-		calls->global(data, report->target, args[0].u, (const char *)args[1].bytes,
-			args[2].u);
+		calls->global(data, waywire_wl_registry_of(report->target), args[0].u,
+			(const char *)args[1].bytes, args[2].u);
 		return true;
 	case WAYWIRE_WL_REGISTRY_EVENT_GLOBAL_REMOVE:
 		if (!calls->global_remove)
 			return false;
-		calls->global_remove(data, report->target, args[0].u);
+		calls->global_remove(data, waywire_wl_registry_of(report->target), args[0].u);
 		return true;
 	default:
 		return false;
@@ -194,8 +451,8 @@ static inline bool waywire_wl_registry_event_dispatcher(const void *calls, void 
 
 struct waywire_wl_registry_requests {
 	/* makes an object of a global */
-	void (*bind)(void *data, waywire_object wl_registry, uint32_t name, const char *interface,
-		uint32_t version, waywire_object id);
+	void (*bind)(void *data, waywire_wl_registry wl_registry, uint32_t name,
+		const char *interface, uint32_t version, waywire_object id);
 };
 
 static inline bool waywire_wl_registry_dispatch_request(
@@ -208,8 +465,8 @@ static inline bool waywire_wl_registry_dispatch_request(
 	case WAYWIRE_WL_REGISTRY_REQUEST_BIND:
 		if (!calls->bind)
 			return false;
-		calls->bind(data, report->target, args[0].u, (const char *)args[1].bytes, args[1].u,
-			args[1].object);
+		calls->bind(data, waywire_wl_registry_of(report->target), args[0].u,
+			(const char *)args[1].bytes, args[1].u, args[1].object);
 		return true;
 	default:
 		return false;
@@ -234,17 +491,17 @@ static inline bool waywire_wl_registry_request_dispatcher(const void *calls, voi
 
 /* what was waited for is done; the object ends with it */
 static inline waywire_status waywire_wl_callback_send_done(waywire_server server,
-	waywire_object wl_callback, uint32_t callback_data)
+	waywire_wl_callback wl_callback, uint32_t callback_data)
 {
 	waywire_arg args[1];
 	args[0] = waywire_uint(callback_data);
-	return waywire_end_send(server.end, wl_callback, WAYWIRE_WL_CALLBACK_EVENT_DONE, args, 1,
-		NULL, NULL);
+	return waywire_end_send(server.end, wl_callback.object, WAYWIRE_WL_CALLBACK_EVENT_DONE,
+		args, 1, NULL, NULL);
 }
 
 struct waywire_wl_callback_events {
 	/* what was waited for is done; the object ends with it */
-	void (*done)(void *data, waywire_object wl_callback, uint32_t callback_data);
+	void (*done)(void *data, waywire_wl_callback wl_callback, uint32_t callback_data);
 };
 
 static inline bool waywire_wl_callback_dispatch_event(
@@ -257,7 +514,7 @@ static inline bool waywire_wl_callback_dispatch_event(
 	case WAYWIRE_WL_CALLBACK_EVENT_DONE:
 		if (!calls->done)
 			return false;
-		calls->done(data, report->target, args[0].u);
+		calls->done(data, waywire_wl_callback_of(report->target), args[0].u);
 		return true;
 	default:
 		return false;
@@ -283,40 +540,41 @@ static inline bool waywire_wl_callback_event_dispatcher(const void *calls, void 
 #define WAYWIRE_WL_COMPOSITOR_REQUEST_CREATE_REGION_SINCE 1
 
 /* makes a surface */
-static inline waywire_object waywire_wl_compositor_create_surface(waywire_client client,
-	waywire_object wl_compositor, waywire_status *status)
+static inline waywire_status waywire_wl_compositor_create_surface(waywire_client client,
+	waywire_wl_compositor wl_compositor, waywire_wl_surface *made)
 {
 	waywire_arg args[1];
-	waywire_object made = { 0, 0 };
-	waywire_status done;
 	args[0] = waywire_new();
-	done = waywire_end_send(client.end, wl_compositor,
-		WAYWIRE_WL_COMPOSITOR_REQUEST_CREATE_SURFACE, args, 1, &made, NULL);
-	if (status)
-		*status = done;
-	return made;
+	return waywire_end_send(client.end, wl_compositor.object,
+		WAYWIRE_WL_COMPOSITOR_REQUEST_CREATE_SURFACE, args, 1, made ? &made->object : NULL,
+		NULL);
 }
 
 /* makes a region */
-static inline waywire_object waywire_wl_compositor_create_region(waywire_client client,
-	waywire_object wl_compositor, waywire_status *status)
+static inline waywire_status waywire_wl_compositor_create_region(waywire_client client,
+	waywire_wl_compositor wl_compositor, waywire_wl_region *made)
 {
 	waywire_arg args[1];
-	waywire_object made = { 0, 0 };
-	waywire_status done;
 	args[0] = waywire_new();
-	done = waywire_end_send(client.end, wl_compositor,
-		WAYWIRE_WL_COMPOSITOR_REQUEST_CREATE_REGION, args, 1, &made, NULL);
-	if (status)
-		*status = done;
-	return made;
+	return waywire_end_send(client.end, wl_compositor.object,
+		WAYWIRE_WL_COMPOSITOR_REQUEST_CREATE_REGION, args, 1, made ? &made->object : NULL,
+		NULL);
+}
+
+static inline waywire_status waywire_wl_compositor_bind(waywire_client client,
+	waywire_wl_registry registry, uint32_t name, uint32_t version, waywire_wl_compositor *made)
+{
+	return waywire_client_bind(client, registry.object, name, WAYWIRE_WL_COMPOSITOR_NAME,
+		version, made ? &made->object : NULL);
 }
 
 struct waywire_wl_compositor_requests {
 	/* makes a surface */
-	void (*create_surface)(void *data, waywire_object wl_compositor, waywire_object id);
+	void (*create_surface)(void *data, waywire_wl_compositor wl_compositor,
+		waywire_wl_surface id);
 	/* makes a region */
-	void (*create_region)(void *data, waywire_object wl_compositor, waywire_object id);
+	void (*create_region)(void *data, waywire_wl_compositor wl_compositor,
+		waywire_wl_region id);
 };
 
 static inline bool waywire_wl_compositor_dispatch_request(
@@ -330,12 +588,14 @@ static inline bool waywire_wl_compositor_dispatch_request(
 	case WAYWIRE_WL_COMPOSITOR_REQUEST_CREATE_SURFACE:
 		if (!calls->create_surface)
 			return false;
-		calls->create_surface(data, report->target, args[0].object);
+		calls->create_surface(data, waywire_wl_compositor_of(report->target),
+			waywire_wl_surface_of(args[0].object));
 		return true;
 	case WAYWIRE_WL_COMPOSITOR_REQUEST_CREATE_REGION:
 		if (!calls->create_region)
 			return false;
-		calls->create_region(data, report->target, args[0].object);
+		calls->create_region(data, waywire_wl_compositor_of(report->target),
+			waywire_wl_region_of(args[0].object));
 		return true;
 	default:
 		return false;
@@ -480,42 +740,44 @@ enum waywire_wl_shm_format {
 };
 
 /* makes a pool of the memory behind a descriptor */
-static inline waywire_object waywire_wl_shm_create_pool(waywire_client client,
-	waywire_object wl_shm, int fd, int32_t size, waywire_status *status)
+static inline waywire_status waywire_wl_shm_create_pool(waywire_client client,
+	waywire_wl_shm wl_shm, int fd, int32_t size, waywire_wl_shm_pool *made)
 {
 	waywire_arg args[3];
-	waywire_object made = { 0, 0 };
-	waywire_status done;
 	args[0] = waywire_new();
 	args[1] = waywire_fd((uint32_t)fd);
 	args[2] = waywire_int(size);
-	done = waywire_end_send(client.end, wl_shm, WAYWIRE_WL_SHM_REQUEST_CREATE_POOL, args, 3,
-		&made, NULL);
-	if (status)
-		*status = done;
-	return made;
+	return waywire_end_send(client.end, wl_shm.object, WAYWIRE_WL_SHM_REQUEST_CREATE_POOL, args,
+		3, made ? &made->object : NULL, NULL);
 }
 
 /* the client is done with the object */
-static inline waywire_status waywire_wl_shm_release(waywire_client client, waywire_object wl_shm)
+static inline waywire_status waywire_wl_shm_release(waywire_client client, waywire_wl_shm wl_shm)
 {
-	return waywire_end_send(client.end, wl_shm, WAYWIRE_WL_SHM_REQUEST_RELEASE, NULL, 0, NULL,
-		NULL);
+	return waywire_end_send(client.end, wl_shm.object, WAYWIRE_WL_SHM_REQUEST_RELEASE, NULL, 0,
+		NULL, NULL);
+}
+
+static inline waywire_status waywire_wl_shm_bind(waywire_client client,
+	waywire_wl_registry registry, uint32_t name, uint32_t version, waywire_wl_shm *made)
+{
+	return waywire_client_bind(client, registry.object, name, WAYWIRE_WL_SHM_NAME, version,
+		made ? &made->object : NULL);
 }
 
 /* a pixel format that buffers may have */
 static inline waywire_status waywire_wl_shm_send_format(waywire_server server,
-	waywire_object wl_shm, uint32_t format)
+	waywire_wl_shm wl_shm, uint32_t format)
 {
 	waywire_arg args[1];
 	args[0] = waywire_uint(format);
-	return waywire_end_send(server.end, wl_shm, WAYWIRE_WL_SHM_EVENT_FORMAT, args, 1, NULL,
-		NULL);
+	return waywire_end_send(server.end, wl_shm.object, WAYWIRE_WL_SHM_EVENT_FORMAT, args, 1,
+		NULL, NULL);
 }
 
 struct waywire_wl_shm_events {
 	/* a pixel format that buffers may have */
-	void (*format)(void *data, waywire_object wl_shm, uint32_t format);
+	void (*format)(void *data, waywire_wl_shm wl_shm, uint32_t format);
 };
 
 static inline bool waywire_wl_shm_dispatch_event(const struct waywire_wl_shm_events *calls,
@@ -528,7 +790,7 @@ static inline bool waywire_wl_shm_dispatch_event(const struct waywire_wl_shm_eve
 	case WAYWIRE_WL_SHM_EVENT_FORMAT:
 		if (!calls->format)
 			return false;
-		calls->format(data, report->target, args[0].u);
+		calls->format(data, waywire_wl_shm_of(report->target), args[0].u);
 		return true;
 	default:
 		return false;
@@ -544,10 +806,10 @@ static inline bool waywire_wl_shm_event_dispatcher(const void *calls, void *data
 
 struct waywire_wl_shm_requests {
 	/* makes a pool of the memory behind a descriptor */
-	void (*create_pool)(void *data, waywire_object wl_shm, waywire_object id, int fd,
+	void (*create_pool)(void *data, waywire_wl_shm wl_shm, waywire_wl_shm_pool id, int fd,
 		int32_t size);
 	/* the client is done with the object */
-	void (*release)(void *data, waywire_object wl_shm);
+	void (*release)(void *data, waywire_wl_shm wl_shm);
 };
 
 static inline bool waywire_wl_shm_dispatch_request(const struct waywire_wl_shm_requests *calls,
@@ -560,12 +822,13 @@ static inline bool waywire_wl_shm_dispatch_request(const struct waywire_wl_shm_r
 	case WAYWIRE_WL_SHM_REQUEST_CREATE_POOL:
 		if (!calls->create_pool)
 			return false;
-		calls->create_pool(data, report->target, args[0].object, (int)args[1].u, args[2].i);
+		calls->create_pool(data, waywire_wl_shm_of(report->target),
+			waywire_wl_shm_pool_of(args[0].object), (int)args[1].u, args[2].i);
 		return true;
 	case WAYWIRE_WL_SHM_REQUEST_RELEASE:
 		if (!calls->release)
 			return false;
-		calls->release(data, report->target);
+		calls->release(data, waywire_wl_shm_of(report->target));
 		return true;
 	default:
 		return false;
@@ -593,52 +856,48 @@ static inline bool waywire_wl_shm_request_dispatcher(const void *calls, void *da
 #define WAYWIRE_WL_SHM_POOL_REQUEST_RESIZE_SINCE 1
 
 /* makes a buffer of a part of the pool */
-static inline waywire_object waywire_wl_shm_pool_create_buffer(waywire_client client,
-	waywire_object wl_shm_pool, int32_t offset, int32_t width, int32_t height, int32_t stride,
-	uint32_t format, waywire_status *status)
+static inline waywire_status waywire_wl_shm_pool_create_buffer(waywire_client client,
+	waywire_wl_shm_pool wl_shm_pool, int32_t offset, int32_t width, int32_t height,
+	int32_t stride, uint32_t format, waywire_wl_buffer *made)
 {
 	waywire_arg args[6];
-	waywire_object made = { 0, 0 };
-	waywire_status done;
 	args[0] = waywire_new();
 	args[1] = waywire_int(offset);
 	args[2] = waywire_int(width);
 	args[3] = waywire_int(height);
 	args[4] = waywire_int(stride);
 	args[5] = waywire_uint(format);
-	done = waywire_end_send(client.end, wl_shm_pool, WAYWIRE_WL_SHM_POOL_REQUEST_CREATE_BUFFER,
-		args, 6, &made, NULL);
-	if (status)
-		*status = done;
-	return made;
+	return waywire_end_send(client.end, wl_shm_pool.object,
+		WAYWIRE_WL_SHM_POOL_REQUEST_CREATE_BUFFER, args, 6, made ? &made->object : NULL,
+		NULL);
 }
 
 /* ends the pool; its buffers stay */
 static inline waywire_status waywire_wl_shm_pool_destroy(waywire_client client,
-	waywire_object wl_shm_pool)
+	waywire_wl_shm_pool wl_shm_pool)
 {
-	return waywire_end_send(client.end, wl_shm_pool, WAYWIRE_WL_SHM_POOL_REQUEST_DESTROY, NULL,
-		0, NULL, NULL);
+	return waywire_end_send(client.end, wl_shm_pool.object, WAYWIRE_WL_SHM_POOL_REQUEST_DESTROY,
+		NULL, 0, NULL, NULL);
 }
 
 /* makes the pool larger */
 static inline waywire_status waywire_wl_shm_pool_resize(waywire_client client,
-	waywire_object wl_shm_pool, int32_t size)
+	waywire_wl_shm_pool wl_shm_pool, int32_t size)
 {
 	waywire_arg args[1];
 	args[0] = waywire_int(size);
-	return waywire_end_send(client.end, wl_shm_pool, WAYWIRE_WL_SHM_POOL_REQUEST_RESIZE, args,
-		1, NULL, NULL);
+	return waywire_end_send(client.end, wl_shm_pool.object, WAYWIRE_WL_SHM_POOL_REQUEST_RESIZE,
+		args, 1, NULL, NULL);
 }
 
 struct waywire_wl_shm_pool_requests {
 	/* makes a buffer of a part of the pool */
-	void (*create_buffer)(void *data, waywire_object wl_shm_pool, waywire_object id,
+	void (*create_buffer)(void *data, waywire_wl_shm_pool wl_shm_pool, waywire_wl_buffer id,
 		int32_t offset, int32_t width, int32_t height, int32_t stride, uint32_t format);
 	/* ends the pool; its buffers stay */
-	void (*destroy)(void *data, waywire_object wl_shm_pool);
+	void (*destroy)(void *data, waywire_wl_shm_pool wl_shm_pool);
 	/* makes the pool larger */
-	void (*resize)(void *data, waywire_object wl_shm_pool, int32_t size);
+	void (*resize)(void *data, waywire_wl_shm_pool wl_shm_pool, int32_t size);
 };
 
 static inline bool waywire_wl_shm_pool_dispatch_request(
@@ -651,18 +910,19 @@ static inline bool waywire_wl_shm_pool_dispatch_request(
 	case WAYWIRE_WL_SHM_POOL_REQUEST_CREATE_BUFFER:
 		if (!calls->create_buffer)
 			return false;
-		calls->create_buffer(data, report->target, args[0].object, args[1].i, args[2].i,
-			args[3].i, args[4].i, args[5].u);
+		calls->create_buffer(data, waywire_wl_shm_pool_of(report->target),
+			waywire_wl_buffer_of(args[0].object), args[1].i, args[2].i, args[3].i,
+			args[4].i, args[5].u);
 		return true;
 	case WAYWIRE_WL_SHM_POOL_REQUEST_DESTROY:
 		if (!calls->destroy)
 			return false;
-		calls->destroy(data, report->target);
+		calls->destroy(data, waywire_wl_shm_pool_of(report->target));
 		return true;
 	case WAYWIRE_WL_SHM_POOL_REQUEST_RESIZE:
 		if (!calls->resize)
 			return false;
-		calls->resize(data, report->target, args[0].i);
+		calls->resize(data, waywire_wl_shm_pool_of(report->target), args[0].i);
 		return true;
 	default:
 		return false;
@@ -689,23 +949,23 @@ static inline bool waywire_wl_shm_pool_request_dispatcher(const void *calls, voi
 
 /* ends the buffer */
 static inline waywire_status waywire_wl_buffer_destroy(waywire_client client,
-	waywire_object wl_buffer)
+	waywire_wl_buffer wl_buffer)
 {
-	return waywire_end_send(client.end, wl_buffer, WAYWIRE_WL_BUFFER_REQUEST_DESTROY, NULL, 0,
-		NULL, NULL);
+	return waywire_end_send(client.end, wl_buffer.object, WAYWIRE_WL_BUFFER_REQUEST_DESTROY,
+		NULL, 0, NULL, NULL);
 }
 
 /* the server no longer reads the buffer */
 static inline waywire_status waywire_wl_buffer_send_release(waywire_server server,
-	waywire_object wl_buffer)
+	waywire_wl_buffer wl_buffer)
 {
-	return waywire_end_send(server.end, wl_buffer, WAYWIRE_WL_BUFFER_EVENT_RELEASE, NULL, 0,
-		NULL, NULL);
+	return waywire_end_send(server.end, wl_buffer.object, WAYWIRE_WL_BUFFER_EVENT_RELEASE, NULL,
+		0, NULL, NULL);
 }
 
 struct waywire_wl_buffer_events {
 	/* the server no longer reads the buffer */
-	void (*release)(void *data, waywire_object wl_buffer);
+	void (*release)(void *data, waywire_wl_buffer wl_buffer);
 };
 
 static inline bool waywire_wl_buffer_dispatch_event(const struct waywire_wl_buffer_events *calls,
@@ -717,7 +977,7 @@ static inline bool waywire_wl_buffer_dispatch_event(const struct waywire_wl_buff
 	case WAYWIRE_WL_BUFFER_EVENT_RELEASE:
 		if (!calls->release)
 			return false;
-		calls->release(data, report->target);
+		calls->release(data, waywire_wl_buffer_of(report->target));
 		return true;
 	default:
 		return false;
@@ -733,7 +993,7 @@ static inline bool waywire_wl_buffer_event_dispatcher(const void *calls, void *d
 
 struct waywire_wl_buffer_requests {
 	/* ends the buffer */
-	void (*destroy)(void *data, waywire_object wl_buffer);
+	void (*destroy)(void *data, waywire_wl_buffer wl_buffer);
 };
 
 static inline bool waywire_wl_buffer_dispatch_request(
@@ -745,7 +1005,7 @@ static inline bool waywire_wl_buffer_dispatch_request(
 	case WAYWIRE_WL_BUFFER_REQUEST_DESTROY:
 		if (!calls->destroy)
 			return false;
-		calls->destroy(data, report->target);
+		calls->destroy(data, waywire_wl_buffer_of(report->target));
 		return true;
 	default:
 		return false;
@@ -805,173 +1065,168 @@ enum waywire_wl_surface_error {
 
 /* ends the surface */
 static inline waywire_status waywire_wl_surface_destroy(waywire_client client,
-	waywire_object wl_surface)
+	waywire_wl_surface wl_surface)
 {
-	return waywire_end_send(client.end, wl_surface, WAYWIRE_WL_SURFACE_REQUEST_DESTROY, NULL, 0,
-		NULL, NULL);
+	return waywire_end_send(client.end, wl_surface.object, WAYWIRE_WL_SURFACE_REQUEST_DESTROY,
+		NULL, 0, NULL, NULL);
 }
 
 /* sets the buffer of the next commit */
 static inline waywire_status waywire_wl_surface_attach(waywire_client client,
-	waywire_object wl_surface, waywire_object buffer, int32_t x, int32_t y)
+	waywire_wl_surface wl_surface, waywire_wl_buffer buffer, int32_t x, int32_t y)
 {
 	waywire_arg args[3];
-	args[0] = buffer.id ? waywire_of(buffer) : waywire_no_object();
+	args[0] = buffer.object.id ? waywire_of(buffer.object) : waywire_no_object();
 	args[1] = waywire_int(x);
 	args[2] = waywire_int(y);
-	return waywire_end_send(client.end, wl_surface, WAYWIRE_WL_SURFACE_REQUEST_ATTACH, args, 3,
-		NULL, NULL);
+	return waywire_end_send(client.end, wl_surface.object, WAYWIRE_WL_SURFACE_REQUEST_ATTACH,
+		args, 3, NULL, NULL);
 }
 
 /* marks a part as changed, in surface coordinates */
 static inline waywire_status waywire_wl_surface_damage(waywire_client client,
-	waywire_object wl_surface, int32_t x, int32_t y, int32_t width, int32_t height)
+	waywire_wl_surface wl_surface, int32_t x, int32_t y, int32_t width, int32_t height)
 {
 	waywire_arg args[4];
 	args[0] = waywire_int(x);
 	args[1] = waywire_int(y);
 	args[2] = waywire_int(width);
 	args[3] = waywire_int(height);
-	return waywire_end_send(client.end, wl_surface, WAYWIRE_WL_SURFACE_REQUEST_DAMAGE, args, 4,
-		NULL, NULL);
+	return waywire_end_send(client.end, wl_surface.object, WAYWIRE_WL_SURFACE_REQUEST_DAMAGE,
+		args, 4, NULL, NULL);
 }
 
 /* asks to be told when to draw the next frame */
-static inline waywire_object waywire_wl_surface_frame(waywire_client client,
-	waywire_object wl_surface, waywire_status *status)
+static inline waywire_status waywire_wl_surface_frame(waywire_client client,
+	waywire_wl_surface wl_surface, waywire_wl_callback *made)
 {
 	waywire_arg args[1];
-	waywire_object made = { 0, 0 };
-	waywire_status done;
 	args[0] = waywire_new();
-	done = waywire_end_send(client.end, wl_surface, WAYWIRE_WL_SURFACE_REQUEST_FRAME, args, 1,
-		&made, NULL);
-	if (status)
-		*status = done;
-	return made;
+	return waywire_end_send(client.end, wl_surface.object, WAYWIRE_WL_SURFACE_REQUEST_FRAME,
+		args, 1, made ? &made->object : NULL, NULL);
 }
 
 /* says which part hides what is behind it */
 static inline waywire_status waywire_wl_surface_set_opaque_region(waywire_client client,
-	waywire_object wl_surface, waywire_object region)
+	waywire_wl_surface wl_surface, waywire_wl_region region)
 {
 	waywire_arg args[1];
-	args[0] = region.id ? waywire_of(region) : waywire_no_object();
-	return waywire_end_send(client.end, wl_surface,
+	args[0] = region.object.id ? waywire_of(region.object) : waywire_no_object();
+	return waywire_end_send(client.end, wl_surface.object,
 		WAYWIRE_WL_SURFACE_REQUEST_SET_OPAQUE_REGION, args, 1, NULL, NULL);
 }
 
 /* says which part takes input */
 static inline waywire_status waywire_wl_surface_set_input_region(waywire_client client,
-	waywire_object wl_surface, waywire_object region)
+	waywire_wl_surface wl_surface, waywire_wl_region region)
 {
 	waywire_arg args[1];
-	args[0] = region.id ? waywire_of(region) : waywire_no_object();
-	return waywire_end_send(client.end, wl_surface, WAYWIRE_WL_SURFACE_REQUEST_SET_INPUT_REGION,
-		args, 1, NULL, NULL);
+	args[0] = region.object.id ? waywire_of(region.object) : waywire_no_object();
+	return waywire_end_send(client.end, wl_surface.object,
+		WAYWIRE_WL_SURFACE_REQUEST_SET_INPUT_REGION, args, 1, NULL, NULL);
 }
 
 /* makes all that was set since the last commit take effect */
 static inline waywire_status waywire_wl_surface_commit(waywire_client client,
-	waywire_object wl_surface)
+	waywire_wl_surface wl_surface)
 {
-	return waywire_end_send(client.end, wl_surface, WAYWIRE_WL_SURFACE_REQUEST_COMMIT, NULL, 0,
-		NULL, NULL);
+	return waywire_end_send(client.end, wl_surface.object, WAYWIRE_WL_SURFACE_REQUEST_COMMIT,
+		NULL, 0, NULL, NULL);
 }
 
 /* says how the buffer is turned */
 static inline waywire_status waywire_wl_surface_set_buffer_transform(waywire_client client,
-	waywire_object wl_surface, int32_t transform)
+	waywire_wl_surface wl_surface, int32_t transform)
 {
 	waywire_arg args[1];
 	args[0] = waywire_int(transform);
-	return waywire_end_send(client.end, wl_surface,
+	return waywire_end_send(client.end, wl_surface.object,
 		WAYWIRE_WL_SURFACE_REQUEST_SET_BUFFER_TRANSFORM, args, 1, NULL, NULL);
 }
 
 /* says how many pixels of the buffer one unit has */
 static inline waywire_status waywire_wl_surface_set_buffer_scale(waywire_client client,
-	waywire_object wl_surface, int32_t scale)
+	waywire_wl_surface wl_surface, int32_t scale)
 {
 	waywire_arg args[1];
 	args[0] = waywire_int(scale);
-	return waywire_end_send(client.end, wl_surface, WAYWIRE_WL_SURFACE_REQUEST_SET_BUFFER_SCALE,
-		args, 1, NULL, NULL);
+	return waywire_end_send(client.end, wl_surface.object,
+		WAYWIRE_WL_SURFACE_REQUEST_SET_BUFFER_SCALE, args, 1, NULL, NULL);
 }
 
 /* marks a part as changed, in pixels of the buffer */
 static inline waywire_status waywire_wl_surface_damage_buffer(waywire_client client,
-	waywire_object wl_surface, int32_t x, int32_t y, int32_t width, int32_t height)
+	waywire_wl_surface wl_surface, int32_t x, int32_t y, int32_t width, int32_t height)
 {
 	waywire_arg args[4];
 	args[0] = waywire_int(x);
 	args[1] = waywire_int(y);
 	args[2] = waywire_int(width);
 	args[3] = waywire_int(height);
-	return waywire_end_send(client.end, wl_surface, WAYWIRE_WL_SURFACE_REQUEST_DAMAGE_BUFFER,
-		args, 4, NULL, NULL);
+	return waywire_end_send(client.end, wl_surface.object,
+		WAYWIRE_WL_SURFACE_REQUEST_DAMAGE_BUFFER, args, 4, NULL, NULL);
 }
 
 /* moves the content of the next commit */
 static inline waywire_status waywire_wl_surface_offset(waywire_client client,
-	waywire_object wl_surface, int32_t x, int32_t y)
+	waywire_wl_surface wl_surface, int32_t x, int32_t y)
 {
 	waywire_arg args[2];
 	args[0] = waywire_int(x);
 	args[1] = waywire_int(y);
-	return waywire_end_send(client.end, wl_surface, WAYWIRE_WL_SURFACE_REQUEST_OFFSET, args, 2,
-		NULL, NULL);
+	return waywire_end_send(client.end, wl_surface.object, WAYWIRE_WL_SURFACE_REQUEST_OFFSET,
+		args, 2, NULL, NULL);
 }
 
 /* the surface is shown on an output */
 static inline waywire_status waywire_wl_surface_send_enter(waywire_server server,
-	waywire_object wl_surface, waywire_object output)
+	waywire_wl_surface wl_surface, waywire_wl_output output)
 {
 	waywire_arg args[1];
-	args[0] = output.id ? waywire_of(output) : waywire_no_object();
-	return waywire_end_send(server.end, wl_surface, WAYWIRE_WL_SURFACE_EVENT_ENTER, args, 1,
-		NULL, NULL);
+	args[0] = output.object.id ? waywire_of(output.object) : waywire_no_object();
+	return waywire_end_send(server.end, wl_surface.object, WAYWIRE_WL_SURFACE_EVENT_ENTER, args,
+		1, NULL, NULL);
 }
 
 /* the surface is no longer shown on an output */
 static inline waywire_status waywire_wl_surface_send_leave(waywire_server server,
-	waywire_object wl_surface, waywire_object output)
+	waywire_wl_surface wl_surface, waywire_wl_output output)
 {
 	waywire_arg args[1];
-	args[0] = output.id ? waywire_of(output) : waywire_no_object();
-	return waywire_end_send(server.end, wl_surface, WAYWIRE_WL_SURFACE_EVENT_LEAVE, args, 1,
-		NULL, NULL);
+	args[0] = output.object.id ? waywire_of(output.object) : waywire_no_object();
+	return waywire_end_send(server.end, wl_surface.object, WAYWIRE_WL_SURFACE_EVENT_LEAVE, args,
+		1, NULL, NULL);
 }
 
 /* the scale that suits the surface */
 static inline waywire_status waywire_wl_surface_send_preferred_buffer_scale(waywire_server server,
-	waywire_object wl_surface, int32_t factor)
+	waywire_wl_surface wl_surface, int32_t factor)
 {
 	waywire_arg args[1];
 	args[0] = waywire_int(factor);
-	return waywire_end_send(server.end, wl_surface,
+	return waywire_end_send(server.end, wl_surface.object,
 		WAYWIRE_WL_SURFACE_EVENT_PREFERRED_BUFFER_SCALE, args, 1, NULL, NULL);
 }
 
 /* the transform that suits the surface */
 static inline waywire_status waywire_wl_surface_send_preferred_buffer_transform(
-	waywire_server server, waywire_object wl_surface, uint32_t transform)
+	waywire_server server, waywire_wl_surface wl_surface, uint32_t transform)
 {
 	waywire_arg args[1];
 	args[0] = waywire_uint(transform);
-	return waywire_end_send(server.end, wl_surface,
+	return waywire_end_send(server.end, wl_surface.object,
 		WAYWIRE_WL_SURFACE_EVENT_PREFERRED_BUFFER_TRANSFORM, args, 1, NULL, NULL);
 }
 
 struct waywire_wl_surface_events {
 	/* the surface is shown on an output */
-	void (*enter)(void *data, waywire_object wl_surface, waywire_object output);
+	void (*enter)(void *data, waywire_wl_surface wl_surface, waywire_wl_output output);
 	/* the surface is no longer shown on an output */
-	void (*leave)(void *data, waywire_object wl_surface, waywire_object output);
+	void (*leave)(void *data, waywire_wl_surface wl_surface, waywire_wl_output output);
 	/* the scale that suits the surface */
-	void (*preferred_buffer_scale)(void *data, waywire_object wl_surface, int32_t factor);
+	void (*preferred_buffer_scale)(void *data, waywire_wl_surface wl_surface, int32_t factor);
 	/* the transform that suits the surface */
-	void (*preferred_buffer_transform)(void *data, waywire_object wl_surface,
+	void (*preferred_buffer_transform)(void *data, waywire_wl_surface wl_surface,
 		uint32_t transform);
 };
 
@@ -985,22 +1240,26 @@ static inline bool waywire_wl_surface_dispatch_event(const struct waywire_wl_sur
 	case WAYWIRE_WL_SURFACE_EVENT_ENTER:
 		if (!calls->enter)
 			return false;
-		calls->enter(data, report->target, args[0].object);
+		calls->enter(data, waywire_wl_surface_of(report->target),
+			waywire_wl_output_of(args[0].object));
 		return true;
 	case WAYWIRE_WL_SURFACE_EVENT_LEAVE:
 		if (!calls->leave)
 			return false;
-		calls->leave(data, report->target, args[0].object);
+		calls->leave(data, waywire_wl_surface_of(report->target),
+			waywire_wl_output_of(args[0].object));
 		return true;
 	case WAYWIRE_WL_SURFACE_EVENT_PREFERRED_BUFFER_SCALE:
 		if (!calls->preferred_buffer_scale)
 			return false;
-		calls->preferred_buffer_scale(data, report->target, args[0].i);
+		calls->preferred_buffer_scale(data, waywire_wl_surface_of(report->target),
+			args[0].i);
 		return true;
 	case WAYWIRE_WL_SURFACE_EVENT_PREFERRED_BUFFER_TRANSFORM:
 		if (!calls->preferred_buffer_transform)
 			return false;
-		calls->preferred_buffer_transform(data, report->target, args[0].u);
+		calls->preferred_buffer_transform(data, waywire_wl_surface_of(report->target),
+			args[0].u);
 		return true;
 	default:
 		return false;
@@ -1016,30 +1275,32 @@ static inline bool waywire_wl_surface_event_dispatcher(const void *calls, void *
 
 struct waywire_wl_surface_requests {
 	/* ends the surface */
-	void (*destroy)(void *data, waywire_object wl_surface);
+	void (*destroy)(void *data, waywire_wl_surface wl_surface);
 	/* sets the buffer of the next commit */
-	void (*attach)(void *data, waywire_object wl_surface, waywire_object buffer, int32_t x,
-		int32_t y);
+	void (*attach)(void *data, waywire_wl_surface wl_surface, waywire_wl_buffer buffer,
+		int32_t x, int32_t y);
 	/* marks a part as changed, in surface coordinates */
-	void (*damage)(void *data, waywire_object wl_surface, int32_t x, int32_t y, int32_t width,
-		int32_t height);
+	void (*damage)(void *data, waywire_wl_surface wl_surface, int32_t x, int32_t y,
+		int32_t width, int32_t height);
 	/* asks to be told when to draw the next frame */
-	void (*frame)(void *data, waywire_object wl_surface, waywire_object callback);
+	void (*frame)(void *data, waywire_wl_surface wl_surface, waywire_wl_callback callback);
 	/* says which part hides what is behind it */
-	void (*set_opaque_region)(void *data, waywire_object wl_surface, waywire_object region);
+	void (*set_opaque_region)(void *data, waywire_wl_surface wl_surface,
+		waywire_wl_region region);
 	/* says which part takes input */
-	void (*set_input_region)(void *data, waywire_object wl_surface, waywire_object region);
+	void (*set_input_region)(void *data, waywire_wl_surface wl_surface,
+		waywire_wl_region region);
 	/* makes all that was set since the last commit take effect */
-	void (*commit)(void *data, waywire_object wl_surface);
+	void (*commit)(void *data, waywire_wl_surface wl_surface);
 	/* says how the buffer is turned */
-	void (*set_buffer_transform)(void *data, waywire_object wl_surface, int32_t transform);
+	void (*set_buffer_transform)(void *data, waywire_wl_surface wl_surface, int32_t transform);
 	/* says how many pixels of the buffer one unit has */
-	void (*set_buffer_scale)(void *data, waywire_object wl_surface, int32_t scale);
+	void (*set_buffer_scale)(void *data, waywire_wl_surface wl_surface, int32_t scale);
 	/* marks a part as changed, in pixels of the buffer */
-	void (*damage_buffer)(void *data, waywire_object wl_surface, int32_t x, int32_t y,
+	void (*damage_buffer)(void *data, waywire_wl_surface wl_surface, int32_t x, int32_t y,
 		int32_t width, int32_t height);
 	/* moves the content of the next commit */
-	void (*offset)(void *data, waywire_object wl_surface, int32_t x, int32_t y);
+	void (*offset)(void *data, waywire_wl_surface wl_surface, int32_t x, int32_t y);
 };
 
 static inline bool waywire_wl_surface_dispatch_request(
@@ -1052,58 +1313,63 @@ static inline bool waywire_wl_surface_dispatch_request(
 	case WAYWIRE_WL_SURFACE_REQUEST_DESTROY:
 		if (!calls->destroy)
 			return false;
-		calls->destroy(data, report->target);
+		calls->destroy(data, waywire_wl_surface_of(report->target));
 		return true;
 	case WAYWIRE_WL_SURFACE_REQUEST_ATTACH:
 		if (!calls->attach)
 			return false;
-		calls->attach(data, report->target, args[0].object, args[1].i, args[2].i);
+		calls->attach(data, waywire_wl_surface_of(report->target),
+			waywire_wl_buffer_of(args[0].object), args[1].i, args[2].i);
 		return true;
 	case WAYWIRE_WL_SURFACE_REQUEST_DAMAGE:
 		if (!calls->damage)
 			return false;
-		calls->damage(data, report->target, args[0].i, args[1].i, args[2].i, args[3].i);
+		calls->damage(data, waywire_wl_surface_of(report->target), args[0].i, args[1].i,
+			args[2].i, args[3].i);
 		return true;
 	case WAYWIRE_WL_SURFACE_REQUEST_FRAME:
 		if (!calls->frame)
 			return false;
-		calls->frame(data, report->target, args[0].object);
+		calls->frame(data, waywire_wl_surface_of(report->target),
+			waywire_wl_callback_of(args[0].object));
 		return true;
 	case WAYWIRE_WL_SURFACE_REQUEST_SET_OPAQUE_REGION:
 		if (!calls->set_opaque_region)
 			return false;
-		calls->set_opaque_region(data, report->target, args[0].object);
+		calls->set_opaque_region(data, waywire_wl_surface_of(report->target),
+			waywire_wl_region_of(args[0].object));
 		return true;
 	case WAYWIRE_WL_SURFACE_REQUEST_SET_INPUT_REGION:
 		if (!calls->set_input_region)
 			return false;
-		calls->set_input_region(data, report->target, args[0].object);
+		calls->set_input_region(data, waywire_wl_surface_of(report->target),
+			waywire_wl_region_of(args[0].object));
 		return true;
 	case WAYWIRE_WL_SURFACE_REQUEST_COMMIT:
 		if (!calls->commit)
 			return false;
-		calls->commit(data, report->target);
+		calls->commit(data, waywire_wl_surface_of(report->target));
 		return true;
 	case WAYWIRE_WL_SURFACE_REQUEST_SET_BUFFER_TRANSFORM:
 		if (!calls->set_buffer_transform)
 			return false;
-		calls->set_buffer_transform(data, report->target, args[0].i);
+		calls->set_buffer_transform(data, waywire_wl_surface_of(report->target), args[0].i);
 		return true;
 	case WAYWIRE_WL_SURFACE_REQUEST_SET_BUFFER_SCALE:
 		if (!calls->set_buffer_scale)
 			return false;
-		calls->set_buffer_scale(data, report->target, args[0].i);
+		calls->set_buffer_scale(data, waywire_wl_surface_of(report->target), args[0].i);
 		return true;
 	case WAYWIRE_WL_SURFACE_REQUEST_DAMAGE_BUFFER:
 		if (!calls->damage_buffer)
 			return false;
-		calls->damage_buffer(data, report->target, args[0].i, args[1].i, args[2].i,
-			args[3].i);
+		calls->damage_buffer(data, waywire_wl_surface_of(report->target), args[0].i,
+			args[1].i, args[2].i, args[3].i);
 		return true;
 	case WAYWIRE_WL_SURFACE_REQUEST_OFFSET:
 		if (!calls->offset)
 			return false;
-		calls->offset(data, report->target, args[0].i, args[1].i);
+		calls->offset(data, waywire_wl_surface_of(report->target), args[0].i, args[1].i);
 		return true;
 	default:
 		return false;
@@ -1132,47 +1398,47 @@ static inline bool waywire_wl_surface_request_dispatcher(const void *calls, void
 
 /* ends the region */
 static inline waywire_status waywire_wl_region_destroy(waywire_client client,
-	waywire_object wl_region)
+	waywire_wl_region wl_region)
 {
-	return waywire_end_send(client.end, wl_region, WAYWIRE_WL_REGION_REQUEST_DESTROY, NULL, 0,
-		NULL, NULL);
+	return waywire_end_send(client.end, wl_region.object, WAYWIRE_WL_REGION_REQUEST_DESTROY,
+		NULL, 0, NULL, NULL);
 }
 
 /* adds a rectangle */
-static inline waywire_status waywire_wl_region_add(waywire_client client, waywire_object wl_region,
-	int32_t x, int32_t y, int32_t width, int32_t height)
+static inline waywire_status waywire_wl_region_add(waywire_client client,
+	waywire_wl_region wl_region, int32_t x, int32_t y, int32_t width, int32_t height)
 {
 	waywire_arg args[4];
 	args[0] = waywire_int(x);
 	args[1] = waywire_int(y);
 	args[2] = waywire_int(width);
 	args[3] = waywire_int(height);
-	return waywire_end_send(client.end, wl_region, WAYWIRE_WL_REGION_REQUEST_ADD, args, 4, NULL,
-		NULL);
+	return waywire_end_send(client.end, wl_region.object, WAYWIRE_WL_REGION_REQUEST_ADD, args,
+		4, NULL, NULL);
 }
 
 /* takes a rectangle away */
 static inline waywire_status waywire_wl_region_subtract(waywire_client client,
-	waywire_object wl_region, int32_t x, int32_t y, int32_t width, int32_t height)
+	waywire_wl_region wl_region, int32_t x, int32_t y, int32_t width, int32_t height)
 {
 	waywire_arg args[4];
 	args[0] = waywire_int(x);
 	args[1] = waywire_int(y);
 	args[2] = waywire_int(width);
 	args[3] = waywire_int(height);
-	return waywire_end_send(client.end, wl_region, WAYWIRE_WL_REGION_REQUEST_SUBTRACT, args, 4,
-		NULL, NULL);
+	return waywire_end_send(client.end, wl_region.object, WAYWIRE_WL_REGION_REQUEST_SUBTRACT,
+		args, 4, NULL, NULL);
 }
 
 struct waywire_wl_region_requests {
 	/* ends the region */
-	void (*destroy)(void *data, waywire_object wl_region);
+	void (*destroy)(void *data, waywire_wl_region wl_region);
 	/* adds a rectangle */
-	void (*add)(void *data, waywire_object wl_region, int32_t x, int32_t y, int32_t width,
+	void (*add)(void *data, waywire_wl_region wl_region, int32_t x, int32_t y, int32_t width,
 		int32_t height);
 	/* takes a rectangle away */
-	void (*subtract)(void *data, waywire_object wl_region, int32_t x, int32_t y, int32_t width,
-		int32_t height);
+	void (*subtract)(void *data, waywire_wl_region wl_region, int32_t x, int32_t y,
+		int32_t width, int32_t height);
 };
 
 static inline bool waywire_wl_region_dispatch_request(
@@ -1185,17 +1451,19 @@ static inline bool waywire_wl_region_dispatch_request(
 	case WAYWIRE_WL_REGION_REQUEST_DESTROY:
 		if (!calls->destroy)
 			return false;
-		calls->destroy(data, report->target);
+		calls->destroy(data, waywire_wl_region_of(report->target));
 		return true;
 	case WAYWIRE_WL_REGION_REQUEST_ADD:
 		if (!calls->add)
 			return false;
-		calls->add(data, report->target, args[0].i, args[1].i, args[2].i, args[3].i);
+		calls->add(data, waywire_wl_region_of(report->target), args[0].i, args[1].i,
+			args[2].i, args[3].i);
 		return true;
 	case WAYWIRE_WL_REGION_REQUEST_SUBTRACT:
 		if (!calls->subtract)
 			return false;
-		calls->subtract(data, report->target, args[0].i, args[1].i, args[2].i, args[3].i);
+		calls->subtract(data, waywire_wl_region_of(report->target), args[0].i, args[1].i,
+			args[2].i, args[3].i);
 		return true;
 	default:
 		return false;
@@ -1239,82 +1507,74 @@ enum waywire_wl_seat_error {
 };
 
 /* makes the pointer */
-static inline waywire_object waywire_wl_seat_get_pointer(waywire_client client,
-	waywire_object wl_seat, waywire_status *status)
+static inline waywire_status waywire_wl_seat_get_pointer(waywire_client client,
+	waywire_wl_seat wl_seat, waywire_wl_pointer *made)
 {
 	waywire_arg args[1];
-	waywire_object made = { 0, 0 };
-	waywire_status done;
 	args[0] = waywire_new();
-	done = waywire_end_send(client.end, wl_seat, WAYWIRE_WL_SEAT_REQUEST_GET_POINTER, args, 1,
-		&made, NULL);
-	if (status)
-		*status = done;
-	return made;
+	return waywire_end_send(client.end, wl_seat.object, WAYWIRE_WL_SEAT_REQUEST_GET_POINTER,
+		args, 1, made ? &made->object : NULL, NULL);
 }
 
 /* makes the keyboard */
-static inline waywire_object waywire_wl_seat_get_keyboard(waywire_client client,
-	waywire_object wl_seat, waywire_status *status)
+static inline waywire_status waywire_wl_seat_get_keyboard(waywire_client client,
+	waywire_wl_seat wl_seat, waywire_wl_keyboard *made)
 {
 	waywire_arg args[1];
-	waywire_object made = { 0, 0 };
-	waywire_status done;
 	args[0] = waywire_new();
-	done = waywire_end_send(client.end, wl_seat, WAYWIRE_WL_SEAT_REQUEST_GET_KEYBOARD, args, 1,
-		&made, NULL);
-	if (status)
-		*status = done;
-	return made;
+	return waywire_end_send(client.end, wl_seat.object, WAYWIRE_WL_SEAT_REQUEST_GET_KEYBOARD,
+		args, 1, made ? &made->object : NULL, NULL);
 }
 
 /* makes the touch device */
-static inline waywire_object waywire_wl_seat_get_touch(waywire_client client,
-	waywire_object wl_seat, waywire_status *status)
+static inline waywire_status waywire_wl_seat_get_touch(waywire_client client,
+	waywire_wl_seat wl_seat, waywire_wl_touch *made)
 {
 	waywire_arg args[1];
-	waywire_object made = { 0, 0 };
-	waywire_status done;
 	args[0] = waywire_new();
-	done = waywire_end_send(client.end, wl_seat, WAYWIRE_WL_SEAT_REQUEST_GET_TOUCH, args, 1,
-		&made, NULL);
-	if (status)
-		*status = done;
-	return made;
+	return waywire_end_send(client.end, wl_seat.object, WAYWIRE_WL_SEAT_REQUEST_GET_TOUCH, args,
+		1, made ? &made->object : NULL, NULL);
 }
 
 /* the client is done with the object */
-static inline waywire_status waywire_wl_seat_release(waywire_client client, waywire_object wl_seat)
+static inline waywire_status waywire_wl_seat_release(waywire_client client, waywire_wl_seat wl_seat)
 {
-	return waywire_end_send(client.end, wl_seat, WAYWIRE_WL_SEAT_REQUEST_RELEASE, NULL, 0, NULL,
-		NULL);
+	return waywire_end_send(client.end, wl_seat.object, WAYWIRE_WL_SEAT_REQUEST_RELEASE, NULL,
+		0, NULL, NULL);
+}
+
+static inline waywire_status waywire_wl_seat_bind(waywire_client client,
+	waywire_wl_registry registry, uint32_t name, uint32_t version, waywire_wl_seat *made)
+{
+	return waywire_client_bind(client, registry.object, name, WAYWIRE_WL_SEAT_NAME, version,
+		made ? &made->object : NULL);
 }
 
 /* which devices there are now */
 static inline waywire_status waywire_wl_seat_send_capabilities(waywire_server server,
-	waywire_object wl_seat, uint32_t capabilities)
+	waywire_wl_seat wl_seat, uint32_t capabilities)
 {
 	waywire_arg args[1];
 	args[0] = waywire_uint(capabilities);
-	return waywire_end_send(server.end, wl_seat, WAYWIRE_WL_SEAT_EVENT_CAPABILITIES, args, 1,
-		NULL, NULL);
+	return waywire_end_send(server.end, wl_seat.object, WAYWIRE_WL_SEAT_EVENT_CAPABILITIES,
+		args, 1, NULL, NULL);
 }
 
 /* the name of the seat */
 static inline waywire_status waywire_wl_seat_send_name(waywire_server server,
-	waywire_object wl_seat, const char *name)
+	waywire_wl_seat wl_seat, const char *name)
 {
 	waywire_arg args[1];
 	args[0] = waywire_string(name);
-	return waywire_end_send(server.end, wl_seat, WAYWIRE_WL_SEAT_EVENT_NAME, args, 1, NULL,
-		NULL);
+	return waywire_end_send(server.end, wl_seat.object, WAYWIRE_WL_SEAT_EVENT_NAME, args, 1,
+		NULL, NULL);
 }
 
 struct waywire_wl_seat_events {
 	/* which devices there are now */
-	void (*capabilities)(void *data, waywire_object wl_seat, uint32_t capabilities);
+	void (*capabilities)(void *data, waywire_wl_seat wl_seat, uint32_t capabilities);
 	/* the name of the seat */
-	void (*name)(void *data, waywire_object wl_seat, const char *name);
+	void (*name)(void *data, waywire_wl_seat wl_seat, const char *name);
 };
 
 static inline bool waywire_wl_seat_dispatch_event(const struct waywire_wl_seat_events *calls,
@@ -1327,12 +1587,12 @@ static inline bool waywire_wl_seat_dispatch_event(const struct waywire_wl_seat_e
 	case WAYWIRE_WL_SEAT_EVENT_CAPABILITIES:
 		if (!calls->capabilities)
 			return false;
-		calls->capabilities(data, report->target, args[0].u);
+		calls->capabilities(data, waywire_wl_seat_of(report->target), args[0].u);
 		return true;
 	case WAYWIRE_WL_SEAT_EVENT_NAME:
 		if (!calls->name)
 			return false;
-		calls->name(data, report->target, (const char *)args[0].bytes);
+		calls->name(data, waywire_wl_seat_of(report->target), (const char *)args[0].bytes);
 		return true;
 	default:
 		return false;
@@ -1348,13 +1608,13 @@ static inline bool waywire_wl_seat_event_dispatcher(const void *calls, void *dat
 
 struct waywire_wl_seat_requests {
 	/* makes the pointer */
-	void (*get_pointer)(void *data, waywire_object wl_seat, waywire_object id);
+	void (*get_pointer)(void *data, waywire_wl_seat wl_seat, waywire_wl_pointer id);
 	/* makes the keyboard */
-	void (*get_keyboard)(void *data, waywire_object wl_seat, waywire_object id);
+	void (*get_keyboard)(void *data, waywire_wl_seat wl_seat, waywire_wl_keyboard id);
 	/* makes the touch device */
-	void (*get_touch)(void *data, waywire_object wl_seat, waywire_object id);
+	void (*get_touch)(void *data, waywire_wl_seat wl_seat, waywire_wl_touch id);
 	/* the client is done with the object */
-	void (*release)(void *data, waywire_object wl_seat);
+	void (*release)(void *data, waywire_wl_seat wl_seat);
 };
 
 static inline bool waywire_wl_seat_dispatch_request(const struct waywire_wl_seat_requests *calls,
@@ -1367,22 +1627,25 @@ static inline bool waywire_wl_seat_dispatch_request(const struct waywire_wl_seat
 	case WAYWIRE_WL_SEAT_REQUEST_GET_POINTER:
 		if (!calls->get_pointer)
 			return false;
-		calls->get_pointer(data, report->target, args[0].object);
+		calls->get_pointer(data, waywire_wl_seat_of(report->target),
+			waywire_wl_pointer_of(args[0].object));
 		return true;
 	case WAYWIRE_WL_SEAT_REQUEST_GET_KEYBOARD:
 		if (!calls->get_keyboard)
 			return false;
-		calls->get_keyboard(data, report->target, args[0].object);
+		calls->get_keyboard(data, waywire_wl_seat_of(report->target),
+			waywire_wl_keyboard_of(args[0].object));
 		return true;
 	case WAYWIRE_WL_SEAT_REQUEST_GET_TOUCH:
 		if (!calls->get_touch)
 			return false;
-		calls->get_touch(data, report->target, args[0].object);
+		calls->get_touch(data, waywire_wl_seat_of(report->target),
+			waywire_wl_touch_of(args[0].object));
 		return true;
 	case WAYWIRE_WL_SEAT_REQUEST_RELEASE:
 		if (!calls->release)
 			return false;
-		calls->release(data, report->target);
+		calls->release(data, waywire_wl_seat_of(report->target));
 		return true;
 	default:
 		return false;
@@ -1453,180 +1716,181 @@ enum waywire_wl_pointer_axis_source {
 
 /* sets the surface that shows the pointer */
 static inline waywire_status waywire_wl_pointer_set_cursor(waywire_client client,
-	waywire_object wl_pointer, uint32_t serial, waywire_object surface, int32_t hotspot_x,
-	int32_t hotspot_y)
+	waywire_wl_pointer wl_pointer, uint32_t serial, waywire_wl_surface surface,
+	int32_t hotspot_x, int32_t hotspot_y)
 {
 	waywire_arg args[4];
 	args[0] = waywire_uint(serial);
-	args[1] = surface.id ? waywire_of(surface) : waywire_no_object();
+	args[1] = surface.object.id ? waywire_of(surface.object) : waywire_no_object();
 	args[2] = waywire_int(hotspot_x);
 	args[3] = waywire_int(hotspot_y);
-	return waywire_end_send(client.end, wl_pointer, WAYWIRE_WL_POINTER_REQUEST_SET_CURSOR, args,
-		4, NULL, NULL);
+	return waywire_end_send(client.end, wl_pointer.object,
+		WAYWIRE_WL_POINTER_REQUEST_SET_CURSOR, args, 4, NULL, NULL);
 }
 
 /* the client is done with the object */
 static inline waywire_status waywire_wl_pointer_release(waywire_client client,
-	waywire_object wl_pointer)
+	waywire_wl_pointer wl_pointer)
 {
-	return waywire_end_send(client.end, wl_pointer, WAYWIRE_WL_POINTER_REQUEST_RELEASE, NULL, 0,
-		NULL, NULL);
+	return waywire_end_send(client.end, wl_pointer.object, WAYWIRE_WL_POINTER_REQUEST_RELEASE,
+		NULL, 0, NULL, NULL);
 }
 
 /* the pointer came onto a surface */
 static inline waywire_status waywire_wl_pointer_send_enter(waywire_server server,
-	waywire_object wl_pointer, uint32_t serial, waywire_object surface, int32_t surface_x,
-	int32_t surface_y)
+	waywire_wl_pointer wl_pointer, uint32_t serial, waywire_wl_surface surface,
+	int32_t surface_x, int32_t surface_y)
 {
 	waywire_arg args[4];
 	args[0] = waywire_uint(serial);
-	args[1] = surface.id ? waywire_of(surface) : waywire_no_object();
+	args[1] = surface.object.id ? waywire_of(surface.object) : waywire_no_object();
 	args[2] = waywire_fixed(surface_x);
 	args[3] = waywire_fixed(surface_y);
-	return waywire_end_send(server.end, wl_pointer, WAYWIRE_WL_POINTER_EVENT_ENTER, args, 4,
-		NULL, NULL);
+	return waywire_end_send(server.end, wl_pointer.object, WAYWIRE_WL_POINTER_EVENT_ENTER, args,
+		4, NULL, NULL);
 }
 
 /* the pointer left a surface */
 static inline waywire_status waywire_wl_pointer_send_leave(waywire_server server,
-	waywire_object wl_pointer, uint32_t serial, waywire_object surface)
+	waywire_wl_pointer wl_pointer, uint32_t serial, waywire_wl_surface surface)
 {
 	waywire_arg args[2];
 	args[0] = waywire_uint(serial);
-	args[1] = surface.id ? waywire_of(surface) : waywire_no_object();
-	return waywire_end_send(server.end, wl_pointer, WAYWIRE_WL_POINTER_EVENT_LEAVE, args, 2,
-		NULL, NULL);
+	args[1] = surface.object.id ? waywire_of(surface.object) : waywire_no_object();
+	return waywire_end_send(server.end, wl_pointer.object, WAYWIRE_WL_POINTER_EVENT_LEAVE, args,
+		2, NULL, NULL);
 }
 
 /* the pointer moved */
 static inline waywire_status waywire_wl_pointer_send_motion(waywire_server server,
-	waywire_object wl_pointer, uint32_t time, int32_t surface_x, int32_t surface_y)
+	waywire_wl_pointer wl_pointer, uint32_t time, int32_t surface_x, int32_t surface_y)
 {
 	waywire_arg args[3];
 	args[0] = waywire_uint(time);
 	args[1] = waywire_fixed(surface_x);
 	args[2] = waywire_fixed(surface_y);
-	return waywire_end_send(server.end, wl_pointer, WAYWIRE_WL_POINTER_EVENT_MOTION, args, 3,
-		NULL, NULL);
+	return waywire_end_send(server.end, wl_pointer.object, WAYWIRE_WL_POINTER_EVENT_MOTION,
+		args, 3, NULL, NULL);
 }
 
 /* a button went down or up */
 static inline waywire_status waywire_wl_pointer_send_button(waywire_server server,
-	waywire_object wl_pointer, uint32_t serial, uint32_t time, uint32_t button, uint32_t state)
+	waywire_wl_pointer wl_pointer, uint32_t serial, uint32_t time, uint32_t button,
+	uint32_t state)
 {
 	waywire_arg args[4];
 	args[0] = waywire_uint(serial);
 	args[1] = waywire_uint(time);
 	args[2] = waywire_uint(button);
 	args[3] = waywire_uint(state);
-	return waywire_end_send(server.end, wl_pointer, WAYWIRE_WL_POINTER_EVENT_BUTTON, args, 4,
-		NULL, NULL);
+	return waywire_end_send(server.end, wl_pointer.object, WAYWIRE_WL_POINTER_EVENT_BUTTON,
+		args, 4, NULL, NULL);
 }
 
 /* a scroll by a distance */
 static inline waywire_status waywire_wl_pointer_send_axis(waywire_server server,
-	waywire_object wl_pointer, uint32_t time, uint32_t axis, int32_t value)
+	waywire_wl_pointer wl_pointer, uint32_t time, uint32_t axis, int32_t value)
 {
 	waywire_arg args[3];
 	args[0] = waywire_uint(time);
 	args[1] = waywire_uint(axis);
 	args[2] = waywire_fixed(value);
-	return waywire_end_send(server.end, wl_pointer, WAYWIRE_WL_POINTER_EVENT_AXIS, args, 3,
-		NULL, NULL);
+	return waywire_end_send(server.end, wl_pointer.object, WAYWIRE_WL_POINTER_EVENT_AXIS, args,
+		3, NULL, NULL);
 }
 
 /* the end of events that belong together */
 static inline waywire_status waywire_wl_pointer_send_frame(waywire_server server,
-	waywire_object wl_pointer)
+	waywire_wl_pointer wl_pointer)
 {
-	return waywire_end_send(server.end, wl_pointer, WAYWIRE_WL_POINTER_EVENT_FRAME, NULL, 0,
-		NULL, NULL);
+	return waywire_end_send(server.end, wl_pointer.object, WAYWIRE_WL_POINTER_EVENT_FRAME, NULL,
+		0, NULL, NULL);
 }
 
 /* what the scroll comes from */
 static inline waywire_status waywire_wl_pointer_send_axis_source(waywire_server server,
-	waywire_object wl_pointer, uint32_t axis_source)
+	waywire_wl_pointer wl_pointer, uint32_t axis_source)
 {
 	waywire_arg args[1];
 	args[0] = waywire_uint(axis_source);
-	return waywire_end_send(server.end, wl_pointer, WAYWIRE_WL_POINTER_EVENT_AXIS_SOURCE, args,
-		1, NULL, NULL);
+	return waywire_end_send(server.end, wl_pointer.object, WAYWIRE_WL_POINTER_EVENT_AXIS_SOURCE,
+		args, 1, NULL, NULL);
 }
 
 /* the scroll ended */
 static inline waywire_status waywire_wl_pointer_send_axis_stop(waywire_server server,
-	waywire_object wl_pointer, uint32_t time, uint32_t axis)
+	waywire_wl_pointer wl_pointer, uint32_t time, uint32_t axis)
 {
 	waywire_arg args[2];
 	args[0] = waywire_uint(time);
 	args[1] = waywire_uint(axis);
-	return waywire_end_send(server.end, wl_pointer, WAYWIRE_WL_POINTER_EVENT_AXIS_STOP, args, 2,
-		NULL, NULL);
+	return waywire_end_send(server.end, wl_pointer.object, WAYWIRE_WL_POINTER_EVENT_AXIS_STOP,
+		args, 2, NULL, NULL);
 }
 
 /* a scroll by whole clicks of a wheel */
 static inline waywire_status waywire_wl_pointer_send_axis_discrete(waywire_server server,
-	waywire_object wl_pointer, uint32_t axis, int32_t discrete)
+	waywire_wl_pointer wl_pointer, uint32_t axis, int32_t discrete)
 {
 	waywire_arg args[2];
 	args[0] = waywire_uint(axis);
 	args[1] = waywire_int(discrete);
-	return waywire_end_send(server.end, wl_pointer, WAYWIRE_WL_POINTER_EVENT_AXIS_DISCRETE,
-		args, 2, NULL, NULL);
+	return waywire_end_send(server.end, wl_pointer.object,
+		WAYWIRE_WL_POINTER_EVENT_AXIS_DISCRETE, args, 2, NULL, NULL);
 }
 
 /* a scroll in 120ths of a click */
 static inline waywire_status waywire_wl_pointer_send_axis_value120(waywire_server server,
-	waywire_object wl_pointer, uint32_t axis, int32_t value120)
+	waywire_wl_pointer wl_pointer, uint32_t axis, int32_t value120)
 {
 	waywire_arg args[2];
 	args[0] = waywire_uint(axis);
 	args[1] = waywire_int(value120);
-	return waywire_end_send(server.end, wl_pointer, WAYWIRE_WL_POINTER_EVENT_AXIS_VALUE120,
-		args, 2, NULL, NULL);
+	return waywire_end_send(server.end, wl_pointer.object,
+		WAYWIRE_WL_POINTER_EVENT_AXIS_VALUE120, args, 2, NULL, NULL);
 }
 
 /* how the scroll relates to the finger's motion */
 static inline waywire_status waywire_wl_pointer_send_axis_relative_direction(waywire_server server,
-	waywire_object wl_pointer, uint32_t axis, uint32_t direction)
+	waywire_wl_pointer wl_pointer, uint32_t axis, uint32_t direction)
 {
 	waywire_arg args[2];
 	args[0] = waywire_uint(axis);
 	args[1] = waywire_uint(direction);
-	return waywire_end_send(server.end, wl_pointer,
+	return waywire_end_send(server.end, wl_pointer.object,
 		WAYWIRE_WL_POINTER_EVENT_AXIS_RELATIVE_DIRECTION, args, 2, NULL, NULL);
 }
 
 struct waywire_wl_pointer_events {
 	/* the pointer came onto a surface */
-	void (*enter)(void *data, waywire_object wl_pointer, uint32_t serial,
-		waywire_object surface, int32_t surface_x, int32_t surface_y);
+	void (*enter)(void *data, waywire_wl_pointer wl_pointer, uint32_t serial,
+		waywire_wl_surface surface, int32_t surface_x, int32_t surface_y);
 	/* the pointer left a surface */
-	void (*leave)(void *data, waywire_object wl_pointer, uint32_t serial,
-		waywire_object surface);
+	void (*leave)(void *data, waywire_wl_pointer wl_pointer, uint32_t serial,
+		waywire_wl_surface surface);
 	/* the pointer moved */
-	void (*motion)(void *data, waywire_object wl_pointer, uint32_t time, int32_t surface_x,
+	void (*motion)(void *data, waywire_wl_pointer wl_pointer, uint32_t time, int32_t surface_x,
 		int32_t surface_y);
 	/* a button went down or up */
-	void (*button)(void *data, waywire_object wl_pointer, uint32_t serial, uint32_t time,
+	void (*button)(void *data, waywire_wl_pointer wl_pointer, uint32_t serial, uint32_t time,
 		uint32_t button, uint32_t state);
 	/* a scroll by a distance */
-	void (*axis)(void *data, waywire_object wl_pointer, uint32_t time, uint32_t axis,
+	void (*axis)(void *data, waywire_wl_pointer wl_pointer, uint32_t time, uint32_t axis,
 		int32_t value);
 	/* the end of events that belong together */
-	void (*frame)(void *data, waywire_object wl_pointer);
+	void (*frame)(void *data, waywire_wl_pointer wl_pointer);
 	/* what the scroll comes from */
-	void (*axis_source)(void *data, waywire_object wl_pointer, uint32_t axis_source);
+	void (*axis_source)(void *data, waywire_wl_pointer wl_pointer, uint32_t axis_source);
 	/* the scroll ended */
-	void (*axis_stop)(void *data, waywire_object wl_pointer, uint32_t time, uint32_t axis);
+	void (*axis_stop)(void *data, waywire_wl_pointer wl_pointer, uint32_t time, uint32_t axis);
 	/* a scroll by whole clicks of a wheel */
-	void (*axis_discrete)(void *data, waywire_object wl_pointer, uint32_t axis,
+	void (*axis_discrete)(void *data, waywire_wl_pointer wl_pointer, uint32_t axis,
 		int32_t discrete);
 	/* a scroll in 120ths of a click */
-	void (*axis_value120)(void *data, waywire_object wl_pointer, uint32_t axis,
+	void (*axis_value120)(void *data, waywire_wl_pointer wl_pointer, uint32_t axis,
 		int32_t value120);
 	/* how the scroll relates to the finger's motion */
-	void (*axis_relative_direction)(void *data, waywire_object wl_pointer, uint32_t axis,
+	void (*axis_relative_direction)(void *data, waywire_wl_pointer wl_pointer, uint32_t axis,
 		uint32_t direction);
 };
 
@@ -1640,57 +1904,65 @@ static inline bool waywire_wl_pointer_dispatch_event(const struct waywire_wl_poi
 	case WAYWIRE_WL_POINTER_EVENT_ENTER:
 		if (!calls->enter)
 			return false;
-		calls->enter(data, report->target, args[0].u, args[1].object, args[2].i, args[3].i);
+		calls->enter(data, waywire_wl_pointer_of(report->target), args[0].u,
+			waywire_wl_surface_of(args[1].object), args[2].i, args[3].i);
 		return true;
 	case WAYWIRE_WL_POINTER_EVENT_LEAVE:
 		if (!calls->leave)
 			return false;
-		calls->leave(data, report->target, args[0].u, args[1].object);
+		calls->leave(data, waywire_wl_pointer_of(report->target), args[0].u,
+			waywire_wl_surface_of(args[1].object));
 		return true;
 	case WAYWIRE_WL_POINTER_EVENT_MOTION:
 		if (!calls->motion)
 			return false;
-		calls->motion(data, report->target, args[0].u, args[1].i, args[2].i);
+		calls->motion(data, waywire_wl_pointer_of(report->target), args[0].u, args[1].i,
+			args[2].i);
 		return true;
 	case WAYWIRE_WL_POINTER_EVENT_BUTTON:
 		if (!calls->button)
 			return false;
-		calls->button(data, report->target, args[0].u, args[1].u, args[2].u, args[3].u);
+		calls->button(data, waywire_wl_pointer_of(report->target), args[0].u, args[1].u,
+			args[2].u, args[3].u);
 		return true;
 	case WAYWIRE_WL_POINTER_EVENT_AXIS:
 		if (!calls->axis)
 			return false;
-		calls->axis(data, report->target, args[0].u, args[1].u, args[2].i);
+		calls->axis(data, waywire_wl_pointer_of(report->target), args[0].u, args[1].u,
+			args[2].i);
 		return true;
 	case WAYWIRE_WL_POINTER_EVENT_FRAME:
 		if (!calls->frame)
 			return false;
-		calls->frame(data, report->target);
+		calls->frame(data, waywire_wl_pointer_of(report->target));
 		return true;
 	case WAYWIRE_WL_POINTER_EVENT_AXIS_SOURCE:
 		if (!calls->axis_source)
 			return false;
-		calls->axis_source(data, report->target, args[0].u);
+		calls->axis_source(data, waywire_wl_pointer_of(report->target), args[0].u);
 		return true;
 	case WAYWIRE_WL_POINTER_EVENT_AXIS_STOP:
 		if (!calls->axis_stop)
 			return false;
-		calls->axis_stop(data, report->target, args[0].u, args[1].u);
+		calls->axis_stop(data, waywire_wl_pointer_of(report->target), args[0].u, args[1].u);
 		return true;
 	case WAYWIRE_WL_POINTER_EVENT_AXIS_DISCRETE:
 		if (!calls->axis_discrete)
 			return false;
-		calls->axis_discrete(data, report->target, args[0].u, args[1].i);
+		calls->axis_discrete(data, waywire_wl_pointer_of(report->target), args[0].u,
+			args[1].i);
 		return true;
 	case WAYWIRE_WL_POINTER_EVENT_AXIS_VALUE120:
 		if (!calls->axis_value120)
 			return false;
-		calls->axis_value120(data, report->target, args[0].u, args[1].i);
+		calls->axis_value120(data, waywire_wl_pointer_of(report->target), args[0].u,
+			args[1].i);
 		return true;
 	case WAYWIRE_WL_POINTER_EVENT_AXIS_RELATIVE_DIRECTION:
 		if (!calls->axis_relative_direction)
 			return false;
-		calls->axis_relative_direction(data, report->target, args[0].u, args[1].u);
+		calls->axis_relative_direction(data, waywire_wl_pointer_of(report->target),
+			args[0].u, args[1].u);
 		return true;
 	default:
 		return false;
@@ -1706,10 +1978,10 @@ static inline bool waywire_wl_pointer_event_dispatcher(const void *calls, void *
 
 struct waywire_wl_pointer_requests {
 	/* sets the surface that shows the pointer */
-	void (*set_cursor)(void *data, waywire_object wl_pointer, uint32_t serial,
-		waywire_object surface, int32_t hotspot_x, int32_t hotspot_y);
+	void (*set_cursor)(void *data, waywire_wl_pointer wl_pointer, uint32_t serial,
+		waywire_wl_surface surface, int32_t hotspot_x, int32_t hotspot_y);
 	/* the client is done with the object */
-	void (*release)(void *data, waywire_object wl_pointer);
+	void (*release)(void *data, waywire_wl_pointer wl_pointer);
 };
 
 static inline bool waywire_wl_pointer_dispatch_request(
@@ -1722,13 +1994,13 @@ static inline bool waywire_wl_pointer_dispatch_request(
 	case WAYWIRE_WL_POINTER_REQUEST_SET_CURSOR:
 		if (!calls->set_cursor)
 			return false;
-		calls->set_cursor(data, report->target, args[0].u, args[1].object, args[2].i,
-			args[3].i);
+		calls->set_cursor(data, waywire_wl_pointer_of(report->target), args[0].u,
+			waywire_wl_surface_of(args[1].object), args[2].i, args[3].i);
 		return true;
 	case WAYWIRE_WL_POINTER_REQUEST_RELEASE:
 		if (!calls->release)
 			return false;
-		calls->release(data, report->target);
+		calls->release(data, waywire_wl_pointer_of(report->target));
 		return true;
 	default:
 		return false;
@@ -1775,65 +2047,66 @@ enum waywire_wl_keyboard_key_state {
 
 /* the client is done with the object */
 static inline waywire_status waywire_wl_keyboard_release(waywire_client client,
-	waywire_object wl_keyboard)
+	waywire_wl_keyboard wl_keyboard)
 {
-	return waywire_end_send(client.end, wl_keyboard, WAYWIRE_WL_KEYBOARD_REQUEST_RELEASE, NULL,
-		0, NULL, NULL);
+	return waywire_end_send(client.end, wl_keyboard.object, WAYWIRE_WL_KEYBOARD_REQUEST_RELEASE,
+		NULL, 0, NULL, NULL);
 }
 
 /* the keymap, behind a descriptor */
 static inline waywire_status waywire_wl_keyboard_send_keymap(waywire_server server,
-	waywire_object wl_keyboard, uint32_t format, int fd, uint32_t size)
+	waywire_wl_keyboard wl_keyboard, uint32_t format, int fd, uint32_t size)
 {
 	waywire_arg args[3];
 	args[0] = waywire_uint(format);
 	args[1] = waywire_fd((uint32_t)fd);
 	args[2] = waywire_uint(size);
-	return waywire_end_send(server.end, wl_keyboard, WAYWIRE_WL_KEYBOARD_EVENT_KEYMAP, args, 3,
-		NULL, NULL);
+	return waywire_end_send(server.end, wl_keyboard.object, WAYWIRE_WL_KEYBOARD_EVENT_KEYMAP,
+		args, 3, NULL, NULL);
 }
 
 /* a surface got the keyboard, with these keys down */
 static inline waywire_status waywire_wl_keyboard_send_enter(waywire_server server,
-	waywire_object wl_keyboard, uint32_t serial, waywire_object surface, const void *keys,
-	size_t keys_length)
+	waywire_wl_keyboard wl_keyboard, uint32_t serial, waywire_wl_surface surface,
+	const void *keys, size_t keys_length)
 {
 	waywire_arg args[3];
 	args[0] = waywire_uint(serial);
-	args[1] = surface.id ? waywire_of(surface) : waywire_no_object();
+	args[1] = surface.object.id ? waywire_of(surface.object) : waywire_no_object();
 	args[2] = waywire_array(keys, keys_length);
-	return waywire_end_send(server.end, wl_keyboard, WAYWIRE_WL_KEYBOARD_EVENT_ENTER, args, 3,
-		NULL, NULL);
+	return waywire_end_send(server.end, wl_keyboard.object, WAYWIRE_WL_KEYBOARD_EVENT_ENTER,
+		args, 3, NULL, NULL);
 }
 
 /* a surface lost the keyboard */
 static inline waywire_status waywire_wl_keyboard_send_leave(waywire_server server,
-	waywire_object wl_keyboard, uint32_t serial, waywire_object surface)
+	waywire_wl_keyboard wl_keyboard, uint32_t serial, waywire_wl_surface surface)
 {
 	waywire_arg args[2];
 	args[0] = waywire_uint(serial);
-	args[1] = surface.id ? waywire_of(surface) : waywire_no_object();
-	return waywire_end_send(server.end, wl_keyboard, WAYWIRE_WL_KEYBOARD_EVENT_LEAVE, args, 2,
-		NULL, NULL);
+	args[1] = surface.object.id ? waywire_of(surface.object) : waywire_no_object();
+	return waywire_end_send(server.end, wl_keyboard.object, WAYWIRE_WL_KEYBOARD_EVENT_LEAVE,
+		args, 2, NULL, NULL);
 }
 
 /* a key went down or up */
 static inline waywire_status waywire_wl_keyboard_send_key(waywire_server server,
-	waywire_object wl_keyboard, uint32_t serial, uint32_t time, uint32_t key, uint32_t state)
+	waywire_wl_keyboard wl_keyboard, uint32_t serial, uint32_t time, uint32_t key,
+	uint32_t state)
 {
 	waywire_arg args[4];
 	args[0] = waywire_uint(serial);
 	args[1] = waywire_uint(time);
 	args[2] = waywire_uint(key);
 	args[3] = waywire_uint(state);
-	return waywire_end_send(server.end, wl_keyboard, WAYWIRE_WL_KEYBOARD_EVENT_KEY, args, 4,
-		NULL, NULL);
+	return waywire_end_send(server.end, wl_keyboard.object, WAYWIRE_WL_KEYBOARD_EVENT_KEY, args,
+		4, NULL, NULL);
 }
 
 /* the modifiers and the group changed */
 static inline waywire_status waywire_wl_keyboard_send_modifiers(waywire_server server,
-	waywire_object wl_keyboard, uint32_t serial, uint32_t mods_depressed, uint32_t mods_latched,
-	uint32_t mods_locked, uint32_t group)
+	waywire_wl_keyboard wl_keyboard, uint32_t serial, uint32_t mods_depressed,
+	uint32_t mods_latched, uint32_t mods_locked, uint32_t group)
 {
 	waywire_arg args[5];
 	args[0] = waywire_uint(serial);
@@ -1841,40 +2114,41 @@ static inline waywire_status waywire_wl_keyboard_send_modifiers(waywire_server s
 	args[2] = waywire_uint(mods_latched);
 	args[3] = waywire_uint(mods_locked);
 	args[4] = waywire_uint(group);
-	return waywire_end_send(server.end, wl_keyboard, WAYWIRE_WL_KEYBOARD_EVENT_MODIFIERS, args,
-		5, NULL, NULL);
+	return waywire_end_send(server.end, wl_keyboard.object, WAYWIRE_WL_KEYBOARD_EVENT_MODIFIERS,
+		args, 5, NULL, NULL);
 }
 
 /* how keys repeat: keys a second, and milliseconds before */
 static inline waywire_status waywire_wl_keyboard_send_repeat_info(waywire_server server,
-	waywire_object wl_keyboard, int32_t rate, int32_t delay)
+	waywire_wl_keyboard wl_keyboard, int32_t rate, int32_t delay)
 {
 	waywire_arg args[2];
 	args[0] = waywire_int(rate);
 	args[1] = waywire_int(delay);
-	return waywire_end_send(server.end, wl_keyboard, WAYWIRE_WL_KEYBOARD_EVENT_REPEAT_INFO,
-		args, 2, NULL, NULL);
+	return waywire_end_send(server.end, wl_keyboard.object,
+		WAYWIRE_WL_KEYBOARD_EVENT_REPEAT_INFO, args, 2, NULL, NULL);
 }
 
 struct waywire_wl_keyboard_events {
 	/* the keymap, behind a descriptor */
-	void (*keymap)(void *data, waywire_object wl_keyboard, uint32_t format, int fd,
+	void (*keymap)(void *data, waywire_wl_keyboard wl_keyboard, uint32_t format, int fd,
 		uint32_t size);
 	/* a surface got the keyboard, with these keys down */
-	void (*enter)(void *data, waywire_object wl_keyboard, uint32_t serial,
-		waywire_object surface, const void *keys, size_t keys_length);
+	void (*enter)(void *data, waywire_wl_keyboard wl_keyboard, uint32_t serial,
+		waywire_wl_surface surface, const void *keys, size_t keys_length);
 	/* a surface lost the keyboard */
-	void (*leave)(void *data, waywire_object wl_keyboard, uint32_t serial,
-		waywire_object surface);
+	void (*leave)(void *data, waywire_wl_keyboard wl_keyboard, uint32_t serial,
+		waywire_wl_surface surface);
 	/* a key went down or up */
-	void (*key)(void *data, waywire_object wl_keyboard, uint32_t serial, uint32_t time,
+	void (*key)(void *data, waywire_wl_keyboard wl_keyboard, uint32_t serial, uint32_t time,
 		uint32_t key, uint32_t state);
 	/* the modifiers and the group changed */
-	void (*modifiers)(void *data, waywire_object wl_keyboard, uint32_t serial,
+	void (*modifiers)(void *data, waywire_wl_keyboard wl_keyboard, uint32_t serial,
 		uint32_t mods_depressed, uint32_t mods_latched, uint32_t mods_locked,
 		uint32_t group);
 	/* how keys repeat: keys a second, and milliseconds before */
-	void (*repeat_info)(void *data, waywire_object wl_keyboard, int32_t rate, int32_t delay);
+	void (*repeat_info)(void *data, waywire_wl_keyboard wl_keyboard, int32_t rate,
+		int32_t delay);
 };
 
 static inline bool waywire_wl_keyboard_dispatch_event(
@@ -1887,34 +2161,38 @@ static inline bool waywire_wl_keyboard_dispatch_event(
 	case WAYWIRE_WL_KEYBOARD_EVENT_KEYMAP:
 		if (!calls->keymap)
 			return false;
-		calls->keymap(data, report->target, args[0].u, (int)args[1].u, args[2].u);
+		calls->keymap(data, waywire_wl_keyboard_of(report->target), args[0].u,
+			(int)args[1].u, args[2].u);
 		return true;
 	case WAYWIRE_WL_KEYBOARD_EVENT_ENTER:
 		if (!calls->enter)
 			return false;
-		calls->enter(data, report->target, args[0].u, args[1].object, args[2].bytes,
-			args[2].length);
+		calls->enter(data, waywire_wl_keyboard_of(report->target), args[0].u,
+			waywire_wl_surface_of(args[1].object), args[2].bytes, args[2].length);
 		return true;
 	case WAYWIRE_WL_KEYBOARD_EVENT_LEAVE:
 		if (!calls->leave)
 			return false;
-		calls->leave(data, report->target, args[0].u, args[1].object);
+		calls->leave(data, waywire_wl_keyboard_of(report->target), args[0].u,
+			waywire_wl_surface_of(args[1].object));
 		return true;
 	case WAYWIRE_WL_KEYBOARD_EVENT_KEY:
 		if (!calls->key)
 			return false;
-		calls->key(data, report->target, args[0].u, args[1].u, args[2].u, args[3].u);
+		calls->key(data, waywire_wl_keyboard_of(report->target), args[0].u, args[1].u,
+			args[2].u, args[3].u);
 		return true;
 	case WAYWIRE_WL_KEYBOARD_EVENT_MODIFIERS:
 		if (!calls->modifiers)
 			return false;
-		calls->modifiers(data, report->target, args[0].u, args[1].u, args[2].u, args[3].u,
-			args[4].u);
+		calls->modifiers(data, waywire_wl_keyboard_of(report->target), args[0].u, args[1].u,
+			args[2].u, args[3].u, args[4].u);
 		return true;
 	case WAYWIRE_WL_KEYBOARD_EVENT_REPEAT_INFO:
 		if (!calls->repeat_info)
 			return false;
-		calls->repeat_info(data, report->target, args[0].i, args[1].i);
+		calls->repeat_info(data, waywire_wl_keyboard_of(report->target), args[0].i,
+			args[1].i);
 		return true;
 	default:
 		return false;
@@ -1930,7 +2208,7 @@ static inline bool waywire_wl_keyboard_event_dispatcher(const void *calls, void 
 
 struct waywire_wl_keyboard_requests {
 	/* the client is done with the object */
-	void (*release)(void *data, waywire_object wl_keyboard);
+	void (*release)(void *data, waywire_wl_keyboard wl_keyboard);
 };
 
 static inline bool waywire_wl_keyboard_dispatch_request(
@@ -1942,7 +2220,7 @@ static inline bool waywire_wl_keyboard_dispatch_request(
 	case WAYWIRE_WL_KEYBOARD_REQUEST_RELEASE:
 		if (!calls->release)
 			return false;
-		calls->release(data, report->target);
+		calls->release(data, waywire_wl_keyboard_of(report->target));
 		return true;
 	default:
 		return false;
@@ -1981,110 +2259,111 @@ static inline bool waywire_wl_keyboard_request_dispatcher(const void *calls, voi
 
 /* the client is done with the object */
 static inline waywire_status waywire_wl_touch_release(waywire_client client,
-	waywire_object wl_touch)
+	waywire_wl_touch wl_touch)
 {
-	return waywire_end_send(client.end, wl_touch, WAYWIRE_WL_TOUCH_REQUEST_RELEASE, NULL, 0,
-		NULL, NULL);
+	return waywire_end_send(client.end, wl_touch.object, WAYWIRE_WL_TOUCH_REQUEST_RELEASE, NULL,
+		0, NULL, NULL);
 }
 
 /* a touch point came onto a surface */
 static inline waywire_status waywire_wl_touch_send_down(waywire_server server,
-	waywire_object wl_touch, uint32_t serial, uint32_t time, waywire_object surface, int32_t id,
-	int32_t x, int32_t y)
+	waywire_wl_touch wl_touch, uint32_t serial, uint32_t time, waywire_wl_surface surface,
+	int32_t id, int32_t x, int32_t y)
 {
 	waywire_arg args[6];
 	args[0] = waywire_uint(serial);
 	args[1] = waywire_uint(time);
-	args[2] = surface.id ? waywire_of(surface) : waywire_no_object();
+	args[2] = surface.object.id ? waywire_of(surface.object) : waywire_no_object();
 	args[3] = waywire_int(id);
 	args[4] = waywire_fixed(x);
 	args[5] = waywire_fixed(y);
-	return waywire_end_send(server.end, wl_touch, WAYWIRE_WL_TOUCH_EVENT_DOWN, args, 6, NULL,
-		NULL);
+	return waywire_end_send(server.end, wl_touch.object, WAYWIRE_WL_TOUCH_EVENT_DOWN, args, 6,
+		NULL, NULL);
 }
 
 /* a touch point is gone */
 static inline waywire_status waywire_wl_touch_send_up(waywire_server server,
-	waywire_object wl_touch, uint32_t serial, uint32_t time, int32_t id)
+	waywire_wl_touch wl_touch, uint32_t serial, uint32_t time, int32_t id)
 {
 	waywire_arg args[3];
 	args[0] = waywire_uint(serial);
 	args[1] = waywire_uint(time);
 	args[2] = waywire_int(id);
-	return waywire_end_send(server.end, wl_touch, WAYWIRE_WL_TOUCH_EVENT_UP, args, 3, NULL,
-		NULL);
+	return waywire_end_send(server.end, wl_touch.object, WAYWIRE_WL_TOUCH_EVENT_UP, args, 3,
+		NULL, NULL);
 }
 
 /* a touch point moved */
 static inline waywire_status waywire_wl_touch_send_motion(waywire_server server,
-	waywire_object wl_touch, uint32_t time, int32_t id, int32_t x, int32_t y)
+	waywire_wl_touch wl_touch, uint32_t time, int32_t id, int32_t x, int32_t y)
 {
 	waywire_arg args[4];
 	args[0] = waywire_uint(time);
 	args[1] = waywire_int(id);
 	args[2] = waywire_fixed(x);
 	args[3] = waywire_fixed(y);
-	return waywire_end_send(server.end, wl_touch, WAYWIRE_WL_TOUCH_EVENT_MOTION, args, 4, NULL,
-		NULL);
+	return waywire_end_send(server.end, wl_touch.object, WAYWIRE_WL_TOUCH_EVENT_MOTION, args, 4,
+		NULL, NULL);
 }
 
 /* the end of events that belong together */
 static inline waywire_status waywire_wl_touch_send_frame(waywire_server server,
-	waywire_object wl_touch)
+	waywire_wl_touch wl_touch)
 {
-	return waywire_end_send(server.end, wl_touch, WAYWIRE_WL_TOUCH_EVENT_FRAME, NULL, 0, NULL,
-		NULL);
+	return waywire_end_send(server.end, wl_touch.object, WAYWIRE_WL_TOUCH_EVENT_FRAME, NULL, 0,
+		NULL, NULL);
 }
 
 /* the touch points now belong to somebody else */
 static inline waywire_status waywire_wl_touch_send_cancel(waywire_server server,
-	waywire_object wl_touch)
+	waywire_wl_touch wl_touch)
 {
-	return waywire_end_send(server.end, wl_touch, WAYWIRE_WL_TOUCH_EVENT_CANCEL, NULL, 0, NULL,
-		NULL);
+	return waywire_end_send(server.end, wl_touch.object, WAYWIRE_WL_TOUCH_EVENT_CANCEL, NULL, 0,
+		NULL, NULL);
 }
 
 /* the shape of a touch point */
 static inline waywire_status waywire_wl_touch_send_shape(waywire_server server,
-	waywire_object wl_touch, int32_t id, int32_t major, int32_t minor)
+	waywire_wl_touch wl_touch, int32_t id, int32_t major, int32_t minor)
 {
 	waywire_arg args[3];
 	args[0] = waywire_int(id);
 	args[1] = waywire_fixed(major);
 	args[2] = waywire_fixed(minor);
-	return waywire_end_send(server.end, wl_touch, WAYWIRE_WL_TOUCH_EVENT_SHAPE, args, 3, NULL,
-		NULL);
+	return waywire_end_send(server.end, wl_touch.object, WAYWIRE_WL_TOUCH_EVENT_SHAPE, args, 3,
+		NULL, NULL);
 }
 
 /* the direction of a touch point */
 static inline waywire_status waywire_wl_touch_send_orientation(waywire_server server,
-	waywire_object wl_touch, int32_t id, int32_t orientation)
+	waywire_wl_touch wl_touch, int32_t id, int32_t orientation)
 {
 	waywire_arg args[2];
 	args[0] = waywire_int(id);
 	args[1] = waywire_fixed(orientation);
-	return waywire_end_send(server.end, wl_touch, WAYWIRE_WL_TOUCH_EVENT_ORIENTATION, args, 2,
-		NULL, NULL);
+	return waywire_end_send(server.end, wl_touch.object, WAYWIRE_WL_TOUCH_EVENT_ORIENTATION,
+		args, 2, NULL, NULL);
 }
 
 struct waywire_wl_touch_events {
 	/* a touch point came onto a surface */
-	void (*down)(void *data, waywire_object wl_touch, uint32_t serial, uint32_t time,
-		waywire_object surface, int32_t id, int32_t x, int32_t y);
+	void (*down)(void *data, waywire_wl_touch wl_touch, uint32_t serial, uint32_t time,
+		waywire_wl_surface surface, int32_t id, int32_t x, int32_t y);
 	/* a touch point is gone */
-	void (*up)(void *data, waywire_object wl_touch, uint32_t serial, uint32_t time, int32_t id);
+	void (*up)(void *data, waywire_wl_touch wl_touch, uint32_t serial, uint32_t time,
+		int32_t id);
 	/* a touch point moved */
-	void (*motion)(void *data, waywire_object wl_touch, uint32_t time, int32_t id, int32_t x,
+	void (*motion)(void *data, waywire_wl_touch wl_touch, uint32_t time, int32_t id, int32_t x,
 		int32_t y);
 	/* the end of events that belong together */
-	void (*frame)(void *data, waywire_object wl_touch);
+	void (*frame)(void *data, waywire_wl_touch wl_touch);
 	/* the touch points now belong to somebody else */
-	void (*cancel)(void *data, waywire_object wl_touch);
+	void (*cancel)(void *data, waywire_wl_touch wl_touch);
 	/* the shape of a touch point */
-	void (*shape)(void *data, waywire_object wl_touch, int32_t id, int32_t major,
+	void (*shape)(void *data, waywire_wl_touch wl_touch, int32_t id, int32_t major,
 		int32_t minor);
 	/* the direction of a touch point */
-	void (*orientation)(void *data, waywire_object wl_touch, int32_t id, int32_t orientation);
+	void (*orientation)(void *data, waywire_wl_touch wl_touch, int32_t id, int32_t orientation);
 };
 
 static inline bool waywire_wl_touch_dispatch_event(const struct waywire_wl_touch_events *calls,
@@ -2097,38 +2376,41 @@ static inline bool waywire_wl_touch_dispatch_event(const struct waywire_wl_touch
 	case WAYWIRE_WL_TOUCH_EVENT_DOWN:
 		if (!calls->down)
 			return false;
-		calls->down(data, report->target, args[0].u, args[1].u, args[2].object, args[3].i,
-			args[4].i, args[5].i);
+		calls->down(data, waywire_wl_touch_of(report->target), args[0].u, args[1].u,
+			waywire_wl_surface_of(args[2].object), args[3].i, args[4].i, args[5].i);
 		return true;
 	case WAYWIRE_WL_TOUCH_EVENT_UP:
 		if (!calls->up)
 			return false;
-		calls->up(data, report->target, args[0].u, args[1].u, args[2].i);
+		calls->up(data, waywire_wl_touch_of(report->target), args[0].u, args[1].u,
+			args[2].i);
 		return true;
 	case WAYWIRE_WL_TOUCH_EVENT_MOTION:
 		if (!calls->motion)
 			return false;
-		calls->motion(data, report->target, args[0].u, args[1].i, args[2].i, args[3].i);
+		calls->motion(data, waywire_wl_touch_of(report->target), args[0].u, args[1].i,
+			args[2].i, args[3].i);
 		return true;
 	case WAYWIRE_WL_TOUCH_EVENT_FRAME:
 		if (!calls->frame)
 			return false;
-		calls->frame(data, report->target);
+		calls->frame(data, waywire_wl_touch_of(report->target));
 		return true;
 	case WAYWIRE_WL_TOUCH_EVENT_CANCEL:
 		if (!calls->cancel)
 			return false;
-		calls->cancel(data, report->target);
+		calls->cancel(data, waywire_wl_touch_of(report->target));
 		return true;
 	case WAYWIRE_WL_TOUCH_EVENT_SHAPE:
 		if (!calls->shape)
 			return false;
-		calls->shape(data, report->target, args[0].i, args[1].i, args[2].i);
+		calls->shape(data, waywire_wl_touch_of(report->target), args[0].i, args[1].i,
+			args[2].i);
 		return true;
 	case WAYWIRE_WL_TOUCH_EVENT_ORIENTATION:
 		if (!calls->orientation)
 			return false;
-		calls->orientation(data, report->target, args[0].i, args[1].i);
+		calls->orientation(data, waywire_wl_touch_of(report->target), args[0].i, args[1].i);
 		return true;
 	default:
 		return false;
@@ -2144,7 +2426,7 @@ static inline bool waywire_wl_touch_event_dispatcher(const void *calls, void *da
 
 struct waywire_wl_touch_requests {
 	/* the client is done with the object */
-	void (*release)(void *data, waywire_object wl_touch);
+	void (*release)(void *data, waywire_wl_touch wl_touch);
 };
 
 static inline bool waywire_wl_touch_dispatch_request(const struct waywire_wl_touch_requests *calls,
@@ -2156,7 +2438,7 @@ static inline bool waywire_wl_touch_dispatch_request(const struct waywire_wl_tou
 	case WAYWIRE_WL_TOUCH_REQUEST_RELEASE:
 		if (!calls->release)
 			return false;
-		calls->release(data, report->target);
+		calls->release(data, waywire_wl_touch_of(report->target));
 		return true;
 	default:
 		return false;
@@ -2218,15 +2500,22 @@ enum waywire_wl_output_mode {
 
 /* the client is done with the object */
 static inline waywire_status waywire_wl_output_release(waywire_client client,
-	waywire_object wl_output)
+	waywire_wl_output wl_output)
 {
-	return waywire_end_send(client.end, wl_output, WAYWIRE_WL_OUTPUT_REQUEST_RELEASE, NULL, 0,
-		NULL, NULL);
+	return waywire_end_send(client.end, wl_output.object, WAYWIRE_WL_OUTPUT_REQUEST_RELEASE,
+		NULL, 0, NULL, NULL);
+}
+
+static inline waywire_status waywire_wl_output_bind(waywire_client client,
+	waywire_wl_registry registry, uint32_t name, uint32_t version, waywire_wl_output *made)
+{
+	return waywire_client_bind(client, registry.object, name, WAYWIRE_WL_OUTPUT_NAME, version,
+		made ? &made->object : NULL);
 }
 
 /* where the output is, and what it is */
 static inline waywire_status waywire_wl_output_send_geometry(waywire_server server,
-	waywire_object wl_output, int32_t x, int32_t y, int32_t physical_width,
+	waywire_wl_output wl_output, int32_t x, int32_t y, int32_t physical_width,
 	int32_t physical_height, int32_t subpixel, const char *make, const char *model,
 	int32_t transform)
 {
@@ -2239,77 +2528,77 @@ static inline waywire_status waywire_wl_output_send_geometry(waywire_server serv
 	args[5] = waywire_string(make);
 	args[6] = waywire_string(model);
 	args[7] = waywire_int(transform);
-	return waywire_end_send(server.end, wl_output, WAYWIRE_WL_OUTPUT_EVENT_GEOMETRY, args, 8,
-		NULL, NULL);
+	return waywire_end_send(server.end, wl_output.object, WAYWIRE_WL_OUTPUT_EVENT_GEOMETRY,
+		args, 8, NULL, NULL);
 }
 
 /* a mode, and whether it is set or preferred */
 static inline waywire_status waywire_wl_output_send_mode(waywire_server server,
-	waywire_object wl_output, uint32_t flags, int32_t width, int32_t height, int32_t refresh)
+	waywire_wl_output wl_output, uint32_t flags, int32_t width, int32_t height, int32_t refresh)
 {
 	waywire_arg args[4];
 	args[0] = waywire_uint(flags);
 	args[1] = waywire_int(width);
 	args[2] = waywire_int(height);
 	args[3] = waywire_int(refresh);
-	return waywire_end_send(server.end, wl_output, WAYWIRE_WL_OUTPUT_EVENT_MODE, args, 4, NULL,
-		NULL);
+	return waywire_end_send(server.end, wl_output.object, WAYWIRE_WL_OUTPUT_EVENT_MODE, args, 4,
+		NULL, NULL);
 }
 
 /* the end of events that belong together */
 static inline waywire_status waywire_wl_output_send_done(waywire_server server,
-	waywire_object wl_output)
+	waywire_wl_output wl_output)
 {
-	return waywire_end_send(server.end, wl_output, WAYWIRE_WL_OUTPUT_EVENT_DONE, NULL, 0, NULL,
-		NULL);
+	return waywire_end_send(server.end, wl_output.object, WAYWIRE_WL_OUTPUT_EVENT_DONE, NULL, 0,
+		NULL, NULL);
 }
 
 /* the scale of the output */
 static inline waywire_status waywire_wl_output_send_scale(waywire_server server,
-	waywire_object wl_output, int32_t factor)
+	waywire_wl_output wl_output, int32_t factor)
 {
 	waywire_arg args[1];
 	args[0] = waywire_int(factor);
-	return waywire_end_send(server.end, wl_output, WAYWIRE_WL_OUTPUT_EVENT_SCALE, args, 1, NULL,
-		NULL);
+	return waywire_end_send(server.end, wl_output.object, WAYWIRE_WL_OUTPUT_EVENT_SCALE, args,
+		1, NULL, NULL);
 }
 
 /* the name of the output */
 static inline waywire_status waywire_wl_output_send_name(waywire_server server,
-	waywire_object wl_output, const char *name)
+	waywire_wl_output wl_output, const char *name)
 {
 	waywire_arg args[1];
 	args[0] = waywire_string(name);
-	return waywire_end_send(server.end, wl_output, WAYWIRE_WL_OUTPUT_EVENT_NAME, args, 1, NULL,
-		NULL);
+	return waywire_end_send(server.end, wl_output.object, WAYWIRE_WL_OUTPUT_EVENT_NAME, args, 1,
+		NULL, NULL);
 }
 
 /* the output in words */
 static inline waywire_status waywire_wl_output_send_description(waywire_server server,
-	waywire_object wl_output, const char *description)
+	waywire_wl_output wl_output, const char *description)
 {
 	waywire_arg args[1];
 	args[0] = waywire_string(description);
-	return waywire_end_send(server.end, wl_output, WAYWIRE_WL_OUTPUT_EVENT_DESCRIPTION, args, 1,
-		NULL, NULL);
+	return waywire_end_send(server.end, wl_output.object, WAYWIRE_WL_OUTPUT_EVENT_DESCRIPTION,
+		args, 1, NULL, NULL);
 }
 
 struct waywire_wl_output_events {
 	/* where the output is, and what it is */
-	void (*geometry)(void *data, waywire_object wl_output, int32_t x, int32_t y,
+	void (*geometry)(void *data, waywire_wl_output wl_output, int32_t x, int32_t y,
 		int32_t physical_width, int32_t physical_height, int32_t subpixel, const char *make,
 		const char *model, int32_t transform);
 	/* a mode, and whether it is set or preferred */
-	void (*mode)(void *data, waywire_object wl_output, uint32_t flags, int32_t width,
+	void (*mode)(void *data, waywire_wl_output wl_output, uint32_t flags, int32_t width,
 		int32_t height, int32_t refresh);
 	/* the end of events that belong together */
-	void (*done)(void *data, waywire_object wl_output);
+	void (*done)(void *data, waywire_wl_output wl_output);
 	/* the scale of the output */
-	void (*scale)(void *data, waywire_object wl_output, int32_t factor);
+	void (*scale)(void *data, waywire_wl_output wl_output, int32_t factor);
 	/* the name of the output */
-	void (*name)(void *data, waywire_object wl_output, const char *name);
+	void (*name)(void *data, waywire_wl_output wl_output, const char *name);
 	/* the output in words */
-	void (*description)(void *data, waywire_object wl_output, const char *description);
+	void (*description)(void *data, waywire_wl_output wl_output, const char *description);
 };
 
 static inline bool waywire_wl_output_dispatch_event(const struct waywire_wl_output_events *calls,
@@ -2322,34 +2611,37 @@ static inline bool waywire_wl_output_dispatch_event(const struct waywire_wl_outp
 	case WAYWIRE_WL_OUTPUT_EVENT_GEOMETRY:
 		if (!calls->geometry)
 			return false;
-		calls->geometry(data, report->target, args[0].i, args[1].i, args[2].i, args[3].i,
-			args[4].i, (const char *)args[5].bytes, (const char *)args[6].bytes,
-			args[7].i);
+		calls->geometry(data, waywire_wl_output_of(report->target), args[0].i, args[1].i,
+			args[2].i, args[3].i, args[4].i, (const char *)args[5].bytes,
+			(const char *)args[6].bytes, args[7].i);
 		return true;
 	case WAYWIRE_WL_OUTPUT_EVENT_MODE:
 		if (!calls->mode)
 			return false;
-		calls->mode(data, report->target, args[0].u, args[1].i, args[2].i, args[3].i);
+		calls->mode(data, waywire_wl_output_of(report->target), args[0].u, args[1].i,
+			args[2].i, args[3].i);
 		return true;
 	case WAYWIRE_WL_OUTPUT_EVENT_DONE:
 		if (!calls->done)
 			return false;
-		calls->done(data, report->target);
+		calls->done(data, waywire_wl_output_of(report->target));
 		return true;
 	case WAYWIRE_WL_OUTPUT_EVENT_SCALE:
 		if (!calls->scale)
 			return false;
-		calls->scale(data, report->target, args[0].i);
+		calls->scale(data, waywire_wl_output_of(report->target), args[0].i);
 		return true;
 	case WAYWIRE_WL_OUTPUT_EVENT_NAME:
 		if (!calls->name)
 			return false;
-		calls->name(data, report->target, (const char *)args[0].bytes);
+		calls->name(data, waywire_wl_output_of(report->target),
+			(const char *)args[0].bytes);
 		return true;
 	case WAYWIRE_WL_OUTPUT_EVENT_DESCRIPTION:
 		if (!calls->description)
 			return false;
-		calls->description(data, report->target, (const char *)args[0].bytes);
+		calls->description(data, waywire_wl_output_of(report->target),
+			(const char *)args[0].bytes);
 		return true;
 	default:
 		return false;
@@ -2365,7 +2657,7 @@ static inline bool waywire_wl_output_event_dispatcher(const void *calls, void *d
 
 struct waywire_wl_output_requests {
 	/* the client is done with the object */
-	void (*release)(void *data, waywire_object wl_output);
+	void (*release)(void *data, waywire_wl_output wl_output);
 };
 
 static inline bool waywire_wl_output_dispatch_request(
@@ -2377,7 +2669,7 @@ static inline bool waywire_wl_output_dispatch_request(
 	case WAYWIRE_WL_OUTPUT_REQUEST_RELEASE:
 		if (!calls->release)
 			return false;
-		calls->release(data, report->target);
+		calls->release(data, waywire_wl_output_of(report->target));
 		return true;
 	default:
 		return false;
@@ -2408,36 +2700,40 @@ enum waywire_wl_subcompositor_error {
 
 /* ends the object */
 static inline waywire_status waywire_wl_subcompositor_destroy(waywire_client client,
-	waywire_object wl_subcompositor)
+	waywire_wl_subcompositor wl_subcompositor)
 {
-	return waywire_end_send(client.end, wl_subcompositor,
+	return waywire_end_send(client.end, wl_subcompositor.object,
 		WAYWIRE_WL_SUBCOMPOSITOR_REQUEST_DESTROY, NULL, 0, NULL, NULL);
 }
 
 /* makes a surface part of another */
-static inline waywire_object waywire_wl_subcompositor_get_subsurface(waywire_client client,
-	waywire_object wl_subcompositor, waywire_object surface, waywire_object parent,
-	waywire_status *status)
+static inline waywire_status waywire_wl_subcompositor_get_subsurface(waywire_client client,
+	waywire_wl_subcompositor wl_subcompositor, waywire_wl_surface surface,
+	waywire_wl_surface parent, waywire_wl_subsurface *made)
 {
 	waywire_arg args[3];
-	waywire_object made = { 0, 0 };
-	waywire_status done;
 	args[0] = waywire_new();
-	args[1] = surface.id ? waywire_of(surface) : waywire_no_object();
-	args[2] = parent.id ? waywire_of(parent) : waywire_no_object();
-	done = waywire_end_send(client.end, wl_subcompositor,
-		WAYWIRE_WL_SUBCOMPOSITOR_REQUEST_GET_SUBSURFACE, args, 3, &made, NULL);
-	if (status)
-		*status = done;
-	return made;
+	args[1] = surface.object.id ? waywire_of(surface.object) : waywire_no_object();
+	args[2] = parent.object.id ? waywire_of(parent.object) : waywire_no_object();
+	return waywire_end_send(client.end, wl_subcompositor.object,
+		WAYWIRE_WL_SUBCOMPOSITOR_REQUEST_GET_SUBSURFACE, args, 3,
+		made ? &made->object : NULL, NULL);
+}
+
+static inline waywire_status waywire_wl_subcompositor_bind(waywire_client client,
+	waywire_wl_registry registry, uint32_t name, uint32_t version,
+	waywire_wl_subcompositor *made)
+{
+	return waywire_client_bind(client, registry.object, name, WAYWIRE_WL_SUBCOMPOSITOR_NAME,
+		version, made ? &made->object : NULL);
 }
 
 struct waywire_wl_subcompositor_requests {
 	/* ends the object */
-	void (*destroy)(void *data, waywire_object wl_subcompositor);
+	void (*destroy)(void *data, waywire_wl_subcompositor wl_subcompositor);
 	/* makes a surface part of another */
-	void (*get_subsurface)(void *data, waywire_object wl_subcompositor, waywire_object id,
-		waywire_object surface, waywire_object parent);
+	void (*get_subsurface)(void *data, waywire_wl_subcompositor wl_subcompositor,
+		waywire_wl_subsurface id, waywire_wl_surface surface, waywire_wl_surface parent);
 };
 
 static inline bool waywire_wl_subcompositor_dispatch_request(
@@ -2451,13 +2747,15 @@ static inline bool waywire_wl_subcompositor_dispatch_request(
 	case WAYWIRE_WL_SUBCOMPOSITOR_REQUEST_DESTROY:
 		if (!calls->destroy)
 			return false;
-		calls->destroy(data, report->target);
+		calls->destroy(data, waywire_wl_subcompositor_of(report->target));
 		return true;
 	case WAYWIRE_WL_SUBCOMPOSITOR_REQUEST_GET_SUBSURFACE:
 		if (!calls->get_subsurface)
 			return false;
-		calls->get_subsurface(data, report->target, args[0].object, args[1].object,
-			args[2].object);
+		calls->get_subsurface(data, waywire_wl_subcompositor_of(report->target),
+			waywire_wl_subsurface_of(args[0].object),
+			waywire_wl_surface_of(args[1].object),
+			waywire_wl_surface_of(args[2].object));
 		return true;
 	default:
 		return false;
@@ -2496,72 +2794,74 @@ enum waywire_wl_subsurface_error {
 
 /* takes the surface out of its parent */
 static inline waywire_status waywire_wl_subsurface_destroy(waywire_client client,
-	waywire_object wl_subsurface)
+	waywire_wl_subsurface wl_subsurface)
 {
-	return waywire_end_send(client.end, wl_subsurface, WAYWIRE_WL_SUBSURFACE_REQUEST_DESTROY,
-		NULL, 0, NULL, NULL);
+	return waywire_end_send(client.end, wl_subsurface.object,
+		WAYWIRE_WL_SUBSURFACE_REQUEST_DESTROY, NULL, 0, NULL, NULL);
 }
 
 /* sets where it is within its parent */
 static inline waywire_status waywire_wl_subsurface_set_position(waywire_client client,
-	waywire_object wl_subsurface, int32_t x, int32_t y)
+	waywire_wl_subsurface wl_subsurface, int32_t x, int32_t y)
 {
 	waywire_arg args[2];
 	args[0] = waywire_int(x);
 	args[1] = waywire_int(y);
-	return waywire_end_send(client.end, wl_subsurface,
+	return waywire_end_send(client.end, wl_subsurface.object,
 		WAYWIRE_WL_SUBSURFACE_REQUEST_SET_POSITION, args, 2, NULL, NULL);
 }
 
 /* puts it above a sibling */
 static inline waywire_status waywire_wl_subsurface_place_above(waywire_client client,
-	waywire_object wl_subsurface, waywire_object sibling)
+	waywire_wl_subsurface wl_subsurface, waywire_wl_surface sibling)
 {
 	waywire_arg args[1];
-	args[0] = sibling.id ? waywire_of(sibling) : waywire_no_object();
-	return waywire_end_send(client.end, wl_subsurface,
+	args[0] = sibling.object.id ? waywire_of(sibling.object) : waywire_no_object();
+	return waywire_end_send(client.end, wl_subsurface.object,
 		WAYWIRE_WL_SUBSURFACE_REQUEST_PLACE_ABOVE, args, 1, NULL, NULL);
 }
 
 /* puts it below a sibling */
 static inline waywire_status waywire_wl_subsurface_place_below(waywire_client client,
-	waywire_object wl_subsurface, waywire_object sibling)
+	waywire_wl_subsurface wl_subsurface, waywire_wl_surface sibling)
 {
 	waywire_arg args[1];
-	args[0] = sibling.id ? waywire_of(sibling) : waywire_no_object();
-	return waywire_end_send(client.end, wl_subsurface,
+	args[0] = sibling.object.id ? waywire_of(sibling.object) : waywire_no_object();
+	return waywire_end_send(client.end, wl_subsurface.object,
 		WAYWIRE_WL_SUBSURFACE_REQUEST_PLACE_BELOW, args, 1, NULL, NULL);
 }
 
 /* commits take effect with the parent's */
 static inline waywire_status waywire_wl_subsurface_set_sync(waywire_client client,
-	waywire_object wl_subsurface)
+	waywire_wl_subsurface wl_subsurface)
 {
-	return waywire_end_send(client.end, wl_subsurface, WAYWIRE_WL_SUBSURFACE_REQUEST_SET_SYNC,
-		NULL, 0, NULL, NULL);
+	return waywire_end_send(client.end, wl_subsurface.object,
+		WAYWIRE_WL_SUBSURFACE_REQUEST_SET_SYNC, NULL, 0, NULL, NULL);
 }
 
 /* commits take effect by themselves */
 static inline waywire_status waywire_wl_subsurface_set_desync(waywire_client client,
-	waywire_object wl_subsurface)
+	waywire_wl_subsurface wl_subsurface)
 {
-	return waywire_end_send(client.end, wl_subsurface, WAYWIRE_WL_SUBSURFACE_REQUEST_SET_DESYNC,
-		NULL, 0, NULL, NULL);
+	return waywire_end_send(client.end, wl_subsurface.object,
+		WAYWIRE_WL_SUBSURFACE_REQUEST_SET_DESYNC, NULL, 0, NULL, NULL);
 }
 
 struct waywire_wl_subsurface_requests {
 	/* takes the surface out of its parent */
-	void (*destroy)(void *data, waywire_object wl_subsurface);
+	void (*destroy)(void *data, waywire_wl_subsurface wl_subsurface);
 	/* sets where it is within its parent */
-	void (*set_position)(void *data, waywire_object wl_subsurface, int32_t x, int32_t y);
+	void (*set_position)(void *data, waywire_wl_subsurface wl_subsurface, int32_t x, int32_t y);
 	/* puts it above a sibling */
-	void (*place_above)(void *data, waywire_object wl_subsurface, waywire_object sibling);
+	void (*place_above)(void *data, waywire_wl_subsurface wl_subsurface,
+		waywire_wl_surface sibling);
 	/* puts it below a sibling */
-	void (*place_below)(void *data, waywire_object wl_subsurface, waywire_object sibling);
+	void (*place_below)(void *data, waywire_wl_subsurface wl_subsurface,
+		waywire_wl_surface sibling);
 	/* commits take effect with the parent's */
-	void (*set_sync)(void *data, waywire_object wl_subsurface);
+	void (*set_sync)(void *data, waywire_wl_subsurface wl_subsurface);
 	/* commits take effect by themselves */
-	void (*set_desync)(void *data, waywire_object wl_subsurface);
+	void (*set_desync)(void *data, waywire_wl_subsurface wl_subsurface);
 };
 
 static inline bool waywire_wl_subsurface_dispatch_request(
@@ -2575,32 +2875,35 @@ static inline bool waywire_wl_subsurface_dispatch_request(
 	case WAYWIRE_WL_SUBSURFACE_REQUEST_DESTROY:
 		if (!calls->destroy)
 			return false;
-		calls->destroy(data, report->target);
+		calls->destroy(data, waywire_wl_subsurface_of(report->target));
 		return true;
 	case WAYWIRE_WL_SUBSURFACE_REQUEST_SET_POSITION:
 		if (!calls->set_position)
 			return false;
-		calls->set_position(data, report->target, args[0].i, args[1].i);
+		calls->set_position(data, waywire_wl_subsurface_of(report->target), args[0].i,
+			args[1].i);
 		return true;
 	case WAYWIRE_WL_SUBSURFACE_REQUEST_PLACE_ABOVE:
 		if (!calls->place_above)
 			return false;
-		calls->place_above(data, report->target, args[0].object);
+		calls->place_above(data, waywire_wl_subsurface_of(report->target),
+			waywire_wl_surface_of(args[0].object));
 		return true;
 	case WAYWIRE_WL_SUBSURFACE_REQUEST_PLACE_BELOW:
 		if (!calls->place_below)
 			return false;
-		calls->place_below(data, report->target, args[0].object);
+		calls->place_below(data, waywire_wl_subsurface_of(report->target),
+			waywire_wl_surface_of(args[0].object));
 		return true;
 	case WAYWIRE_WL_SUBSURFACE_REQUEST_SET_SYNC:
 		if (!calls->set_sync)
 			return false;
-		calls->set_sync(data, report->target);
+		calls->set_sync(data, waywire_wl_subsurface_of(report->target));
 		return true;
 	case WAYWIRE_WL_SUBSURFACE_REQUEST_SET_DESYNC:
 		if (!calls->set_desync)
 			return false;
-		calls->set_desync(data, report->target);
+		calls->set_desync(data, waywire_wl_subsurface_of(report->target));
 		return true;
 	default:
 		return false;
@@ -2628,25 +2931,28 @@ enum waywire_wl_shell_error {
 };
 
 /* makes a surface a window */
-static inline waywire_object waywire_wl_shell_get_shell_surface(waywire_client client,
-	waywire_object wl_shell, waywire_object surface, waywire_status *status)
+static inline waywire_status waywire_wl_shell_get_shell_surface(waywire_client client,
+	waywire_wl_shell wl_shell, waywire_wl_surface surface, waywire_wl_shell_surface *made)
 {
 	waywire_arg args[2];
-	waywire_object made = { 0, 0 };
-	waywire_status done;
 	args[0] = waywire_new();
-	args[1] = surface.id ? waywire_of(surface) : waywire_no_object();
-	done = waywire_end_send(client.end, wl_shell, WAYWIRE_WL_SHELL_REQUEST_GET_SHELL_SURFACE,
-		args, 2, &made, NULL);
-	if (status)
-		*status = done;
-	return made;
+	args[1] = surface.object.id ? waywire_of(surface.object) : waywire_no_object();
+	return waywire_end_send(client.end, wl_shell.object,
+		WAYWIRE_WL_SHELL_REQUEST_GET_SHELL_SURFACE, args, 2, made ? &made->object : NULL,
+		NULL);
+}
+
+static inline waywire_status waywire_wl_shell_bind(waywire_client client,
+	waywire_wl_registry registry, uint32_t name, uint32_t version, waywire_wl_shell *made)
+{
+	return waywire_client_bind(client, registry.object, name, WAYWIRE_WL_SHELL_NAME, version,
+		made ? &made->object : NULL);
 }
 
 struct waywire_wl_shell_requests {
 	/* makes a surface a window */
-	void (*get_shell_surface)(void *data, waywire_object wl_shell, waywire_object id,
-		waywire_object surface);
+	void (*get_shell_surface)(void *data, waywire_wl_shell wl_shell,
+		waywire_wl_shell_surface id, waywire_wl_surface surface);
 };
 
 static inline bool waywire_wl_shell_dispatch_request(const struct waywire_wl_shell_requests *calls,
@@ -2659,7 +2965,9 @@ static inline bool waywire_wl_shell_dispatch_request(const struct waywire_wl_she
 	case WAYWIRE_WL_SHELL_REQUEST_GET_SHELL_SURFACE:
 		if (!calls->get_shell_surface)
 			return false;
-		calls->get_shell_surface(data, report->target, args[0].object, args[1].object);
+		calls->get_shell_surface(data, waywire_wl_shell_of(report->target),
+			waywire_wl_shell_surface_of(args[0].object),
+			waywire_wl_surface_of(args[1].object));
 		return true;
 	default:
 		return false;
@@ -2731,155 +3039,157 @@ enum waywire_wl_shell_surface_fullscreen_method {
 
 /* answers a ping */
 static inline waywire_status waywire_wl_shell_surface_pong(waywire_client client,
-	waywire_object wl_shell_surface, uint32_t serial)
+	waywire_wl_shell_surface wl_shell_surface, uint32_t serial)
 {
 	waywire_arg args[1];
 	args[0] = waywire_uint(serial);
-	return waywire_end_send(client.end, wl_shell_surface, WAYWIRE_WL_SHELL_SURFACE_REQUEST_PONG,
-		args, 1, NULL, NULL);
+	return waywire_end_send(client.end, wl_shell_surface.object,
+		WAYWIRE_WL_SHELL_SURFACE_REQUEST_PONG, args, 1, NULL, NULL);
 }
 
 /* lets the user move the window */
 static inline waywire_status waywire_wl_shell_surface_move(waywire_client client,
-	waywire_object wl_shell_surface, waywire_object seat, uint32_t serial)
+	waywire_wl_shell_surface wl_shell_surface, waywire_wl_seat seat, uint32_t serial)
 {
 	waywire_arg args[2];
-	args[0] = seat.id ? waywire_of(seat) : waywire_no_object();
+	args[0] = seat.object.id ? waywire_of(seat.object) : waywire_no_object();
 	args[1] = waywire_uint(serial);
-	return waywire_end_send(client.end, wl_shell_surface, WAYWIRE_WL_SHELL_SURFACE_REQUEST_MOVE,
-		args, 2, NULL, NULL);
+	return waywire_end_send(client.end, wl_shell_surface.object,
+		WAYWIRE_WL_SHELL_SURFACE_REQUEST_MOVE, args, 2, NULL, NULL);
 }
 
 /* lets the user resize the window */
 static inline waywire_status waywire_wl_shell_surface_resize(waywire_client client,
-	waywire_object wl_shell_surface, waywire_object seat, uint32_t serial, uint32_t edges)
+	waywire_wl_shell_surface wl_shell_surface, waywire_wl_seat seat, uint32_t serial,
+	uint32_t edges)
 {
 	waywire_arg args[3];
-	args[0] = seat.id ? waywire_of(seat) : waywire_no_object();
+	args[0] = seat.object.id ? waywire_of(seat.object) : waywire_no_object();
 	args[1] = waywire_uint(serial);
 	args[2] = waywire_uint(edges);
-	return waywire_end_send(client.end, wl_shell_surface,
+	return waywire_end_send(client.end, wl_shell_surface.object,
 		WAYWIRE_WL_SHELL_SURFACE_REQUEST_RESIZE, args, 3, NULL, NULL);
 }
 
 /* makes it a window of its own */
 static inline waywire_status waywire_wl_shell_surface_set_toplevel(waywire_client client,
-	waywire_object wl_shell_surface)
+	waywire_wl_shell_surface wl_shell_surface)
 {
-	return waywire_end_send(client.end, wl_shell_surface,
+	return waywire_end_send(client.end, wl_shell_surface.object,
 		WAYWIRE_WL_SHELL_SURFACE_REQUEST_SET_TOPLEVEL, NULL, 0, NULL, NULL);
 }
 
 /* makes it a window beside another */
 static inline waywire_status waywire_wl_shell_surface_set_transient(waywire_client client,
-	waywire_object wl_shell_surface, waywire_object parent, int32_t x, int32_t y,
+	waywire_wl_shell_surface wl_shell_surface, waywire_wl_surface parent, int32_t x, int32_t y,
 	uint32_t flags)
 {
 	waywire_arg args[4];
-	args[0] = parent.id ? waywire_of(parent) : waywire_no_object();
+	args[0] = parent.object.id ? waywire_of(parent.object) : waywire_no_object();
 	args[1] = waywire_int(x);
 	args[2] = waywire_int(y);
 	args[3] = waywire_uint(flags);
-	return waywire_end_send(client.end, wl_shell_surface,
+	return waywire_end_send(client.end, wl_shell_surface.object,
 		WAYWIRE_WL_SHELL_SURFACE_REQUEST_SET_TRANSIENT, args, 4, NULL, NULL);
 }
 
 /* shows it over a whole output */
 static inline waywire_status waywire_wl_shell_surface_set_fullscreen(waywire_client client,
-	waywire_object wl_shell_surface, uint32_t method, uint32_t framerate, waywire_object output)
+	waywire_wl_shell_surface wl_shell_surface, uint32_t method, uint32_t framerate,
+	waywire_wl_output output)
 {
 	waywire_arg args[3];
 	args[0] = waywire_uint(method);
 	args[1] = waywire_uint(framerate);
-	args[2] = output.id ? waywire_of(output) : waywire_no_object();
-	return waywire_end_send(client.end, wl_shell_surface,
+	args[2] = output.object.id ? waywire_of(output.object) : waywire_no_object();
+	return waywire_end_send(client.end, wl_shell_surface.object,
 		WAYWIRE_WL_SHELL_SURFACE_REQUEST_SET_FULLSCREEN, args, 3, NULL, NULL);
 }
 
 /* makes it a popup */
 static inline waywire_status waywire_wl_shell_surface_set_popup(waywire_client client,
-	waywire_object wl_shell_surface, waywire_object seat, uint32_t serial,
-	waywire_object parent, int32_t x, int32_t y, uint32_t flags)
+	waywire_wl_shell_surface wl_shell_surface, waywire_wl_seat seat, uint32_t serial,
+	waywire_wl_surface parent, int32_t x, int32_t y, uint32_t flags)
 {
 	waywire_arg args[6];
-	args[0] = seat.id ? waywire_of(seat) : waywire_no_object();
+	args[0] = seat.object.id ? waywire_of(seat.object) : waywire_no_object();
 	args[1] = waywire_uint(serial);
-	args[2] = parent.id ? waywire_of(parent) : waywire_no_object();
+	args[2] = parent.object.id ? waywire_of(parent.object) : waywire_no_object();
 	args[3] = waywire_int(x);
 	args[4] = waywire_int(y);
 	args[5] = waywire_uint(flags);
-	return waywire_end_send(client.end, wl_shell_surface,
+	return waywire_end_send(client.end, wl_shell_surface.object,
 		WAYWIRE_WL_SHELL_SURFACE_REQUEST_SET_POPUP, args, 6, NULL, NULL);
 }
 
 /* makes it as large as its output allows */
 static inline waywire_status waywire_wl_shell_surface_set_maximized(waywire_client client,
-	waywire_object wl_shell_surface, waywire_object output)
+	waywire_wl_shell_surface wl_shell_surface, waywire_wl_output output)
 {
 	waywire_arg args[1];
-	args[0] = output.id ? waywire_of(output) : waywire_no_object();
-	return waywire_end_send(client.end, wl_shell_surface,
+	args[0] = output.object.id ? waywire_of(output.object) : waywire_no_object();
+	return waywire_end_send(client.end, wl_shell_surface.object,
 		WAYWIRE_WL_SHELL_SURFACE_REQUEST_SET_MAXIMIZED, args, 1, NULL, NULL);
 }
 
 /* sets the title */
 static inline waywire_status waywire_wl_shell_surface_set_title(waywire_client client,
-	waywire_object wl_shell_surface, const char *title)
+	waywire_wl_shell_surface wl_shell_surface, const char *title)
 {
 	waywire_arg args[1];
 	args[0] = waywire_string(title);
-	return waywire_end_send(client.end, wl_shell_surface,
+	return waywire_end_send(client.end, wl_shell_surface.object,
 		WAYWIRE_WL_SHELL_SURFACE_REQUEST_SET_TITLE, args, 1, NULL, NULL);
 }
 
 /* sets the class */
 static inline waywire_status waywire_wl_shell_surface_set_class(waywire_client client,
-	waywire_object wl_shell_surface, const char *class_)
+	waywire_wl_shell_surface wl_shell_surface, const char *class_)
 {
 	waywire_arg args[1];
 	args[0] = waywire_string(class_);
-	return waywire_end_send(client.end, wl_shell_surface,
+	return waywire_end_send(client.end, wl_shell_surface.object,
 		WAYWIRE_WL_SHELL_SURFACE_REQUEST_SET_CLASS, args, 1, NULL, NULL);
 }
 
 /* asks whether the client is alive */
 static inline waywire_status waywire_wl_shell_surface_send_ping(waywire_server server,
-	waywire_object wl_shell_surface, uint32_t serial)
+	waywire_wl_shell_surface wl_shell_surface, uint32_t serial)
 {
 	waywire_arg args[1];
 	args[0] = waywire_uint(serial);
-	return waywire_end_send(server.end, wl_shell_surface, WAYWIRE_WL_SHELL_SURFACE_EVENT_PING,
-		args, 1, NULL, NULL);
+	return waywire_end_send(server.end, wl_shell_surface.object,
+		WAYWIRE_WL_SHELL_SURFACE_EVENT_PING, args, 1, NULL, NULL);
 }
 
 /* suggests another size */
 static inline waywire_status waywire_wl_shell_surface_send_configure(waywire_server server,
-	waywire_object wl_shell_surface, uint32_t edges, int32_t width, int32_t height)
+	waywire_wl_shell_surface wl_shell_surface, uint32_t edges, int32_t width, int32_t height)
 {
 	waywire_arg args[3];
 	args[0] = waywire_uint(edges);
 	args[1] = waywire_int(width);
 	args[2] = waywire_int(height);
-	return waywire_end_send(server.end, wl_shell_surface,
+	return waywire_end_send(server.end, wl_shell_surface.object,
 		WAYWIRE_WL_SHELL_SURFACE_EVENT_CONFIGURE, args, 3, NULL, NULL);
 }
 
 /* the popup is to be closed */
 static inline waywire_status waywire_wl_shell_surface_send_popup_done(waywire_server server,
-	waywire_object wl_shell_surface)
+	waywire_wl_shell_surface wl_shell_surface)
 {
-	return waywire_end_send(server.end, wl_shell_surface,
+	return waywire_end_send(server.end, wl_shell_surface.object,
 		WAYWIRE_WL_SHELL_SURFACE_EVENT_POPUP_DONE, NULL, 0, NULL, NULL);
 }
 
 struct waywire_wl_shell_surface_events {
 	/* asks whether the client is alive */
-	void (*ping)(void *data, waywire_object wl_shell_surface, uint32_t serial);
+	void (*ping)(void *data, waywire_wl_shell_surface wl_shell_surface, uint32_t serial);
 	/* suggests another size */
-	void (*configure)(void *data, waywire_object wl_shell_surface, uint32_t edges,
+	void (*configure)(void *data, waywire_wl_shell_surface wl_shell_surface, uint32_t edges,
 		int32_t width, int32_t height);
 	/* the popup is to be closed */
-	void (*popup_done)(void *data, waywire_object wl_shell_surface);
+	void (*popup_done)(void *data, waywire_wl_shell_surface wl_shell_surface);
 };
 
 static inline bool waywire_wl_shell_surface_dispatch_event(
@@ -2893,17 +3203,18 @@ static inline bool waywire_wl_shell_surface_dispatch_event(
 	case WAYWIRE_WL_SHELL_SURFACE_EVENT_PING:
 		if (!calls->ping)
 			return false;
-		calls->ping(data, report->target, args[0].u);
+		calls->ping(data, waywire_wl_shell_surface_of(report->target), args[0].u);
 		return true;
 	case WAYWIRE_WL_SHELL_SURFACE_EVENT_CONFIGURE:
 		if (!calls->configure)
 			return false;
-		calls->configure(data, report->target, args[0].u, args[1].i, args[2].i);
+		calls->configure(data, waywire_wl_shell_surface_of(report->target), args[0].u,
+			args[1].i, args[2].i);
 		return true;
 	case WAYWIRE_WL_SHELL_SURFACE_EVENT_POPUP_DONE:
 		if (!calls->popup_done)
 			return false;
-		calls->popup_done(data, report->target);
+		calls->popup_done(data, waywire_wl_shell_surface_of(report->target));
 		return true;
 	default:
 		return false;
@@ -2919,30 +3230,33 @@ static inline bool waywire_wl_shell_surface_event_dispatcher(const void *calls, 
 
 struct waywire_wl_shell_surface_requests {
 	/* answers a ping */
-	void (*pong)(void *data, waywire_object wl_shell_surface, uint32_t serial);
+	void (*pong)(void *data, waywire_wl_shell_surface wl_shell_surface, uint32_t serial);
 	/* lets the user move the window */
-	void (*move)(void *data, waywire_object wl_shell_surface, waywire_object seat,
+	void (*move)(void *data, waywire_wl_shell_surface wl_shell_surface, waywire_wl_seat seat,
 		uint32_t serial);
 	/* lets the user resize the window */
-	void (*resize)(void *data, waywire_object wl_shell_surface, waywire_object seat,
+	void (*resize)(void *data, waywire_wl_shell_surface wl_shell_surface, waywire_wl_seat seat,
 		uint32_t serial, uint32_t edges);
 	/* makes it a window of its own */
-	void (*set_toplevel)(void *data, waywire_object wl_shell_surface);
+	void (*set_toplevel)(void *data, waywire_wl_shell_surface wl_shell_surface);
 	/* makes it a window beside another */
-	void (*set_transient)(void *data, waywire_object wl_shell_surface, waywire_object parent,
-		int32_t x, int32_t y, uint32_t flags);
+	void (*set_transient)(void *data, waywire_wl_shell_surface wl_shell_surface,
+		waywire_wl_surface parent, int32_t x, int32_t y, uint32_t flags);
 	/* shows it over a whole output */
-	void (*set_fullscreen)(void *data, waywire_object wl_shell_surface, uint32_t method,
-		uint32_t framerate, waywire_object output);
+	void (*set_fullscreen)(void *data, waywire_wl_shell_surface wl_shell_surface,
+		uint32_t method, uint32_t framerate, waywire_wl_output output);
 	/* makes it a popup */
-	void (*set_popup)(void *data, waywire_object wl_shell_surface, waywire_object seat,
-		uint32_t serial, waywire_object parent, int32_t x, int32_t y, uint32_t flags);
+	void (*set_popup)(void *data, waywire_wl_shell_surface wl_shell_surface,
+		waywire_wl_seat seat, uint32_t serial, waywire_wl_surface parent, int32_t x,
+		int32_t y, uint32_t flags);
 	/* makes it as large as its output allows */
-	void (*set_maximized)(void *data, waywire_object wl_shell_surface, waywire_object output);
+	void (*set_maximized)(void *data, waywire_wl_shell_surface wl_shell_surface,
+		waywire_wl_output output);
 	/* sets the title */
-	void (*set_title)(void *data, waywire_object wl_shell_surface, const char *title);
+	void (*set_title)(void *data, waywire_wl_shell_surface wl_shell_surface, const char *title);
 	/* sets the class */
-	void (*set_class)(void *data, waywire_object wl_shell_surface, const char *class_);
+	void (*set_class)(void *data, waywire_wl_shell_surface wl_shell_surface,
+		const char *class_);
 };
 
 static inline bool waywire_wl_shell_surface_dispatch_request(
@@ -2956,54 +3270,61 @@ static inline bool waywire_wl_shell_surface_dispatch_request(
 	case WAYWIRE_WL_SHELL_SURFACE_REQUEST_PONG:
 		if (!calls->pong)
 			return false;
-		calls->pong(data, report->target, args[0].u);
+		calls->pong(data, waywire_wl_shell_surface_of(report->target), args[0].u);
 		return true;
 	case WAYWIRE_WL_SHELL_SURFACE_REQUEST_MOVE:
 		if (!calls->move)
 			return false;
-		calls->move(data, report->target, args[0].object, args[1].u);
+		calls->move(data, waywire_wl_shell_surface_of(report->target),
+			waywire_wl_seat_of(args[0].object), args[1].u);
 		return true;
 	case WAYWIRE_WL_SHELL_SURFACE_REQUEST_RESIZE:
 		if (!calls->resize)
 			return false;
-		calls->resize(data, report->target, args[0].object, args[1].u, args[2].u);
+		calls->resize(data, waywire_wl_shell_surface_of(report->target),
+			waywire_wl_seat_of(args[0].object), args[1].u, args[2].u);
 		return true;
 	case WAYWIRE_WL_SHELL_SURFACE_REQUEST_SET_TOPLEVEL:
 		if (!calls->set_toplevel)
 			return false;
-		calls->set_toplevel(data, report->target);
+		calls->set_toplevel(data, waywire_wl_shell_surface_of(report->target));
 		return true;
 	case WAYWIRE_WL_SHELL_SURFACE_REQUEST_SET_TRANSIENT:
 		if (!calls->set_transient)
 			return false;
-		calls->set_transient(data, report->target, args[0].object, args[1].i, args[2].i,
-			args[3].u);
+		calls->set_transient(data, waywire_wl_shell_surface_of(report->target),
+			waywire_wl_surface_of(args[0].object), args[1].i, args[2].i, args[3].u);
 		return true;
 	case WAYWIRE_WL_SHELL_SURFACE_REQUEST_SET_FULLSCREEN:
 		if (!calls->set_fullscreen)
 			return false;
-		calls->set_fullscreen(data, report->target, args[0].u, args[1].u, args[2].object);
+		calls->set_fullscreen(data, waywire_wl_shell_surface_of(report->target), args[0].u,
+			args[1].u, waywire_wl_output_of(args[2].object));
 		return true;
 	case WAYWIRE_WL_SHELL_SURFACE_REQUEST_SET_POPUP:
 		if (!calls->set_popup)
 			return false;
-		calls->set_popup(data, report->target, args[0].object, args[1].u, args[2].object,
-			args[3].i, args[4].i, args[5].u);
+		calls->set_popup(data, waywire_wl_shell_surface_of(report->target),
+			waywire_wl_seat_of(args[0].object), args[1].u,
+			waywire_wl_surface_of(args[2].object), args[3].i, args[4].i, args[5].u);
 		return true;
 	case WAYWIRE_WL_SHELL_SURFACE_REQUEST_SET_MAXIMIZED:
 		if (!calls->set_maximized)
 			return false;
-		calls->set_maximized(data, report->target, args[0].object);
+		calls->set_maximized(data, waywire_wl_shell_surface_of(report->target),
+			waywire_wl_output_of(args[0].object));
 		return true;
 	case WAYWIRE_WL_SHELL_SURFACE_REQUEST_SET_TITLE:
 		if (!calls->set_title)
 			return false;
-		calls->set_title(data, report->target, (const char *)args[0].bytes);
+		calls->set_title(data, waywire_wl_shell_surface_of(report->target),
+			(const char *)args[0].bytes);
 		return true;
 	case WAYWIRE_WL_SHELL_SURFACE_REQUEST_SET_CLASS:
 		if (!calls->set_class)
 			return false;
-		calls->set_class(data, report->target, (const char *)args[0].bytes);
+		calls->set_class(data, waywire_wl_shell_surface_of(report->target),
+			(const char *)args[0].bytes);
 		return true;
 	default:
 		return false;
@@ -3030,27 +3351,35 @@ static inline bool waywire_wl_shell_surface_request_dispatcher(const void *calls
 
 /* ends the object */
 static inline waywire_status waywire_wl_fixes_destroy(waywire_client client,
-	waywire_object wl_fixes)
+	waywire_wl_fixes wl_fixes)
 {
-	return waywire_end_send(client.end, wl_fixes, WAYWIRE_WL_FIXES_REQUEST_DESTROY, NULL, 0,
-		NULL, NULL);
+	return waywire_end_send(client.end, wl_fixes.object, WAYWIRE_WL_FIXES_REQUEST_DESTROY, NULL,
+		0, NULL, NULL);
 }
 
 /* ends a registry */
 static inline waywire_status waywire_wl_fixes_destroy_registry(waywire_client client,
-	waywire_object wl_fixes, waywire_object registry)
+	waywire_wl_fixes wl_fixes, waywire_wl_registry registry)
 {
 	waywire_arg args[1];
-	args[0] = registry.id ? waywire_of(registry) : waywire_no_object();
-	return waywire_end_send(client.end, wl_fixes, WAYWIRE_WL_FIXES_REQUEST_DESTROY_REGISTRY,
-		args, 1, NULL, NULL);
+	args[0] = registry.object.id ? waywire_of(registry.object) : waywire_no_object();
+	return waywire_end_send(client.end, wl_fixes.object,
+		WAYWIRE_WL_FIXES_REQUEST_DESTROY_REGISTRY, args, 1, NULL, NULL);
+}
+
+static inline waywire_status waywire_wl_fixes_bind(waywire_client client,
+	waywire_wl_registry registry, uint32_t name, uint32_t version, waywire_wl_fixes *made)
+{
+	return waywire_client_bind(client, registry.object, name, WAYWIRE_WL_FIXES_NAME, version,
+		made ? &made->object : NULL);
 }
 
 struct waywire_wl_fixes_requests {
 	/* ends the object */
-	void (*destroy)(void *data, waywire_object wl_fixes);
+	void (*destroy)(void *data, waywire_wl_fixes wl_fixes);
 	/* ends a registry */
-	void (*destroy_registry)(void *data, waywire_object wl_fixes, waywire_object registry);
+	void (*destroy_registry)(void *data, waywire_wl_fixes wl_fixes,
+		waywire_wl_registry registry);
 };
 
 static inline bool waywire_wl_fixes_dispatch_request(const struct waywire_wl_fixes_requests *calls,
@@ -3063,12 +3392,13 @@ static inline bool waywire_wl_fixes_dispatch_request(const struct waywire_wl_fix
 	case WAYWIRE_WL_FIXES_REQUEST_DESTROY:
 		if (!calls->destroy)
 			return false;
-		calls->destroy(data, report->target);
+		calls->destroy(data, waywire_wl_fixes_of(report->target));
 		return true;
 	case WAYWIRE_WL_FIXES_REQUEST_DESTROY_REGISTRY:
 		if (!calls->destroy_registry)
 			return false;
-		calls->destroy_registry(data, report->target, args[0].object);
+		calls->destroy_registry(data, waywire_wl_fixes_of(report->target),
+			waywire_wl_registry_of(args[0].object));
 		return true;
 	default:
 		return false;

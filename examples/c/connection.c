@@ -33,7 +33,7 @@ bool connection_open(struct connection *connection, const char *text)
 		return false;
 	}
 	connection->link.end = connection->client.end;
-	connection->display = waywire_end_display(connection->link.end);
+	connection->display = waywire_wl_display_of(waywire_end_display(connection->link.end));
 	connection->link.socket = link_connect();
 	return connection->link.socket >= 0;
 }
@@ -48,7 +48,7 @@ bool connection_serve(struct connection *connection, int socket, const char *tex
 		return false;
 	}
 	connection->link.end = connection->server.end;
-	connection->display = waywire_end_display(connection->link.end);
+	connection->display = waywire_wl_display_of(waywire_end_display(connection->link.end));
 	connection->link.socket = socket;
 	return true;
 }
@@ -230,7 +230,7 @@ static int bound_objects(struct connection *connection)
 	if (count <= MOST_OBJECTS)
 		return 0;
 	fprintf(stderr, "connection: it has %zu objects\n", count);
-	waywire_server_post_error(connection->server, connection->display,
+	waywire_server_post_error(connection->server, connection->display.object,
 		WAYWIRE_WL_DISPLAY_ERROR_NO_MEMORY, "too many objects");
 	errno = EPROTO;
 	return -1; /* connection_close writes the error and closes */
@@ -271,7 +271,7 @@ int connection_dispatch(struct connection *connection, int milliseconds)
 	return 1;
 }
 
-static void on_done(void *data, waywire_object callback, uint32_t serial)
+static void on_done(void *data, waywire_wl_callback callback, uint32_t serial)
 {
 	(void)callback, (void)serial;
 	*(bool *)data = true;
@@ -282,14 +282,14 @@ int connection_roundtrip(struct connection *connection)
 	static const struct waywire_wl_callback_events events = { .done = on_done };
 	bool done = false;
 	int came = 1;
-	waywire_object callback = waywire_wl_display_sync(connection->client, connection->display, NULL);
+	waywire_wl_callback callback;
 	errno = EPROTO;
-	if (!callback.id)
+	if (waywire_wl_display_sync(connection->client, connection->display, &callback))
 		return -1;
-	connection_listen(connection, callback, waywire_wl_callback_event_dispatcher, &events, &done);
+	connection_listen(connection, callback.object, waywire_wl_callback_event_dispatcher, &events, &done);
 	while (!done && came > 0)
 		came = connection_dispatch(connection, 120000);
-	struct known *it = find(connection, callback);
+	struct known *it = find(connection, callback.object);
 	if (it) /* no answer came */
 		forget(it);
 	return done ? 0 : -1;

@@ -9,6 +9,8 @@
 
 #include "transport.h"
 
+#include <waywire-core.h>
+
 /* A `.._event_dispatcher` or `.._request_dispatcher` of waywire-core.h or of another header of stubs. */
 typedef bool dispatcher(const void *calls, void *data, const waywire_report *report);
 
@@ -36,7 +38,7 @@ struct connection {
 	waywire_client client;
 	waywire_server server;
 	waywire_tables *tables;
-	waywire_object display;
+	waywire_wl_display display;
 	struct known_range of_client, of_server; /* by who makes the objects */
 	struct listener *implemented; /* each at the place of its interface */
 	size_t implemented_count;

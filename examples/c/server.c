@@ -36,7 +36,9 @@ struct memory {
 
 /* What is attached to a surface, who waits for its next frame, and the window that it shows. */
 struct surface {
-	waywire_object buffer, callback, toplevel;
+	waywire_wl_buffer buffer;
+	waywire_wl_callback callback;
+	waywire_xdg_toplevel toplevel;
 };
 
 struct devices {
@@ -49,7 +51,8 @@ static uint32_t serial;
 static struct devices keyboards, pointers;
 
 /* The first window that has shown a picture; of id 0 before. */
-static waywire_object window_surface, window;
+static waywire_wl_surface window_surface;
+static waywire_xdg_toplevel window;
 
 static void must(waywire_status status)
 {
@@ -86,14 +89,14 @@ static void *new_data(waywire_object object, size_t size)
 	return data;
 }
 
-static void on_sync(void *data, waywire_object display, waywire_object callback)
+static void on_sync(void *data, waywire_wl_display display, waywire_wl_callback callback)
 {
 	must(waywire_wl_callback_send_done(server, callback, serial++));
 }
 
 static const struct waywire_wl_display_requests display_requests = { .sync = on_sync };
 
-static void tell_output(waywire_object output)
+static void tell_output(waywire_wl_output output)
 {
 	must(waywire_wl_output_send_geometry(server, output, 0, 0, 340, 190,
 		WAYWIRE_WL_OUTPUT_SUBPIXEL_UNKNOWN, "", "", WAYWIRE_WL_OUTPUT_TRANSFORM_NORMAL));
@@ -101,17 +104,17 @@ static void tell_output(waywire_object output)
 	may(waywire_wl_output_send_done(server, output));
 }
 
-static void on_bind(void *data, waywire_object registry, uint32_t name, const char *interface,
+static void on_bind(void *data, waywire_wl_registry registry, uint32_t name, const char *interface,
 	uint32_t version, waywire_object made)
 {
 	if (!strcmp(interface, WAYWIRE_WL_SHM_NAME)) {
-		must(waywire_wl_shm_send_format(server, made, WAYWIRE_WL_SHM_FORMAT_XRGB8888));
-		must(waywire_wl_shm_send_format(server, made, WAYWIRE_WL_SHM_FORMAT_ARGB8888));
+		must(waywire_wl_shm_send_format(server, waywire_wl_shm_of(made), WAYWIRE_WL_SHM_FORMAT_XRGB8888));
+		must(waywire_wl_shm_send_format(server, waywire_wl_shm_of(made), WAYWIRE_WL_SHM_FORMAT_ARGB8888));
 	} else if (!strcmp(interface, WAYWIRE_WL_SEAT_NAME)) {
-		must(waywire_wl_seat_send_capabilities(server, made,
+		must(waywire_wl_seat_send_capabilities(server, waywire_wl_seat_of(made),
 			WAYWIRE_WL_SEAT_CAPABILITY_POINTER | WAYWIRE_WL_SEAT_CAPABILITY_KEYBOARD));
 	} else if (!strcmp(interface, WAYWIRE_WL_OUTPUT_NAME)) {
-		tell_output(made);
+		tell_output(waywire_wl_output_of(made));
 	}
 }
 
@@ -132,80 +135,80 @@ static void set_memory(waywire_object object, struct memory memory)
 	connection_set_data(&connection, object, kept, free_memory);
 }
 
-static void on_create_pool(void *data, waywire_object shm, waywire_object pool, int fd, int32_t size)
+static void on_create_pool(void *data, waywire_wl_shm shm, waywire_wl_shm_pool pool, int fd, int32_t size)
 {
-	set_memory(pool, (struct memory){ fd, 0, 0, 0 });
+	set_memory(pool.object, (struct memory){ fd, 0, 0, 0 });
 }
 
 static const struct waywire_wl_shm_requests shm_requests = { .create_pool = on_create_pool };
 
-static void on_create_buffer(void *data, waywire_object pool, waywire_object buffer, int32_t offset,
+static void on_create_buffer(void *data, waywire_wl_shm_pool pool, waywire_wl_buffer buffer, int32_t offset,
 	int32_t width, int32_t height, int32_t stride, uint32_t format)
 {
 	const struct memory *memory = data;
-	set_memory(buffer, (struct memory){ dup(memory->descriptor), offset, width, height });
+	set_memory(buffer.object, (struct memory){ dup(memory->descriptor), offset, width, height });
 }
 
 static const struct waywire_wl_shm_pool_requests pool_requests = { .create_buffer = on_create_buffer };
 
-static void on_create_surface(void *data, waywire_object compositor, waywire_object surface)
+static void on_create_surface(void *data, waywire_wl_compositor compositor, waywire_wl_surface surface)
 {
-	new_data(surface, sizeof(struct surface));
+	new_data(surface.object, sizeof(struct surface));
 }
 
 static const struct waywire_wl_compositor_requests compositor_requests = {
 	.create_surface = on_create_surface };
 
-static void on_attach(void *data, waywire_object surface, waywire_object buffer, int32_t x, int32_t y)
+static void on_attach(void *data, waywire_wl_surface surface, waywire_wl_buffer buffer, int32_t x, int32_t y)
 {
 	((struct surface *)data)->buffer = buffer;
 }
 
 static void answer(struct surface *surface)
 {
-	if (surface->callback.id)
+	if (surface->callback.object.id)
 		must(waywire_wl_callback_send_done(server, surface->callback, milliseconds()));
-	surface->callback.id = 0;
+	surface->callback.object.id = 0;
 }
 
-static void on_frame(void *data, waywire_object surface, waywire_object callback)
+static void on_frame(void *data, waywire_wl_surface surface, waywire_wl_callback callback)
 {
 	answer(data); /* one waits at a time */
 	((struct surface *)data)->callback = callback;
 }
 
-static void on_commit(void *data, waywire_object object)
+static void on_commit(void *data, waywire_wl_surface it)
 {
 	struct surface *surface = data;
-	const struct memory *buffer = connection_data(&connection, surface->buffer);
+	const struct memory *buffer = connection_data(&connection, surface->buffer.object);
 	uint32_t pixel;
 	if (buffer && pread(buffer->descriptor, &pixel, sizeof pixel, buffer->offset) == sizeof pixel) {
 		printf("server: a picture of %d by %d, its first pixel %08x\n", buffer->width,
 			buffer->height, pixel);
 		must(waywire_wl_buffer_send_release(server, surface->buffer));
-		if (!window.id && is_live(surface->toplevel)) {
-			window_surface = object;
+		if (!window.object.id && is_live(surface->toplevel.object)) {
+			window_surface = it;
 			window = surface->toplevel;
 		}
 	}
-	surface->buffer.id = 0;
+	surface->buffer.object.id = 0;
 	answer(surface);
 }
 
 static const struct waywire_wl_surface_requests surface_requests = {
 	.attach = on_attach, .frame = on_frame, .commit = on_commit };
 
-static void on_get_xdg_surface(void *data, waywire_object base, waywire_object xdg_surface,
-	waywire_object surface)
+static void on_get_xdg_surface(void *data, waywire_xdg_wm_base base, waywire_xdg_surface xdg_surface,
+	waywire_wl_surface surface)
 {
-	*(waywire_object *)new_data(xdg_surface, sizeof surface) = surface;
+	*(waywire_wl_surface *)new_data(xdg_surface.object, sizeof surface) = surface;
 }
 
 static const struct ww_xdg_wm_base_requests wm_base_requests = { .get_xdg_surface = on_get_xdg_surface };
 
-static void on_get_toplevel(void *data, waywire_object xdg_surface, waywire_object toplevel)
+static void on_get_toplevel(void *data, waywire_xdg_surface xdg_surface, waywire_xdg_toplevel toplevel)
 {
-	struct surface *surface = connection_data(&connection, *(waywire_object *)data);
+	struct surface *surface = connection_data(&connection, ((waywire_wl_surface *)data)->object);
 	if (surface)
 		surface->toplevel = toplevel;
 	must(ww_xdg_toplevel_send_configure(server, toplevel, 0, 0, NULL, 0));
@@ -213,8 +216,8 @@ static void on_get_toplevel(void *data, waywire_object xdg_surface, waywire_obje
 }
 
 /* There is no place for menus: each is closed at once. */
-static void on_get_popup(void *data, waywire_object xdg_surface, waywire_object popup, waywire_object parent,
-	waywire_object positioner)
+static void on_get_popup(void *data, waywire_xdg_surface xdg_surface, waywire_xdg_popup popup,
+	waywire_xdg_surface parent, waywire_xdg_positioner positioner)
 {
 	must(ww_xdg_popup_send_popup_done(server, popup));
 }
@@ -235,7 +238,7 @@ static void keep(struct devices *devices, waywire_object object)
 	}
 }
 
-static void on_get_keyboard(void *data, waywire_object seat, waywire_object keyboard)
+static void on_get_keyboard(void *data, waywire_wl_seat seat, waywire_wl_keyboard keyboard)
 {
 	int nothing = open("/dev/null", O_RDONLY | O_CLOEXEC);
 	if (nothing < 0)
@@ -243,30 +246,41 @@ static void on_get_keyboard(void *data, waywire_object seat, waywire_object keyb
 	must(waywire_wl_keyboard_send_keymap(server, keyboard, WAYWIRE_WL_KEYBOARD_KEYMAP_FORMAT_NO_KEYMAP,
 		nothing, 0));
 	may(waywire_wl_keyboard_send_repeat_info(server, keyboard, 0, 0));
-	keep(&keyboards, keyboard);
+	keep(&keyboards, keyboard.object);
 }
 
-static void on_get_pointer(void *data, waywire_object seat, waywire_object pointer)
+static void on_get_pointer(void *data, waywire_wl_seat seat, waywire_wl_pointer pointer)
 {
-	keep(&pointers, pointer);
+	keep(&pointers, pointer.object);
 }
 
 static const struct waywire_wl_seat_requests seat_requests = {
 	.get_keyboard = on_get_keyboard, .get_pointer = on_get_pointer };
 
-static void on_set_cursor(void *data, waywire_object pointer, uint32_t of, waywire_object surface, int32_t x,
-	int32_t y)
+static void on_set_cursor(void *data, waywire_wl_pointer pointer, uint32_t of, waywire_wl_surface surface,
+	int32_t x, int32_t y)
 {
 	printf("server: a cursor\n");
 }
 
 static const struct waywire_wl_pointer_requests pointer_requests = { .set_cursor = on_set_cursor };
 
+static waywire_wl_keyboard keyboard_at(size_t place)
+{
+	return waywire_wl_keyboard_of(keyboards.objects[place]);
+}
+
+static waywire_wl_pointer pointer_at(size_t place)
+{
+	return waywire_wl_pointer_of(pointers.objects[place]);
+}
+
 /* Gives the window the keyboard and the pointer. */
 static void enter(void)
 {
 	for (size_t each = 0; each < MOST_DEVICES; each++) {
-		waywire_object keyboard = keyboards.objects[each], pointer = pointers.objects[each];
+		waywire_wl_keyboard keyboard = keyboard_at(each);
+		waywire_wl_pointer pointer = pointer_at(each);
 		may(waywire_wl_keyboard_send_enter(server, keyboard, serial, window_surface, NULL, 0));
 		may(waywire_wl_keyboard_send_modifiers(server, keyboard, serial, 0, 0, 0, 0));
 		may(waywire_wl_pointer_send_enter(server, pointer, serial, window_surface, 256, 256));
@@ -278,7 +292,7 @@ static void enter(void)
 static void press_key(uint32_t code)
 {
 	for (size_t each = 0; each < MOST_DEVICES; each++) {
-		waywire_object it = keyboards.objects[each];
+		waywire_wl_keyboard it = keyboard_at(each);
 		uint32_t time = milliseconds();
 		may(waywire_wl_keyboard_send_key(server, it, serial++, time, code,
 			WAYWIRE_WL_KEYBOARD_KEY_STATE_PRESSED));
@@ -290,7 +304,7 @@ static void press_key(uint32_t code)
 static void press_button(uint32_t code)
 {
 	for (size_t each = 0; each < MOST_DEVICES; each++) {
-		waywire_object it = pointers.objects[each];
+		waywire_wl_pointer it = pointer_at(each);
 		uint32_t time = milliseconds();
 		may(waywire_wl_pointer_send_button(server, it, serial++, time, code,
 			WAYWIRE_WL_POINTER_BUTTON_STATE_PRESSED));
@@ -304,7 +318,7 @@ static void press_button(uint32_t code)
 static void move_to(int32_t x, int32_t y)
 {
 	for (size_t each = 0; each < MOST_DEVICES; each++) {
-		waywire_object it = pointers.objects[each];
+		waywire_wl_pointer it = pointer_at(each);
 		may(waywire_wl_pointer_send_motion(server, it, milliseconds(), x * 256, y * 256));
 		may(waywire_wl_pointer_send_frame(server, it));
 	}
@@ -334,7 +348,7 @@ static void play_next(FILE *script)
 	static uint32_t last;
 	static bool has_entered;
 	char line[64];
-	if (!is_live(window) || !is_live(window_surface) || milliseconds() - last < STEP)
+	if (!is_live(window.object) || !is_live(window_surface.object) || milliseconds() - last < STEP)
 		return;
 	if (fgets(line, sizeof line, script)) {
 		if (!has_entered)

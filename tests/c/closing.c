@@ -123,21 +123,24 @@ static void not_sent(void)
 	struct link one, other;
 	waywire_client client;
 	waywire_server server;
-	waywire_object registry, shm, pool;
+	waywire_wl_registry registry;
+	waywire_wl_shm shm;
+	waywire_wl_shm_pool pool;
 	uint16_t place;
 	one.socket = serve(&other, &server);
 	MUST(!waywire_client_new(tables, &sizes, &client));
 	one.end = client.end;
-	registry = waywire_wl_display_get_registry(client, waywire_end_display(client.end), NULL);
+	waywire_wl_display display = waywire_wl_display_of(waywire_end_display(client.end));
+	MUST(!waywire_wl_display_get_registry(client, display, &registry));
 	pass(&one, &other);
 	MUST(!waywire_tables_interface(tables, WAYWIRE_WL_SHM_NAME, &place));
 	MUST(!waywire_server_add_global(server, place, 1, NULL));
 	MUST(!waywire_server_announce(server, NULL));
 	pass(&other, &one);
-	shm = waywire_wl_registry_bind(client, registry, 1, WAYWIRE_WL_SHM_NAME, 1, NULL);
+	MUST(!waywire_wl_shm_bind(client, registry, 1, 1, &shm));
 	for (int each = 0; each < 40; each++) {
-		pool = waywire_wl_shm_create_pool(client, shm, new_descriptor(), 4096, NULL);
-		MUST(pool.id && !waywire_wl_shm_pool_destroy(client, pool));
+		MUST(!waywire_wl_shm_create_pool(client, shm, new_descriptor(), 4096, &pool));
+		MUST(!waywire_wl_shm_pool_destroy(client, pool));
 	}
 	end(&one);
 	end(&other);

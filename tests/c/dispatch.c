@@ -6,35 +6,35 @@ static waywire_object named;
 static uint32_t number;
 static char heard[64];
 
-static void on_error(void *data, waywire_object display, waywire_object object, uint32_t code,
+static void on_error(void *data, waywire_wl_display display, waywire_object object, uint32_t code,
 	const char *text)
 {
-	target = display;
-	must_be_target(data, display);
-	MUST(display.id == 1 && display.birth == 0);
+	target = display.object;
+	must_be_target(data, display.object);
+	MUST(target.id == 1 && target.birth == 0);
 	named = object;
 	number = code;
 	snprintf(heard, sizeof heard, "%s", text);
 }
 
-static void on_delete_id(void *data, waywire_object display, uint32_t id)
+static void on_delete_id(void *data, waywire_wl_display display, uint32_t id)
 {
-	target = display;
-	must_be_target(data, display);
+	target = display.object;
+	must_be_target(data, display.object);
 	number = id;
 }
 
-static void on_global(void *data, waywire_object it, uint32_t name, const char *interface, uint32_t version)
+static void on_global(void *data, waywire_wl_registry it, uint32_t name, const char *interface, uint32_t version)
 {
-	must_be_target(data, it);
+	must_be_target(data, it.object);
 	MUST(version == 6);
 	number = name;
 	snprintf(heard, sizeof heard, "%s", interface);
 }
 
-static void on_global_remove(void *data, waywire_object it, uint32_t name)
+static void on_global_remove(void *data, waywire_wl_registry it, uint32_t name)
 {
-	must_be_target(data, it);
+	must_be_target(data, it.object);
 	number = name;
 }
 
@@ -66,11 +66,9 @@ static void globals(void)
 static void deleted(void)
 {
 	static const struct waywire_wl_pointer_events none = { 0 };
-	waywire_object pointer, seat;
+	waywire_wl_pointer pointer;
 	open_pair();
-	seat = object_of("wl_seat");
-	pointer = waywire_wl_seat_get_pointer(client, seat, &status);
-	MUST(!status);
+	MUST(!waywire_wl_seat_get_pointer(client, waywire_wl_seat_of(object_of("wl_seat")), &pointer));
 	carry_and_read_at_server();
 	MUST(!waywire_wl_pointer_send_frame(server, pointer));
 	MUST(!waywire_wl_pointer_send_frame(server, pointer));
@@ -86,7 +84,7 @@ static void deleted(void)
 	carry_and_read_at_client();
 	MUST(report.kind == WAYWIRE_DELETED);
 	MUST(waywire_wl_display_event_dispatcher(&display_events, &mark, &report));
-	MUST(calls_that_came == 1 && number == pointer.id);
+	MUST(calls_that_came == 1 && number == pointer.object.id);
 	carry_and_read_at_client();
 	MUST(report.kind == WAYWIRE_NOTHING);
 	MUST(!waywire_wl_display_dispatch_event(&display_events, &mark, &report));

@@ -12,7 +12,8 @@ static const waywire_sizes sizes = { 65536, 64, 65536, 64 };
 struct pair {
 	waywire_client client;
 	waywire_server server;
-	waywire_object display, registry;
+	waywire_wl_display display;
+	waywire_wl_registry registry;
 };
 
 static void carry(waywire_end *from, waywire_end *to)
@@ -40,8 +41,8 @@ static void open_pair(struct pair *pair, const waywire_tables *of)
 	waywire_report report;
 	MUST(!waywire_client_new(of, &sizes, &pair->client));
 	MUST(!waywire_server_new(of, &sizes, &pair->server));
-	pair->display = waywire_end_display(pair->client.end);
-	pair->registry = waywire_wl_display_get_registry(pair->client, pair->display, NULL);
+	pair->display = waywire_wl_display_of(waywire_end_display(pair->client.end));
+	MUST(!waywire_wl_display_get_registry(pair->client, pair->display, &pair->registry));
 	to_server(pair);
 	MUST(!waywire_end_next(pair->server.end, &report) && report.kind == WAYWIRE_MESSAGE);
 }
@@ -70,11 +71,26 @@ static waywire_object bound(struct pair *pair, const waywire_tables *of, const c
 			last = report.args[0].u;
 	} while (report.kind != WAYWIRE_NOTHING);
 	MUST(name == last); /* the name that is returned is the one that is told */
-	MUST(!waywire_client_bind(pair->client, pair->registry, name, interface, version, &made));
+	MUST(!waywire_client_bind(pair->client, pair->registry.object, name, interface, version, &made));
 	to_server(pair);
 	MUST(!waywire_end_next(pair->server.end, &report) && report.kind == WAYWIRE_MESSAGE);
 	MUST(waywire_object_equal(report.args[1].object, made) && report.args[1].u == version);
 	return made;
+}
+
+/* A surface that the client makes, and a region. */
+static waywire_object new_surface(const struct pair *pair, waywire_object compositor)
+{
+	waywire_wl_surface surface;
+	MUST(!waywire_wl_compositor_create_surface(pair->client, waywire_wl_compositor_of(compositor), &surface));
+	return surface.object;
+}
+
+static waywire_wl_region new_region(const struct pair *pair, waywire_object compositor)
+{
+	waywire_wl_region region;
+	MUST(!waywire_wl_compositor_create_region(pair->client, waywire_wl_compositor_of(compositor), &region));
+	return region;
 }
 
 /* The place of a refused argument, for each of the two causes, and nothing else written. */
@@ -84,7 +100,7 @@ static void places(void)
 	open_pair(&pair, tables);
 	waywire_object compositor = bound(&pair, tables, "wl_compositor");
 	waywire_object subcompositor = bound(&pair, tables, "wl_subcompositor");
-	waywire_object one = waywire_wl_compositor_create_surface(pair.client, compositor, NULL);
+	waywire_object one = new_surface(&pair, compositor);
 	waywire_arg args[] = { waywire_new(), waywire_of(one), waywire_of(compositor) };
 	waywire_object made = { 5, 6 };
 	size_t place = 77;
@@ -113,7 +129,7 @@ static void object_without_id(void)
 	struct pair pair;
 	open_pair(&pair, tables);
 	waywire_object compositor = bound(&pair, tables, "wl_compositor");
-	waywire_object surface = waywire_wl_compositor_create_surface(pair.client, compositor, NULL);
+	waywire_object surface = new_surface(&pair, compositor);
 	waywire_object none = { 0, 0 };
 	waywire_arg args[] = { waywire_of(none), waywire_int(0), waywire_int(0) };
 	size_t place = 7;
@@ -235,25 +251,26 @@ static void full(void)
 	MUST(!waywire_server_new(tables, &narrow, &pair.server));
 	waywire_end_free(pair.client.end);
 	MUST(!waywire_client_new(tables, &sizes, &pair.client));
-	pair.registry = waywire_wl_display_get_registry(pair.client, pair.display, NULL);
+	MUST(!waywire_wl_display_get_registry(pair.client, pair.display, &pair.registry));
 	to_server(&pair);
 	MUST(!waywire_end_next(pair.server.end, &report));
 	waywire_object compositor = bound(&pair, tables, "wl_compositor");
-	waywire_object region = waywire_wl_compositor_create_region(pair.client, compositor, NULL);
-	waywire_object callback = waywire_wl_display_sync(pair.client, pair.display, NULL);
+	waywire_wl_region region = new_region(&pair, compositor);
+	waywire_wl_callback callback;
+	MUST(!waywire_wl_display_sync(pair.client, pair.display, &callback));
 	MUST(!waywire_wl_region_destroy(pair.client, region));
 	to_server(&pair);
 	MUST(!waywire_end_next(pair.server.end, &report) && !waywire_end_next(pair.server.end, &report));
 	MUST(!waywire_wl_callback_send_done(pair.server, callback, 1)); /* 24 bytes; 16 are left */
 	MUST(!waywire_end_next(pair.server.end, &report) && report.kind == WAYWIRE_MESSAGE); /* 4 are left */
-	region = waywire_wl_compositor_create_region(pair.client, compositor, NULL);
+	region = new_region(&pair, compositor);
 	MUST(!waywire_wl_region_destroy(pair.client, region));
 	to_server(&pair);
 	MUST(!waywire_end_next(pair.server.end, &report));
 	MUST(waywire_end_next(pair.server.end, &report) == WAYWIRE_OUT_FULL && report.kind == WAYWIRE_NOTHING);
 	MUST(!waywire_end_take(pair.server.end, bytes, sizeof bytes, NULL, 0, &taken) && taken.bytes == 36);
 	MUST(!waywire_end_next(pair.server.end, &report) && report.kind == WAYWIRE_MESSAGE);
-	MUST(waywire_object_equal(report.target, region));
+	MUST(waywire_object_equal(report.target, region.object));
 	close_pair(&pair);
 }
 
@@ -264,17 +281,17 @@ static void errors(void)
 	waywire_report report;
 	open_pair(&pair, tables);
 	waywire_object compositor = bound(&pair, tables, "wl_compositor");
-	waywire_object region = waywire_wl_compositor_create_region(pair.client, compositor, NULL);
+	waywire_wl_region region = new_region(&pair, compositor);
 	to_server(&pair);
 	MUST(!waywire_end_next(pair.server.end, &report));
 	MUST(!waywire_wl_region_destroy(pair.client, region));
 	/* 39 bytes, and then a character of two: the 40th byte would cut it */
-	MUST(!waywire_server_post_error(pair.server, region, 3,
+	MUST(!waywire_server_post_error(pair.server, region.object, 3,
 		"a text that has thirty-nine bytes of it" "\xc3\xa9" " and more"));
 	to_client(&pair);
 	MUST(!waywire_end_next(pair.client.end, &report) && report.kind == WAYWIRE_ERROR);
-	MUST(report.named == WAYWIRE_DEAD_OBJECT && waywire_object_equal(report.target, region));
-	MUST(report.id == region.id && report.code == 3 && report.text_length == 39);
+	MUST(report.named == WAYWIRE_DEAD_OBJECT && waywire_object_equal(report.target, region.object));
+	MUST(report.id == region.object.id && report.code == 3 && report.text_length == 39);
 	MUST(!strcmp(report.text, "a text that has thirty-nine bytes of it"));
 	close_pair(&pair);
 }
@@ -298,11 +315,11 @@ static void greatest(void)
 	MUST(waywire_client_new(tables, &more, &client) == WAYWIRE_BAD_SIZES);
 	/* the outbox is as large as it was asked for, and not as the inbox: a request of 12 bytes is too much */
 	waywire_sizes unlike = { 8, 1, 4096, 20 };
-	waywire_object none;
-	waywire_status status;
+	waywire_wl_callback none = { { 5, 6 } };
 	MUST(!waywire_client_new(tables, &unlike, &client));
-	none = waywire_wl_display_sync(client, waywire_end_display(client.end), &status);
-	MUST(status == WAYWIRE_FULL && none.id == 0);
+	waywire_wl_display display = waywire_wl_display_of(waywire_end_display(client.end));
+	MUST(waywire_wl_display_sync(client, display, &none) == WAYWIRE_FULL);
+	MUST(none.object.birth == 5 && none.object.id == 6); /* nothing is written */
 	waywire_end_free(client.end);
 }
 
@@ -419,7 +436,7 @@ static void lines(void)
 	waywire_arg scale = waywire_int(2);
 	open_pair(&pair, tables);
 	waywire_object compositor = bound(&pair, tables, "wl_compositor");
-	waywire_object surface = waywire_wl_compositor_create_surface(pair.client, compositor, NULL);
+	waywire_object surface = new_surface(&pair, compositor);
 	to_server(&pair);
 	MUST(!waywire_end_next(pair.server.end, &report));
 	is_line(WAYWIRE_FROM_CLIENT, &report, "wl_compositor", 6,
@@ -433,7 +450,7 @@ static void lines(void)
 	is_line(WAYWIRE_FROM_SERVER, &report, "wl_surface", 6, "<- wl_surface@4.preferred_buffer_scale(2)");
 	MUST(!waywire_end_send(pair.server.end, surface, WAYWIRE_WL_SURFACE_EVENT_PREFERRED_BUFFER_SCALE,
 		&scale, 1, NULL, NULL));
-	waywire_wl_surface_destroy(pair.client, surface);
+	MUST(!waywire_wl_surface_destroy(pair.client, waywire_wl_surface_of(surface)));
 	to_server(&pair);
 	MUST(!waywire_end_next(pair.server.end, &report));
 	is_line(WAYWIRE_FROM_CLIENT, &report, "wl_surface", 6, "-> wl_surface@4.destroy()");
@@ -483,12 +500,12 @@ static void asked(void)
 	MUST(!waywire_server_add_global(pair.server, place, 1, &name));
 	MUST(!waywire_server_announce(pair.server, NULL));
 	to_client(&pair);
-	MUST(waywire_wl_display_sync(pair.client, pair.display, NULL).id);
+	MUST(!waywire_wl_display_sync(pair.client, pair.display, NULL));
 	MUST(!waywire_end_next(pair.client.end, &report) && report.arg_count == 3);
 	ask(pair.client.end);
 	MUST(!waywire_client_made(pair.client, &made) && !made.id);
 	MUST(names(&report.args[1], seat));
-	MUST(!waywire_client_bind(pair.client, pair.registry, name, seat, 1, NULL));
+	MUST(!waywire_client_bind(pair.client, pair.registry.object, name, seat, 1, NULL));
 	to_server(&pair);
 	MUST(!waywire_server_withdraw(pair.server, name) && !waywire_server_announce(pair.server, NULL));
 	MUST(!waywire_end_next(pair.server.end, &report) && report.arg_count == 1);
@@ -522,8 +539,8 @@ static void refused_by_client(const struct pair *pair)
 	waywire_client wrong = { pair->server.end };
 	struct state before = state_of(wrong.end);
 	waywire_object object = { 7, 7 };
-	MUST(waywire_client_bind(wrong, pair->registry, 1, "wl_seat", 1, &object) == WAYWIRE_OTHER_END);
-	MUST(waywire_client_bind(wrong, pair->registry, 1, "wl_seat", 1, NULL) == WAYWIRE_OTHER_END);
+	MUST(waywire_client_bind(wrong, pair->registry.object, 1, "wl_seat", 1, &object) == WAYWIRE_OTHER_END);
+	MUST(waywire_client_bind(wrong, pair->registry.object, 1, "wl_seat", 1, NULL) == WAYWIRE_OTHER_END);
 	MUST(waywire_client_made(wrong, &object) == WAYWIRE_OTHER_END);
 	MUST(object.id == 7 && object.birth == 7);
 	MUST(is_state_of(wrong.end, before));
@@ -543,8 +560,8 @@ static void refused_by_server(const struct pair *pair)
 	MUST(waywire_server_withdraw(wrong, 1) == WAYWIRE_OTHER_END);
 	MUST(waywire_server_announce(wrong, &count) == WAYWIRE_OTHER_END && count == 7);
 	MUST(waywire_server_announce(wrong, NULL) == WAYWIRE_OTHER_END);
-	MUST(waywire_server_drop_object(wrong, pair->registry) == WAYWIRE_OTHER_END);
-	MUST(waywire_server_post_error(wrong, pair->display, 1, "x") == WAYWIRE_OTHER_END);
+	MUST(waywire_server_drop_object(wrong, pair->registry.object) == WAYWIRE_OTHER_END);
+	MUST(waywire_server_post_error(wrong, pair->display.object, 1, "x") == WAYWIRE_OTHER_END);
 	MUST(is_state_of(wrong.end, before));
 }
 
@@ -557,14 +574,14 @@ static void other_end(void)
 	size_t count;
 	open_pair(&pair, tables);
 	waywire_object compositor = bound(&pair, tables, "wl_compositor");
-	waywire_object surface = waywire_wl_compositor_create_surface(pair.client, compositor, NULL);
+	waywire_object surface = new_surface(&pair, compositor);
 	refused_by_client(&pair);
 	refused_by_server(&pair);
 	to_server(&pair);
 	refused_by_client(&pair);
 	MUST(!waywire_end_next(pair.server.end, &report) && report.kind == WAYWIRE_MESSAGE);
 	MUST(waywire_object_equal(report.args[0].object, surface));
-	MUST(!waywire_wl_surface_destroy(pair.client, surface));
+	MUST(!waywire_wl_surface_destroy(pair.client, waywire_wl_surface_of(surface)));
 	to_server(&pair);
 	MUST(!waywire_end_next(pair.server.end, &report) && report.kind == WAYWIRE_MESSAGE);
 	to_client(&pair);

@@ -20,7 +20,6 @@ static waywire_server server;
 static waywire_inspector *inspector;
 static waywire_object registry, target, made_here, made_there;
 static const waywire_object no_object = { 0, 0 };
-static waywire_status status;
 static waywire_report report;
 static struct value want[WAYWIRE_MAX_ARGS];
 static const char *want_interface = "wl_compositor";
@@ -134,7 +133,6 @@ static inline void open_pair(void)
 {
 	waywire_sizes sizes = { .out_bytes = 65536, .out_tokens = 64, .in_bytes = 65536, .in_tokens = 64 };
 	waywire_arg args[1];
-	status = WAYWIRE_OK;
 	MUST(!waywire_client_new(tables, &sizes, &client));
 	MUST(!waywire_server_new(tables, &sizes, &server));
 	MUST(!waywire_inspector_new(tables, WAYWIRE_USUAL_LIMIT, &inspector));

@@ -69,36 +69,34 @@ static int carry(void)
 	}
 }
 
-static waywire_object bind_shm(void)
+static waywire_wl_shm bind_shm(void)
 {
-	waywire_object registry = waywire_wl_display_get_registry(client, waywire_end_display(client.end), NULL);
+	waywire_wl_registry registry;
+	waywire_wl_shm shm;
 	waywire_report report;
 	uint16_t place;
+	MUST(!waywire_wl_display_get_registry(client, waywire_wl_display_of(waywire_end_display(client.end)),
+		&registry));
 	carry();
 	MUST(!waywire_tables_interface(tables, WAYWIRE_WL_SHM_NAME, &place));
 	MUST(!waywire_server_add_global(server, place, 1, NULL));
 	MUST(!waywire_server_announce(server, NULL) && !link_flush(&of_server));
 	MUST(link_fill(&of_client) == 1 && !waywire_end_next(client.end, &report));
-	waywire_object shm = waywire_wl_registry_bind(client, registry, 1, WAYWIRE_WL_SHM_NAME, 1, NULL);
-	MUST(shm.id);
+	MUST(!waywire_wl_shm_bind(client, registry, 1, 1, &shm));
 	carry();
 	return shm;
 }
 
 /* Sends pools, each with a descriptor, and lets them go by. */
-static int send_pools(waywire_object shm)
+static int send_pools(waywire_wl_shm shm)
 {
 	int full = 0;
 	for (int each = 1; each <= POOLS; each++) {
 		waywire_status status;
-		waywire_object pool;
+		waywire_wl_shm_pool pool;
 		int descriptor = new_descriptor(each);
-		for (;;) {
-			pool = waywire_wl_shm_create_pool(client, shm, descriptor, each, &status);
-			if (status != WAYWIRE_FULL)
-				break;
+		while ((status = waywire_wl_shm_create_pool(client, shm, descriptor, each, &pool)) == WAYWIRE_FULL)
 			full += carry();
-		}
 		MUST(!status);
 		while ((status = waywire_wl_shm_pool_destroy(client, pool)) == WAYWIRE_FULL)
 			full += carry();

@@ -22,16 +22,17 @@ static bool asks(struct pair *pair)
 {
 	unsigned char bytes[4096];
 	waywire_amounts taken, fed;
-	waywire_object callback;
+	waywire_wl_callback callback;
 	waywire_report report;
 	size_t length;
-	callback = waywire_wl_display_sync(pair->client, waywire_end_display(pair->client.end), NULL);
+	waywire_wl_display display = waywire_wl_display_of(waywire_end_display(pair->client.end));
+	MUST(!waywire_wl_display_sync(pair->client, display, &callback));
 	MUST(!waywire_end_take(pair->client.end, bytes, sizeof bytes, NULL, 0, &taken));
 	MUST(!waywire_inspector_pass(pair->inspector, WAYWIRE_FROM_CLIENT, bytes, taken.bytes, 0));
 	MUST(waywire_inspector_lines(pair->inspector, &length) && length > 0);
 	MUST(!waywire_end_feed(pair->server.end, bytes, taken.bytes, NULL, 0, &fed));
 	MUST(!waywire_end_next(pair->server.end, &report) && report.kind == WAYWIRE_MESSAGE);
-	return waywire_object_equal(report.args[0].object, callback);
+	return waywire_object_equal(report.args[0].object, callback.object);
 }
 
 static void opens(struct pair *pair)

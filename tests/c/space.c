@@ -27,7 +27,7 @@ static void feed(const uint32_t *words, size_t count, const uint32_t *tokens, si
 }
 
 /* Makes wl_registry@2 and wl_shm@3, which it returns. */
-static waywire_object bind_shm(const waywire_tables *tables)
+static waywire_wl_shm bind_shm(const waywire_tables *tables)
 {
 	uint32_t registry[] = { 1, 12 << 16 | WAYWIRE_WL_DISPLAY_REQUEST_GET_REGISTRY, 2 };
 	uint32_t bind[8] = { 2, 32 << 16 | WAYWIRE_WL_REGISTRY_REQUEST_BIND, 0, sizeof WAYWIRE_WL_SHM_NAME, 0, 0, 1, 3 };
@@ -41,7 +41,7 @@ static waywire_object bind_shm(const waywire_tables *tables)
 	for (int each = 0; each < 2; each++)
 		MUST(!waywire_end_next(server.end, &report) && report.kind == WAYWIRE_MESSAGE);
 	MUST(report.arg_count == 2 && report.args[1].kind == WAYWIRE_BOUND && report.args[1].object.id == 3);
-	return report.args[1].object;
+	return waywire_wl_shm_of(report.args[1].object);
 }
 
 /* Reads the request that makes this pool, with its own token. */
@@ -77,7 +77,7 @@ int main(void)
 	for (uint32_t each = 0; each <= POOLS; each++)
 		tokens[each] = FIRST_POOL + each;
 	MUST(!waywire_tables_core(&tables) && !waywire_server_new(tables, &sizes, &server));
-	waywire_object shm = bind_shm(tables);
+	waywire_wl_shm shm = bind_shm(tables);
 
 	create_pool(words, FIRST_POOL);
 	feed(words, 4, tokens, 1);

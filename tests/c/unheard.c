@@ -24,11 +24,11 @@ enum { RELEASE = 0, MADE = 0, LENT = 1, PLUGGED = 2, GONE = 0 };
 static struct connection client, server;
 static waywire_object maker, heard, gone;
 
-static void on_global(void *data, waywire_object registry, uint32_t name, const char *interface,
+static void on_global(void *data, waywire_wl_registry registry, uint32_t name, const char *interface,
 	uint32_t version)
 {
 	(void)data;
-	MUST(!waywire_client_bind(client.client, registry, name, interface, version, &maker));
+	MUST(!waywire_client_bind(client.client, registry.object, name, interface, version, &maker));
 }
 
 static const struct waywire_wl_registry_events registry_events = { .global = on_global };
@@ -57,8 +57,9 @@ static void begin(const char *path)
 	MUST(connection_serve(&server, accept(listening, NULL, NULL), text));
 	close(listening);
 	MUST(connection_add_global(&server, "maker", 1));
-	waywire_object registry = waywire_wl_display_get_registry(client.client, client.display, NULL);
-	connection_listen(&client, registry, waywire_wl_registry_event_dispatcher, &registry_events, NULL);
+	waywire_wl_registry registry;
+	MUST(!waywire_wl_display_get_registry(client.client, client.display, &registry));
+	connection_listen(&client, registry.object, waywire_wl_registry_event_dispatcher, &registry_events, NULL);
 	MUST(!link_flush(&client.link) && connection_dispatch(&server, WAIT) == 1);
 	MUST(!link_flush(&server.link) && connection_dispatch(&client, WAIT) == 1 && maker.id);
 	MUST(!link_flush(&client.link) && connection_dispatch(&server, WAIT) == 1);
