@@ -12,14 +12,15 @@ struct handle {
 	void *at;
 };
 
-/* What is allocated while tables are made, in a list. */
+/* The head of each block of memory of the library's. The blocks of tables are in one ring with the tables; any
+ * other block is a ring of its own. */
 struct block {
 	struct block *before, *after;
 };
 
 struct waywire_tables {
 	struct handle handle;
-	struct block blocks; /* the head of the list, which is a ring */
+	struct block blocks; /* the ring of what was allocated while they were made */
 	size_t users;        /* the caller, each end and each inspector */
 	waywire_tables *own; /* these, for whoever joins or leaves their users */
 };
@@ -35,10 +36,6 @@ extern HIDDEN uint32_t nowhere[1];
 
 /* Tests a slice, and gives an empty one that is null an address. */
 HIDDEN waywire_status slice(const void **bytes, size_t length, size_t size);
-
-/* The least that this thread asks for at a time: while a piece passes, so much that its lines grow in few steps; else
- * 0. */
-extern __thread size_t least_asked HIDDEN;
 
 /* Joins the users of tables. Nothing else of tables changes once they are made, so any calls read them at one
  * time. */

@@ -55,8 +55,6 @@ void waywire_inspector_free(waywire_inspector *inspector)
 	free(inspector);
 }
 
-enum { LEAST_OF_PIECE = 256 };
-
 waywire_status waywire_inspector_pass(waywire_inspector *inspector, waywire_sender sender,
 	const void *bytes, size_t length, size_t token_count)
 {
@@ -65,10 +63,7 @@ waywire_status waywire_inspector_pass(waywire_inspector *inspector, waywire_send
 	waywire_status status = slice(&bytes, length, 1);
 	if (status)
 		return status;
-	least_asked = LEAST_OF_PIECE;
-	status = waywire_c_inspector_pass(&inspector->handle, sender, bytes, length, token_count);
-	least_asked = 0;
-	return status;
+	return waywire_c_inspector_pass(&inspector->handle, sender, bytes, length, token_count);
 }
 
 const char *waywire_inspector_lines(const waywire_inspector *inspector, size_t *length)

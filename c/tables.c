@@ -28,33 +28,31 @@ SAME(decoded, offsetof(waywire_decoded, opcode) == 4 && offsetof(waywire_decoded
 	&& offsetof(waywire_decoded, spelling) == 40
 	&& offsetof(waywire_decoded, interfaces) == 44); /* an export writes 48 bytes, before `interfaces` are */
 
-/* ---- the memory of tables
+/* ---- the memory of the exports
  *
- * The exports give up what they allocate for tables, since ends lend them for good. So each tables have
- * memory of their own: a list of what was allocated while they were made, which is freed as a whole once
- * neither the caller nor an end or an inspector uses them, or where they could not be made. */
+ * The exports never free tables, since an end borrows them for as long as the process runs. So all that is allocated
+ * while tables are made is linked into a ring, and freed as a whole once neither the caller nor an end or an inspector
+ * uses them, or if they could not be made.
+ *
+ * Every block has the same head, whatever it is for. So a block can grow and be freed whether or not tables are being
+ * made then, and whether or not they were when it was allocated. */
 
 SAME(block, sizeof(struct block) == 16); /* what follows is aligned as `malloc` aligns */
 
-/* The blocks of the tables that this thread makes; null where it makes none. */
+/* The ring of the tables that this thread makes; null while it makes none. */
 static __thread struct block *making;
 
-__thread size_t least_asked;
-
-static size_t at_least(size_t size)
+/* Puts a block into a ring; without one it is a ring of its own. Returns what follows its head. */
+static void *linked(struct block *block, struct block *ring)
 {
-	return size < least_asked ? least_asked : size;
-}
-
-static void *linked(struct block *block, struct block *before)
-{
-	block->before = before;
-	block->after = before->after;
+	block->before = ring ? ring : block;
+	block->after = ring ? ring->after : block;
 	block->before->after = block;
 	block->after->before = block;
 	return block + 1;
 }
 
+/* Takes a block out of its ring, by what follows its head. */
 static struct block *unlinked(void *at)
 {
 	struct block *block = (struct block *)at - 1;
@@ -68,25 +66,21 @@ static struct block *unlinked(void *at)
 
 void *memory_malloc(size_t size)
 {
-	if (!making)
-		return malloc(at_least(size));
 	struct block *block = malloc(sizeof *block + size);
 	return block ? linked(block, making) : NULL;
 }
 
 void *memory_realloc(void *at, size_t size)
 {
-	if (!making)
-		return realloc(at, at_least(size));
-	struct block *block = unlinked(at), *before = block->before;
+	struct block *block = unlinked(at), *ring = block->before == block ? NULL : block->before;
 	struct block *moved = realloc(block, sizeof *block + size);
-	void *kept = linked(moved ? moved : block, before);
+	void *kept = linked(moved ? moved : block, ring);
 	return moved ? kept : NULL;
 }
 
 void memory_free(void *at)
 {
-	free(making ? unlinked(at) : at);
+	free(unlinked(at));
 }
 
 static void free_tables(waywire_tables *tables)
