@@ -27,7 +27,7 @@ const MOST_PIECE: &str = "4096";
 const USUAL_LIMIT: &str = "4096";
 
 /// The version of this program and of the library, which `make` puts into the header too.
-const VERSION: &str = "0.1.0";
+const VERSION: &str = "0.2.0";
 
 /// What is said of a command line where the parser has no words for it: it takes each number in
 /// range for a limit.
