@@ -31,7 +31,7 @@ soname = libwaywire.so.$(abi)
 shared = out/c/libwaywire.so.$(VERSION)
 program ?= crates/waywire/out/waywire
 inspect = out/c/waywire-inspect
-headers = include/waywire.h include/waywire-core.h include/waywire-version.h
+headers = include/waywire.h include/waywire-core.h include/waywire-socket.h include/waywire-version.h
 package = waywire-$(VERSION)-x86_64-linux
 # A file that a build tool reads finds the other folders from its own, so that an installed tree can move.
 from = $(shell realpath -ms --relative-to=$(1)/ $(2)/)
@@ -77,12 +77,29 @@ out/c/waywire.o: $(proved) $(calls) out/c/memory.a
 	$(OBJCOPY) --keep-global-symbols=out/c/calls.txt out/c/whole.o $@
 	@rm -f out/c/whole.o
 
-$(archive): out/c/waywire.o
-	@rm -f $@
-	$(AR) rcsD $@ $<
+# The sockets are over the calls of waywire.h alone. They are an object of their own, so a program that is linked with
+# the archive and has a transport of its own does not get them.
+sockets = $(patsubst c/socket/%.c,out/c/socket/%.o,$(wildcard c/socket/*.c))
 
-$(shared): out/c/waywire.o
-	$(CC) -shared -Wl,-soname,$(soname) -Wl,-z,defs -Wl,--build-id=sha1 $< -o $@
+out/c/socket/%.o: c/socket/%.c c/socket/socket.h include/waywire-socket.h include/waywire-core.h include/waywire.h \
+		include/waywire-version.h
+	@mkdir -p out/c/socket
+	$(CC) $(CFLAGS) -std=c99 -Wall -Wextra -Wpedantic -fPIC -Iinclude -c $< -o $@
+
+out/c/waywire-socket.o: $(sockets)
+	$(LD) -r $(sockets) -o out/c/whole-socket.o
+	nm -g --defined-only $(sockets) | sed -n 's/.* T \(waywire_\)/\1/p' > out/c/socket-calls.txt
+	$(OBJCOPY) --keep-global-symbols=out/c/socket-calls.txt out/c/whole-socket.o $@
+	@rm -f out/c/whole-socket.o
+
+objects = out/c/waywire.o out/c/waywire-socket.o
+
+$(archive): $(objects)
+	@rm -f $@
+	$(AR) rcsD $@ $(objects)
+
+$(shared): $(objects)
+	$(CC) -shared -Wl,-soname,$(soname) -Wl,-z,defs -Wl,--build-id=sha1 $(objects) -o $@
 	@ln -sf $(notdir $@) out/c/$(soname)
 	@ln -sf $(soname) out/c/libwaywire.so
 

@@ -2,7 +2,7 @@
  *
  * A client and a server write and read the messages of the Wayland protocol, and know which objects
  * each end has. Nothing here opens a socket, waits or starts a thread: a call turns arguments into
- * bytes, or bytes into a report, and the caller moves the bytes.
+ * bytes, or bytes into a report, and the caller moves the bytes: by waywire-socket.h, or by other means.
  *
  *  1. Send.   waywire_end_send writes a request at a client and an event at a server. A client's requests
  *             are also written by waywire_client_bind, a server's events by waywire_server_announce,

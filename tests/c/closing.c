@@ -1,40 +1,24 @@
 /* Connections that are broken or closed while descriptors wait: each descriptor is closed, and none twice. */
 #define _GNU_SOURCE
-#include "must.h"
-#include "transport.h"
+#include "descriptors.h"
 
-#include <dirent.h>
 #include <errno.h>
-#include <fcntl.h>
-#include <sys/socket.h>
-#include <unistd.h>
+
+#define MOST WAYWIRE_SOCKET_DESCRIPTORS
+
+struct link {
+	int socket;
+	waywire_end *end;
+};
 
 static const waywire_sizes sizes = { 4096, 64, 4096, 64 };
 static waywire_tables *tables;
-
-static size_t count_open(void)
-{
-	size_t count = 0;
-	DIR *folder = opendir("/proc/self/fd");
-	MUST(folder);
-	while (readdir(folder))
-		count++;
-	closedir(folder);
-	return count;
-}
-
-static int new_descriptor(void)
-{
-	int descriptor = open("/dev/null", O_RDONLY | O_CLOEXEC);
-	MUST(descriptor >= 0);
-	return descriptor;
-}
 
 /* A server at one end of a new pair of sockets; returns the other. */
 static int serve(struct link *link, waywire_server *server)
 {
 	int sockets[2];
-	MUST(!socketpair(AF_UNIX, SOCK_STREAM | SOCK_CLOEXEC, 0, sockets));
+	make_pair(sockets);
 	link->socket = sockets[0];
 	MUST(!waywire_server_new(tables, &sizes, server));
 	link->end = server->end;
@@ -43,30 +27,19 @@ static int serve(struct link *link, waywire_server *server)
 
 static void end(struct link *link)
 {
-	link_close(link);
+	waywire_socket_close(link->socket, link->end);
 	waywire_end_free(link->end);
 }
 
 /* Sends bytes with as many descriptors as go at once. */
 static void send_with_descriptors(int socket, const void *bytes, size_t length)
 {
-	int descriptors[LINK_DESCRIPTORS];
-	union {
-		char bytes[CMSG_SPACE(sizeof descriptors)];
-		struct cmsghdr aligned;
-	} control = { { 0 } };
-	struct iovec data = { (void *)bytes, length };
-	struct msghdr message = { .msg_iov = &data, .msg_iovlen = 1, .msg_control = control.bytes,
-		.msg_controllen = sizeof control.bytes };
-	struct cmsghdr *header = CMSG_FIRSTHDR(&message);
-	for (int each = 0; each < LINK_DESCRIPTORS; each++)
-		descriptors[each] = new_descriptor();
-	header->cmsg_level = SOL_SOCKET;
-	header->cmsg_type = SCM_RIGHTS;
-	header->cmsg_len = CMSG_LEN(sizeof descriptors);
-	memcpy(CMSG_DATA(header), descriptors, sizeof descriptors);
-	MUST(sendmsg(socket, &message, 0) == (ssize_t)length);
-	for (int each = 0; each < LINK_DESCRIPTORS; each++)
+	waywire_part parts[2] = { { (void *)bytes, length }, { NULL, 0 } };
+	int descriptors[MOST];
+	for (int each = 0; each < MOST; each++)
+		descriptors[each] = new_descriptor(each);
+	MUST(waywire_socket_send(socket, parts, descriptors, MOST) == (ssize_t)length);
+	for (int each = 0; each < MOST; each++)
 		close(descriptors[each]);
 }
 
@@ -80,9 +53,10 @@ static void broken(const void *bytes, size_t length)
 	int client = serve(&link, &server);
 	size_t before = count_open();
 	send_with_descriptors(client, bytes, length);
-	MUST(link_fill(&link) == 1 && count_open() == before + LINK_DESCRIPTORS);
+	MUST(waywire_socket_fill(link.socket, link.end) == (ssize_t)length && count_open() == before + MOST);
 	MUST(waywire_is_fault(waywire_end_next(server.end, &report)));
-	MUST(!link_drain(&link, 120000) && recv(client, told, sizeof told, MSG_DONTWAIT) >= 20);
+	MUST(!waywire_socket_flush(link.socket, link.end));
+	MUST(recv(client, told, sizeof told, MSG_DONTWAIT) >= 20);
 	end(&link);
 	MUST(count_open() == before - 1);
 	close(client);
@@ -98,17 +72,19 @@ static void cut_off(void)
 	int client = serve(&link, &server);
 	send_with_descriptors(client, half, sizeof half);
 	close(client);
-	MUST(link_fill(&link) == 1);
+	MUST(waywire_socket_fill(link.socket, link.end) == sizeof half);
 	MUST(!waywire_end_next(server.end, &report) && report.kind == WAYWIRE_NOTHING);
-	MUST(link_fill(&link) == -1 && !errno);
+	MUST(!waywire_socket_fill(link.socket, link.end));
 	end(&link);
+	MUST(waywire_socket_fill(client, NULL) == -1 && errno == ENOBUFS);
+	MUST(waywire_socket_flush(client, NULL) == -1 && errno == EINVAL);
 }
 
 /* All that one end wrote is read by the other. */
 static waywire_report pass(struct link *from, struct link *to)
 {
 	waywire_report report, last = { 0 };
-	MUST(!link_flush(from) && link_fill(to) == 1);
+	MUST(!waywire_socket_flush(from->socket, from->end) && waywire_socket_fill(to->socket, to->end) > 0);
 	for (;;) {
 		MUST(!waywire_end_next(to->end, &report));
 		if (report.kind == WAYWIRE_NOTHING)
@@ -139,7 +115,7 @@ static void not_sent(void)
 	pass(&other, &one);
 	MUST(!waywire_wl_shm_bind(client, registry, 1, 1, &shm));
 	for (int each = 0; each < 40; each++) {
-		MUST(!waywire_wl_shm_create_pool(client, shm, new_descriptor(), 4096, &pool));
+		MUST(!waywire_wl_shm_create_pool(client, shm, new_descriptor(4096), 4096, &pool));
 		MUST(!waywire_wl_shm_pool_destroy(client, pool));
 	}
 	end(&one);
@@ -151,15 +127,15 @@ static void not_sent(void)
 static void in_order(void)
 {
 	static const unsigned char bytes[] = { 9, 0, 0, 0 };
-	uint32_t tokens[3], fed[LINK_DESCRIPTORS];
+	uint32_t tokens[3], fed[MOST];
 	waywire_amounts amounts;
 	waywire_server server;
 	size_t count;
-	for (uint32_t each = 0; each < LINK_DESCRIPTORS; each++)
+	for (uint32_t each = 0; each < MOST; each++)
 		fed[each] = 100 + each;
 	MUST(!waywire_server_new(tables, &sizes, &server));
-	MUST(!waywire_end_feed(server.end, bytes, 4, fed, LINK_DESCRIPTORS, &amounts));
-	for (uint32_t next = 100; next < 100 + LINK_DESCRIPTORS; next += (uint32_t)count) {
+	MUST(!waywire_end_feed(server.end, bytes, 4, fed, MOST, &amounts));
+	for (uint32_t next = 100; next < 100 + MOST; next += (uint32_t)count) {
 		MUST(!waywire_end_take_waiting_tokens(server.end, tokens, 3, &count) && count);
 		for (uint32_t each = 0; each < count; each++)
 			MUST(tokens[each] == next + each);

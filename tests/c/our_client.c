@@ -3,7 +3,6 @@
  * again, and wl_display.error at the end. The server runs in a child. */
 #define _GNU_SOURCE
 #include "rounds.h"
-#include "transport.h"
 
 #include <wayland-server.h>
 
@@ -178,7 +177,7 @@ static int serve(int fd)
 
 /* ---- our client */
 
-static struct link link_to;
+static int socket_to;
 static waywire_client client;
 static waywire_object display, registry, compositor_at, shm_at, seat_at, pointer_at;
 static waywire_object callback, frame_callback, keyboard;
@@ -276,7 +275,7 @@ static void heard(const waywire_report *report)
 
 static void read_all(void)
 {
-	MUST(link_wait(&link_to, 120000) > 0);
+	wait_for_more(socket_to, client.end);
 	for (;;) {
 		waywire_report report;
 		waywire_status status = waywire_end_next(client.end, &report);
@@ -368,10 +367,10 @@ int main(void)
 	close(sockets[1]);
 	MUST(!waywire_tables_core(&tables));
 	MUST(!waywire_client_new(tables, &sizes, &client));
-	link_to = (struct link){ sockets[0], client.end };
+	socket_to = sockets[0];
 	play();
 	waywire_tables_free(tables);
-	link_close(&link_to);
+	waywire_socket_close(socket_to, client.end);
 	waywire_end_free(client.end);
 	MUST(waitpid(child, &status, 0) == child && status == 0);
 	printf("%zu messages, %zu discarded, %zu objects let go\n", messages, discarded, deleted);

@@ -3,7 +3,6 @@
  * again, and wl_display.error at the end. The client runs in a child. */
 #define _GNU_SOURCE
 #include "rounds.h"
-#include "transport.h"
 
 #include <errno.h>
 #include <wayland-client.h>
@@ -170,7 +169,7 @@ static int be_client(int fd)
 /* ---- our server */
 
 static waywire_tables *tables;
-static struct link link_to;
+static int socket_to;
 static waywire_server server;
 static waywire_object pointer_at;
 static uint32_t pools, keyboards;
@@ -337,17 +336,19 @@ int main(void)
 	close(sockets[1]);
 	MUST(!waywire_tables_core(&tables));
 	MUST(!waywire_server_new(tables, &sizes, &server));
-	link_to = (struct link){ sockets[0], server.end };
+	socket_to = sockets[0];
 	add("wl_compositor", 4);
 	add("wl_shm", 1);
 	add("wl_seat", 5);
-	while (!ended && link_wait(&link_to, 120000) > 0)
+	while (!ended) {
+		wait_for_more(socket_to, server.end);
 		serve();
-	MUST(ended && !link_flush(&link_to));
+	}
+	MUST(!waywire_socket_flush(socket_to, server.end));
 	MUST(pools == ROUNDS && keyboards == 2 * ROUNDS);
 	MUST(waitpid(child, &status, 0) == child && status == 0);
 	waywire_tables_free(tables);
-	link_close(&link_to);
+	waywire_socket_close(socket_to, server.end);
 	waywire_end_free(server.end);
 	printf("%zu messages\n", messages);
 	return 0;

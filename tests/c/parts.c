@@ -1,13 +1,10 @@
 /* Messages and descriptors through a socket whose buffer is small, so that it takes a part of what it is given:
- * what is in the queues is written and read where it lies, and all of it arrives once, in order. */
+ * what is in the queues is written and read where it lies, and all of it arrives once, in order. Nothing is left
+ * open. */
 #define _GNU_SOURCE
-#include "must.h"
-#include "transport.h"
+#include "descriptors.h"
 
-#include <sys/mman.h>
-#include <sys/socket.h>
-#include <sys/stat.h>
-#include <unistd.h>
+#include <errno.h>
 
 #define POOLS 4000
 
@@ -16,29 +13,41 @@ static const waywire_sizes sizes = { 4099, 64, 4097, 64 };
 static waywire_tables *tables;
 static waywire_client client;
 static waywire_server server;
-static struct link of_client, of_server;
 static int next_pool;
 
-/* A descriptor that is known by the length of its file. */
-static int new_descriptor(int length)
+struct link {
+	int socket;
+	waywire_end *end;
+};
+
+static struct link of_client, of_server;
+
+/* Sends what waits; whether all of it went. */
+static bool flush(const struct link *link)
 {
-	int descriptor = memfd_create("pool", MFD_CLOEXEC);
-	MUST(descriptor >= 0 && !ftruncate(descriptor, length));
-	return descriptor;
+	bool all_went = !waywire_socket_flush(link->socket, link->end);
+	MUST(all_went || errno == EAGAIN);
+	return all_went;
+}
+
+/* Receives; whether something came. */
+static bool fill(const struct link *link)
+{
+	ssize_t came = waywire_socket_fill(link->socket, link->end);
+	MUST(came > 0 || (came < 0 && errno == EAGAIN));
+	return came > 0;
 }
 
 /* Reads all that came, and looks that the pools are the next ones, each with its own descriptor. */
 static void read_requests(void)
 {
 	waywire_report report;
-	struct stat file;
 	while (!waywire_end_next(server.end, &report) && report.kind != WAYWIRE_NOTHING) {
 		MUST(report.kind == WAYWIRE_MESSAGE);
 		if (report.arg_count != 3)
 			continue;
 		MUST(report.args[1].kind == WAYWIRE_FD && report.args[2].i == ++next_pool);
-		MUST(!fstat((int)report.args[1].u, &file) && file.st_size == next_pool);
-		close((int)report.args[1].u);
+		MUST(length_of((int)report.args[1].u) == next_pool);
 	}
 	MUST(report.kind == WAYWIRE_NOTHING);
 }
@@ -54,17 +63,11 @@ static void read_events(void)
 /* What waits at the client goes, in as many parts as the socket takes. Returns how many times it was full. */
 static int carry(void)
 {
-	int full = 0;
-	bool drained = false;
-	for (;; full++) {
-		MUST(!link_flush(&of_client));
-		waywire_part parts[2];
-		size_t count;
-		MUST(!waywire_end_peek(client.end, parts, NULL, 0, &count));
-		drained = !parts[0].length && !parts[1].length;
-		while (link_fill(&of_server) == 1)
+	for (int full = 0;; full++) {
+		bool all_went = flush(&of_client);
+		while (fill(&of_server))
 			read_requests();
-		if (drained)
+		if (all_went)
 			return full;
 	}
 }
@@ -80,8 +83,8 @@ static waywire_wl_shm bind_shm(void)
 	carry();
 	MUST(!waywire_tables_interface(tables, WAYWIRE_WL_SHM_NAME, &place));
 	MUST(!waywire_server_add_global(server, place, 1, NULL));
-	MUST(!waywire_server_announce(server, NULL) && !link_flush(&of_server));
-	MUST(link_fill(&of_client) == 1 && !waywire_end_next(client.end, &report));
+	MUST(!waywire_server_announce(server, NULL) && flush(&of_server));
+	MUST(fill(&of_client) && !waywire_end_next(client.end, &report));
 	MUST(!waywire_wl_shm_bind(client, registry, 1, 1, &shm));
 	carry();
 	return shm;
@@ -101,8 +104,8 @@ static int send_pools(waywire_wl_shm shm)
 		while ((status = waywire_wl_shm_pool_destroy(client, pool)) == WAYWIRE_FULL)
 			full += carry();
 		MUST(!status);
-		MUST(!link_flush(&of_server));
-		if (link_fill(&of_client) == 1)
+		MUST(flush(&of_server));
+		if (fill(&of_client))
 			read_events();
 	}
 	return full + carry();
@@ -153,7 +156,8 @@ static void failed(void)
 int main(void)
 {
 	int sockets[2], smallest = 1;
-	MUST(!socketpair(AF_UNIX, SOCK_STREAM | SOCK_CLOEXEC, 0, sockets));
+	size_t before = count_open();
+	make_pair(sockets);
 	MUST(!setsockopt(sockets[0], SOL_SOCKET, SO_SNDBUF, &smallest, sizeof smallest));
 	MUST(!waywire_tables_core(&tables));
 	MUST(!waywire_client_new(tables, &sizes, &client));
@@ -164,8 +168,9 @@ int main(void)
 	MUST(full && next_pool == POOLS);
 	refused();
 	failed();
-	link_close(&of_client);
-	link_close(&of_server);
+	waywire_socket_close(of_client.socket, client.end);
+	waywire_socket_close(of_server.socket, server.end);
+	MUST(count_open() == before);
 	waywire_end_free(client.end);
 	waywire_end_free(server.end);
 	waywire_tables_free(tables);

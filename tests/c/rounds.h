@@ -4,10 +4,13 @@
 
 #include "must.h"
 
+#include <errno.h>
+#include <poll.h>
 #include <sys/mman.h>
 #include <sys/socket.h>
 #include <sys/wait.h>
 #include <unistd.h>
+#include <waywire-socket.h>
 
 #define ROUNDS 600
 #define ERROR_CODE 7
@@ -41,6 +44,23 @@ static inline int descriptors(void)
 		}
 	}
 	return count;
+}
+
+/* Flushes, and waits until something comes. */
+static inline void wait_for_more(int socket, waywire_end *end)
+{
+	for (;;) {
+		struct pollfd wanted = { socket, POLLIN, 0 };
+		if (waywire_socket_flush(socket, end)) {
+			MUST(errno == EAGAIN);
+			wanted.events |= POLLOUT;
+		}
+		MUST(poll(&wanted, 1, 120000) == 1);
+		if (wanted.revents & ~POLLOUT) {
+			MUST(waywire_socket_fill(socket, end) > 0);
+			return;
+		}
+	}
 }
 
 #endif

@@ -1,34 +1,31 @@
-/* The connection of the examples destroys what the server makes by an event that the client does not listen to,
+/* A connection destroys what the server makes by an event that the client does not listen to,
  * and by one for an object that the client has destroyed. It keeps what a listener hears of, by the event or by its
  * own interface, and what no request only destroys. It destroys the data of an object that another replaces. */
 #define _GNU_SOURCE
-#include "connection.h"
-#include "must.h"
+#include "descriptors.h"
 
 #include <poll.h>
-#include <sys/socket.h>
-#include <unistd.h>
 
 /* Of the requests of a thing only the last destroys it and has no argument, in the version that is bound. */
-static const char text[] = "interface maker 1\nrequest release D\nevent made N(thing)\nevent lent N(loan) h\n"
-	"event plugged N(head)\ninterface head 1\n"
+static const char text[] = "interface maker 1\nrequest release D\nrequest ask\n"
+	"event made N(thing)\nevent lent N(loan) h\nevent plugged N(head)\ninterface head 1\n"
 	"interface thing 2\nrequest rename s\nrequest end s D\nrequest leave D @2\nrequest destroy D\nevent gone\n"
 	"interface loan 1\nrequest end s D\n";
 
 /* Opcodes of the tables. */
-enum { RELEASE = 0, MADE = 0, LENT = 1, PLUGGED = 2, GONE = 0 };
+enum { RELEASE = 0, ASK = 1, MADE = 0, LENT = 1, PLUGGED = 2, GONE = 0 };
 
-/* How long something may take to come, in milliseconds. */
-#define WAIT 60000
-
-static struct connection client, server;
+static waywire_tables *tables;
+static waywire_connection *client, *server;
+static waywire_client requests;
+static waywire_end *events;
 static waywire_object maker, heard, gone;
 
 static void on_global(void *data, waywire_wl_registry registry, uint32_t name, const char *interface,
 	uint32_t version)
 {
 	(void)data;
-	MUST(!waywire_client_bind(client.client, registry.object, name, interface, version, &maker));
+	MUST(!waywire_client_bind(requests, registry.object, name, interface, version, &maker));
 }
 
 static const struct waywire_wl_registry_events registry_events = { .global = on_global };
@@ -49,29 +46,38 @@ static bool on_gone(const void *calls, void *data, const waywire_report *report)
 }
 
 /* Both ends, with a maker that the client has bound. */
-static void begin(const char *path)
+static void begin(void)
 {
-	int listening = link_listen(path);
-	MUST(listening >= 0 && !setenv("WAYLAND_DISPLAY", path, 1));
-	MUST(connection_open(&client, text));
-	MUST(connection_serve(&server, accept(listening, NULL, NULL), text));
-	close(listening);
-	MUST(connection_add_global(&server, "maker", 1));
+	int sockets[2];
+	make_pair(sockets);
+	client = waywire_connection_of_client(tables, NULL, sockets[0]);
+	server = waywire_connection_of_server(tables, NULL, sockets[1]);
+	MUST(client && server && !waywire_connection_add_global(server, "maker", 1, NULL));
+	requests = waywire_connection_client(client);
+	events = waywire_connection_end(server);
 	waywire_wl_registry registry;
-	MUST(!waywire_wl_display_get_registry(client.client, client.display, &registry));
-	connection_listen(&client, registry.object, waywire_wl_registry_event_dispatcher, &registry_events, NULL);
-	MUST(!link_flush(&client.link) && connection_dispatch(&server, WAIT) == 1);
-	MUST(!link_flush(&server.link) && connection_dispatch(&client, WAIT) == 1 && maker.id);
-	MUST(!link_flush(&client.link) && connection_dispatch(&server, WAIT) == 1);
-	MUST(!waywire_end_live(server.link.end, maker, NULL, NULL));
+	waywire_wl_display display = waywire_wl_display_of(waywire_end_display(requests.end));
+	MUST(!waywire_wl_display_get_registry(requests, display, &registry));
+	MUST(!waywire_connection_listen(client, registry.object, waywire_wl_registry_event_dispatcher,
+		&registry_events, NULL));
+	MUST(!waywire_connection_flush(client) && waywire_connection_dispatch(server, WAIT) == 1);
+	MUST(!waywire_connection_flush(server) && waywire_connection_dispatch(client, WAIT) == 1 && maker.id);
+	MUST(!waywire_connection_flush(client) && waywire_connection_dispatch(server, WAIT) == 1);
+	MUST(!waywire_end_live(events, maker, NULL, NULL));
+}
+
+static void end(void)
+{
+	waywire_connection_close(client);
+	waywire_connection_close(server);
 }
 
 /* What the server wrote goes to the client, which may answer. */
 static void goes(bool answered)
 {
-	MUST(!link_flush(&server.link) && connection_dispatch(&client, WAIT) == 1);
-	MUST(!link_flush(&client.link));
-	MUST(connection_dispatch(&server, answered ? WAIT : 0) == answered);
+	MUST(!waywire_connection_flush(server) && waywire_connection_dispatch(client, WAIT) == 1);
+	MUST(!waywire_connection_flush(client));
+	MUST((waywire_connection_dispatch(server, answered ? WAIT : 0) > 0) == answered);
 }
 
 /* The server makes a thing. */
@@ -79,7 +85,7 @@ static waywire_object makes(bool answered)
 {
 	waywire_object made;
 	waywire_arg new = waywire_new();
-	MUST(!waywire_end_send(server.link.end, maker, MADE, &new, 1, &made, NULL));
+	MUST(!waywire_end_send(events, maker, MADE, &new, 1, &made, NULL));
 	goes(answered);
 	return made;
 }
@@ -92,7 +98,7 @@ static waywire_object lends(void)
 	waywire_object made;
 	MUST(!pipe(ends));
 	waywire_arg args[] = { waywire_new(), waywire_fd((uint32_t)ends[1]) };
-	MUST(!waywire_end_send(server.link.end, maker, LENT, args, 2, &made, NULL));
+	MUST(!waywire_end_send(events, maker, LENT, args, 2, &made, NULL));
 	goes(false);
 	struct pollfd ended = { .fd = ends[0], .events = POLLIN };
 	MUST(poll(&ended, 1, WAIT) == 1 && read(ends[0], &byte, 1) == 0);
@@ -112,57 +118,86 @@ static void replaces(void)
 	int destroyed = 0;
 	waywire_object made, other;
 	waywire_arg new = waywire_new();
-	MUST(!waywire_end_send(server.link.end, maker, PLUGGED, &new, 1, &made, NULL));
+	MUST(!waywire_end_send(events, maker, PLUGGED, &new, 1, &made, NULL));
 	goes(false);
-	connection_set_data(&client, made, &destroyed, on_destroy);
+	MUST(!waywire_connection_set_data(client, made, &destroyed, on_destroy));
 	uint32_t again[] = { maker.id, 12 << 16 | PLUGGED, made.id };
-	MUST(write(server.link.socket, again, sizeof again) == sizeof again);
-	MUST(connection_dispatch(&client, WAIT) == 1 && destroyed == 1 && !connection_data(&client, made));
-	MUST(!waywire_client_made(client.client, &other) && other.id == made.id);
-	MUST(!waywire_end_live(client.link.end, other, NULL, NULL));
+	MUST(write(waywire_connection_fd(server), again, sizeof again) == sizeof again);
+	MUST(waywire_connection_dispatch(client, WAIT) == 1 && destroyed == 1);
+	MUST(!waywire_connection_data(client, made));
+	MUST(!waywire_client_made(requests, &other) && other.id == made.id);
+	MUST(!waywire_end_live(requests.end, other, NULL, NULL));
+}
+
+/* A thing stays if there is no room for the request that would destroy it. */
+static void no_room(void)
+{
+	int smallest = 1;
+	waywire_object made;
+	waywire_arg new = waywire_new();
+	MUST(!setsockopt(waywire_connection_fd(client), SOL_SOCKET, SO_SNDBUF, &smallest, sizeof smallest));
+	do
+		while (!waywire_end_send(requests.end, maker, ASK, NULL, 0, NULL, NULL))
+			;
+	while (!waywire_connection_flush(client)
+		|| waywire_end_send(requests.end, maker, ASK, NULL, 0, NULL, NULL) != WAYWIRE_FULL);
+	MUST(!waywire_end_send(events, maker, MADE, &new, 1, &made, NULL));
+	MUST(!waywire_connection_flush(server) && waywire_connection_fill(client) == 1);
+	MUST(waywire_connection_dispatch_pending(client) == 1);
+	MUST(!waywire_end_live(requests.end, made, NULL, NULL));
 }
 
 static bool lives(waywire_object object)
 {
-	return !waywire_end_live(client.link.end, object, NULL, NULL)
-		&& !waywire_end_live(server.link.end, object, NULL, NULL);
+	return !waywire_end_live(requests.end, object, NULL, NULL)
+		&& !waywire_end_live(events, object, NULL, NULL);
 }
 
 static bool is_gone(waywire_object object)
 {
-	return waywire_end_live(client.link.end, object, NULL, NULL) == WAYWIRE_NOT_FOUND
-		&& waywire_end_live(server.link.end, object, NULL, NULL) == WAYWIRE_NOT_FOUND;
+	return waywire_end_live(requests.end, object, NULL, NULL) == WAYWIRE_NOT_FOUND
+		&& waywire_end_live(events, object, NULL, NULL) == WAYWIRE_NOT_FOUND;
 }
 
-int main(int count, char **words)
+/* Calls `dispatch` for each thing. */
+static void implement(waywire_dispatcher *dispatch)
 {
-	char path[256];
+	waywire_listener listener = { "thing", dispatch, NULL };
+	MUST(!waywire_connection_implement(client, &listener, 1, NULL));
+}
+
+int main(void)
+{
+	waywire_tables *core;
 	waywire_object made;
-	MUST(count == 2);
-	begin(words[1]);
+	MUST(!waywire_tables_core(&core));
+	MUST(!waywire_tables_read(core, text, strlen(text), &tables, NULL, NULL));
+	begin();
 	/* The client does not listen to the maker. */
 	MUST(is_gone(makes(true)) && lives(lends()));
-	connection_implement(&client, "thing", on_gone, NULL);
+	implement(on_gone);
 	made = makes(false);
-	MUST(lives(made) && !waywire_end_send(server.link.end, made, GONE, NULL, 0, NULL, NULL));
+	MUST(lives(made) && !waywire_end_send(events, made, GONE, NULL, 0, NULL, NULL));
 	goes(false);
 	MUST(waywire_object_equal(made, gone));
-	connection_implement(&client, "thing", NULL, NULL);
+	implement(NULL);
 	MUST(is_gone(makes(true)));
 	/* It does. */
-	connection_listen(&client, maker, on_made, NULL, NULL);
+	MUST(!waywire_connection_listen(client, maker, on_made, NULL, NULL));
 	made = makes(false);
 	MUST(lives(made) && waywire_object_equal(made, heard));
 	/* It has destroyed the maker, and the server sends the event before it reads that. */
-	MUST(!waywire_end_send(client.link.end, maker, RELEASE, NULL, 0, NULL, NULL));
+	MUST(!waywire_end_send(requests.end, maker, RELEASE, NULL, 0, NULL, NULL));
 	MUST(is_gone(makes(true)) && is_gone(maker) && lives(made));
-	connection_close(&client);
-	connection_close(&server);
+	end();
 	/* A connection that has implemented no interface. */
-	snprintf(path, sizeof path, "%s-again", words[1]);
-	begin(path);
+	begin();
 	replaces();
-	connection_close(&client);
-	connection_close(&server);
+	end();
+	begin();
+	no_room();
+	end();
+	waywire_tables_free(core);
+	waywire_tables_free(tables);
 	return 0;
 }

@@ -1,0 +1,79 @@
+/* Connecting: see waywire-socket.h. */
+#define _GNU_SOURCE
+#include "socket.h"
+
+#include <errno.h>
+#include <fcntl.h>
+#include <limits.h>
+#include <stdio.h>
+#include <stdlib.h>
+#include <sys/socket.h>
+#include <unistd.h>
+
+bool address_of(struct sockaddr_un *address, const char *name)
+{
+	const char *folder = "";
+	if (*name != '/') {
+		folder = getenv("XDG_RUNTIME_DIR");
+		if (!folder || *folder != '/') {
+			errno = ENOENT;
+			return false;
+		}
+	}
+	memset(address, 0, sizeof *address);
+	address->sun_family = AF_UNIX;
+	int length = snprintf(address->sun_path, sizeof address->sun_path, "%s%s%s", folder,
+		*folder ? "/" : "", name);
+	if (length >= 0 && (size_t)length < sizeof address->sun_path)
+		return true;
+	errno = ENAMETOOLONG;
+	return false;
+}
+
+/* The descriptor that a text names; -1 with errno. */
+static int descriptor_in(const char *text)
+{
+	char *behind;
+	errno = 0;
+	long number = strtol(text, &behind, 10);
+	if (!errno && (number > INT_MAX || number < INT_MIN))
+		errno = ERANGE;
+	if (!errno && (behind == text || *behind))
+		errno = EINVAL;
+	return errno ? -1 : (int)number;
+}
+
+/* The socket that WAYLAND_SOCKET names, which is open. */
+static int inherited(const char *text)
+{
+	int error = errno, fd = descriptor_in(text);
+	if (errno)
+		return -1;
+	errno = error;
+	int flags = fcntl(fd, F_GETFD);
+	if (flags < 0)
+		return -1;
+	fcntl(fd, F_SETFD, flags | FD_CLOEXEC);
+	unsetenv("WAYLAND_SOCKET");
+	return fd;
+}
+
+int waywire_socket_connect(const char *name)
+{
+	struct sockaddr_un address;
+	const char *open = getenv("WAYLAND_SOCKET");
+	if (open)
+		return inherited(open);
+	if (!name)
+		name = getenv("WAYLAND_DISPLAY");
+	if (!address_of(&address, name ? name : "wayland-0"))
+		return -1;
+	int fd = socket(AF_UNIX, SOCK_STREAM | SOCK_CLOEXEC, 0);
+	if (fd >= 0 && connect(fd, (struct sockaddr *)&address, sizeof address)) {
+		int error = errno;
+		close(fd);
+		errno = error;
+		return -1;
+	}
+	return fd;
+}

@@ -1,0 +1,219 @@
+/* A connection: how it is made and how it ends. See waywire-socket.h. */
+#define _GNU_SOURCE
+#include "socket.h"
+
+#include <errno.h>
+#include <inttypes.h>
+#include <stdio.h>
+#include <stdlib.h>
+#include <time.h>
+
+/* What a server bears of its client, unless it is told otherwise. */
+#define SERVER_OBJECTS 50000
+#define SERVER_PATIENCE 120000
+
+static const waywire_sizes usual_sizes = { 65536, 64, 65536, 64, WAYWIRE_USUAL_LIMIT };
+
+int64_t moment(void)
+{
+	struct timespec now;
+	clock_gettime(CLOCK_MONOTONIC, &now);
+	return (int64_t)now.tv_sec * 1000 + now.tv_nsec / 1000000;
+}
+
+/* ---- making one */
+
+/* Whether an end of these sizes can pass what libwayland sends at once, and any message. */
+static bool can_carry(const waywire_sizes *sizes)
+{
+	size_t limit = sizes->limit ? sizes->limit : WAYWIRE_USUAL_LIMIT;
+	return sizes->out_bytes >= limit && sizes->out_tokens >= WAYWIRE_MAX_ARGS
+		&& sizes->in_tokens >= WAYWIRE_SOCKET_DESCRIPTORS;
+}
+
+/* A connection without an end; null with errno. */
+static waywire_connection *new_connection(const waywire_tables *tables, const waywire_sizes *sizes,
+	int socket)
+{
+	if (!tables || !can_carry(sizes)) {
+		errno = EINVAL;
+		return NULL;
+	}
+	waywire_connection *connection = calloc(1, sizeof *connection);
+	if (!connection)
+		return NULL;
+	connection->socket = socket;
+	connection->tables = tables;
+	connection->half.bytes = sizes->out_bytes / 2;
+	connection->half.tokens = sizes->out_tokens / 2;
+	connection->entries.before = connection->entries.after = &connection->entries;
+	connection->sweep_at = FIRST_SWEEP;
+	connection->patience = connection->stuck_since = -1;
+	return connection;
+}
+
+/* A connection whose end was made, or which is freed; null with errno. */
+static waywire_connection *with_end(waywire_connection *connection, waywire_end *end,
+	waywire_status status)
+{
+	if (!status) {
+		connection->end = end;
+		return connection;
+	}
+	free(connection);
+	errno = status == WAYWIRE_NO_MEMORY ? ENOMEM : EINVAL;
+	return NULL;
+}
+
+waywire_connection *waywire_connection_of_client(const waywire_tables *tables,
+	const waywire_sizes *sizes, int socket)
+{
+	if (!sizes)
+		sizes = &usual_sizes;
+	waywire_connection *made = new_connection(tables, sizes, socket);
+	if (!made)
+		return NULL;
+	waywire_status status = waywire_client_new(tables, sizes, &made->client);
+	return with_end(made, made->client.end, status);
+}
+
+waywire_connection *waywire_connection_of_server(const waywire_tables *tables,
+	const waywire_sizes *sizes, int socket)
+{
+	if (!sizes)
+		sizes = &usual_sizes;
+	waywire_connection *made = new_connection(tables, sizes, socket);
+	if (!made)
+		return NULL;
+	made->most_objects = SERVER_OBJECTS;
+	made->patience = SERVER_PATIENCE;
+	waywire_status status = waywire_server_new(tables, sizes, &made->server);
+	return with_end(made, made->server.end, status);
+}
+
+waywire_connection *waywire_connection_connect(const waywire_tables *tables,
+	const waywire_sizes *sizes, const char *name)
+{
+	waywire_connection *made = waywire_connection_of_client(tables, sizes, -1);
+	if (!made)
+		return NULL;
+	made->socket = waywire_socket_connect(name);
+	if (made->socket >= 0)
+		return made;
+	waywire_connection_close(made);
+	return NULL;
+}
+
+void waywire_connection_close(waywire_connection *connection)
+{
+	int error = errno;
+	if (!connection)
+		return;
+	waywire_socket_flush(connection->socket, connection->end);
+	waywire_socket_close(connection->socket, connection->end);
+	end_entries(connection);
+	waywire_end_free(connection->end);
+	free(connection->implemented);
+	free(connection);
+	errno = error;
+}
+
+/* ---- what it is of */
+
+waywire_end *waywire_connection_end(const waywire_connection *connection)
+{
+	return connection->end;
+}
+
+waywire_client waywire_connection_client(const waywire_connection *connection)
+{
+	return connection->client;
+}
+
+waywire_server waywire_connection_server(const waywire_connection *connection)
+{
+	return connection->server;
+}
+
+int waywire_connection_fd(const waywire_connection *connection)
+{
+	return connection->socket;
+}
+
+waywire_status waywire_connection_add_global(waywire_connection *connection, const char *interface,
+	uint32_t version, uint32_t *name)
+{
+	uint16_t place;
+	waywire_status status = waywire_tables_interface(connection->tables, interface, &place);
+	if (!status)
+		status = waywire_server_add_global(connection->server, place, version, name);
+	return status;
+}
+
+void waywire_connection_set_limits(waywire_connection *connection, size_t objects,
+	int milliseconds)
+{
+	connection->most_objects = objects;
+	connection->patience = milliseconds;
+}
+
+/* ---- failing */
+
+const waywire_failure *waywire_connection_failure(const waywire_connection *connection)
+{
+	return connection->failure.error ? &connection->failure : NULL;
+}
+
+/* Notes why a connection has ended, of which its text is written. */
+static int ended(waywire_connection *connection, int error)
+{
+	if (connection->server.end) /* its client is still sent the wl_display.error that waits */
+		waywire_socket_flush(connection->socket, connection->end);
+	connection->failure.error = error;
+	connection->failure.text = connection->text;
+	errno = error;
+	return -1;
+}
+
+int fail(waywire_connection *connection, int error, const char *text)
+{
+	snprintf(connection->text, sizeof connection->text, "%s", text);
+	return ended(connection, error);
+}
+
+/* Whether a fault is one of an argument, whose place its report has. */
+static bool has_place(waywire_status status)
+{
+	return status == WAYWIRE_FAULT_BAD_ARGUMENT || status == WAYWIRE_FAULT_BAD_OBJECT
+		|| status == WAYWIRE_FAULT_BAD_NEW_ID;
+}
+
+int fail_by_fault(waywire_connection *connection, waywire_status status,
+	const waywire_report *report)
+{
+	char place[48] = "";
+	if (has_place(status))
+		snprintf(place, sizeof place, "argument %zu: ", report->place);
+	snprintf(connection->text, sizeof connection->text,
+		"the message at byte %" PRIu64 ": %s%s%s%s", report->offset, place,
+		waywire_strerror(status), report->spelling ? ": " : "",
+		report->spelling ? waywire_strspelling(report->spelling) : "");
+	connection->failure.kind = WAYWIRE_FAULT;
+	connection->failure.status = status;
+	return ended(connection, EPROTO);
+}
+
+int fail_by_error(waywire_connection *connection, const waywire_report *report)
+{
+	const char *name = "object";
+	size_t length = strlen(name);
+	if (report->named != WAYWIRE_NULL_OBJECT)
+		waywire_tables_name(connection->tables, report->interface, &name, &length);
+	snprintf(connection->text, sizeof connection->text,
+		"%.*s@%" PRIu32 ": error %" PRIu32 ": %s", (int)length, name, report->id,
+		report->code, report->text);
+	connection->failure.kind = WAYWIRE_ERROR;
+	connection->failure.id = report->id;
+	connection->failure.code = report->code;
+	return ended(connection, EPROTO);
+}

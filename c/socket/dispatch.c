@@ -1,0 +1,390 @@
+/* Reading and calling back: see waywire-socket.h. */
+#define _GNU_SOURCE
+#include "socket.h"
+
+#include <errno.h>
+#include <limits.h>
+#include <poll.h>
+#include <waywire-core.h>
+
+/* The place of wl_display in all tables. */
+#define DISPLAY_INTERFACE 0
+
+/* So many bytes are sent in one go while messages are read, as libwayland's buffer holds. */
+#define BATCH 4096
+
+/* ---- writing */
+
+static int ended_before(const waywire_connection *connection)
+{
+	errno = connection->failure.error;
+	return -1;
+}
+
+static bool is_gone(int error)
+{
+	return error == EPIPE || error == ECONNRESET;
+}
+
+/* The socket takes no more. Returns -1: with EAGAIN, or ETIMEDOUT if that has been so for too
+ * long. */
+static int is_stuck(waywire_connection *connection, bool went)
+{
+	int64_t now = moment();
+	connection->is_blocked = true;
+	if (connection->stuck_since < 0 || went)
+		connection->stuck_since = now;
+	if (connection->patience >= 0 && now - connection->stuck_since >= connection->patience)
+		return fail(connection, ETIMEDOUT, "the other end does not read");
+	errno = EAGAIN;
+	return -1;
+}
+
+int waywire_connection_flush(waywire_connection *connection)
+{
+	bool went;
+	if (connection->failure.error)
+		return ended_before(connection);
+	if (!flush_end(connection->socket, connection->end, &went)) {
+		connection->is_blocked = false;
+		connection->stuck_since = -1;
+		return 0;
+	}
+	if (errno == EAGAIN)
+		return is_stuck(connection, went);
+	if (errno == ENOBUFS || errno == ENOMEM || errno == ETOOMANYREFS)
+		return -1; /* the kernel has no room now */
+	if (!is_gone(errno) || connection->server.end)
+		return fail(connection, errno, "the socket does not take what is written");
+	drop_outbox(connection->end); /* what the server wrote before it went can still be read */
+	return -1;
+}
+
+bool waywire_connection_wants_write(const waywire_connection *connection)
+{
+	waywire_part parts[2] = { { NULL, 0 }, { NULL, 0 } };
+	size_t count;
+	return !connection->failure.error
+		&& !waywire_end_peek(connection->end, parts, NULL, 0, &count)
+		&& (parts[0].length || parts[1].length);
+}
+
+/* Flushes, and says whether the connection goes on: also if the socket takes no more, or if a
+ * client's server has closed it. */
+static bool flushes(waywire_connection *connection)
+{
+	return !waywire_connection_flush(connection)
+		|| (!connection->failure.error && (errno == EAGAIN || is_gone(errno)));
+}
+
+/* ---- reading */
+
+bool waywire_connection_wants_read(const waywire_connection *connection)
+{
+	return !connection->failure.error && !connection->is_unread;
+}
+
+int waywire_connection_fill(waywire_connection *connection)
+{
+	if (connection->failure.error)
+		return ended_before(connection);
+	if (connection->is_unread)
+		return 0;
+	ssize_t came = waywire_socket_fill(connection->socket, connection->end);
+	if (came > 0) {
+		connection->is_unread = true;
+		return 1;
+	}
+	if (!came)
+		return fail(connection, EPIPE, "the other end has closed the connection");
+	if (errno == EAGAIN)
+		return 0;
+	if (errno == ENOBUFS)
+		return fail(connection, ENOBUFS, "descriptors came that belong to no message");
+	if (errno == EMFILE)
+		return fail(connection, EMFILE, "no descriptor is left for one that came");
+	return fail(connection, errno, "the socket cannot be read");
+}
+
+/* Destroys the object that the last event has made, if nothing listens to it, by a destructor
+ * without arguments. It stays if its interface has none, or if the outbox has no room. */
+static void destroy_made(waywire_connection *connection)
+{
+	waywire_object made;
+	uint16_t interface;
+	uint32_t version;
+	waywire_message request;
+	if (waywire_client_made(connection->client, &made)
+		|| waywire_end_live(connection->end, made, &interface, &version)
+		|| is_heard(connection, made, interface))
+		return;
+	for (uint16_t opcode = 0; !waywire_tables_message(connection->tables, interface,
+			WAYWIRE_FROM_CLIENT, opcode, &request, NULL, NULL); opcode++) {
+		if (request.destroys != WAYWIRE_DESTROYS_TARGET || request.arg_count
+			|| request.since > version)
+			continue;
+		waywire_end *end = connection->end;
+		if (waywire_end_send(end, made, opcode, NULL, 0, NULL, NULL) == WAYWIRE_FULL
+			&& flushes(connection))
+			waywire_end_send(end, made, opcode, NULL, 0, NULL, NULL);
+		return;
+	}
+}
+
+/* Calls what a report is for: the dispatcher of its object, else that of the interface. Returns
+ * false if there was no callback. */
+static bool call(waywire_connection *connection, struct entry *entry, uint16_t interface,
+	const waywire_report *report)
+{
+	if (entry && entry->dispatch)
+		return entry->dispatch(entry->calls, entry->data, report);
+	if (interface >= connection->implemented_count)
+		return false;
+	const struct implemented *it = &connection->implemented[interface];
+	void *data = entry && entry->data ? entry->data : it->data;
+	return it->dispatch && it->dispatch(it->calls, data, report);
+}
+
+/* Takes the entry of a report's target out of the report, which gets the data in its place, and
+ * ends that of a replaced object. Of an object that the client has destroyed, only the last report
+ * leads to an entry. */
+static struct entry *take_entry(waywire_connection *connection, waywire_report *report)
+{
+	bool has_entry = report->kind == WAYWIRE_MESSAGE || report->kind == WAYWIRE_DELETED;
+	struct entry *target = has_entry ? report->user : NULL;
+	hold_entry(target);
+	if (report->replaced_user)
+		end_entry(connection, report->replaced_user);
+	report->user = target ? target->data : NULL;
+	report->replaced_user = NULL;
+	return target;
+}
+
+/* Calls back for one report, and ends the entry of its target if it is the last. */
+static void hear(waywire_connection *connection, waywire_report *report)
+{
+	waywire_end *end = connection->end;
+	bool was_heard = false;
+	struct entry *target = take_entry(connection, report);
+	if (report->kind == WAYWIRE_MESSAGE) {
+		was_heard = call(connection, target, report->interface, report);
+	} else if (report->kind != WAYWIRE_DISCARDED) { /* an event of wl_display */
+		struct entry *display = waywire_end_user(end, waywire_end_display(end));
+		hold_entry(display);
+		was_heard = call(connection, display, DISPLAY_INTERFACE, report);
+		release_entry(display);
+	}
+	if (!was_heard) {
+		close_tokens(report->tokens, report->token_count);
+		if (connection->client.end)
+			destroy_made(connection);
+	}
+	bool is_last = report->kind == WAYWIRE_DELETED || (connection->server.end
+		&& waywire_end_live(end, report->target, NULL, NULL));
+	if (target && is_last && !target->is_ended)
+		end_entry(connection, target);
+	release_entry(target);
+}
+
+/* Whether the outbox has so little in it that callbacks have room for what they write: sends what
+ * waits once that is worth it. Returns 1, or 0 if there is too much, or -1. */
+static int has_room(waywire_connection *connection)
+{
+	const waywire_amounts *half = &connection->half;
+	waywire_amounts waits = waywire_end_goes(connection->end, PTRDIFF_MAX, PTRDIFF_MAX);
+	if (!connection->is_blocked && (waits.bytes > BATCH || waits.tokens > half->tokens)) {
+		if (!flushes(connection))
+			return -1;
+		waits = waywire_end_goes(connection->end, PTRDIFF_MAX, PTRDIFF_MAX);
+	}
+	return waits.bytes <= half->bytes && waits.tokens <= half->tokens;
+}
+
+/* Prepares for the next message. Returns 1, or 0 if it has to wait: a server reads nothing more
+ * from a client that does not read, while a client goes on, or the two could wait for each other
+ * for ever. -1 with errno. */
+static int is_ready(waywire_connection *connection)
+{
+	int room = has_room(connection);
+	size_t announced = 0;
+	if (room < 0 || connection->client.end)
+		return room < 0 ? -1 : 1;
+	while (room > 0 && !waywire_server_announce(connection->server, &announced) && announced) {
+		announced = 0; /* not all may have fitted */
+		room = has_room(connection);
+	}
+	return room;
+}
+
+/* Ends a connection with too many objects; a server tells its client. */
+static int has_too_many(waywire_connection *connection)
+{
+	static const char text[] = "too many objects";
+	if (connection->server.end)
+		waywire_server_post_error(connection->server, waywire_end_display(connection->end),
+			WAYWIRE_WL_DISPLAY_ERROR_NO_MEMORY, text);
+	return fail(connection, EPROTO, text);
+}
+
+/* Reads the next message, and calls back. Returns 1, or 0 if none is read now, or -1 with errno. */
+static int read_next(waywire_connection *connection)
+{
+	waywire_report report;
+	if (connection->most_objects
+		&& waywire_end_object_count(connection->end) > connection->most_objects)
+		return has_too_many(connection);
+	int ready = is_ready(connection);
+	if (ready <= 0)
+		return ready;
+	waywire_status status = waywire_end_next(connection->end, &report);
+	if (status == WAYWIRE_OUT_FULL)
+		return 0;
+	if (status == WAYWIRE_NO_MEMORY) {
+		errno = ENOMEM;
+		return -1;
+	}
+	if (waywire_is_fault(status))
+		return fail_by_fault(connection, status, &report);
+	if (status)
+		return fail(connection, EPROTO, "this end has ended the connection");
+	if (report.kind == WAYWIRE_NOTHING) {
+		connection->is_unread = false;
+		return 0;
+	}
+	if (report.kind == WAYWIRE_ERROR)
+		fail_by_error(connection, &report);
+	hear(connection, &report);
+	/* It can have ended in a callback, too. */
+	return connection->failure.error ? ended_before(connection) : 1;
+}
+
+/* Calls back for all that waits. Adds to `count` how many messages were read. Returns 0, or -1 with
+ * errno. */
+static int read_all(waywire_connection *connection, int *count)
+{
+	int read;
+	if (connection->failure.error)
+		return ended_before(connection);
+	connection->is_unread = true;
+	while ((read = read_next(connection)) > 0)
+		++*count;
+	return read;
+}
+
+int waywire_connection_dispatch_pending(waywire_connection *connection)
+{
+	int count = 0;
+	return read_all(connection, &count) ? -1 : count;
+}
+
+/* ---- waiting */
+
+/* The end of a time that begins now; below 0 if it has none. */
+static int64_t end_of(int milliseconds)
+{
+	return milliseconds < 0 ? -1 : moment() + milliseconds;
+}
+
+/* How long poll may wait until a moment, and until the other end has not read for too long. */
+static int left_until(const waywire_connection *connection, int64_t end)
+{
+	bool can_end = connection->stuck_since >= 0 && connection->patience >= 0;
+	int64_t stuck = can_end ? connection->stuck_since + connection->patience : -1;
+	if (end < 0 || (stuck >= 0 && stuck < end))
+		end = stuck;
+	if (end < 0)
+		return -1;
+	int64_t left = end - moment();
+	return left < 0 ? 0 : left > INT_MAX ? INT_MAX : (int)left;
+}
+
+/* Waits until the socket can be read or written, and reads from it. Returns 1, or 0 if the time is
+ * over, or -1 with errno. */
+static int wait_until(waywire_connection *connection, int64_t end)
+{
+	bool reads = waywire_connection_wants_read(connection);
+	struct pollfd polled = { connection->socket, 0, 0 };
+	if (reads)
+		polled.events |= POLLIN;
+	if (waywire_connection_wants_write(connection))
+		polled.events |= POLLOUT;
+	int ready = poll(&polled, 1, left_until(connection, end));
+	if (ready < 0 && errno != EINTR)
+		return -1;
+	if (ready > 0 && reads && (polled.revents & ~POLLOUT))
+		return waywire_connection_fill(connection) < 0 ? -1 : 1;
+	return ready > 0 || end < 0 || moment() < end;
+}
+
+/* Flushes, calls back for what waits, and else waits. Adds to `count` how many messages were read.
+ * Returns 1, or 0 if the time is over, or -1 with errno. */
+static int step(waywire_connection *connection, int64_t end, int *count)
+{
+	int before = *count;
+	if (!flushes(connection) || read_all(connection, count))
+		return -1;
+	return *count > before ? 1 : wait_until(connection, end);
+}
+
+int waywire_connection_dispatch(waywire_connection *connection, int milliseconds)
+{
+	int64_t end = end_of(milliseconds);
+	int count = 0, went;
+	do
+		went = step(connection, end, &count);
+	while (went > 0 && !count);
+	return went < 0 ? -1 : count;
+}
+
+int waywire_connection_drain(waywire_connection *connection, int milliseconds)
+{
+	int64_t end = end_of(milliseconds);
+	while (waywire_connection_flush(connection)) {
+		if (errno != EAGAIN)
+			return -1;
+		struct pollfd polled = { connection->socket, POLLOUT, 0 };
+		int ready = poll(&polled, 1, left_until(connection, end));
+		if (ready < 0 && errno != EINTR)
+			return -1;
+		if (ready <= 0 && end >= 0 && moment() >= end) {
+			errno = EAGAIN;
+			return -1;
+		}
+	}
+	return 0;
+}
+
+static bool on_done(const void *calls, void *data, const waywire_report *report)
+{
+	(void)calls, (void)report;
+	*(bool *)data = true;
+	return true;
+}
+
+int waywire_connection_roundtrip(waywire_connection *connection, int milliseconds)
+{
+	int64_t end = end_of(milliseconds);
+	int count = 0, went = 1;
+	bool is_done = false;
+	waywire_status status;
+	waywire_wl_callback callback;
+	waywire_wl_display display = waywire_wl_display_of(waywire_end_display(connection->end));
+	if (connection->failure.error)
+		return ended_before(connection);
+	do
+		status = waywire_wl_display_sync(connection->client, display, &callback);
+	while (status == WAYWIRE_FULL && (went = step(connection, end, &count)) > 0);
+	if (went <= 0)
+		return went;
+	if (!status)
+		status = waywire_connection_listen(connection, callback.object, on_done, NULL,
+			&is_done);
+	if (status) {
+		errno = status == WAYWIRE_NO_MEMORY ? ENOMEM : EINVAL;
+		return -1;
+	}
+	while (!is_done && (went = step(connection, end, &count)) > 0)
+		;
+	waywire_connection_forget(connection, callback.object);
+	return is_done ? count : went;
+}

@@ -1,0 +1,106 @@
+/* What the files of c/socket share. They stand on the calls of waywire.h alone. `make` makes local
+ * what is global here: only the calls of include/waywire-socket.h are for others to see. */
+#ifndef WAYWIRE_SOCKET_PARTS_H
+#define WAYWIRE_SOCKET_PARTS_H
+
+#include "waywire-socket.h"
+
+#include <sys/un.h>
+
+/* So the compiler may put a function into its callers, although the code can be moved in memory. */
+#define HIDDEN __attribute__((visibility("hidden")))
+
+/* ---- addresses (connect.c) */
+
+/* Writes the address of a name: a path, if it begins with a slash, else a name in XDG_RUNTIME_DIR.
+ * False with errno: ENOENT without such a folder, ENAMETOOLONG. */
+HIDDEN bool address_of(struct sockaddr_un *address, const char *name);
+
+/* ---- an end and its socket (transfer.c) */
+
+/* Writes what waits, as waywire_socket_flush; `went` gets whether some of it went. */
+HIDDEN int flush_end(int socket, waywire_end *end, bool *went);
+
+/* Drops what waits in the outbox, and closes its descriptors. */
+HIDDEN void drop_outbox(waywire_end *end);
+
+/* Closes descriptors that are tokens. */
+HIDDEN void close_tokens(const uint32_t *tokens, size_t count);
+
+/* ---- a connection */
+
+/* What is kept for one object, in a ring of all of a connection. */
+struct entry {
+	struct entry *before, *after;
+	waywire_object object;
+	waywire_dispatcher *dispatch; /* null: that of the interface serves */
+	const void *calls;
+	void *data;
+	void (*destroy)(void *data);
+	unsigned held; /* how many calls of its dispatcher run: it is freed after they return */
+	bool is_ended; /* it is out of the ring, and freed once it is no longer held */
+};
+
+/* What is called for the objects of an interface. */
+struct implemented {
+	waywire_dispatcher *dispatch;
+	const void *calls;
+	void *data;
+};
+
+struct waywire_connection {
+	int socket;
+	waywire_end *end;
+	waywire_client client; /* one of these two has the end, the other null */
+	waywire_server server;
+	const waywire_tables *tables; /* the end keeps them */
+	waywire_amounts half; /* half of what the outbox holds */
+
+	struct entry entries; /* the head of the ring */
+	size_t entry_count;
+	size_t sweep_at; /* so many entries are looked through for those of objects that are gone */
+	struct implemented *implemented; /* each at the place of its interface */
+	size_t implemented_count;
+
+	bool is_unread;  /* messages may wait in the inbox */
+	bool is_blocked; /* the socket took no more */
+	size_t most_objects; /* 0: no limit */
+	int64_t patience;    /* in milliseconds; below 0: no limit */
+	int64_t stuck_since; /* when the other end last took something; below 0: nothing is stuck */
+	waywire_failure failure; /* its error is 0 while the connection goes on */
+	char text[512];
+};
+
+/* Milliseconds of a clock that only goes on (connection.c). */
+HIDDEN int64_t moment(void);
+
+/* Ends a connection for good with an errno and a text, which a server's other end is still sent
+ * what waits about. Returns -1, with errno set (connection.c). */
+HIDDEN int fail(waywire_connection *connection, int error, const char *text);
+
+/* The same where a message that came broke a rule, and where wl_display.error came. */
+HIDDEN int fail_by_fault(waywire_connection *connection, waywire_status status,
+	const waywire_report *report);
+HIDDEN int fail_by_error(waywire_connection *connection, const waywire_report *report);
+
+/* ---- the objects of a connection (objects.c) */
+
+/* The least number of entries at which those of ended objects are looked for. */
+#define FIRST_SWEEP 16
+
+/* Takes an entry out of the ring. It is freed, and its data are destroyed, once nothing holds
+ * it. */
+HIDDEN void end_entry(waywire_connection *connection, struct entry *entry);
+
+/* Keeps an entry while its dispatcher runs. Null is allowed. */
+HIDDEN void hold_entry(struct entry *entry);
+HIDDEN void release_entry(struct entry *entry);
+
+/* Ends all entries. */
+HIDDEN void end_entries(waywire_connection *connection);
+
+/* Whether something is called for the messages to an object. */
+HIDDEN bool is_heard(const waywire_connection *connection, waywire_object object,
+	uint16_t interface);
+
+#endif

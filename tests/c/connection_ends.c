@@ -1,0 +1,538 @@
+/* How connections end: by errors, by faults, at an other end that goes or does not read, and by
+ * limits; and calls that callbacks make. */
+#define _GNU_SOURCE
+#include "descriptors.h"
+
+#include <errno.h>
+#include <string.h>
+#include <sys/wait.h>
+
+/* Objects that the server makes, which no request can end. */
+static const char text[] = "interface maker 1\nrequest ask\nevent plugged N(head)\n"
+	"interface head 1\nevent split N(head)\n";
+
+enum { ASK = 0, PLUGGED = 0, SPLIT = 0 };
+
+static waywire_tables *tables;
+static waywire_connection *client, *server;
+static waywire_client requests;
+static waywire_server events;
+static waywire_wl_display display;
+static size_t before; /* how many descriptors there were */
+
+/* ---- both ends */
+
+static void on_sync(void *data, waywire_wl_display at, waywire_wl_callback callback)
+{
+	(void)data, (void)at;
+	MUST(!waywire_wl_callback_send_done(events, callback, 0));
+}
+
+static const struct waywire_wl_display_requests display_requests = { .sync = on_sync };
+
+static bool on_ask(const void *calls, void *data, const waywire_report *report)
+{
+	waywire_arg made = waywire_new();
+	(void)calls, (void)data;
+	return !waywire_end_send(events.end, report->target, PLUGGED, &made, 1, NULL, NULL);
+}
+
+static const waywire_listener listeners[] = {
+	{ WAYWIRE_WL_DISPLAY_NAME, waywire_wl_display_request_dispatcher, &display_requests },
+	{ "maker", on_ask, NULL },
+};
+
+static void begin_server(int socket)
+{
+	server = waywire_connection_of_server(tables, NULL, socket);
+	MUST(server && !waywire_connection_implement(server, listeners, 2, NULL));
+	MUST(!waywire_connection_add_global(server, "maker", 1, NULL));
+	events = waywire_connection_server(server);
+}
+
+static void begin_client(int socket, const waywire_sizes *sizes)
+{
+	client = waywire_connection_of_client(tables, sizes, socket);
+	MUST(client);
+	requests = waywire_connection_client(client);
+	display = waywire_wl_display_of(waywire_end_display(requests.end));
+}
+
+static void begin(const waywire_sizes *of_client)
+{
+	int sockets[2];
+	before = count_open();
+	make_pair(sockets);
+	begin_client(sockets[0], of_client);
+	begin_server(sockets[1]);
+}
+
+static void end(void)
+{
+	waywire_connection_close(client);
+	waywire_connection_close(server);
+	MUST(count_open() == before);
+}
+
+static void turn(void)
+{
+	MUST(!waywire_connection_flush(client) && waywire_connection_dispatch(server, WAIT) > 0);
+	MUST(!waywire_connection_flush(server) && waywire_connection_dispatch(client, WAIT) > 0);
+}
+
+static waywire_wl_registry get_registry(void)
+{
+	waywire_wl_registry made;
+	MUST(!waywire_wl_display_get_registry(requests, display, &made));
+	return made;
+}
+
+/* A connection has ended, with this error at each call from now on. */
+static const waywire_failure *has_ended(waywire_connection *connection, int error)
+{
+	const waywire_failure *failure = waywire_connection_failure(connection);
+	MUST(failure && failure->error == error && *failure->text);
+	MUST(waywire_connection_flush(connection) == -1 && errno == error);
+	MUST(waywire_connection_fill(connection) == -1 && errno == error);
+	MUST(waywire_connection_dispatch_pending(connection) == -1 && errno == error);
+	MUST(waywire_connection_dispatch(connection, WAIT) == -1 && errno == error);
+	MUST(waywire_connection_roundtrip(connection, WAIT) == -1 && errno == error);
+	MUST(waywire_connection_drain(connection, WAIT) == -1 && errno == error);
+	MUST(!waywire_connection_wants_read(connection));
+	MUST(!waywire_connection_wants_write(connection));
+	return failure;
+}
+
+/* ---- errors and faults */
+
+static void on_error(void *data, waywire_wl_display at, waywire_object object, uint32_t code,
+	const char *message)
+{
+	MUST(waywire_object_equal(at.object, display.object) && object.id == 2);
+	MUST(code == 7 && !strcmp(message, "enough"));
+	*(bool *)data = true;
+}
+
+static const struct waywire_wl_display_events display_events = { .error = on_error };
+
+/* wl_display.error, after which the server goes. `is_late`: the client writes once the server has
+ * gone. */
+static void error_comes(bool is_late)
+{
+	bool was_heard = false;
+	begin(NULL);
+	waywire_wl_registry registry = get_registry();
+	turn();
+	MUST(!waywire_connection_listen(client, display.object,
+		waywire_wl_display_event_dispatcher, &display_events, &was_heard));
+	MUST(!waywire_server_post_error(events, registry.object, 7, "enough"));
+	if (!is_late) {
+		MUST(!waywire_wl_display_sync(requests, display, NULL));
+		MUST(!waywire_connection_flush(client));
+	}
+	MUST(waywire_connection_dispatch(server, WAIT) == -1 && errno == EPROTO);
+	MUST(!waywire_connection_failure(server)->kind);
+	has_ended(server, EPROTO);
+	waywire_connection_close(server);
+	server = NULL;
+	if (is_late) {
+		MUST(!waywire_wl_display_sync(requests, display, NULL));
+		MUST(waywire_connection_flush(client) == -1);
+		MUST(errno == EPIPE || errno == ECONNRESET);
+		MUST(!waywire_connection_failure(client));
+		MUST(!waywire_connection_wants_write(client));
+	}
+	MUST(waywire_connection_roundtrip(client, WAIT) == -1 && errno == EPROTO && was_heard);
+	const waywire_failure *failure = has_ended(client, EPROTO);
+	MUST(failure->kind == WAYWIRE_ERROR && failure->code == 7);
+	MUST(failure->id == registry.object.id);
+	MUST(!strcmp(failure->text, "wl_registry@2: error 7: enough"));
+	end();
+}
+
+/* A message that breaks a rule, with a descriptor. */
+static void fault_comes(waywire_connection *at, int from, const uint32_t *words, size_t length,
+	const char *wanted)
+{
+	waywire_part parts[2] = { { (void *)words, length }, { NULL, 0 } };
+	int descriptor = new_descriptor(1);
+	MUST(waywire_socket_send(from, parts, &descriptor, 1) == (ssize_t)length);
+	close(descriptor);
+	MUST(waywire_connection_dispatch(at, WAIT) == -1 && errno == EPROTO);
+	const waywire_failure *failure = has_ended(at, EPROTO);
+	MUST(failure->kind == WAYWIRE_FAULT && waywire_is_fault(failure->status));
+	if (strcmp(failure->text, wanted))
+		fprintf(stderr, "%s\n", failure->text);
+	MUST(!strcmp(failure->text, wanted));
+}
+
+static void fault_at_client(void)
+{
+	static const uint32_t unknown[] = { 9, 8 << 16 };
+	begin(NULL);
+	fault_comes(client, waywire_connection_fd(server), unknown, sizeof unknown,
+		"the message at byte 0: unknown object");
+	end();
+}
+
+/* The client hears of it. */
+static void fault_at_server(void)
+{
+	static const uint32_t bad[] = { 1, 12 << 16, 2, 2, 28 << 16, 1, 99, 0, 1, 3 };
+	begin(NULL);
+	get_registry();
+	turn();
+	fault_comes(server, waywire_connection_fd(client), bad + 3, sizeof bad - 12,
+		"the message at byte 12: argument 1: malformed argument: "
+		"the message ends before the argument does");
+	MUST(waywire_connection_dispatch(client, WAIT) == -1 && errno == EPROTO);
+	MUST(has_ended(client, EPROTO)->kind == WAYWIRE_ERROR);
+	end();
+}
+
+/* ---- ends that go */
+
+static void other_goes(void)
+{
+	begin(NULL);
+	waywire_connection_close(server);
+	server = NULL;
+	MUST(waywire_connection_dispatch(client, WAIT) == -1 && errno == EPIPE);
+	MUST(!has_ended(client, EPIPE)->kind);
+	end();
+	begin(NULL);
+	MUST(!waywire_wl_display_sync(requests, display, NULL));
+	MUST(!waywire_connection_flush(client));
+	waywire_connection_close(client);
+	client = NULL;
+	MUST(waywire_connection_dispatch(server, WAIT) == 1); /* what it wrote is read */
+	/* The answer does not go. */
+	MUST(waywire_connection_dispatch(server, WAIT) == -1 && errno == EPIPE);
+	has_ended(server, EPIPE);
+	end();
+	/* Nor do the first of many, which are sent while requests wait. */
+	begin(NULL);
+	for (int each = 0; each < 1000; each++)
+		MUST(!waywire_wl_display_sync(requests, display, NULL));
+	MUST(!waywire_connection_flush(client));
+	waywire_connection_close(client);
+	client = NULL;
+	MUST(waywire_connection_dispatch(server, WAIT) == -1 && errno == EPIPE);
+	end();
+	/* In the middle of a message, with a descriptor. */
+	static const uint32_t half[] = { 1 };
+	waywire_part parts[2] = { { (void *)half, sizeof half }, { NULL, 0 } };
+	begin(NULL);
+	int descriptor = new_descriptor(1);
+	int socket = waywire_connection_fd(client);
+	MUST(waywire_socket_send(socket, parts, &descriptor, 1) == sizeof half);
+	MUST(!close(descriptor) && !waywire_connection_dispatch(server, 0));
+	waywire_connection_close(client);
+	client = NULL;
+	MUST(waywire_connection_dispatch(server, WAIT) == -1 && errno == EPIPE);
+	end();
+}
+
+/* Descriptors that belong to no message. */
+static void strange_descriptors(void)
+{
+	static const uint32_t half[] = { 1 };
+	waywire_part parts[2] = { { (void *)half, 1 }, { NULL, 0 } };
+	int descriptors[WAYWIRE_SOCKET_DESCRIPTORS];
+	begin(NULL);
+	for (int each = 0; each < WAYWIRE_SOCKET_DESCRIPTORS; each++)
+		descriptors[each] = new_descriptor(1);
+	for (int each = 0; each < 3; each++) {
+		MUST(waywire_socket_send(waywire_connection_fd(client), parts, descriptors,
+			WAYWIRE_SOCKET_DESCRIPTORS) == 1);
+		int read = waywire_connection_dispatch(server, 0);
+		MUST(each < 2 ? !read : read == -1 && errno == ENOBUFS);
+	}
+	for (int each = 0; each < WAYWIRE_SOCKET_DESCRIPTORS; each++)
+		close(descriptors[each]);
+	has_ended(server, ENOBUFS);
+	end();
+}
+
+/* More descriptors at once than there may be. */
+static void too_many_descriptors(void)
+{
+	int descriptors[WAYWIRE_SOCKET_DESCRIPTORS + 1];
+	char byte = 1;
+	union {
+		char bytes[CMSG_SPACE(sizeof descriptors)];
+		struct cmsghdr aligned;
+	} control = { { 0 } };
+	struct iovec data = { &byte, 1 };
+	struct msghdr message = { .msg_iov = &data, .msg_iovlen = 1, .msg_control = control.bytes,
+		.msg_controllen = sizeof control.bytes };
+	struct cmsghdr *header = CMSG_FIRSTHDR(&message);
+	begin(NULL);
+	header->cmsg_level = SOL_SOCKET;
+	header->cmsg_type = SCM_RIGHTS;
+	header->cmsg_len = CMSG_LEN(sizeof descriptors);
+	for (int each = 0; each <= WAYWIRE_SOCKET_DESCRIPTORS; each++)
+		descriptors[each] = new_descriptor(1);
+	memcpy(CMSG_DATA(header), descriptors, sizeof descriptors);
+	MUST(sendmsg(waywire_connection_fd(client), &message, 0) == 1);
+	for (int each = 0; each <= WAYWIRE_SOCKET_DESCRIPTORS; each++)
+		close(descriptors[each]);
+	MUST(waywire_connection_dispatch(server, WAIT) == -1 && errno == EOVERFLOW);
+	has_ended(server, EOVERFLOW);
+	end();
+}
+
+/* ---- ends that do not read */
+
+/* The client asks so often, as far as it can. Returns whether its outbox is full. */
+static bool ask_much(int count)
+{
+	for (int each = 0; each < count; each++) {
+		waywire_status status = waywire_wl_display_sync(requests, display, NULL);
+		MUST(!status || status == WAYWIRE_FULL);
+		if (status)
+			return true;
+	}
+	return false;
+}
+
+static void make_small(int socket)
+{
+	int smallest = 1;
+	MUST(!setsockopt(socket, SOL_SOCKET, SO_SNDBUF, &smallest, sizeof smallest));
+}
+
+/* The client asks and reads nothing, until the server reads no more either. */
+static void hold_back(void)
+{
+	make_small(waywire_connection_fd(client));
+	make_small(waywire_connection_fd(server));
+	do {
+		ask_much(1000);
+		MUST(!waywire_connection_flush(client) || errno == EAGAIN);
+		MUST(waywire_connection_dispatch(server, 0) >= 0);
+	} while (waywire_connection_wants_read(server));
+	MUST(waywire_connection_wants_write(server) && !waywire_connection_dispatch(server, 0));
+	MUST(!waywire_connection_fill(server) && !waywire_connection_dispatch_pending(server));
+}
+
+static void does_not_read(void)
+{
+	/* It reads on, and all answers come. */
+	begin(NULL);
+	hold_back();
+	while (waywire_end_object_count(requests.end) > 1) {
+		MUST(waywire_connection_dispatch(client, 0) >= 0);
+		MUST(waywire_connection_dispatch(server, 0) >= 0);
+	}
+	MUST(!waywire_connection_wants_write(server) && waywire_connection_wants_read(server));
+	end();
+	/* It never does. */
+	begin(NULL);
+	hold_back();
+	waywire_connection_set_limits(server, 0, 20);
+	MUST(waywire_connection_dispatch(server, -1) == -1 && errno == ETIMEDOUT);
+	has_ended(server, ETIMEDOUT);
+	MUST(waywire_connection_drain(client, 0) == -1 && errno == EAGAIN);
+	end();
+	/* The server does not read either: a client has no limit, but that of the call. */
+	begin(NULL);
+	make_small(waywire_connection_fd(client));
+	while (!ask_much(1000) || !waywire_connection_flush(client) || !ask_much(1000))
+		;
+	MUST(waywire_connection_flush(client) == -1 && errno == EAGAIN);
+	MUST(waywire_connection_drain(client, 1) == -1 && errno == EAGAIN);
+	MUST(!waywire_connection_dispatch(client, 1) && !waywire_connection_roundtrip(client, 1));
+	MUST(!waywire_connection_failure(client));
+	end();
+}
+
+/* ---- limits */
+
+static void too_many_objects(void)
+{
+	begin(NULL);
+	waywire_connection_set_limits(server, 10, -1);
+	for (int each = 0; each < 10; each++)
+		get_registry();
+	MUST(!waywire_connection_flush(client));
+	MUST(waywire_connection_dispatch(server, WAIT) == -1 && errno == EPROTO);
+	has_ended(server, EPROTO);
+	while (waywire_connection_dispatch(client, WAIT) > 0)
+		;
+	const waywire_failure *failure = has_ended(client, EPROTO);
+	MUST(failure->kind == WAYWIRE_ERROR && failure->code == WAYWIRE_WL_DISPLAY_ERROR_NO_MEMORY);
+	MUST(!strcmp(failure->text, "wl_display@1: error 2: too many objects"));
+	end();
+	/* A client gives up. */
+	begin(NULL);
+	waywire_connection_set_limits(client, 3, -1);
+	get_registry();
+	MUST(!waywire_connection_dispatch(client, 0));
+	get_registry();
+	get_registry();
+	MUST(waywire_connection_dispatch(client, 0) == -1 && errno == EPROTO);
+	end();
+}
+
+/* Sizes that a connection does not take. */
+static void bad_sizes(void)
+{
+	static const waywire_sizes bad[] = { { 4092, 64, 4096, 64, 0 }, { 4096, 19, 4096, 64, 0 },
+		{ 4096, 64, 4096, 27, 0 }, { 4096, 64, 4092, 64, 0 },
+		{ 8192, 64, 65536, 64, 16384 } };
+	for (size_t each = 0; each < sizeof bad / sizeof *bad; each++) {
+		MUST(!waywire_connection_of_client(tables, &bad[each], 0) && errno == EINVAL);
+		MUST(!waywire_connection_of_server(tables, &bad[each], 0) && errno == EINVAL);
+		MUST(!waywire_connection_connect(tables, &bad[each], "none") && errno == EINVAL);
+	}
+	MUST(!waywire_connection_connect(tables, NULL, "/there/is/none") && errno == ENOENT);
+	waywire_connection_close(NULL);
+}
+
+/* ---- calls in callbacks: the server is in a child */
+
+static waywire_object maker, head;
+static int heads, gone;
+
+/* A child that is a server until its client goes. Returns it. */
+static pid_t begin_with_child(void)
+{
+	int sockets[2];
+	before = count_open();
+	make_pair(sockets);
+	pid_t child = fork();
+	MUST(child >= 0);
+	if (!child) {
+		close(sockets[0]);
+		begin_server(sockets[1]);
+		while (waywire_connection_dispatch(server, WAIT) > 0)
+			;
+		int error = errno;
+		waywire_connection_close(server);
+		waywire_tables_free(tables);
+		_exit(error != EPIPE && error != ECONNRESET);
+	}
+	close(sockets[1]);
+	begin_client(sockets[0], NULL);
+	server = NULL;
+	return child;
+}
+
+static void end_with_child(pid_t child)
+{
+	int status;
+	end();
+	MUST(waitpid(child, &status, 0) == child && !status);
+}
+
+static void on_gone(void *data)
+{
+	MUST(*(int *)data == 5);
+	gone++;
+}
+
+/* Within the callback the object is destroyed, and its delete_id is read; the data stay until it
+ * returns. */
+static void on_done(void *data, waywire_wl_callback callback, uint32_t serial)
+{
+	(void)callback, (void)serial;
+	MUST(waywire_connection_roundtrip(client, WAIT) > 0 && !gone);
+	MUST(waywire_connection_roundtrip(client, WAIT) > 0 && !gone);
+	MUST(*(int *)data == 5);
+}
+
+static const struct waywire_wl_callback_events callback_events = { .done = on_done };
+
+/* Binds, and goes round before the next global is heard of. */
+static void on_global(void *data, waywire_wl_registry registry, uint32_t name,
+	const char *interface, uint32_t version)
+{
+	(void)data;
+	MUST(!waywire_client_bind(requests, registry.object, name, interface, version, &maker));
+	MUST(waywire_connection_roundtrip(client, WAIT) > 0);
+}
+
+static const struct waywire_wl_registry_events registry_events = { .global = on_global };
+
+static void within_callbacks(void)
+{
+	int five = 5;
+	pid_t child = begin_with_child();
+	waywire_wl_callback callback;
+	MUST(!waywire_connection_listen(client, get_registry().object,
+		waywire_wl_registry_event_dispatcher, &registry_events, NULL));
+	MUST(waywire_connection_roundtrip(client, WAIT) > 0 && maker.id);
+	MUST(!waywire_wl_display_sync(requests, display, &callback));
+	MUST(!waywire_connection_listen(client, callback.object,
+		waywire_wl_callback_event_dispatcher, &callback_events, NULL));
+	MUST(!waywire_connection_set_data(client, callback.object, &five, on_gone));
+	MUST(waywire_connection_roundtrip(client, WAIT) > 0 && gone == 1);
+	end_with_child(child);
+	MUST(gone == 1);
+}
+
+/* An event that a head makes a head with, whose id is that of the first: our end never does that.
+ * Its data are there until the callback returns. */
+static bool on_split(const void *calls, void *data, const waywire_report *report)
+{
+	(void)calls;
+	MUST(*(int *)data == 5 && !gone && waywire_object_equal(report->replaced, head));
+	MUST(!waywire_connection_data(client, head));
+	MUST(!waywire_connection_set_data(client, report->args[0].object, data, on_gone));
+	head = report->args[0].object;
+	heads++;
+	return true;
+}
+
+static bool on_plugged(const void *calls, void *data, const waywire_report *report)
+{
+	(void)calls;
+	head = report->args[0].object;
+	MUST(!waywire_connection_listen(client, head, on_split, NULL, NULL));
+	MUST(!waywire_connection_set_data(client, head, data, on_gone));
+	return true;
+}
+
+static void replaces_itself(void)
+{
+	int five = 5;
+	gone = 0;
+	begin(NULL);
+	waywire_wl_registry registry = get_registry();
+	turn();
+	MUST(!waywire_client_bind(requests, registry.object, 1, "maker", 1, &maker));
+	MUST(!waywire_connection_listen(client, maker, on_plugged, NULL, &five));
+	MUST(!waywire_end_send(requests.end, maker, ASK, NULL, 0, NULL, NULL));
+	turn();
+	MUST(head.id >= 0xff000000u);
+	uint32_t split[] = { head.id, 12 << 16 | SPLIT, head.id };
+	MUST(write(waywire_connection_fd(server), split, sizeof split) == sizeof split);
+	MUST(waywire_connection_dispatch(client, WAIT) == 1 && heads == 1 && gone == 1);
+	MUST(waywire_connection_data(client, head) == &five);
+	end();
+	MUST(gone == 2);
+}
+
+int main(void)
+{
+	waywire_tables *core;
+	MUST(!waywire_tables_core(&core));
+	MUST(!waywire_tables_read(core, text, strlen(text), &tables, NULL, NULL));
+	waywire_tables_free(core);
+	error_comes(false);
+	error_comes(true);
+	fault_at_client();
+	fault_at_server();
+	other_goes();
+	strange_descriptors();
+	too_many_descriptors();
+	does_not_read();
+	too_many_objects();
+	bad_sizes();
+	within_callbacks();
+	replaces_itself();
+	waywire_tables_free(tables);
+	printf("connection_ends: ok\n");
+	return 0;
+}

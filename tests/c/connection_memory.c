@@ -1,0 +1,278 @@
+/* Each allocation of a call of a connection refused in turn: the call says so, leaves everything
+ * as it was, and can be made again. The program is linked with `--wrap` for each function of
+ * memory. */
+#define _GNU_SOURCE
+#include "descriptors.h"
+
+#include <errno.h>
+#include <string.h>
+
+void *__real_malloc(size_t size);
+void *__real_calloc(size_t count, size_t size);
+void *__real_realloc(void *at, size_t size);
+void __real_free(void *at);
+
+static long used;      /* blocks that are not freed */
+static long left = -1; /* allocations before one is refused; below 0 none is */
+static long refused;
+
+static bool refuses(void)
+{
+	if (left < 0 || left-- > 0)
+		return false;
+	refused++;
+	errno = ENOMEM;
+	return true;
+}
+
+void *__wrap_malloc(size_t size)
+{
+	void *at = refuses() ? NULL : __real_malloc(size);
+	used += at != NULL;
+	return at;
+}
+
+void *__wrap_calloc(size_t count, size_t size)
+{
+	void *at = refuses() ? NULL : __real_calloc(count, size);
+	used += at != NULL;
+	return at;
+}
+
+void *__wrap_realloc(void *at, size_t size)
+{
+	void *moved = refuses() ? NULL : __real_realloc(at, size);
+	used += !at && moved;
+	return moved;
+}
+
+void __wrap_free(void *at)
+{
+	used -= at != NULL;
+	__real_free(at);
+}
+
+/* Objects that the server makes. */
+static const char text[] = "interface maker 1\nevent made N(thing)\n"
+	"interface thing 1\nrequest destroy D\n";
+
+static waywire_tables *tables;
+static waywire_connection *client, *server, *made;
+static waywire_listening_socket *listening;
+static waywire_client requests;
+static waywire_server events;
+static waywire_object object;
+static int pair[2], data, destroyed, heard;
+
+static void on_gone(void *it)
+{
+	MUST(it == &data);
+	destroyed++;
+}
+
+static bool on_report(const void *calls, void *it, const waywire_report *report)
+{
+	(void)calls, (void)it;
+	heard += report->kind == WAYWIRE_MESSAGE;
+	return true;
+}
+
+/* ---- calls that are refused: each returns whether it was made, or why not */
+
+static bool no_memory(bool is_done)
+{
+	MUST(is_done || errno == ENOMEM);
+	return is_done;
+}
+
+static bool of_status(waywire_status status)
+{
+	MUST(!status || status == WAYWIRE_NO_MEMORY);
+	return !status;
+}
+
+static bool makes_client(void)
+{
+	return no_memory((made = waywire_connection_of_client(tables, NULL, pair[0])) != NULL);
+}
+
+static bool makes_server(void)
+{
+	return no_memory((made = waywire_connection_of_server(tables, NULL, pair[0])) != NULL);
+}
+
+/* It connects last, so nothing is lost before. */
+static bool connects(void)
+{
+	char number[16];
+	snprintf(number, sizeof number, "%d", pair[0]);
+	MUST(!setenv("WAYLAND_SOCKET", number, 1));
+	made = waywire_connection_connect(tables, NULL, NULL);
+	MUST(made || getenv("WAYLAND_SOCKET"));
+	return no_memory(made);
+}
+
+static bool listens_at(void)
+{
+	return no_memory((listening = waywire_socket_listen(NULL)) != NULL);
+}
+
+static bool listens(void)
+{
+	return of_status(waywire_connection_listen(client, object, on_report, NULL, NULL));
+}
+
+static bool sets_data(void)
+{
+	return of_status(waywire_connection_set_data(client, object, &data, on_gone));
+}
+
+static bool implements(void)
+{
+	static const waywire_listener listeners[] = {
+		{ "wl_callback", on_report, NULL }, { "wl_seat", on_report, NULL } };
+	return of_status(waywire_connection_implement(client, listeners, 2, NULL));
+}
+
+static bool goes_round(void)
+{
+	int count = waywire_connection_roundtrip(client, 0);
+	MUST(count <= 0);
+	return no_memory(!count);
+}
+
+/* The message stays, and is read by a later call. */
+static bool dispatches_at_server(void)
+{
+	int count = waywire_connection_dispatch(server, 0);
+	return no_memory(count == 1);
+}
+
+static bool dispatches_at_client(void)
+{
+	int count = waywire_connection_dispatch(client, 0);
+	return no_memory(count == 1);
+}
+
+/* Refuses the first allocation of a call, then its second, and so on until it has all that it asks
+ * for. `keeps`: what a refused call has sent or kept is still in use. */
+static void each_refused(const char *name, bool (*call)(void), bool keeps)
+{
+	long before = used, number = 0;
+	bool is_done;
+	do {
+		left = number++;
+		refused = 0;
+		is_done = call();
+		left = -1;
+		MUST(is_done == !refused && (is_done || keeps || used == before));
+	} while (refused);
+	MUST(number > 1);
+	printf("%s: %ld allocations\n", name, number - 1);
+}
+
+/* ---- both ends */
+
+static void begin(void)
+{
+	int sockets[2];
+	make_pair(sockets);
+	client = waywire_connection_of_client(tables, NULL, sockets[0]);
+	server = waywire_connection_of_server(tables, NULL, sockets[1]);
+	MUST(client && server && !waywire_connection_add_global(server, "maker", 1, NULL));
+	requests = waywire_connection_client(client);
+	events = waywire_connection_server(server);
+}
+
+static void end(void)
+{
+	waywire_connection_close(client);
+	waywire_connection_close(server);
+}
+
+static void get_registry(void)
+{
+	waywire_wl_registry made_here;
+	waywire_wl_display display = waywire_wl_display_of(waywire_end_display(requests.end));
+	MUST(!waywire_wl_display_get_registry(requests, display, &made_here));
+	object = made_here.object;
+}
+
+/* A new object of the client's, which the server knows. */
+static void make_object(void)
+{
+	get_registry();
+	MUST(!waywire_connection_flush(client));
+	MUST(waywire_connection_dispatch(server, WAIT) == 1 && !waywire_connection_flush(server));
+	MUST(waywire_connection_dispatch(client, WAIT) == 1);
+}
+
+static void makes(void)
+{
+	static const struct {
+		const char *name;
+		bool (*call)(void);
+	} all[] = { { "a client", makes_client }, { "a server", makes_server },
+		{ "a client that connects", connects } };
+	for (int each = 0; each < 3; each++) {
+		make_pair(pair);
+		each_refused(all[each].name, all[each].call, false);
+		waywire_connection_close(made);
+		close(pair[1]);
+	}
+	each_refused("a listening socket", listens_at, false);
+	waywire_listening_socket_close(listening);
+}
+
+static void keeps(void)
+{
+	begin();
+	make_object();
+	each_refused("a listener", listens, false);
+	make_object();
+	each_refused("data", sets_data, false);
+	MUST(!destroyed && waywire_connection_data(client, object) == &data);
+	each_refused("listeners of interfaces", implements, false);
+	end();
+	MUST(destroyed == 1);
+}
+
+static void reads(void)
+{
+	begin();
+	each_refused("a round trip", goes_round, true);
+	while (waywire_connection_dispatch(server, 0) > 0)
+		;
+	MUST(!waywire_connection_failure(server));
+	get_registry();
+	MUST(!waywire_connection_flush(client));
+	each_refused("a request", dispatches_at_server, true);
+	MUST(!waywire_connection_flush(server) && waywire_connection_dispatch(client, WAIT) >= 1);
+	waywire_object maker, thing;
+	waywire_arg new = waywire_new();
+	MUST(!waywire_client_bind(requests, object, 1, "maker", 1, &maker));
+	MUST(!waywire_connection_listen(client, maker, on_report, NULL, NULL));
+	MUST(!waywire_connection_flush(client) && waywire_connection_dispatch(server, WAIT) == 1);
+	MUST(!waywire_end_send(events.end, maker, 0, &new, 1, &thing, NULL));
+	MUST(!waywire_connection_flush(server));
+	each_refused("an event that makes an object", dispatches_at_client, true);
+	MUST(heard == 1 && !waywire_end_live(requests.end, thing, NULL, NULL));
+	end();
+}
+
+int main(int count, char **words)
+{
+	waywire_tables *core;
+	MUST(count == 2 && !setenv("XDG_RUNTIME_DIR", words[1], 1));
+	size_t open = count_open();
+	long before = used;
+	MUST(!waywire_tables_core(&core));
+	MUST(!waywire_tables_read(core, text, strlen(text), &tables, NULL, NULL));
+	waywire_tables_free(core);
+	makes();
+	keeps();
+	reads();
+	waywire_tables_free(tables);
+	MUST(used == before && count_open() == open);
+	return 0;
+}
