@@ -1,26 +1,26 @@
-/* A compositor without a screen: takes one client at a socket's path, lets it open windows over xdg-shell,
+/* A compositor without a screen: takes one client at a socket, lets it open windows over xdg-shell,
  * and says what colour each buffer has that is committed to a surface. Once a window has shown a picture, it
  * plays a script.
  *
- *     server PATH [SCRIPT]
+ *     server NAME [SCRIPT]
  *
  * The script is a file with an event a line: `key CODE` and `button CODE` press and release what has that
  * number in linux/input-event-codes.h, `motion X Y` moves the pointer over the window, and `close` asks the
  * window to close. */
 #define _GNU_SOURCE
-#include "connection.h"
 #include "data-device.h"
 #include "xdg-shell.h"
 
 #include <err.h>
 #include <errno.h>
 #include <fcntl.h>
+#include <poll.h>
 #include <stdio.h>
 #include <stdlib.h>
-#include <sys/socket.h>
 #include <time.h>
 #include <unistd.h>
 #include <waywire-core.h>
+#include <waywire-socket.h>
 
 /* The time between two lines of the script, in milliseconds. */
 #define STEP 100
@@ -45,7 +45,7 @@ struct devices {
 	waywire_object objects[MOST_DEVICES];
 };
 
-static struct connection connection;
+static waywire_connection *connection;
 static waywire_server server;
 static uint32_t serial;
 static struct devices keyboards, pointers;
@@ -85,7 +85,7 @@ static void *new_data(waywire_object object, size_t size)
 	void *data = calloc(1, size);
 	if (!data)
 		err(1, "memory");
-	connection_set_data(&connection, object, data, free);
+	must(waywire_connection_set_data(connection, object, data, free));
 	return data;
 }
 
@@ -132,7 +132,7 @@ static void set_memory(waywire_object object, struct memory memory)
 	if (!kept)
 		err(1, "memory");
 	*kept = memory;
-	connection_set_data(&connection, object, kept, free_memory);
+	must(waywire_connection_set_data(connection, object, kept, free_memory));
 }
 
 static void on_create_pool(void *data, waywire_wl_shm shm, waywire_wl_shm_pool pool, int fd, int32_t size)
@@ -180,7 +180,7 @@ static void on_frame(void *data, waywire_wl_surface surface, waywire_wl_callback
 static void on_commit(void *data, waywire_wl_surface it)
 {
 	struct surface *surface = data;
-	const struct memory *buffer = connection_data(&connection, surface->buffer.object);
+	const struct memory *buffer = waywire_connection_data(connection, surface->buffer.object);
 	uint32_t pixel;
 	if (buffer && pread(buffer->descriptor, &pixel, sizeof pixel, buffer->offset) == sizeof pixel) {
 		printf("server: a picture of %d by %d, its first pixel %08x\n", buffer->width,
@@ -208,7 +208,8 @@ static const struct ww_xdg_wm_base_requests wm_base_requests = { .get_xdg_surfac
 
 static void on_get_toplevel(void *data, waywire_xdg_surface xdg_surface, waywire_xdg_toplevel toplevel)
 {
-	struct surface *surface = connection_data(&connection, ((waywire_wl_surface *)data)->object);
+	struct surface *surface = waywire_connection_data(connection,
+		((waywire_wl_surface *)data)->object);
 	if (surface)
 		surface->toplevel = toplevel;
 	must(ww_xdg_toplevel_send_configure(server, toplevel, 0, 0, NULL, 0));
@@ -359,61 +360,96 @@ static void play_next(FILE *script)
 	last = milliseconds();
 }
 
-static void implement(const char *interface, dispatcher *dispatch, const void *requests)
+static const waywire_listener listeners[] = {
+	{ WAYWIRE_WL_DISPLAY_NAME, waywire_wl_display_request_dispatcher, &display_requests },
+	{ WAYWIRE_WL_REGISTRY_NAME, waywire_wl_registry_request_dispatcher, &registry_requests },
+	{ WAYWIRE_WL_COMPOSITOR_NAME, waywire_wl_compositor_request_dispatcher, &compositor_requests },
+	{ WAYWIRE_WL_SURFACE_NAME, waywire_wl_surface_request_dispatcher, &surface_requests },
+	{ WAYWIRE_WL_SHM_NAME, waywire_wl_shm_request_dispatcher, &shm_requests },
+	{ WAYWIRE_WL_SHM_POOL_NAME, waywire_wl_shm_pool_request_dispatcher, &pool_requests },
+	{ WAYWIRE_WL_SEAT_NAME, waywire_wl_seat_request_dispatcher, &seat_requests },
+	{ WAYWIRE_WL_POINTER_NAME, waywire_wl_pointer_request_dispatcher, &pointer_requests },
+	{ WW_XDG_WM_BASE_NAME, ww_xdg_wm_base_request_dispatcher, &wm_base_requests },
+	{ WW_XDG_SURFACE_NAME, ww_xdg_surface_request_dispatcher, &xdg_surface_requests },
+};
+
+static const struct global {
+	const char *name;
+	uint32_t version;
+} globals[] = {
+	{ WAYWIRE_WL_COMPOSITOR_NAME, 4 }, { WAYWIRE_WL_SUBCOMPOSITOR_NAME, 1 },
+	{ WAYWIRE_WL_SHM_NAME, 1 }, { WAYWIRE_WL_SEAT_NAME, 5 },
+	{ WAYWIRE_WL_OUTPUT_NAME, 2 }, { WW_XDG_WM_BASE_NAME, 1 },
+	{ "wl_data_device_manager", 3 }, /* without which GTK has no seat; nothing answers it */
+};
+
+/* The interfaces of the core, of xdg-shell and of clipboards. */
+static waywire_tables *read_tables(void)
 {
-	connection_implement(&connection, interface, dispatch, requests);
+	static const char text[] = WW_XDG_SHELL_TABLES DATA_DEVICE_TABLES;
+	waywire_tables *core, *tables;
+	must(waywire_tables_core(&core));
+	must(waywire_tables_read(core, text, strlen(text), &tables, NULL, NULL));
+	waywire_tables_free(core);
+	return tables;
 }
 
 /* Opens a server for the client at a socket, with its globals and what serves their objects. */
 static void open_server(int socket)
 {
-	static const struct {
-		const char *name;
-		uint32_t version;
-	} globals[] = {
-		{ WAYWIRE_WL_COMPOSITOR_NAME, 4 }, { WAYWIRE_WL_SUBCOMPOSITOR_NAME, 1 },
-		{ WAYWIRE_WL_SHM_NAME, 1 }, { WAYWIRE_WL_SEAT_NAME, 5 },
-		{ WAYWIRE_WL_OUTPUT_NAME, 2 }, { WW_XDG_WM_BASE_NAME, 1 },
-		{ "wl_data_device_manager", 3 }, /* without which GTK has no seat; nothing answers it */
-	};
-	if (!connection_serve(&connection, socket, WW_XDG_SHELL_TABLES DATA_DEVICE_TABLES))
+	waywire_tables *tables = read_tables();
+	connection = waywire_connection_of_server(tables, NULL, socket);
+	if (!connection)
 		err(1, "the connection");
-	for (size_t each = 0; each < sizeof globals / sizeof *globals; each++)
-		if (!connection_add_global(&connection, globals[each].name, globals[each].version))
-			errx(1, "%s", globals[each].name);
-	server = connection.server;
-	implement(WAYWIRE_WL_DISPLAY_NAME, waywire_wl_display_request_dispatcher, &display_requests);
-	implement(WAYWIRE_WL_REGISTRY_NAME, waywire_wl_registry_request_dispatcher, &registry_requests);
-	implement(WAYWIRE_WL_COMPOSITOR_NAME, waywire_wl_compositor_request_dispatcher, &compositor_requests);
-	implement(WAYWIRE_WL_SURFACE_NAME, waywire_wl_surface_request_dispatcher, &surface_requests);
-	implement(WAYWIRE_WL_SHM_NAME, waywire_wl_shm_request_dispatcher, &shm_requests);
-	implement(WAYWIRE_WL_SHM_POOL_NAME, waywire_wl_shm_pool_request_dispatcher, &pool_requests);
-	implement(WAYWIRE_WL_SEAT_NAME, waywire_wl_seat_request_dispatcher, &seat_requests);
-	implement(WAYWIRE_WL_POINTER_NAME, waywire_wl_pointer_request_dispatcher, &pointer_requests);
-	implement(WW_XDG_WM_BASE_NAME, ww_xdg_wm_base_request_dispatcher, &wm_base_requests);
-	implement(WW_XDG_SURFACE_NAME, ww_xdg_surface_request_dispatcher, &xdg_surface_requests);
+	waywire_tables_free(tables);
+	for (size_t each = 0; each < sizeof globals / sizeof *globals; each++) {
+		const struct global *it = &globals[each];
+		must(waywire_connection_add_global(connection, it->name, it->version, NULL));
+	}
+	must(waywire_connection_implement(connection, listeners, sizeof listeners / sizeof *listeners,
+		NULL));
+	server = waywire_connection_server(connection);
+}
+
+/* The socket of the first client, for which it waits. */
+static int accept_client(const waywire_listening_socket *listening)
+{
+	struct pollfd polled = { waywire_listening_socket_fd(listening), POLLIN, 0 };
+	int socket;
+	while ((socket = waywire_listening_socket_accept(listening)) < 0 && errno == EAGAIN)
+		poll(&polled, 1, -1);
+	return socket;
+}
+
+/* Says why the connection has ended, unless the client has closed it. Returns the exit status. */
+static int tell_end(void)
+{
+	const waywire_failure *failure = waywire_connection_failure(connection);
+	if (failure && (failure->error == EPIPE || failure->error == ECONNRESET))
+		return 0;
+	warnx("%s", failure ? failure->text : strerror(errno));
+	return 1;
 }
 
 int main(int argc, char **argv)
 {
 	if (argc != 2 && argc != 3)
-		errx(1, "the path of a socket is wanted, and behind it that of a script if there is one");
+		errx(1, "the name of a socket is wanted, and behind it a script if there is one");
 	FILE *script = argc == 3 ? fopen(argv[2], "re") : NULL;
 	if (argc == 3 && !script)
 		err(1, "%s", argv[2]);
-	int listening = link_listen(argv[1]);
-	int socket = listening < 0 ? -1 : accept(listening, NULL, NULL);
+	waywire_listening_socket *listening = waywire_socket_listen(argv[1]);
+	int socket = listening ? accept_client(listening) : -1;
 	if (socket < 0)
 		err(1, "%s", argv[1]);
 	open_server(socket);
-	while (connection_dispatch(&connection, script ? STEP : -1) >= 0)
+	while (waywire_connection_dispatch(connection, script ? STEP : -1) >= 0)
 		if (script)
 			play_next(script);
-	bool has_failed = errno && errno != ECONNRESET && errno != EPIPE;
-	connection_close(&connection);
+	int status = tell_end();
+	waywire_connection_close(connection);
+	waywire_listening_socket_close(listening);
 	if (script)
 		fclose(script);
-	close(listening);
-	unlink(argv[1]);
-	return has_failed;
+	return status;
 }
