@@ -65,7 +65,9 @@ fn read_event<'t>(
         Ok(Some(read)) => {
             let global = global_told(read);
             *report = incoming(read, args);
-            report.replaced = client.replaced().map_or(CObject::none(), CObject::of);
+            if let Some(object) = client.replaced() {
+                report.replaced = CObject::of(object);
+            }
             if let Some(name) = global {
                 report.forgotten = !client.remembers(name);
             }
