@@ -15,18 +15,19 @@
  * that gets it. Every descriptor that is made here is close-on-exec.
  *
  * Waiting.  waywire_connection_dispatch, _roundtrip and _drain wait, each with a limit.
- * waywire_socket_connect and waywire_connection_connect wait if the compositor has too many clients
- * that it has not accepted. No other call waits, whether or not its socket is non-blocking. A
- * program with a loop of its own polls waywire_connection_fd there.
+ * waywire_socket_connect, _connect_to and waywire_connection_connect wait if the compositor has too
+ * many clients that it has not accepted; only _connect_to has a limit. No other call waits, whether
+ * or not its socket is non-blocking. A program with a loop of its own polls waywire_connection_fd
+ * there.
  *
  * Errors.  A call that returns -1 or a null pointer says why in errno. A call that returns a
  * waywire_status with another status than WAYWIRE_OK has changed nothing. Each refused allocation
  * is an error of the call: ENOMEM or WAYWIRE_NO_MEMORY. Nothing is written to standard error, and a
  * closed socket makes no signal.
  *
- * Threads.  There is no global state but the environment: waywire_socket_connect and
- * waywire_socket_listen read it, and waywire_socket_connect removes WAYLAND_SOCKET. Only one call
- * at a time may use a connection or its end, on any thread.
+ * Threads.  There is no global state but the environment: waywire_socket_connect, _connect_to and
+ * _listen read it, and waywire_socket_connect removes WAYLAND_SOCKET. Only one call at a time may
+ * use a connection or its end, on any thread.
  *
  * Null.  A pointer may be null only where the text of the call says so.
  */
@@ -43,7 +44,7 @@ extern "C" {
 
 /* ---- 1. sockets */
 
-/* The most descriptors that are passed at once. libwayland has the same limit. */
+/* The most descriptors that an end passes at once. libwayland has the same limit. */
 #define WAYWIRE_SOCKET_DESCRIPTORS 28
 
 /* Connects to a compositor, as wl_display_connect does. Returns the descriptor of the socket.
@@ -58,6 +59,13 @@ extern "C" {
  * an open descriptor; else as socket and connect. If WAYLAND_SOCKET is not a number, libwayland
  * leaves errno 0, and this call sets EINVAL or ERANGE. */
 int waywire_socket_connect(const char *name);
+
+/* Connects as waywire_socket_connect does if WAYLAND_SOCKET is not set; it leaves that variable
+ * alone. This is for a proxy, which connects once for each of its clients.
+ * Returns -1 with errno: EAGAIN if the compositor has no room for another client within this many
+ * milliseconds (-1 is no limit; the kernel rounds up to its next tick); else as
+ * waywire_socket_connect. */
+int waywire_socket_connect_to(const char *name, int milliseconds);
 
 /* A socket at which clients connect, and the lock of its name. */
 typedef struct waywire_listening_socket waywire_listening_socket;
@@ -89,8 +97,9 @@ void waywire_listening_socket_close(waywire_listening_socket *listening);
 
 /* Sends bytes, and descriptors with the first of them. Returns how many bytes went, at least 1. The
  * descriptors went with these, and stay open here. `descriptors` may be null if `count` is 0.
- * Returns -1 with errno: EAGAIN if the socket takes nothing now; EINVAL if there are more than
- * WAYWIRE_SOCKET_DESCRIPTORS descriptors; else as sendmsg. */
+ * Returns -1 with errno: EAGAIN if the socket takes nothing now; EINVAL if there are more than 253
+ * descriptors, the limit of the kernel; else as sendmsg. An end at the other side receives no more
+ * than WAYWIRE_SOCKET_DESCRIPTORS at once. */
 ssize_t waywire_socket_send(int socket, const waywire_part parts[2], const int *descriptors,
 	size_t count);
 
@@ -102,6 +111,12 @@ ssize_t waywire_socket_send(int socket, const waywire_part parts[2], const int *
  * socket. */
 ssize_t waywire_socket_receive(int socket, const waywire_part parts[2],
 	int descriptors[WAYWIRE_SOCKET_DESCRIPTORS], size_t *count);
+
+/* Receives as waywire_socket_receive, but up to `room` descriptors; EOVERFLOW if more came at once.
+ * This is for a proxy: with room for 253 it can hand on whatever a client sends. `descriptors` may
+ * be null if `room` is 0. */
+ssize_t waywire_socket_receive_up_to(int socket, const waywire_part parts[2], int *descriptors,
+	size_t room, size_t *count);
 
 /* Sends what waits in an end's outbox, also at a failed end, and closes the descriptors that went.
  * Returns 0 once all has gone.

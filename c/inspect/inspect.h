@@ -13,10 +13,10 @@
 #include <signal.h>
 #include <sys/types.h>
 #include <time.h>
-#include <waywire.h>
+#include <waywire-socket.h>
 
 #define PIECE_BYTES 65536
-/* The kernel hands over at most this number of descriptors at once. */
+/* The kernel passes at most this number of descriptors at once. */
 #define PIECE_DESCRIPTORS 253
 /* Where the tools in Python are, from the folder of the tool itself; the Makefile says it. */
 #ifndef WAYWIRE_TOOLS
@@ -186,19 +186,16 @@ void picture_end(const struct options *options, unsigned client_count);
 
 /* ---- sockets (sockets.c) */
 
-/* A socket that listens in XDG_RUNTIME_DIR; its name is written to `name`. Ends the tool where it
- * fails. */
-int listen_in_runtime_folder(char *name, size_t size);
-
-/* Removes that socket's name. */
-void stop_listening(int listener);
-
-/* A socket that is connected to the compositor, at the WAYLAND_DISPLAY of the tool's start; -1 with
- * a line said. */
-int connect_to_compositor(void);
+/* Listens in XDG_RUNTIME_DIR under the name waywire-PID, with a number behind it if that is taken. Ends
+ * the tool if it fails. */
+waywire_listening_socket *listen_in_runtime_folder(void);
 
 /* Notes the compositor's path. To be called before WAYLAND_DISPLAY is changed. */
 void find_compositor(void);
+
+/* A socket that is connected to the compositor's path; -1 with a line said. It does not look at
+ * WAYLAND_SOCKET, which can serve one client only. */
+int connect_to_compositor(void);
 
 /* Whether nothing more can be read from a socket. */
 bool is_at_end(int socket);

@@ -6,7 +6,6 @@
 #include <signal.h>
 #include <stdio.h>
 #include <stdlib.h>
-#include <sys/socket.h>
 #include <unistd.h>
 
 /* How long the command may take to end after each signal, in milliseconds. */
@@ -19,7 +18,7 @@ struct run {
 	struct session *sessions;
 	struct pollfd *polled; /* the listener, and behind it two for each session */
 	size_t session_count, room;
-	int listener;
+	waywire_listening_socket *listener;
 	int connected;      /* to the compositor, for the first client; -1 once it is used */
 	struct children children;
 	bool has_command;
@@ -99,12 +98,12 @@ static void begin(struct run *run, int client)
 
 static void accept_client(struct run *run)
 {
-	int client = accept4(run->listener, NULL, NULL, SOCK_CLOEXEC);
+	int client = waywire_listening_socket_accept(run->listener);
 	if (client >= 0 && has_room_behind(client)) {
 		begin(run, client);
 	} else if (client >= 0) {
 		close(client);
-	} else if (errno != EAGAIN && errno != EINTR && errno != ECONNABORTED) {
+	} else if (errno != EAGAIN) {
 		if (!run->was_full)
 			notice("a client has to wait: %s", strerror(errno));
 		run->is_full = run->was_full = true;
@@ -177,7 +176,7 @@ static int wait_for_any(struct run *run)
 {
 	bool is_closed = run->is_full || is_ending(run);
 	size_t count = 1;
-	run->polled[0] = (struct pollfd){ is_closed ? -1 : run->listener, POLLIN, 0 };
+	run->polled[0] = (struct pollfd){ is_closed ? -1 : waywire_listening_socket_fd(run->listener), POLLIN, 0 };
 	run->is_later = run->is_full;
 	run->is_full = false;
 	for (struct session *it = run->sessions; it; it = it->next, count += 2)
@@ -272,7 +271,6 @@ static bool begin_clients(struct run *run, const char *display)
 
 int run(const struct options *options, const struct known *known)
 {
-	char display[64];
 	struct run run = { .shared = { .options = options, .known = known }, .connected = -1 };
 	find_compositor();
 	run.connected = connect_to_compositor();
@@ -280,15 +278,15 @@ int run(const struct options *options, const struct known *known)
 		return NOTHING_INSPECTED;
 	check_descriptors();
 	take_signals(&run.shared.while_waiting);
-	run.listener = listen_in_runtime_folder(display, sizeof display);
+	run.listener = listen_in_runtime_folder();
 	run.has_command = options->command;
-	bool is_begun = begin_clients(&run, display);
+	bool is_begun = begin_clients(&run, waywire_listening_socket_name(run.listener));
 	if (is_begun) {
 		allow_descriptors();
 		inspect(&run);
 	}
 	print_now();
-	stop_listening(run.listener);
+	waywire_listening_socket_close(run.listener);
 	free(run.polled);
 	if (!is_begun)
 		return NOTHING_INSPECTED;

@@ -6,30 +6,25 @@
 #include <stdio.h>
 #include <stdlib.h>
 #include <sys/socket.h>
-#include <sys/un.h>
 #include <unistd.h>
 
-/* How many names are tried, where those of earlier runs are left. */
+/* How many names are tried while others have them. */
 #define NAMES 32
-#define BACKLOG 128
-/* How long the compositor may take to have room for a connection, in seconds. */
-#define PATIENCE 5
+/* How long the compositor may take to have room for a connection, in milliseconds. */
+#define PATIENCE 5000
 
-static struct sockaddr_un compositor, own;
+/* The compositor's path, which has at most 107 bytes and a zero. */
+static char compositor[108];
 
-/* Writes the address of a name, which is a path where it begins with a slash; false where it is too
- * long. */
-static bool address_of(struct sockaddr_un *address, const char *name)
+/* XDG_RUNTIME_DIR, which is an absolute path, as libwayland asks. */
+static const char *runtime_folder(void)
 {
 	const char *folder = getenv("XDG_RUNTIME_DIR");
-	bool is_path = *name == '/';
-	memset(address, 0, sizeof *address);
-	address->sun_family = AF_UNIX;
-	if (!is_path && (!folder || !*folder))
+	if (!folder || !*folder)
 		fail("XDG_RUNTIME_DIR is not set");
-	int length = snprintf(address->sun_path, sizeof address->sun_path, "%s%s%s",
-		is_path ? "" : folder, is_path ? "" : "/", name);
-	return length > 0 && (size_t)length < sizeof address->sun_path;
+	if (*folder != '/')
+		fail("XDG_RUNTIME_DIR is not an absolute path: %s", folder);
+	return folder;
 }
 
 void find_compositor(void)
@@ -37,47 +32,36 @@ void find_compositor(void)
 	const char *name = getenv("WAYLAND_DISPLAY");
 	if (!name || !*name)
 		name = "wayland-0";
-	if (!address_of(&compositor, name))
+	bool is_path = *name == '/';
+	int length = snprintf(compositor, sizeof compositor, "%s%s%s", is_path ? "" : runtime_folder(),
+		is_path ? "" : "/", name);
+	if (length < 0 || (size_t)length >= sizeof compositor)
 		fail("the path of the compositor's socket %s is too long", name);
 }
 
 int connect_to_compositor(void)
 {
-	struct timeval patience = { PATIENCE, 0 };
-	int made = socket(AF_UNIX, SOCK_STREAM | SOCK_CLOEXEC, 0);
-	if (made >= 0 && !setsockopt(made, SOL_SOCKET, SO_SNDTIMEO, &patience, sizeof patience)
-		&& !connect(made, (struct sockaddr *)&compositor, sizeof compositor))
-		return made;
-	notice("no compositor at %s: %s", compositor.sun_path, strerror(errno));
-	if (made >= 0)
-		close(made);
-	return -1;
-}
-
-int listen_in_runtime_folder(char *name, size_t size)
-{
-	int made = socket(AF_UNIX, SOCK_STREAM | SOCK_CLOEXEC | SOCK_NONBLOCK, 0);
+	int made = waywire_socket_connect_to(compositor, PATIENCE);
 	if (made < 0)
-		fail("a socket cannot be made: %s", strerror(errno));
-	for (int each = 0; each < NAMES; each++) {
-		snprintf(name, size, each ? "waywire-%ld-%d" : "waywire-%ld", (long)getpid(), each);
-		if (!address_of(&own, name))
-			fail("XDG_RUNTIME_DIR is too long for the path of a socket");
-		if (!bind(made, (struct sockaddr *)&own, sizeof own)) {
-			if (listen(made, BACKLOG))
-				fail("cannot listen at %s: %s", own.sun_path, strerror(errno));
-			return made;
-		}
-		if (errno != EADDRINUSE)
-			break;
-	}
-	fail("cannot bind %s: %s", own.sun_path, strerror(errno));
+		notice("no compositor at %s: %s", compositor, strerror(errno));
+	return made;
 }
 
-void stop_listening(int listener)
+waywire_listening_socket *listen_in_runtime_folder(void)
 {
-	close(listener);
-	unlink(own.sun_path);
+	const char *folder = runtime_folder();
+	waywire_listening_socket *made = NULL;
+	char name[64];
+	errno = EADDRINUSE;
+	for (int each = 0; !made && errno == EADDRINUSE && each < NAMES; each++) {
+		snprintf(name, sizeof name, each ? "waywire-%ld-%d" : "waywire-%ld", (long)getpid(), each);
+		made = waywire_socket_listen(name);
+	}
+	if (!made && errno == ENAMETOOLONG)
+		fail("XDG_RUNTIME_DIR is too long for the path of a socket");
+	if (!made)
+		fail("cannot bind %s/%s: %s", folder, name, strerror(errno));
+	return made;
 }
 
 bool is_at_end(int socket)

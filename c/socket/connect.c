@@ -8,6 +8,7 @@
 #include <stdio.h>
 #include <stdlib.h>
 #include <sys/socket.h>
+#include <sys/time.h>
 #include <unistd.h>
 
 bool address_of(struct sockaddr_un *address, const char *name)
@@ -58,22 +59,42 @@ static int inherited(const char *text)
 	return fd;
 }
 
-int waywire_socket_connect(const char *name)
+/* Limits how long `connect` waits; the kernel takes 0 for no limit. */
+static bool set_limit(int fd, struct timeval limit)
+{
+	return !setsockopt(fd, SOL_SOCKET, SO_SNDTIMEO, &limit, sizeof limit);
+}
+
+/* Connects a socket within this time. Afterwards it has no limit; false with errno. */
+static bool connect_within(int fd, const struct sockaddr_un *address, int milliseconds)
+{
+	struct timeval limit = { milliseconds / 1000, milliseconds % 1000 * 1000 + 1 };
+	if (milliseconds >= 0 && !set_limit(fd, limit))
+		return false;
+	if (connect(fd, (const struct sockaddr *)address, sizeof *address))
+		return false;
+	return milliseconds < 0 || set_limit(fd, (struct timeval){ 0, 0 });
+}
+
+int waywire_socket_connect_to(const char *name, int milliseconds)
 {
 	struct sockaddr_un address;
-	const char *open = getenv("WAYLAND_SOCKET");
-	if (open)
-		return inherited(open);
 	if (!name)
 		name = getenv("WAYLAND_DISPLAY");
 	if (!address_of(&address, name ? name : "wayland-0"))
 		return -1;
 	int fd = socket(AF_UNIX, SOCK_STREAM | SOCK_CLOEXEC, 0);
-	if (fd >= 0 && connect(fd, (struct sockaddr *)&address, sizeof address)) {
+	if (fd >= 0 && !connect_within(fd, &address, milliseconds)) {
 		int error = errno;
 		close(fd);
 		errno = error;
 		return -1;
 	}
 	return fd;
+}
+
+int waywire_socket_connect(const char *name)
+{
+	const char *open = getenv("WAYLAND_SOCKET");
+	return open ? inherited(open) : waywire_socket_connect_to(name, -1);
 }

@@ -8,12 +8,14 @@
 #include <unistd.h>
 
 #define MOST WAYWIRE_SOCKET_DESCRIPTORS
+/* The most descriptors that the kernel passes at once, its SCM_MAX_FD. */
+#define MOST_OF_KERNEL 253
 
 /* What sendmsg and recvmsg take. A control message is aligned as its length is, a size_t. */
 struct parcel {
 	struct msghdr message;
 	struct iovec parts[2];
-	size_t control[CMSG_SPACE(MOST * sizeof(int)) / sizeof(size_t)];
+	size_t control[CMSG_SPACE(MOST_OF_KERNEL * sizeof(int)) / sizeof(size_t)];
 };
 
 static void begin_parcel(struct parcel *parcel, const waywire_part parts[2])
@@ -32,7 +34,7 @@ ssize_t waywire_socket_send(int socket, const waywire_part parts[2], const int *
 {
 	struct parcel parcel;
 	ssize_t sent;
-	if (count > MOST) {
+	if (count > MOST_OF_KERNEL) {
 		errno = EINVAL;
 		return -1;
 	}
@@ -61,7 +63,7 @@ static void close_all(const int *descriptors, size_t count)
 }
 
 /* Takes the descriptors out of what came; returns how many they are. */
-static size_t descriptors_of(struct msghdr *message, int descriptors[MOST])
+static size_t descriptors_of(struct msghdr *message, int *descriptors)
 {
 	size_t count = 0;
 	for (struct cmsghdr *it = CMSG_FIRSTHDR(message); it; it = CMSG_NXTHDR(message, it)) {
@@ -74,8 +76,8 @@ static size_t descriptors_of(struct msghdr *message, int descriptors[MOST])
 	return count;
 }
 
-ssize_t waywire_socket_receive(int socket, const waywire_part parts[2], int descriptors[MOST],
-	size_t *count)
+ssize_t waywire_socket_receive_up_to(int socket, const waywire_part parts[2], int *descriptors,
+	size_t room, size_t *count)
 {
 	struct parcel parcel;
 	ssize_t came;
@@ -86,7 +88,9 @@ ssize_t waywire_socket_receive(int socket, const waywire_part parts[2], int desc
 	}
 	begin_parcel(&parcel, parts);
 	parcel.message.msg_control = parcel.control;
-	parcel.message.msg_controllen = sizeof parcel.control;
+	/* If this were CMSG_SPACE, the kernel would fill its padding with one descriptor more. */
+	parcel.message.msg_controllen
+		= CMSG_LEN((room < MOST_OF_KERNEL ? room : MOST_OF_KERNEL) * sizeof *descriptors);
 	do
 		came = recvmsg(socket, &parcel.message, MSG_CMSG_CLOEXEC | MSG_DONTWAIT);
 	while (came < 0 && errno == EINTR);
@@ -95,11 +99,17 @@ ssize_t waywire_socket_receive(int socket, const waywire_part parts[2], int desc
 	size_t found = descriptors_of(&parcel.message, descriptors);
 	if (parcel.message.msg_flags & MSG_CTRUNC) {
 		close_all(descriptors, found);
-		errno = found < MOST ? EMFILE : EOVERFLOW;
+		errno = found < room ? EMFILE : EOVERFLOW;
 		return -1;
 	}
 	*count = found;
 	return came;
+}
+
+ssize_t waywire_socket_receive(int socket, const waywire_part parts[2], int descriptors[MOST],
+	size_t *count)
+{
+	return waywire_socket_receive_up_to(socket, parts, descriptors, MOST, count);
 }
 
 /* ---- an end */

@@ -259,22 +259,12 @@ static void too_many_descriptors(void)
 {
 	int descriptors[WAYWIRE_SOCKET_DESCRIPTORS + 1];
 	char byte = 1;
-	union {
-		char bytes[CMSG_SPACE(sizeof descriptors)];
-		struct cmsghdr aligned;
-	} control = { { 0 } };
-	struct iovec data = { &byte, 1 };
-	struct msghdr message = { .msg_iov = &data, .msg_iovlen = 1, .msg_control = control.bytes,
-		.msg_controllen = sizeof control.bytes };
-	struct cmsghdr *header = CMSG_FIRSTHDR(&message);
+	waywire_part parts[2] = { { &byte, 1 }, { NULL, 0 } };
 	begin(NULL);
-	header->cmsg_level = SOL_SOCKET;
-	header->cmsg_type = SCM_RIGHTS;
-	header->cmsg_len = CMSG_LEN(sizeof descriptors);
 	for (int each = 0; each <= WAYWIRE_SOCKET_DESCRIPTORS; each++)
 		descriptors[each] = new_descriptor(1);
-	memcpy(CMSG_DATA(header), descriptors, sizeof descriptors);
-	MUST(sendmsg(waywire_connection_fd(client), &message, 0) == 1);
+	MUST(waywire_socket_send(waywire_connection_fd(client), parts, descriptors,
+		WAYWIRE_SOCKET_DESCRIPTORS + 1) == 1);
 	for (int each = 0; each <= WAYWIRE_SOCKET_DESCRIPTORS; each++)
 		close(descriptors[each]);
 	MUST(waywire_connection_dispatch(server, WAIT) == -1 && errno == EOVERFLOW);

@@ -418,6 +418,100 @@ class Passing(Inspected):
         self.lines = file.read()
 
 
+class Sockets(Inspected):
+    """The tool's socket, and how it finds the compositor's."""
+
+    def test_its_socket_and_its_lock(self):
+        """Both are there as long as the tool, however it is stopped."""
+        for number in (signal.SIGINT, signal.SIGTERM, signal.SIGHUP):
+            with self.subTest(number):
+                self.start()
+                name = f"waywire-{self.tool.pid}"
+                self.assertEqual(sorted(os.listdir(self.folder)), ["display", name, f"{name}.lock"])
+                self.client()
+                self.finish(number)
+                self.assertEqual(os.listdir(self.folder), ["display"])
+
+    def test_a_name_that_is_taken(self):
+        def take():
+            with open(f"{self.folder}/waywire-{os.getpid()}", "x", encoding="ascii"):
+                pass
+        self.start(preexec_fn=take)
+        name = f"waywire-{self.tool.pid}"
+        self.assertEqual(self.tool.stdout.readline(), f"WAYLAND_DISPLAY={name}-1\n")
+        self.finish(status=125)
+        self.assertEqual(sorted(os.listdir(self.folder)), ["display", name])
+
+    def test_a_socket_that_was_left(self):
+        """One of an earlier process with the same number is replaced."""
+        def leave():
+            with socket.socket(socket.AF_UNIX) as left:
+                left.bind(f"{self.folder}/waywire-{os.getpid()}")
+        self.start(preexec_fn=leave)
+        name = f"waywire-{self.tool.pid}"
+        self.assertEqual(self.tool.stdout.readline(), f"WAYLAND_DISPLAY={name}\n")
+        self.path = f"{self.folder}/{name}"
+        self.client()
+        self.finish()
+        self.assertEqual(os.listdir(self.folder), ["display"])
+
+    def test_a_socket_that_is_connected(self):
+        """WAYLAND_SOCKET is not looked at, and the command does not get it."""
+        own, other = (self.enterContext(it) for it in socket.socketpair())
+        self.env["WAYLAND_SOCKET"] = str(other.fileno())
+        says = STAYING + 'print(os.environ.get("WAYLAND_SOCKET"), flush=True)'
+        self.answering()
+        said, error = self.ran(sys.executable, "-c", says, pass_fds=[other.fileno()])
+        self.assertEqual((said.splitlines()[0], error), ("None", ""))
+        own.setblocking(False)
+        with self.assertRaises(BlockingIOError):
+            own.recv(1)
+
+    def test_the_compositor_s_name(self):
+        """A path, a name, and wayland-0."""
+        os.symlink("display", f"{self.folder}/wayland-0")
+        for name in (f"{self.folder}/display", "display", "", None):
+            with self.subTest(name):
+                self.env.pop("WAYLAND_DISPLAY", None)
+                if name is not None:
+                    self.env["WAYLAND_DISPLAY"] = name
+                self.start()
+                self.passes(*self.client(), sync(2))
+                self.finish()
+
+    def test_no_compositor(self):
+        name = "x" * 100
+        for folder, display, said in (
+            (self.folder, "none", f"no compositor at {self.folder}/none: No such file or directory"),
+            (self.folder, name, f"the path of the compositor's socket {name} is too long"),
+            (None, "display", "XDG_RUNTIME_DIR is not set"),
+            ("", "display", "XDG_RUNTIME_DIR is not set"),
+            ("run", "display", "XDG_RUNTIME_DIR is not an absolute path: run"),
+            (None, f"{self.folder}/display", "XDG_RUNTIME_DIR is not set"),
+            ("/none", f"{self.folder}/display", "cannot bind /none/waywire-PID: No such file or directory"),
+            (f"/{name}", f"{self.folder}/display", "XDG_RUNTIME_DIR is too long for the path of a socket"),
+        ):
+            with self.subTest(folder=folder, display=display):
+                self.env.pop("XDG_RUNTIME_DIR", None)
+                if folder is not None:
+                    self.env["XDG_RUNTIME_DIR"] = folder
+                self.env["WAYLAND_DISPLAY"] = display
+                nothing, error = self.ran("true", status=125)
+                error = re.sub(r"waywire-\d+:", "waywire-PID:", error)
+                self.assertEqual((nothing, error), ("", f"waywire-inspect: {said}\n"))
+
+    def test_a_compositor_without_room(self):
+        """It is waited for five seconds."""
+        self.listener.listen(0)
+        waiting = self.enterContext(socket.socket(socket.AF_UNIX))
+        waiting.connect(f"{self.folder}/display")
+        began = time.monotonic()
+        _, error = self.ran("true", status=125)
+        self.assertGreaterEqual(time.monotonic() - began, 5)
+        self.assertEqual(error, f"waywire-inspect: no compositor at {self.folder}/display: "
+                                "Resource temporarily unavailable\n")
+
+
 class Judging(Inspected):
     """What is printed, and the exit status."""
 

@@ -8,8 +8,11 @@
 #include <sys/file.h>
 #include <sys/resource.h>
 #include <sys/un.h>
+#include <time.h>
 
 #define MOST WAYWIRE_SOCKET_DESCRIPTORS
+/* What the kernel passes at once. */
+#define MOST_OF_KERNEL 253
 
 static const char *folder;
 
@@ -75,6 +78,61 @@ static void not_connected(const char *name, int error)
 	size_t before = count_open();
 	errno = 0;
 	MUST(waywire_socket_connect(name) == -1 && errno == error && count_open() == before);
+}
+
+/* Connecting by a name alone, while WAYLAND_SOCKET names something else. */
+static void beside_number(void)
+{
+	set("WAYLAND_SOCKET", "four");
+	set("WAYLAND_DISPLAY", NULL);
+	waywire_listening_socket *first = waywire_socket_listen("wayland-0");
+	waywire_listening_socket *other = waywire_socket_listen("other");
+	MUST(first && other);
+	for (int each = 0; each < 2; each++) {
+		int client = waywire_socket_connect_to(each ? "other" : NULL, each ? -1 : WAIT);
+		int server = waywire_listening_socket_accept(each ? other : first);
+		MUST(client >= 0 && is_closed_at_exec(client) && server >= 0);
+		close(client);
+		close(server);
+	}
+	MUST(!strcmp(getenv("WAYLAND_SOCKET"), "four"));
+	set("WAYLAND_SOCKET", NULL);
+	waywire_listening_socket_close(first);
+	waywire_listening_socket_close(other);
+}
+
+static int64_t now(void)
+{
+	struct timespec time;
+	MUST(!clock_gettime(CLOCK_MONOTONIC, &time));
+	return time.tv_sec * (int64_t)1000 + time.tv_nsec / 1000000;
+}
+
+/* A compositor that accepts nobody: it has room for one, and connecting waits no longer than it is
+ * told. */
+static void without_room(void)
+{
+	struct timeval left = { 1, 1 };
+	socklen_t size = sizeof left;
+	waywire_listening_socket *full = waywire_socket_listen("full");
+	MUST(full && !listen(waywire_listening_socket_fd(full), 0));
+	int client = waywire_socket_connect_to("full", 0);
+	MUST(client >= 0 && !getsockopt(client, SOL_SOCKET, SO_SNDTIMEO, &left, &size));
+	MUST(!left.tv_sec && !left.tv_usec);
+	size_t before = count_open();
+	for (int limit = 0; limit <= 1200; limit += 1200) {
+		int64_t began = now();
+		MUST(waywire_socket_connect_to("full", limit) == -1 && errno == EAGAIN);
+		MUST(now() - began >= limit && now() - began < WAIT && count_open() == before);
+	}
+	int server = waywire_listening_socket_accept(full);
+	int next = waywire_socket_connect_to("full", WAIT);
+	MUST(server >= 0 && next >= 0);
+	close(client);
+	close(server);
+	close(next);
+	waywire_listening_socket_close(full);
+	MUST(waywire_socket_connect_to("full", WAIT) == -1 && errno == ENOENT);
 }
 
 static void by_number(void)
@@ -298,29 +356,34 @@ static void pass(int from, int to)
 	not_received(to, room, EAGAIN);
 }
 
-/* More descriptors than there may be, which libwayland never sends. */
+/* More descriptors than an end passes, which libwayland never sends: as many as there is room for, and
+ * one more. */
 static void too_many(const int sockets[2])
 {
-	int made[MOST + 1];
+	static const size_t rooms[] = { 0, 1, 2, MOST, MOST + 1, MOST_OF_KERNEL };
+	int made[MOST_OF_KERNEL + 1], found[MOST_OF_KERNEL];
 	char byte = 'x';
 	waywire_part parts[2] = { { &byte, 1 }, { NULL, 0 } };
-	union {
-		char bytes[CMSG_SPACE(sizeof made)];
-		struct cmsghdr aligned;
-	} control = { { 0 } };
-	struct iovec data = { &byte, 1 };
-	struct msghdr message = { .msg_iov = &data, .msg_iovlen = 1, .msg_control = control.bytes,
-		.msg_controllen = sizeof control.bytes };
-	struct cmsghdr *header = CMSG_FIRSTHDR(&message);
-	make_descriptors(made, MOST + 1);
-	MUST(waywire_socket_send(sockets[0], parts, made, MOST + 1) == -1 && errno == EINVAL);
-	header->cmsg_level = SOL_SOCKET;
-	header->cmsg_type = SCM_RIGHTS;
-	header->cmsg_len = CMSG_LEN(sizeof made);
-	memcpy(CMSG_DATA(header), made, sizeof made);
-	MUST(sendmsg(sockets[0], &message, 0) == 1);
-	close_descriptors(made, MOST + 1);
+	size_t count, before = count_open();
+	make_descriptors(made, MOST_OF_KERNEL + 1);
+	MUST(waywire_socket_send(sockets[0], parts, made, MOST_OF_KERNEL + 1) == -1 && errno == EINVAL);
+	for (size_t each = 0; each < sizeof rooms / sizeof *rooms; each++) {
+		size_t room = rooms[each];
+		MUST(waywire_socket_send(sockets[0], parts, made, room) == 1);
+		MUST(waywire_socket_receive_up_to(sockets[1], parts, room ? found : NULL, room, &count) == 1);
+		MUST(count == room);
+		for (size_t it = 0; it < room; it++)
+			MUST(is_closed_at_exec(found[it]) && length_of(found[it]) == (int)it);
+		if (room == MOST_OF_KERNEL)
+			break;
+		MUST(waywire_socket_send(sockets[0], parts, made, room + 1) == 1);
+		MUST(waywire_socket_receive_up_to(sockets[1], parts, found, room, &count) == -1);
+		MUST(errno == EOVERFLOW && !count);
+	}
+	MUST(waywire_socket_send(sockets[0], parts, made, MOST + 1) == 1);
 	not_received(sockets[1], parts, EOVERFLOW);
+	close_descriptors(made, MOST_OF_KERNEL + 1);
+	MUST(count_open() == before);
 }
 
 /* The process may open no more. */
@@ -389,6 +452,8 @@ int main(int count, char **words)
 	size_t before = count_open();
 	by_number();
 	by_name();
+	beside_number();
+	without_room();
 	by_number_of_name();
 	is_left();
 	stays_connected();
