@@ -1,17 +1,19 @@
 /* How connections end: by errors, by faults, at an other end that goes or does not read, and by
- * limits; and calls that callbacks make. */
+ * limits; and calls that callbacks make. It is linked with `--wrap` for clock_gettime. */
 #define _GNU_SOURCE
 #include "descriptors.h"
 
 #include <errno.h>
+#include <pthread.h>
 #include <string.h>
 #include <sys/wait.h>
+#include <time.h>
 
 /* Objects that the server makes, which no request can end. */
-static const char text[] = "interface maker 1\nrequest ask\nevent plugged N(head)\n"
+static const char text[] = "interface maker 1\nrequest ask\nrequest give h\nevent plugged N(head)\n"
 	"interface head 1\nevent split N(head)\n";
 
-enum { ASK = 0, PLUGGED = 0, SPLIT = 0 };
+enum { ASK = 0, GIVE = 1, PLUGGED = 0, SPLIT = 0 };
 
 static waywire_tables *tables;
 static waywire_connection *client, *server;
@@ -20,12 +22,29 @@ static waywire_server events;
 static waywire_wl_display display;
 static size_t before; /* how many descriptors there were */
 
+/* How many seconds have gone by that nobody waited for. */
+static time_t skipped;
+
+int __real_clock_gettime(clockid_t clock, struct timespec *time);
+
+int __wrap_clock_gettime(clockid_t clock, struct timespec *time)
+{
+	int failed = __real_clock_gettime(clock, time);
+	time->tv_sec += skipped;
+	return failed;
+}
+
 /* ---- both ends */
+
+/* Whether the server ends the connection at the next sync. */
+static bool ends_at_sync;
 
 static void on_sync(void *data, waywire_wl_display at, waywire_wl_callback callback)
 {
-	(void)data, (void)at;
+	(void)data;
 	MUST(!waywire_wl_callback_send_done(events, callback, 0));
+	if (ends_at_sync)
+		MUST(!waywire_server_post_error(events, at.object, 7, "enough"));
 }
 
 static const struct waywire_wl_display_requests display_requests = { .sync = on_sync };
@@ -192,6 +211,33 @@ static void fault_at_server(void)
 
 /* ---- ends that go */
 
+/* A maker that the client has bound. */
+static waywire_object bind_maker(void)
+{
+	waywire_object made;
+	waywire_wl_registry registry = get_registry();
+	turn();
+	MUST(!waywire_client_bind(requests, registry.object, 1, "maker", 1, &made));
+	return made;
+}
+
+/* Descriptors that are written once the server has gone. */
+static void not_sent(void)
+{
+	begin(NULL);
+	waywire_object to = bind_maker();
+	MUST(!waywire_connection_drain(client, WAIT));
+	waywire_connection_close(server);
+	server = NULL;
+	for (int each = 0; each < 3; each++) {
+		waywire_arg descriptor = waywire_fd((uint32_t)new_descriptor(1));
+		MUST(!waywire_end_send(requests.end, to, GIVE, &descriptor, 1, NULL, NULL));
+	}
+	MUST(count_open() == before + 4 && waywire_connection_flush(client) == -1);
+	MUST(count_open() == before + 1);
+	end();
+}
+
 static void other_goes(void)
 {
 	begin(NULL);
@@ -202,7 +248,6 @@ static void other_goes(void)
 	end();
 	begin(NULL);
 	MUST(!waywire_wl_display_sync(requests, display, NULL));
-	MUST(!waywire_connection_flush(client));
 	waywire_connection_close(client);
 	client = NULL;
 	MUST(waywire_connection_dispatch(server, WAIT) == 1); /* what it wrote is read */
@@ -306,6 +351,57 @@ static void hold_back(void)
 	MUST(!waywire_connection_fill(server) && !waywire_connection_dispatch_pending(server));
 }
 
+/* Takes all that comes at a socket until its end. */
+static void *take_all(void *socket)
+{
+	char bytes[4096];
+	while (read(*(int *)socket, bytes, sizeof bytes) > 0)
+		;
+	return NULL;
+}
+
+/* The server waits until the client reads on. */
+static void reads_on(void)
+{
+	pthread_t reader;
+	begin(NULL);
+	hold_back();
+	int socket = waywire_connection_fd(client);
+	MUST(!pthread_create(&reader, NULL, take_all, &socket));
+	MUST(waywire_connection_dispatch(server, WAIT) > 0);
+	waywire_connection_close(server);
+	server = NULL;
+	MUST(!pthread_join(reader, NULL));
+	end();
+}
+
+/* The client takes a part now and then, and then nothing more. */
+static void reads_slowly(void)
+{
+	char bytes[4096];
+	begin(NULL);
+	hold_back();
+	waywire_connection_set_limits(server, 0, 1000000);
+	for (int each = 0; each < 3; each++) {
+		MUST(read(waywire_connection_fd(client), bytes, sizeof bytes) > 0);
+		MUST(waywire_connection_flush(server) == -1 && errno == EAGAIN);
+		skipped += 900;
+		MUST(waywire_connection_flush(server) == -1 && errno == EAGAIN);
+	}
+	skipped += 200;
+	MUST(waywire_connection_flush(server) == -1 && errno == ETIMEDOUT);
+	end();
+	/* So long a wait ends by itself. */
+	begin(NULL);
+	hold_back();
+	MUST(read(waywire_connection_fd(client), bytes, sizeof bytes) > 0);
+	waywire_connection_set_limits(server, 0, 300);
+	while (waywire_connection_dispatch(server, -1) > 0)
+		;
+	has_ended(server, ETIMEDOUT);
+	end();
+}
+
 static void does_not_read(void)
 {
 	/* It reads on, and all answers come. */
@@ -316,14 +412,6 @@ static void does_not_read(void)
 		MUST(waywire_connection_dispatch(server, 0) >= 0);
 	}
 	MUST(!waywire_connection_wants_write(server) && waywire_connection_wants_read(server));
-	end();
-	/* It never does. */
-	begin(NULL);
-	hold_back();
-	waywire_connection_set_limits(server, 0, 20);
-	MUST(waywire_connection_dispatch(server, -1) == -1 && errno == ETIMEDOUT);
-	has_ended(server, ETIMEDOUT);
-	MUST(waywire_connection_drain(client, 0) == -1 && errno == EAGAIN);
 	end();
 	/* The server does not read either: a client has no limit, but that of the call. */
 	begin(NULL);
@@ -401,7 +489,7 @@ static pid_t begin_with_child(void)
 		int error = errno;
 		waywire_connection_close(server);
 		waywire_tables_free(tables);
-		_exit(error != EPIPE && error != ECONNRESET);
+		_exit(error != EPIPE && error != ECONNRESET && !ends_at_sync);
 	}
 	close(sockets[1]);
 	begin_client(sockets[0], NULL);
@@ -450,6 +538,7 @@ static void within_callbacks(void)
 	int five = 5;
 	pid_t child = begin_with_child();
 	waywire_wl_callback callback;
+	gone = 0;
 	MUST(!waywire_connection_listen(client, get_registry().object,
 		waywire_wl_registry_event_dispatcher, &registry_events, NULL));
 	MUST(waywire_connection_roundtrip(client, WAIT) > 0 && maker.id);
@@ -460,6 +549,17 @@ static void within_callbacks(void)
 	MUST(waywire_connection_roundtrip(client, WAIT) > 0 && gone == 1);
 	end_with_child(child);
 	MUST(gone == 1);
+}
+
+/* The answer comes, and with it the end. */
+static void answers_and_ends(void)
+{
+	ends_at_sync = true;
+	pid_t child = begin_with_child();
+	ends_at_sync = false;
+	MUST(waywire_connection_roundtrip(client, WAIT) > 0);
+	MUST(waywire_connection_dispatch(client, WAIT) == -1 && errno == EPROTO);
+	end_with_child(child);
 }
 
 /* An event that a head makes a head with, whose id is that of the first: our end never does that.
@@ -489,9 +589,7 @@ static void replaces_itself(void)
 	int five = 5;
 	gone = 0;
 	begin(NULL);
-	waywire_wl_registry registry = get_registry();
-	turn();
-	MUST(!waywire_client_bind(requests, registry.object, 1, "maker", 1, &maker));
+	maker = bind_maker();
 	MUST(!waywire_connection_listen(client, maker, on_plugged, NULL, &five));
 	MUST(!waywire_end_send(requests.end, maker, ASK, NULL, 0, NULL, NULL));
 	turn();
@@ -517,10 +615,14 @@ int main(void)
 	other_goes();
 	strange_descriptors();
 	too_many_descriptors();
+	not_sent();
 	does_not_read();
+	reads_on();
+	reads_slowly();
 	too_many_objects();
 	bad_sizes();
 	within_callbacks();
+	answers_and_ends();
 	replaces_itself();
 	waywire_tables_free(tables);
 	printf("connection_ends: ok\n");

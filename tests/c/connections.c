@@ -164,7 +164,9 @@ static void waits(void)
 	begin(NULL);
 	MUST(!waywire_connection_dispatch(client, 0) && !waywire_connection_dispatch(server, 1));
 	MUST(!waywire_connection_roundtrip(client, 1)); /* nobody reads it */
-	turn(1, 2); /* its answer comes, and nothing listens to it any more */
+	MUST(waywire_connection_dispatch(server, WAIT) == 1 && !waywire_connection_flush(server));
+	MUST(!waywire_connection_roundtrip(client, 0)); /* that answer is not its own */
+	turn(1, 2);
 	MUST(waywire_connection_roundtrip(server, 1) == -1 && errno == EINVAL);
 	MUST(!waywire_connection_drain(client, 0));
 	end();
@@ -180,11 +182,14 @@ static void own_loop(void)
 	MUST(!waywire_connection_fill(server) && !waywire_connection_dispatch_pending(server));
 	MUST(!waywire_connection_flush(client) && !waywire_connection_wants_write(client));
 	MUST(waywire_connection_fill(server) == 1 && !waywire_connection_wants_read(server));
+	MUST(!waywire_wl_display_sync(requests, display, NULL) && !waywire_connection_flush(client));
 	MUST(!waywire_connection_fill(server)); /* what came is to be dispatched before */
 	MUST(waywire_connection_dispatch_pending(server) == 1);
 	MUST(waywire_connection_wants_read(server));
+	MUST(waywire_connection_fill(server) == 1);
+	MUST(waywire_connection_dispatch_pending(server) == 1);
 	MUST(!waywire_connection_flush(server) && waywire_connection_fill(client) == 1);
-	MUST(waywire_connection_dispatch_pending(client) == 2);
+	MUST(waywire_connection_dispatch_pending(client) == 4);
 	MUST(!waywire_connection_failure(client));
 	end();
 }
@@ -272,6 +277,24 @@ static void data_of_callbacks(void)
 	MUST(destroyed == before);
 	end();
 	for (int each = 0; each < 1000; each++)
+		MUST(counts[each] == 1);
+}
+
+/* Data of objects that the client has destroyed, while others get data. */
+static void data_of_many(void)
+{
+	int counts[100] = { 0 };
+	begin(NULL);
+	for (int each = 0; each < 100; each++) {
+		waywire_wl_surface surface;
+		MUST(!waywire_wl_compositor_create_surface(requests, compositor, &surface));
+		MUST(!waywire_connection_set_data(client, surface.object, &counts[each], on_gone));
+		MUST(!waywire_wl_surface_destroy(requests, surface) && !destroyed);
+	}
+	turn(200, 100);
+	MUST(destroyed == 100);
+	end();
+	for (int each = 0; each < 100; each++)
 		MUST(counts[each] == 1);
 }
 
@@ -420,6 +443,7 @@ int main(void)
 	data_of_client();
 	data_of_server();
 	data_of_callbacks();
+	data_of_many();
 	data_with_data();
 	listens();
 	many_at_once();

@@ -198,7 +198,8 @@ static void by_name(void)
 	connected(other, NULL);
 	long_name[0] = '/';
 	not_connected(long_name, ENAMETOOLONG);
-	set("XDG_RUNTIME_DIR", "runtime");
+	MUST(!chdir(folder));
+	set("XDG_RUNTIME_DIR", ".");
 	not_connected("other", ENOENT);
 	set("XDG_RUNTIME_DIR", folder);
 	waywire_listening_socket_close(first);

@@ -13,7 +13,7 @@ static const char text[] = "interface maker 1\nrequest release D\nrequest ask\n"
 	"interface loan 1\nrequest end s D\n";
 
 /* Opcodes of the tables. */
-enum { RELEASE = 0, ASK = 1, MADE = 0, LENT = 1, PLUGGED = 2, GONE = 0 };
+enum { RELEASE = 0, ASK = 1, MADE = 0, LENT = 1, PLUGGED = 2, GONE = 0, DESTROY = 3 };
 
 static waywire_tables *tables;
 static waywire_connection *client, *server;
@@ -129,6 +129,25 @@ static void replaces(void)
 	MUST(!waywire_end_live(requests.end, other, NULL, NULL));
 }
 
+/* The client destroys what the server makes, whose data go later. */
+static void data_go(void)
+{
+	int destroyed = 0;
+	for (int each = 0; each < 200; each++) {
+		waywire_object made;
+		waywire_arg new = waywire_new();
+		MUST(!waywire_end_send(events, maker, MADE, &new, 1, &made, NULL));
+		goes(false);
+		MUST(!waywire_connection_set_data(client, made, &destroyed, on_destroy));
+		MUST(!waywire_end_send(requests.end, made, DESTROY, NULL, 0, NULL, NULL));
+		MUST(!waywire_connection_flush(client));
+		MUST(waywire_connection_dispatch(server, WAIT) == 1 && each - destroyed < 50);
+	}
+	waywire_connection_close(client);
+	MUST(destroyed == 200);
+	client = NULL;
+}
+
 /* A thing stays if there is no room for the request that would destroy it. */
 static void no_room(void)
 {
@@ -196,6 +215,10 @@ int main(void)
 	end();
 	begin();
 	no_room();
+	end();
+	begin();
+	implement(on_gone);
+	data_go();
 	end();
 	waywire_tables_free(core);
 	waywire_tables_free(tables);
