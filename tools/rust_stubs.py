@@ -23,12 +23,13 @@ SENT = {
     "uint": "waywire::Arg::Uint({})",
     "fixed": "waywire::Arg::Fixed({})",
     "array": "waywire::Arg::Array({}.as_ref())",
-    "fd": "waywire::Arg::Fd({})",
+    "fd": "waywire::Arg::Fd(std::os::fd::AsFd::as_fd(&{}))",
     "new_id": "waywire::Arg::NewId",
 }
 # What a parameter of a function that sends is, and what a method of a handler is given.
-GIVEN = {"int": "i32", "uint": "u32", "fixed": "waywire::Fixed", "array": "impl AsRef<[u8]>", "fd": "u32"}
-CAME = {**GIVEN, "array": "&[u8]"}
+GIVEN = {"int": "i32", "uint": "u32", "fixed": "waywire::Fixed", "array": "impl AsRef<[u8]>",
+         "fd": "impl std::os::fd::AsFd"}
+CAME = {**GIVEN, "array": "&[u8]", "fd": "std::os::fd::OwnedFd"}
 READ = {"int": "int", "uint": "uint", "fixed": "fixed", "array": "array", "fd": "fd"}
 
 
@@ -283,15 +284,18 @@ class Module:
             f"Calls the method of {article} {side}. False where the message is for another interface, or the interface "
             f"has no such {side} with these arguments: nothing is called then."], "    "))
         parameters = [f"handler: &mut impl {side.title()}s", "tables: &waywire::Tables",
-                      "message: &impl waywire::Readable"]
+                      "message: &mut impl waywire::Readable"]
         self.say(*wrapped("    ", f"pub fn dispatch_{side}", parameters, " -> bool {"),
-                 f"        waywire::typed::is_for(tables, message, NAME) && {side}_of(handler, message).is_some()",
-                 "    }", "")
+                 f"        waywire::typed::is_for(tables, message, NAME) && handle_{side}(handler, message)",
+                 "    }", "",
+                 f"    /// The same, for {article} {side} to an object that has this interface.")
+        self.say(*wrapped("    ", f"pub fn handle_{side}", [parameters[0], parameters[2]], " -> bool {"),
+                 f"        {side}_of(handler, message).is_some()", "    }", "")
         self.say(*wrapped("    ", f"fn {side}_of", [parameters[0], parameters[2]], " -> Option<()> {"))
+        self.say(f"        let (target, opcode) = ({type_name(interface.name)}(message.target()), message.opcode());")
         if any(it.args for it in messages):
             self.say("        let mut fields = waywire::typed::fields(message);")
-        self.say(f"        let target = {type_name(interface.name)}(message.target());",
-                 "        match message.opcode() {")
+        self.say("        match opcode {")
         for it in messages:
             self.call(interface, side, it)
         self.say("            _ => return None,", "        }", "        Some(())", "    }")

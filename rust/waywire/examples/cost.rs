@@ -18,8 +18,9 @@ struct Pair {
 
 /// Carries what waits at one end to the other.
 fn carry<A, B>(from: &mut Connection<A>, to: &mut Connection<B>, bytes: &mut [u8]) {
-    let taken = from.take(bytes, &mut []);
-    assert_eq!(to.feed(&bytes[..taken.bytes], &[]), Ok(taken));
+    let mut none = Vec::new();
+    let taken = from.take(bytes, &mut none, 0);
+    assert_eq!(to.feed(&bytes[..taken.bytes], &mut none), Ok(taken));
 }
 
 impl Pair {

@@ -6,11 +6,11 @@
 pub struct Amounts {
     /// How many bytes.
     pub bytes: usize,
-    /// How many tokens, each of which stands for a file descriptor.
+    /// How many tokens, each of which is a file descriptor.
     pub tokens: usize,
 }
 
-/// How large the outbox and the inbox of an end are. They never grow.
+/// How large the outbox and the inbox of an end are. They never grow. A token is a file descriptor.
 ///
 /// An outbox has at most 16,777,216 bytes and 65,536 tokens; an inbox has `limit` to 16,777,216
 /// bytes and 20 to 65,536 tokens.

@@ -1,8 +1,10 @@
 //! The arguments of messages.
 
-use crate::sys::{self, Kind};
+use crate::sys::{self, ArgOf, Kind};
 use crate::tables::Object;
 use std::fmt;
+use std::os::fd::{AsFd, AsRawFd, BorrowedFd, OwnedFd};
+use std::slice;
 
 /// A number in 256ths.
 #[derive(Clone, Copy, PartialEq, Eq, Hash, PartialOrd, Ord)]
@@ -43,7 +45,7 @@ impl fmt::Debug for Fixed {
 }
 
 /// An argument of a call.
-#[derive(Clone, Copy, Debug, PartialEq)]
+#[derive(Clone, Copy, Debug)]
 pub enum Arg<'a> {
     /// A signed number.
     Int(i32),
@@ -59,14 +61,21 @@ pub enum Arg<'a> {
     NewId,
     /// Bytes.
     Array(&'a [u8]),
-    /// The token that stands for a file descriptor.
-    Fd(u32),
+    /// A file descriptor. The end sends a duplicate of it, and closes that once it has gone.
+    Fd(BorrowedFd<'a>),
 }
 
 impl<'a> From<&'a str> for Arg<'a> {
     #[inline]
     fn from(text: &'a str) -> Arg<'a> {
         Arg::Str(Some(text.as_bytes()))
+    }
+}
+
+impl<'a> From<BorrowedFd<'a>> for Arg<'a> {
+    #[inline]
+    fn from(fd: BorrowedFd<'a>) -> Self {
+        Arg::Fd(fd)
     }
 }
 
@@ -77,9 +86,10 @@ impl From<Object> for Arg<'_> {
     }
 }
 
-/// An argument of a message that was read.
-#[derive(Clone, Copy, Debug, PartialEq)]
-pub enum Value<'a> {
+/// An argument of a message that was read. `D` is how its file descriptor comes: a [`BorrowedFd`] where
+/// the message lends it, an [`OwnedFd`] where it is taken out of the message.
+#[derive(Clone, Copy, Debug)]
+pub enum Value<'a, D = BorrowedFd<'a>> {
     /// A signed number.
     Int(i32),
     /// An unsigned number.
@@ -105,15 +115,69 @@ pub enum Value<'a> {
     },
     /// Bytes.
     Array(&'a [u8]),
-    /// The token that was fed for a file descriptor. The descriptor is the caller's to close.
-    Fd(u32),
+    /// A file descriptor; `None` if it was taken out of the message before.
+    Fd(Option<D>),
 }
 
-/// The arguments of a message, in order. An iterator, which can be begun anew from a copy.
-#[derive(Clone)]
-pub struct Args<'a>(pub(crate) sys::ArgsOf<'a>);
+/// Descriptors are equal if they have one number.
+impl<D: AsRawFd> PartialEq for Value<'_, D> {
+    fn eq(&self, other: &Self) -> bool {
+        let number = |it: &Option<D>| it.as_ref().map(AsRawFd::as_raw_fd);
+        match (self, other) {
+            (Value::Int(one), Value::Int(other)) => one == other,
+            (Value::Uint(one), Value::Uint(other)) => one == other,
+            (Value::Fixed(one), Value::Fixed(other)) => one == other,
+            (Value::Str(one), Value::Str(other)) => one == other,
+            (Value::Object(one), Value::Object(other)) => one == other,
+            (Value::Dead(one), Value::Dead(other)) => one == other,
+            (Value::NewId(one), Value::NewId(other)) => one == other,
+            (Value::Array(one), Value::Array(other)) => one == other,
+            (Value::Fd(one), Value::Fd(other)) => number(one) == number(other),
+            (
+                Value::Bound { interface: one, version: its, object: made },
+                Value::Bound { interface: other, version, object },
+            ) => one == other && its == version && made == object,
+            _ => false,
+        }
+    }
+}
 
-impl Args<'_> {
+/// The value of an argument. `next` returns the next descriptor of the message.
+#[inline]
+fn value<'a, D>(arg: &ArgOf<'a>, next: impl FnOnce() -> Option<D>) -> Value<'a, D> {
+    match arg.kind() {
+        Kind::Int => Value::Int(arg.int()),
+        Kind::Uint => Value::Uint(arg.uint()),
+        Kind::Fixed => Value::Fixed(Fixed(arg.int())),
+        Kind::Str => Value::Str(Some(arg.bytes())),
+        Kind::NullStr => Value::Str(None),
+        Kind::Object => Value::Object(Some(arg.object())),
+        Kind::NullObject => Value::Object(None),
+        Kind::Dead => Value::Dead(arg.object()),
+        Kind::NewId => Value::NewId(arg.object()),
+        Kind::Bound => {
+            Value::Bound { interface: arg.bytes(), version: arg.uint(), object: arg.object() }
+        }
+        Kind::Array => Value::Array(arg.bytes()),
+        Kind::Fd => Value::Fd(next()),
+    }
+}
+
+/// The arguments of a message, in order. An iterator, which can be begun anew from a copy. It lends the
+/// descriptors of the message.
+#[derive(Clone)]
+pub struct Args<'a> {
+    args: sys::ArgsOf<'a>,
+    held: slice::Iter<'a, Option<OwnedFd>>,
+}
+
+impl<'a> Args<'a> {
+    #[inline]
+    pub(crate) fn of(reading: &'a sys::Reading) -> Args<'a> {
+        let (args, held) = reading.args();
+        Args { args, held }
+    }
+
     /// Whether no argument is left.
     pub fn is_empty(&self) -> bool {
         self.len() == 0
@@ -125,27 +189,36 @@ impl<'a> Iterator for Args<'a> {
 
     #[inline]
     fn next(&mut self) -> Option<Value<'a>> {
-        let arg = self.0.next()?;
-        Some(match arg.kind() {
-            Kind::Int => Value::Int(arg.int()),
-            Kind::Uint => Value::Uint(arg.uint()),
-            Kind::Fixed => Value::Fixed(Fixed(arg.int())),
-            Kind::Str => Value::Str(Some(arg.bytes())),
-            Kind::NullStr => Value::Str(None),
-            Kind::Object => Value::Object(Some(arg.object())),
-            Kind::NullObject => Value::Object(None),
-            Kind::Dead => Value::Dead(arg.object()),
-            Kind::NewId => Value::NewId(arg.object()),
-            Kind::Bound => {
-                Value::Bound { interface: arg.bytes(), version: arg.uint(), object: arg.object() }
-            }
-            Kind::Array => Value::Array(arg.bytes()),
-            Kind::Fd => Value::Fd(arg.uint()),
-        })
+        let arg = self.args.next()?;
+        Some(value(&arg, || self.held.next()?.as_ref().map(AsFd::as_fd)))
     }
 
     fn size_hint(&self) -> (usize, Option<usize>) {
-        self.0.size_hint()
+        self.args.size_hint()
+    }
+}
+
+/// The same, which takes the descriptors out of the message.
+pub(crate) struct TakenArgs<'a> {
+    args: sys::ArgsOf<'a>,
+    held: slice::IterMut<'a, Option<OwnedFd>>,
+}
+
+impl<'a> TakenArgs<'a> {
+    #[inline]
+    pub(crate) fn of(reading: &'a mut sys::Reading) -> TakenArgs<'a> {
+        let (args, held) = reading.args_mut();
+        TakenArgs { args, held }
+    }
+}
+
+impl<'a> Iterator for TakenArgs<'a> {
+    type Item = Value<'a, OwnedFd>;
+
+    #[inline]
+    fn next(&mut self) -> Option<Value<'a, OwnedFd>> {
+        let arg = self.args.next()?;
+        Some(value(&arg, || self.held.next()?.take()))
     }
 }
 

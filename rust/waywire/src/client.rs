@@ -14,7 +14,7 @@ pub type Client = Connection<AsClient>;
 impl Client {
     /// A client with wl_display alone, an empty inbox and an empty outbox.
     pub fn new(tables: &Tables, sizes: &Sizes) -> Result<Client, NewError> {
-        sys::End::new_client(&tables.0, sizes).map(Connection::of)
+        sys::End::new_client(&tables.0, sizes).map(|end| Connection::of(end, tables))
     }
 
     /// Binds a global that was announced, of this name and interface, and returns the new object.
@@ -37,8 +37,8 @@ impl Client {
     #[inline]
     #[allow(clippy::should_implement_trait)]
     pub fn next(&mut self) -> Result<Option<Incoming<'_>>, NextError> {
-        self.end.next(&mut self.report)?;
-        Ok(Incoming::of(&self.report))
+        self.end.next(&mut self.reading)?;
+        Ok(Incoming::of(&mut self.reading))
     }
 
     /// The object that the last message read has made: one of the server's, also where its report
@@ -58,6 +58,6 @@ impl Client {
     /// The object is gone, and no later message names it: drop here what belongs to it. While an
     /// event is lent, [`Message::replaced`](crate::Message::replaced) returns the same.
     pub fn replaced(&self) -> Option<Replaced> {
-        self.report.replaced()
+        self.reading.report().replaced()
     }
 }

@@ -4,8 +4,9 @@ use crate::amounts::Amounts;
 use crate::args::Arg;
 use crate::error::{Failed, SendError};
 use crate::sys;
-use crate::tables::{Interface, Object};
+use crate::tables::{Interface, Object, Tables};
 use std::marker::PhantomData;
+use std::os::fd::{BorrowedFd, OwnedFd};
 
 /// One end of a connection: its objects, its inbox and its outbox. The role `R` says which end it
 /// is: [`Client`](crate::Client) is `Connection<AsClient>`, [`Server`](crate::Server) is
@@ -20,9 +21,9 @@ use std::marker::PhantomData;
 ///
 /// /// Passes what waits at one end to the other.
 /// fn pass<A, B>(from: &mut Connection<A>, to: &mut Connection<B>) -> Result<(), Failed> {
-///     let (mut bytes, mut tokens) = ([0; 4096], [0; 28]);
-///     let taken = from.take(&mut bytes, &mut tokens);
-///     let fed = to.feed(&bytes[..taken.bytes], &tokens[..taken.tokens])?;
+///     let (mut bytes, mut descriptors) = ([0; 4096], Vec::new());
+///     let taken = from.take(&mut bytes, &mut descriptors, 28);
+///     let fed = to.feed(&bytes[..taken.bytes], &mut descriptors)?;
 ///     assert_eq!(fed, taken);
 ///     Ok(())
 /// }
@@ -41,6 +42,8 @@ use std::marker::PhantomData;
 /// # }
 /// ```
 ///
+/// A descriptor that waits at an end belongs to it. Dropping the end closes what still waits.
+///
 /// A call that the other end alone has does not compile:
 ///
 /// ```compile_fail,E0599
@@ -53,7 +56,8 @@ use std::marker::PhantomData;
 #[derive(Debug)]
 pub struct Connection<R> {
     pub(crate) end: sys::End,
-    pub(crate) report: Box<sys::Report>,
+    pub(crate) reading: Box<sys::Reading>,
+    tables: Tables,
     role: PhantomData<R>,
 }
 
@@ -67,8 +71,14 @@ pub enum AsServer {}
 
 impl<R> Connection<R> {
     /// A new connection, by an end that was made for the role `R`.
-    pub(crate) fn of(end: sys::End) -> Connection<R> {
-        Connection { end, report: Box::new(sys::Report::nothing()), role: PhantomData }
+    pub(crate) fn of(end: sys::End, tables: &Tables) -> Connection<R> {
+        let reading = Box::new(sys::Reading::nothing());
+        Connection { end, reading, tables: tables.clone(), role: PhantomData }
+    }
+
+    /// The tables for which it was made.
+    pub fn tables(&self) -> &Tables {
+        &self.tables
     }
 
     /// wl_display, which every connection has.
@@ -138,6 +148,9 @@ impl<R> Connection<R> {
     /// that the server made, which is dead until an event makes one with its id. wl_registry.bind
     /// is [`SendError::NoSuchMessage`]: [`Client::bind`](crate::Client::bind) writes it.
     ///
+    /// The end sends a duplicate of each descriptor, and owns that once the message is written. If the
+    /// call is refused, the duplicate is closed. The caller's own descriptor stays open.
+    ///
     /// At a server, an event that destroys its object is followed by its delete_id: both are
     /// written, or nothing. The events of wl_display and wl_registry are
     /// [`SendError::NoSuchMessage`]: other calls write them.
@@ -151,24 +164,36 @@ impl<R> Connection<R> {
         self.end.send(target, opcode, args)
     }
 
-    /// Moves what came into the inbox: as many tokens as fit, and if these are all, as many bytes
-    /// as fit. Feed the rest again later. An end that has failed takes nothing, which is an error.
+    /// Moves what came into the inbox: as many descriptors as fit, and if these are all, as many bytes
+    /// as fit. Those that it takes leave the list; feed the rest again later. An end that has failed
+    /// takes nothing, which is an error.
     #[inline]
-    pub fn feed(&mut self, bytes: &[u8], tokens: &[u32]) -> Result<Amounts, Failed> {
-        self.end.feed(bytes, tokens)
+    pub fn feed(
+        &mut self,
+        bytes: &[u8],
+        descriptors: &mut Vec<OwnedFd>,
+    ) -> Result<Amounts, Failed> {
+        self.end.feed(bytes, descriptors)
     }
 
-    /// How much [`take`](Connection::take) into slices of these lengths would take.
+    /// How much [`take`](Connection::take) with a slice of this length, and at most so many descriptors,
+    /// would take.
     #[inline]
     pub fn goes(&self, bytes: usize, tokens: usize) -> Amounts {
         self.end.goes(bytes, tokens)
     }
 
-    /// Moves what waits to be sent into the slices, as much as they hold, also at a failed end. The
-    /// tokens of a message go with its first byte: pass their descriptors on with these bytes.
+    /// Moves what waits to be sent into the slice, as much as it holds, and appends at most so many
+    /// descriptors to the list, also at a failed end. The descriptors of a message go with its first
+    /// byte: pass them on with these bytes. One `sendmsg` takes 28 of them, as libwayland does.
     #[inline]
-    pub fn take(&mut self, bytes: &mut [u8], tokens: &mut [u32]) -> Amounts {
-        self.end.take(bytes, tokens)
+    pub fn take(
+        &mut self,
+        bytes: &mut [u8],
+        descriptors: &mut Vec<OwnedFd>,
+        most: usize,
+    ) -> Amounts {
+        self.end.take(bytes, descriptors, most)
     }
 
     /// What can go at one time, for `sendmsg`, also at a failed end. Nothing is taken out: after
@@ -176,12 +201,11 @@ impl<R> Connection<R> {
     ///
     /// It borrows the end for itself, since the parts are valid until the end's next call.
     pub fn peek(&mut self) -> Waiting<'_> {
-        let (parts, tokens) = self.end.peek();
-        Waiting { parts, tokens }
+        Waiting(self.end.peek())
     }
 
-    /// Takes so many bytes out of the outbox, or all that wait where they are fewer, with the
-    /// tokens of the messages that begin in them, as [`take`](Connection::take) does.
+    /// Takes so many bytes out of the outbox, or all that wait where they are fewer, and closes the
+    /// descriptors of the messages that begin in them.
     pub fn sent(&mut self, bytes: usize) -> Amounts {
         self.end.sent(bytes)
     }
@@ -193,48 +217,49 @@ impl<R> Connection<R> {
         self.end.space()
     }
 
-    /// Takes in tokens, and so many of the bytes that were written where
+    /// Takes in descriptors, and so many of the bytes that were written where
     /// [`space`](Connection::space) said, as [`feed`](Connection::feed) does. An end that has
     /// failed takes nothing, which is an error.
     ///
-    /// If not all tokens fit, no byte is taken in, and what was written stays there: read messages
-    /// until the other tokens fit, and then call this with these and the same number of bytes. Once
+    /// If not all descriptors fit, no byte is taken in, and what was written stays there: read messages
+    /// until the other descriptors fit, and then call this with these and the same number of bytes. Once
     /// bytes were taken in, what was written behind them is lost: call `space` again.
-    pub fn received(&mut self, bytes: usize, tokens: &[u32]) -> Result<Amounts, Failed> {
-        self.end.received(bytes, tokens)
+    pub fn received(
+        &mut self,
+        bytes: usize,
+        descriptors: &mut Vec<OwnedFd>,
+    ) -> Result<Amounts, Failed> {
+        self.end.received(bytes, descriptors)
     }
 
-    /// Gives the end up, and moves the tokens that wait in it into the slice, so that their
-    /// descriptors can be closed. Returns their number: repeat it until that is 0, with room for at
-    /// least 20 tokens, the most that a message has.
+    /// Gives the end up, and returns the descriptors that wait in it: first those that were fed and not
+    /// reported, then those that were to be sent. Dropping the end closes these, too.
     ///
-    /// First come those that were fed and not reported, then those that were to be sent, all of a
-    /// message at once. The end has failed afterwards, and what waited to be sent is dropped with
-    /// its tokens: take first what is still to be sent. After the first of these calls, discard
-    /// what [`take`](Connection::take) returns: the stream has a gap already.
-    pub fn take_waiting_tokens(&mut self, tokens: &mut [u32]) -> usize {
-        self.end.take_waiting_tokens(tokens)
+    /// The end has failed afterwards, and what waited to be sent is dropped: take first what is still to
+    /// be sent. Afterwards, discard what [`take`](Connection::take) returns: the stream has a gap already.
+    pub fn take_waiting_tokens(&mut self) -> Vec<OwnedFd> {
+        self.end.take_waiting_tokens()
     }
 }
 
 /// What waits at an end and can go at one time.
 #[derive(Clone, Debug)]
-pub struct Waiting<'a> {
-    /// The bytes, in the order in which they go. The second part may be empty.
-    pub parts: [&'a [u8]; 2],
-    tokens: sys::Tokens,
-}
+pub struct Waiting<'a>(sys::Going<'a>);
 
-impl Waiting<'_> {
-    /// The tokens whose descriptors go with the first byte. No message that has tokens begins
-    /// behind that, so all have gone however few bytes went.
-    pub fn tokens(&self) -> &[u32] {
-        let (tokens, count) = &self.tokens;
-        &tokens[..*count]
+impl<'a> Waiting<'a> {
+    /// The bytes, in the order in which they go. The second part may be empty.
+    pub fn parts(&self) -> [&'a [u8]; 2] {
+        self.0.parts
+    }
+
+    /// The descriptors that go with the first byte. No message that has descriptors begins behind that,
+    /// so all have gone however few bytes went.
+    pub fn descriptors(&self) -> &[BorrowedFd<'a>] {
+        self.0.descriptors()
     }
 
     /// Whether nothing waits.
     pub fn is_empty(&self) -> bool {
-        self.parts[0].is_empty()
+        self.0.parts[0].is_empty()
     }
 }

@@ -3,6 +3,7 @@
 use crate::sys;
 use std::error::Error;
 use std::fmt;
+use std::io;
 
 /// Why tables, an end or an inspector are not made.
 #[derive(Clone, Copy, Debug, PartialEq, Eq)]
@@ -69,6 +70,11 @@ pub enum SendError {
     NoMemory,
     /// The interface has no event that destroys its objects.
     NotDroppable,
+    /// A descriptor cannot be duplicated, as if the process has too many of them.
+    NotDuplicated {
+        /// The error of the system, for [`std::io::Error::from_raw_os_error`].
+        error: i32,
+    },
 }
 
 /// Why a global is not added or not withdrawn. Nothing has changed.
@@ -123,31 +129,43 @@ pub struct Fault {
 /// The kinds of faults. A place is that of the argument, counted from 0.
 #[derive(Clone, Copy, Debug, PartialEq, Eq)]
 #[non_exhaustive]
-#[allow(missing_docs)]
 pub enum FaultKind {
+    /// The header has a length that no message has (F1).
     BadSize,
+    /// The target is no object (F2).
     UnknownObject,
+    /// The target's interface has no such message at its version (F3).
     UnknownMessage,
-    /// The argument is malformed: it ends too early (1), is null (2), has no ending NUL (3), or a NUL
-    /// inside (4).
+    /// An argument is malformed (F4).
     BadArgument {
+        /// Its place.
         place: usize,
+        /// It ends too early (1), is null (2), has no ending NUL (3), or a NUL inside (4).
         spelling: u32,
     },
+    /// An argument is no object of its interface (F5).
     BadObject {
+        /// Its place.
         place: usize,
     },
+    /// The id of a new object is not one that can be opened (F6).
     BadNewId {
+        /// Its place.
         place: usize,
     },
+    /// Bytes follow the last argument (F7).
     TrailingBytes,
+    /// A descriptor has not come with its message (F8).
     MissingDescriptor,
+    /// A bind names no global of this name, interface and version (F9).
     BadBind,
+    /// The end has no room for another object (F10).
     TooManyObjects,
 }
 
 /// A number of the library's `waywire_status`.
 pub(crate) trait Status {
+    /// The number, whose text says what is wrong.
     fn status(&self) -> u32;
 }
 
@@ -185,6 +203,8 @@ impl Status for SendError {
             SendError::NoIds => sys::NO_IDS,
             SendError::NoMemory => sys::NO_MEMORY,
             SendError::NotDroppable => sys::NOT_DROPPABLE,
+            // It is no refusal of the library's: see its text below.
+            SendError::NotDuplicated { .. } => sys::NO_MEMORY,
         }
     }
 }
@@ -259,6 +279,10 @@ impl fmt::Display for TablesError {
 
 impl fmt::Display for SendError {
     fn fmt(&self, f: &mut fmt::Formatter<'_>) -> fmt::Result {
+        if let SendError::NotDuplicated { error } = self {
+            let why = io::Error::from_raw_os_error(*error);
+            return write!(f, "a descriptor is not duplicated: {why}");
+        }
         f.write_str(sys::text_of(self.status()))?;
         match self {
             SendError::WrongArgs { place } | SendError::BadObject { place } => {

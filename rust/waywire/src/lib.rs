@@ -1,4 +1,4 @@
-//! The message layer of Wayland for clients and servers, without the socket, over libwaywire.
+//! The message layer of Wayland for clients and servers, over libwaywire.
 //!
 //! The ends of libwaywire are proved: whatever requests and events two of them write, in whatever
 //! order, and however the bytes between them are cut, each reads exactly the messages that the other
@@ -11,15 +11,15 @@
 //! # The loop
 //!
 //! An end, a [`Client`] or a [`Server`], turns calls into bytes and bytes into messages. Both are
-//! a [`Connection`], which has the calls that they share. Your code owns the socket, the event loop
-//! and the file descriptors, which an end knows as *tokens*: numbers of your choice, say the
-//! descriptors themselves.
+//! a [`Connection`], which has the calls that they share.
 //!
 //! 1. [`send`](Connection::send) and the like write a message; it waits in the end's outbox.
-//! 2. [`take`](Connection::take) moves out what waits. Write it to the socket, its tokens'
-//!    descriptors with the first byte.
+//! 2. [`take`](Connection::take) moves out what waits, for the socket.
 //! 3. [`feed`](Connection::feed) takes in what came from the socket, in any cut.
 //! 4. [`next`](Client::next) reads one message, until it returns `None`.
+//!
+//! [`socket`] does 2 and 3 with a Unix socket: a [`socket::Link`] is an end with its socket. The event
+//! loop is yours.
 //!
 //! ```
 //! use waywire::{Arg, Client, Incoming, Server, Sizes, Tables, event, request};
@@ -33,15 +33,15 @@
 //!     .send(client.display(), request::wl_display::SYNC, &[Arg::NewId])?
 //!     .expect("sync makes an object");
 //!
-//! let (mut bytes, mut tokens) = ([0; 4096], [0; 28]);
-//! let taken = client.take(&mut bytes, &mut tokens);
-//! server.feed(&bytes[..taken.bytes], &tokens[..taken.tokens])?;
-//! let asked = server.next()?.expect("a whole request came");
-//! assert_eq!(asked.opcode(), request::wl_display::SYNC);
+//! let (mut bytes, mut descriptors) = ([0; 4096], Vec::new());
+//! let taken = client.take(&mut bytes, &mut descriptors, 28);
+//! server.feed(&bytes[..taken.bytes], &mut descriptors)?;
+//! let asked = server.next()?.expect("a whole request came").opcode();
+//! assert_eq!(asked, request::wl_display::SYNC);
 //!
 //! server.send(callback, event::wl_callback::DONE, &[Arg::Uint(7)])?;
-//! let taken = server.take(&mut bytes, &mut tokens);
-//! client.feed(&bytes[..taken.bytes], &tokens[..taken.tokens])?;
+//! let taken = server.take(&mut bytes, &mut descriptors, 28);
+//! client.feed(&bytes[..taken.bytes], &mut descriptors)?;
 //! match client.next()? {
 //!     Some(Incoming::Event(done)) => assert_eq!(done.target(), callback),
 //!     other => panic!("{other:?}"),
@@ -49,6 +49,17 @@
 //! # Ok(())
 //! # }
 //! ```
+//!
+//! # File descriptors
+//!
+//! Every file descriptor has one owner, and is closed once:
+//!
+//! - **Sent.** A call lends its descriptor ([`Arg::Fd`]; typed calls take `impl AsFd`). The end sends a
+//!   duplicate, and closes that once it has gone, or at once if the call is refused.
+//! - **Received.** A message owns its descriptors. A typed handler gets each as an
+//!   [`OwnedFd`](std::os::fd::OwnedFd); [`Message::take_descriptor`] and [`Message::into_owned`] take them.
+//!   What nobody takes is closed when the message is dropped, and at the latest when the next one is read.
+//! - **Waiting.** What waits in an end is closed when the end is dropped.
 //!
 //! # Typed calls
 //!
@@ -60,7 +71,7 @@
 //! ```
 //! use waywire::wayland::wl_callback::{self, WlCallback};
 //! use waywire::wayland::wl_display::{self, WlDisplay};
-//! use waywire::{Client, Incoming, Server, Sizes, Tables};
+//! use waywire::{Client, EventHandler, Incoming, RequestHandler, Server, Sizes, Tables};
 //!
 //! /// Answers each sync.
 //! struct Answering<'a>(&'a mut Server);
@@ -71,6 +82,9 @@
 //!     }
 //! }
 //!
+//! // By the interface of its object, each request goes to one of these `Requests`.
+//! waywire::request_handler!(['a] Answering<'a>: wl_display);
+//!
 //! /// What the last callback said.
 //! struct Told(u32);
 //!
@@ -80,23 +94,25 @@
 //!     }
 //! }
 //!
+//! waywire::event_handler!(Told: wl_callback);
+//!
 //! # fn main() -> Result<(), Box<dyn std::error::Error>> {
 //! let tables = Tables::core()?;
 //! let mut client = Client::new(&tables, &Sizes::default())?;
 //! let mut server = Server::new(&tables, &Sizes::default())?;
-//! # let (mut bytes, mut tokens) = ([0; 4096], [0; 28]);
+//! # let (mut bytes, mut descriptors) = ([0; 4096], Vec::new());
 //! WlDisplay(client.display()).sync(&mut client)?;
-//! # let taken = client.take(&mut bytes, &mut tokens);
-//! # server.feed(&bytes[..taken.bytes], &tokens[..taken.tokens])?;
+//! # let taken = client.take(&mut bytes, &mut descriptors, 28);
+//! # server.feed(&bytes[..taken.bytes], &mut descriptors)?;
 //! // .. the bytes go to the server
-//! let asked = server.next()?.expect("a whole request came").into_owned();
-//! assert!(wl_display::dispatch_request(&mut Answering(&mut server), &tables, &asked));
-//! # let taken = server.take(&mut bytes, &mut tokens);
-//! # client.feed(&bytes[..taken.bytes], &tokens[..taken.tokens])?;
+//! let mut asked = server.next()?.expect("a whole request came").into_owned();
+//! assert!(Answering(&mut server).dispatch_request(&tables, &mut asked));
+//! # let taken = server.take(&mut bytes, &mut descriptors, 28);
+//! # client.feed(&bytes[..taken.bytes], &mut descriptors)?;
 //! // .. and others to the client
 //! let mut told = Told(0);
-//! if let Some(Incoming::Event(event)) = client.next()? {
-//!     assert!(wl_callback::dispatch_event(&mut told, &tables, &event));
+//! if let Some(Incoming::Event(mut event)) = client.next()? {
+//!     assert!(told.dispatch_event(&tables, &mut event));
 //! }
 //! assert_eq!(told.0, 7);
 //! # Ok(())
@@ -164,6 +180,7 @@ mod owned;
 mod report;
 pub mod request;
 mod server;
+pub mod socket;
 #[allow(unsafe_code)]
 mod sys;
 mod tables;
@@ -184,4 +201,4 @@ pub use owned::{OwnedMessage, OwnedValue};
 pub use report::{Event, Incoming, Message, Named, ProtocolError, Replaced, Request};
 pub use server::Server;
 pub use tables::{ArgKind, Destroys, Interface, Object, Signature, Tables};
-pub use typed::{Handle, Readable};
+pub use typed::{EventHandler, Handle, Readable, RequestHandler};

@@ -3,10 +3,12 @@
 use crate::args::{Fixed, Value};
 use crate::report::Message;
 use crate::tables::{Interface, Object};
+use crate::typed::Readable;
+use std::os::fd::{AsFd, OwnedFd};
 
-/// A message in memory of its own: reading one that is lent ends with the end's next call, and so does
-/// what may be done in answer.
-#[derive(Clone, Debug, PartialEq)]
+/// A message in memory of its own, with its descriptors. While an end lends a message, the end cannot be
+/// used; while this is read, it can. Its descriptors are closed when it is dropped.
+#[derive(Debug)]
 pub struct OwnedMessage {
     /// The object that it is for.
     pub target: Object,
@@ -21,24 +23,56 @@ pub struct OwnedMessage {
 }
 
 /// An argument of an owned message: a [`Value`] with its bytes.
-#[derive(Clone, Debug, PartialEq)]
-#[allow(missing_docs)]
+#[derive(Debug)]
 pub enum OwnedValue {
+    /// A signed number.
     Int(i32),
+    /// An unsigned number.
     Uint(u32),
+    /// A number in 256ths.
     Fixed(Fixed),
+    /// A string without its NUL, or the null string. Its bytes need not be UTF-8.
     Str(Option<Vec<u8>>),
+    /// A live object, or null.
     Object(Option<Object>),
+    /// An object that this end has destroyed already: the event was written before.
     Dead(Object),
+    /// The object that the message makes.
     NewId(Object),
-    Bound { interface: Vec<u8>, version: u32, object: Object },
+    /// The object that wl_registry.bind makes, its interface and its version.
+    Bound {
+        /// The name of its interface.
+        interface: Vec<u8>,
+        /// Its version.
+        version: u32,
+        /// The object.
+        object: Object,
+    },
+    /// Bytes.
     Array(Vec<u8>),
-    Fd(u32),
+    /// A file descriptor; `None` if it was taken before.
+    Fd(Option<OwnedFd>),
 }
 
 impl OwnedValue {
     /// The same, lent.
     pub fn value(&self) -> Value<'_> {
+        self.with(match self {
+            OwnedValue::Fd(fd) => fd.as_ref().map(AsFd::as_fd),
+            _ => None,
+        })
+    }
+
+    /// The same, lent, but for its descriptor, which is taken out.
+    pub(crate) fn taken(&mut self) -> Value<'_, OwnedFd> {
+        let fd = match self {
+            OwnedValue::Fd(fd) => fd.take(),
+            _ => None,
+        };
+        self.with(fd)
+    }
+
+    fn with<D>(&self, fd: Option<D>) -> Value<'_, D> {
         match self {
             OwnedValue::Int(number) => Value::Int(*number),
             OwnedValue::Uint(number) => Value::Uint(*number),
@@ -51,13 +85,13 @@ impl OwnedValue {
                 Value::Bound { interface, version: *version, object: *object }
             }
             OwnedValue::Array(bytes) => Value::Array(bytes),
-            OwnedValue::Fd(token) => Value::Fd(*token),
+            OwnedValue::Fd(_) => Value::Fd(fd),
         }
     }
 }
 
-impl From<Value<'_>> for OwnedValue {
-    fn from(value: Value<'_>) -> OwnedValue {
+impl From<Value<'_, OwnedFd>> for OwnedValue {
+    fn from(value: Value<'_, OwnedFd>) -> OwnedValue {
         match value {
             Value::Int(number) => OwnedValue::Int(number),
             Value::Uint(number) => OwnedValue::Uint(number),
@@ -70,20 +104,20 @@ impl From<Value<'_>> for OwnedValue {
                 OwnedValue::Bound { interface: interface.to_vec(), version, object }
             }
             Value::Array(bytes) => OwnedValue::Array(bytes.to_vec()),
-            Value::Fd(token) => OwnedValue::Fd(token),
+            Value::Fd(fd) => OwnedValue::Fd(fd),
         }
     }
 }
 
 impl Message<'_> {
-    /// The same in memory of its own, so that the end can be used while it is read.
-    pub fn into_owned(self) -> OwnedMessage {
+    /// The same in memory of its own, with its descriptors, so that the end can be used while it is read.
+    pub fn into_owned(mut self) -> OwnedMessage {
         OwnedMessage {
             target: self.target(),
             interface: self.interface(),
             version: self.version(),
             opcode: self.opcode(),
-            args: self.args().map(OwnedValue::from).collect(),
+            args: self.take_args().map(OwnedValue::from).collect(),
         }
     }
 }

@@ -5,11 +5,21 @@ use crate::inspector::Sender;
 use crate::sys;
 use crate::tables::{Interface, Object, Tables};
 use std::fmt;
+use std::os::fd::{AsFd, BorrowedFd, OwnedFd};
 
 /// A message that was read: its target, its opcode and its arguments. Lent from the end.
-#[derive(Clone)]
+///
+/// It owns its descriptors: its arguments lend them, [`take_descriptor`](Message::take_descriptor) takes
+/// one out. What was not taken is closed when the message is dropped.
 pub struct Message<'a> {
-    report: &'a sys::Report,
+    pub(crate) reading: &'a mut sys::Reading,
+}
+
+impl Drop for Message<'_> {
+    #[inline]
+    fn drop(&mut self) {
+        self.reading.close();
+    }
 }
 
 /// A message to a client.
@@ -20,73 +30,82 @@ pub type Request<'a> = Message<'a>;
 
 impl<'a> Message<'a> {
     #[inline]
-    pub(crate) fn of(report: &'a sys::Report) -> Message<'a> {
-        Message { report }
+    pub(crate) fn of(reading: &'a mut sys::Reading) -> Message<'a> {
+        Message { reading }
+    }
+
+    #[inline]
+    fn report(&self) -> &sys::Report {
+        self.reading.report()
     }
 
     /// The object that it is for.
     #[inline]
     pub fn target(&self) -> Object {
-        self.report.target()
+        self.report().target()
     }
 
     /// Its target's interface, also where the message destroyed the target.
     #[inline]
     pub fn interface(&self) -> Interface {
-        self.report.interface()
+        self.report().interface()
     }
 
     /// The version that its target has.
     #[inline]
     pub fn version(&self) -> u32 {
-        self.report.version()
+        self.report().version()
     }
 
     /// Which message of its target's interface it is.
     #[inline]
     pub fn opcode(&self) -> u16 {
-        self.report.opcode()
+        self.report().opcode()
     }
 
     /// What was set for its target by [`Connection::set_user`](crate::Connection::set_user), also
     /// where the message destroyed the target; else 0.
     #[inline]
     pub fn user(&self) -> usize {
-        self.report.user()
+        self.report().user()
     }
 
     /// The live object whose id an event's new object has taken over: [`Client::replaced`](crate::Client::replaced).
     /// A request has none.
     #[inline]
     pub fn replaced(&self) -> Option<Replaced> {
-        self.report.replaced()
+        self.report().replaced()
     }
 
     /// Whether it is wl_registry.global and the client does not remember the global, which then
     /// cannot be bound: it remembers 1,024 at a time, and none whose interface is not in the tables.
     #[inline]
     pub fn is_forgotten(&self) -> bool {
-        self.report.is_forgotten()
+        self.report().is_forgotten()
     }
 
     /// Its arguments, in order.
     #[inline]
-    pub fn args(&self) -> Args<'a> {
-        Args(self.report.args())
+    pub fn args(&self) -> Args<'_> {
+        Args::of(self.reading)
     }
 
-    /// The tokens of all its descriptors, in order: the same as are in its arguments.
-    #[inline]
-    pub fn tokens(&self) -> &'a [u32] {
-        self.report.tokens()
+    /// Its descriptors that were not taken, in order: the same as are in its arguments.
+    pub fn descriptors(&self) -> impl Iterator<Item = BorrowedFd<'_>> {
+        self.reading.held().iter().flatten().map(AsFd::as_fd)
+    }
+
+    /// Takes the first of its descriptors that were not taken yet.
+    pub fn take_descriptor(&mut self) -> Option<OwnedFd> {
+        self.reading.held_mut().iter_mut().find_map(Option::take)
     }
 
     /// Its line, as `waywire trace` prints it: `<- wl_surface@4.enter(wl_output@7)`. `sender` is who wrote it.
     ///
     /// It knows less than a trace: it has `unknown@id` for an object whose interface the signature leaves open,
-    /// and a token for a descriptor.
+    /// and the number of a descriptor.
     pub fn line(&self, tables: &Tables, sender: Sender) -> String {
-        self.report.line(&tables.0, sender)
+        self.report().line(&tables.0, sender)
     }
 }
 
@@ -112,22 +131,15 @@ pub struct Replaced {
 }
 
 /// What a client reads.
-#[derive(Clone, Debug)]
+#[derive(Debug)]
 #[non_exhaustive]
 pub enum Incoming<'a> {
     /// An event for a live object.
     Event(Event<'a>),
-    /// An event for an object that the client has destroyed. Its descriptors are the caller's to
-    /// close. If it has made an object, that is open: [`Client::made`](crate::Client::made). It may
-    /// have replaced one: [`Client::replaced`](crate::Client::replaced).
-    Discarded {
-        /// The object.
-        target: Object,
-        /// Which event of its interface it is.
-        opcode: u16,
-        /// The tokens that came with it.
-        tokens: &'a [u32],
-    },
+    /// An event for an object that the client has destroyed, without its arguments. If it has made an
+    /// object, that is open: [`Client::made`](crate::Client::made). It may have replaced one:
+    /// [`Client::replaced`](crate::Client::replaced).
+    Discarded(Event<'a>),
     /// wl_display.delete_id: the object is gone, and its id is free again.
     Deleted(Object),
     /// wl_display.delete_id of an id that names no object, of 1, or of one of the server's. Nothing has
@@ -174,22 +186,22 @@ impl fmt::Display for ProtocolError<'_> {
 impl<'a> Incoming<'a> {
     /// What a report says, `None` where no whole message waits.
     #[inline]
-    pub(crate) fn of(report: &'a sys::Report) -> Option<Incoming<'a>> {
+    pub(crate) fn of(reading: &'a mut sys::Reading) -> Option<Incoming<'a>> {
+        let report = reading.report();
         Some(match report.kind() {
-            sys::MESSAGE => Incoming::Event(Message::of(report)),
-            sys::DISCARDED => Incoming::Discarded {
-                target: report.target(),
-                opcode: report.opcode(),
-                tokens: report.tokens(),
-            },
+            sys::MESSAGE => Incoming::Event(Message::of(reading)),
+            sys::DISCARDED => Incoming::Discarded(Message::of(reading)),
             sys::DELETED => Incoming::Deleted(report.target()),
             sys::STRAY => Incoming::Stray { id: report.id() },
-            sys::ERROR => Incoming::Error(ProtocolError {
-                id: report.id(),
-                named: report.named(),
-                code: report.code(),
-                text: report.text(),
-            }),
+            sys::ERROR => {
+                let report = (&*reading).report();
+                Incoming::Error(ProtocolError {
+                    id: report.id(),
+                    named: report.named(),
+                    code: report.code(),
+                    text: report.text(),
+                })
+            }
             _ => return None,
         })
     }

@@ -14,7 +14,7 @@ pub type Server = Connection<AsServer>;
 impl Server {
     /// A server with wl_display alone, empty queues and no globals.
     pub fn new(tables: &Tables, sizes: &Sizes) -> Result<Server, NewError> {
-        sys::End::new_server(&tables.0, sizes).map(Connection::of)
+        sys::End::new_server(&tables.0, sizes).map(|end| Connection::of(end, tables))
     }
 
     /// Adds a global and returns its name. [`announce`](Server::announce) tells it.
@@ -53,7 +53,8 @@ impl Server {
     #[inline]
     #[allow(clippy::should_implement_trait)]
     pub fn next(&mut self) -> Result<Option<Request<'_>>, NextError> {
-        self.end.next(&mut self.report)?;
-        Ok((self.report.kind() == sys::MESSAGE).then(|| Message::of(&self.report)))
+        self.end.next(&mut self.reading)?;
+        let is_request = self.reading.report().kind() == sys::MESSAGE;
+        Ok(is_request.then(|| Message::of(&mut self.reading)))
     }
 }

@@ -9,6 +9,9 @@
 //! - what points into tables or an inspector is borrowed from them;
 //! - tables are used by any threads at once, as the header allows; an end or an inspector by one call at
 //!   a time, since it is not `Sync`;
+//! - a token of an end is a descriptor that the end owns: it comes in as an `OwnedFd`, and goes out as
+//!   one, once. The library reports each token that it was fed, and hands out each that it was sent,
+//!   exactly once;
 //! - a slice's pointer and length are those of a Rust slice.
 
 use crate::args::Arg;
@@ -17,17 +20,22 @@ use crate::inspector::Sender;
 use crate::report::{Named, Replaced};
 use crate::tables::{Interface, Object};
 use std::ffi::{c_char, c_void, CStr};
+use std::os::fd::AsRawFd;
 use std::ptr;
 use std::slice;
 
 mod decoded;
 mod end;
 mod inspector;
+mod reading;
+mod socket;
 mod tables;
 
 pub use decoded::Decoded;
-pub use end::{End, Tokens};
+pub use end::{End, Going};
 pub use inspector::Inspector;
+pub use reading::Reading;
+pub use socket::{connect, inherited, poll, receive, send, Listening};
 use tables::RawTables;
 pub use tables::Tables;
 
@@ -96,6 +104,7 @@ numbers! {
     FROM_CLIENT = 0, "WAYWIRE_FROM_CLIENT";
     FROM_SERVER = 1, "WAYWIRE_FROM_SERVER";
     USUAL_LIMIT = 4096, "WAYWIRE_USUAL_LIMIT";
+    SOCKET_DESCRIPTORS = 28, "WAYWIRE_SOCKET_DESCRIPTORS";
 }
 
 const OK: u32 = 0;
@@ -142,7 +151,7 @@ const NO_ARG: RawArg =
     RawArg { kind: 0, i: 0, u: 0, object: Object::NONE, bytes: ptr::null(), length: 0 };
 
 impl RawArg {
-    /// An argument of a call, which is read before its slices end.
+    /// An argument of a call, which is read before its slices end. A descriptor is that of the caller.
     #[inline]
     fn of(arg: &Arg<'_>) -> RawArg {
         let with_bytes = |kind, bytes: &[u8]| RawArg {
@@ -161,7 +170,7 @@ impl RawArg {
             Arg::Object(None) => RawArg { kind: NULL_OBJECT, ..NO_ARG },
             Arg::NewId => RawArg { kind: NEW, ..NO_ARG },
             Arg::Array(bytes) => with_bytes(ARRAY, bytes),
-            Arg::Fd(u) => RawArg { kind: FD, u, ..NO_ARG },
+            Arg::Fd(fd) => RawArg { kind: FD, u: fd.as_raw_fd() as u32, ..NO_ARG },
         }
     }
 }
@@ -317,7 +326,7 @@ impl Report {
         ArgsOf(self.args[..self.arg_count].iter())
     }
 
-    pub fn tokens(&self) -> &[u32] {
+    fn tokens(&self) -> &[u32] {
         // Safety: `next` of the end that holds this report wrote the pointer and the length, and the
         // end lends what is there until its next call. A report is private to its end, and it is only
         // borrowed together with the whole end.
@@ -467,7 +476,7 @@ mod tests {
             expressions.iter().map(|it| format!("printf(\"%zu\\n\", (size_t)({it}));\n")).collect();
         let source = folder.join("layout.c");
         let text = format!(
-            "#include <stdio.h>\n#include <waywire.h>\nint main(void) {{\n{lines}return 0;\n}}\n"
+            "#include <stdio.h>\n#include <waywire-socket.h>\nint main(void) {{\n{lines}return 0;\n}}\n"
         );
         std::fs::write(&source, text).unwrap();
         let program = folder.join("layout");

@@ -138,26 +138,37 @@ pub enum Destroys {
 
 /// The kind of an argument. An interface that is `None` stands for any.
 #[derive(Clone, Copy, Debug, PartialEq, Eq)]
-#[allow(missing_docs)]
 pub enum ArgKind {
+    /// A signed number.
     Int,
+    /// An unsigned number.
     Uint,
+    /// A number in 256ths.
     Fixed,
+    /// A string.
     Str {
+        /// Whether it may be the null string.
         nullable: bool,
     },
+    /// An object.
     Object {
+        /// Whether it may be null.
         nullable: bool,
+        /// Its interface.
         interface: Option<Interface>,
     },
-    /// A new object. Only that of wl_registry.bind has no interface here: it stands in the bytes.
+    /// A new object that the client makes.
     NewId {
+        /// Its interface. Only wl_registry.bind has none here: the bytes name it.
         interface: Option<Interface>,
     },
     /// A new object that the server makes.
     NewByServer {
+        /// Its interface.
         interface: Option<Interface>,
     },
+    /// Bytes.
     Array,
+    /// A file descriptor.
     Fd,
 }

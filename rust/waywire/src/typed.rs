@@ -1,12 +1,13 @@
 //! What typed calls stand on: the modules that `stubs-from-xml --rust` makes, as [`wayland`](crate::wayland).
 
-use crate::args::{Arg, Args, Fixed, Value};
+use crate::args::{Arg, Args, Fixed, TakenArgs, Value};
 use crate::client::Client;
 use crate::error::SendError;
 use crate::owned::{OwnedMessage, OwnedValue};
 use crate::report::Message;
 use crate::server::Server;
 use crate::tables::{Interface, Object, Tables};
+use std::os::fd::OwnedFd;
 
 /// An object whose interface the compiler knows.
 ///
@@ -36,8 +37,11 @@ pub trait Readable {
     /// Which message of that it is.
     fn opcode(&self) -> u16;
 
-    /// Its arguments, in order.
+    /// Its arguments, in order. They lend its descriptors.
     fn args(&self) -> impl Iterator<Item = Value<'_>>;
+
+    /// Its arguments, in order. Each descriptor is taken out of the message with its argument.
+    fn take_args(&mut self) -> impl Iterator<Item = Value<'_, OwnedFd>>;
 }
 
 impl Readable for Message<'_> {
@@ -61,6 +65,11 @@ impl Readable for Message<'_> {
         let args: Args<'_> = Message::args(self);
         args
     }
+
+    #[inline]
+    fn take_args(&mut self) -> impl Iterator<Item = Value<'_, OwnedFd>> {
+        TakenArgs::of(self.reading)
+    }
 }
 
 impl Readable for OwnedMessage {
@@ -79,6 +88,103 @@ impl Readable for OwnedMessage {
     fn args(&self) -> impl Iterator<Item = Value<'_>> {
         self.args.iter().map(OwnedValue::value)
     }
+
+    fn take_args(&mut self) -> impl Iterator<Item = Value<'_, OwnedFd>> {
+        self.args.iter_mut().map(OwnedValue::taken)
+    }
+}
+
+/// What is given the events of a client. [`event_handler!`](crate::event_handler) makes a type with the
+/// `Events` of some interfaces such a handler.
+pub trait EventHandler {
+    /// Calls the method for an event, by the interface of its object. False if the handler has no `Events`
+    /// for that interface, or that has no such event with these arguments: nothing is called then.
+    fn dispatch_event(&mut self, tables: &Tables, event: &mut impl Readable) -> bool;
+}
+
+/// What is given the requests to a server. [`request_handler!`](crate::request_handler) makes a type with
+/// the `Requests` of some interfaces such a handler.
+pub trait RequestHandler {
+    /// Calls the method for a request, by the interface of its object. False if the handler has no
+    /// `Requests` for that interface, or that has no such request with these arguments: nothing is called
+    /// then.
+    fn dispatch_request(&mut self, tables: &Tables, request: &mut impl Readable) -> bool;
+}
+
+/// Takes no event: each is dropped, with its descriptors closed.
+impl EventHandler for () {
+    fn dispatch_event(&mut self, _tables: &Tables, _event: &mut impl Readable) -> bool {
+        false
+    }
+}
+
+/// Takes no request: each is dropped, with its descriptors closed.
+impl RequestHandler for () {
+    fn dispatch_request(&mut self, _tables: &Tables, _request: &mut impl Readable) -> bool {
+        false
+    }
+}
+
+/// Makes a type an [`EventHandler`](crate::EventHandler): for the `Events` of these interfaces, which are
+/// named by their modules. Parameters of the type come before it.
+///
+/// ```
+/// use waywire::wayland::{wl_registry, wl_seat};
+///
+/// struct Told<'a>(&'a mut Vec<u32>);
+///
+/// impl wl_registry::Events for Told<'_> {
+///     fn global(&mut self, _: wl_registry::WlRegistry, name: u32, _: &[u8], _: u32) {
+///         self.0.push(name);
+///     }
+/// }
+///
+/// impl wl_seat::Events for Told<'_> {}
+///
+/// waywire::event_handler!(['a] Told<'a>: wl_registry, wl_seat);
+/// ```
+#[macro_export]
+macro_rules! event_handler {
+    ([$($parameters:tt)*] $handler:ty: $($($segment:ident)::+),+ $(,)?) => {
+        impl<$($parameters)*> $crate::EventHandler for $handler {
+            fn dispatch_event(
+                &mut self,
+                tables: &$crate::Tables,
+                event: &mut impl $crate::Readable,
+            ) -> bool {
+                match tables.name($crate::Readable::interface(event)) {
+                    $(Some($($segment)::+::NAME) => $($segment)::+::handle_event(self, event),)+
+                    _ => false,
+                }
+            }
+        }
+    };
+    ($handler:ty: $($($segment:ident)::+),+ $(,)?) => {
+        $crate::event_handler!([] $handler: $($($segment)::+),+);
+    };
+}
+
+/// Makes a type a [`RequestHandler`](crate::RequestHandler): for the `Requests` of these interfaces, which
+/// are named by their modules, as [`event_handler!`](crate::event_handler) does for events.
+#[macro_export]
+macro_rules! request_handler {
+    ([$($parameters:tt)*] $handler:ty: $($($segment:ident)::+),+ $(,)?) => {
+        impl<$($parameters)*> $crate::RequestHandler for $handler {
+            fn dispatch_request(
+                &mut self,
+                tables: &$crate::Tables,
+                request: &mut impl $crate::Readable,
+            ) -> bool {
+                match tables.name($crate::Readable::interface(request)) {
+                    $(Some($($segment)::+::NAME) => $($segment)::+::handle_request(self, request),)+
+                    _ => false,
+                }
+            }
+        }
+    };
+    ($handler:ty: $($($segment:ident)::+),+ $(,)?) => {
+        $crate::request_handler!([] $handler: $($($segment)::+),+);
+    };
 }
 
 /// Whether a message is for an object of the interface of this name.
@@ -135,10 +241,10 @@ pub fn make_at_server<T: Handle>(
 /// none of its kind.
 pub struct Fields<I>(I);
 
-/// The arguments of a message.
+/// The arguments of a message. Each descriptor is taken out of the message as it is read.
 #[inline]
-pub fn fields<M: Readable>(message: &M) -> Fields<impl Iterator<Item = Value<'_>>> {
-    Fields(message.args())
+pub fn fields<M: Readable>(message: &mut M) -> Fields<impl Iterator<Item = Value<'_, OwnedFd>>> {
+    Fields(message.take_args())
 }
 
 /// The calls for arguments that come as one kind of value.
@@ -157,7 +263,7 @@ macro_rules! fields {
     };
 }
 
-impl<'a, I: Iterator<Item = Value<'a>>> Fields<I> {
+impl<'a, I: Iterator<Item = Value<'a, OwnedFd>>> Fields<I> {
     fields! {
         /// A signed number.
         int: Int -> i32;
@@ -169,10 +275,17 @@ impl<'a, I: Iterator<Item = Value<'a>>> Fields<I> {
         nullable_string: Str -> Option<&'a [u8]>;
         /// Bytes.
         array: Array -> &'a [u8];
-        /// The token that stands for a descriptor.
-        fd: Fd -> u32;
         /// The object that the message makes.
         new_object: NewId -> Object;
+    }
+
+    /// A descriptor, unless it was taken before.
+    #[inline]
+    pub fn fd(&mut self) -> Option<OwnedFd> {
+        match self.0.next()? {
+            Value::Fd(found) => found,
+            _ => None,
+        }
     }
 
     /// A string.

@@ -97,15 +97,23 @@ pub mod wl_display {
     pub fn dispatch_request(
         handler: &mut impl Requests,
         tables: &waywire::Tables,
-        message: &impl waywire::Readable,
+        message: &mut impl waywire::Readable,
     ) -> bool {
-        waywire::typed::is_for(tables, message, NAME) && request_of(handler, message).is_some()
+        waywire::typed::is_for(tables, message, NAME) && handle_request(handler, message)
     }
 
-    fn request_of(handler: &mut impl Requests, message: &impl waywire::Readable) -> Option<()> {
+    /// The same, for a request to an object that has this interface.
+    pub fn handle_request(
+        handler: &mut impl Requests,
+        message: &mut impl waywire::Readable,
+    ) -> bool {
+        request_of(handler, message).is_some()
+    }
+
+    fn request_of(handler: &mut impl Requests, message: &mut impl waywire::Readable) -> Option<()> {
+        let (target, opcode) = (WlDisplay(message.target()), message.opcode());
         let mut fields = waywire::typed::fields(message);
-        let target = WlDisplay(message.target());
-        match message.opcode() {
+        match opcode {
             request::SYNC => handler.sync(
                 target,
                 super::wl_callback::WlCallback(fields.new_object()?),
@@ -189,15 +197,20 @@ pub mod wl_registry {
     pub fn dispatch_event(
         handler: &mut impl Events,
         tables: &waywire::Tables,
-        message: &impl waywire::Readable,
+        message: &mut impl waywire::Readable,
     ) -> bool {
-        waywire::typed::is_for(tables, message, NAME) && event_of(handler, message).is_some()
+        waywire::typed::is_for(tables, message, NAME) && handle_event(handler, message)
     }
 
-    fn event_of(handler: &mut impl Events, message: &impl waywire::Readable) -> Option<()> {
+    /// The same, for an event to an object that has this interface.
+    pub fn handle_event(handler: &mut impl Events, message: &mut impl waywire::Readable) -> bool {
+        event_of(handler, message).is_some()
+    }
+
+    fn event_of(handler: &mut impl Events, message: &mut impl waywire::Readable) -> Option<()> {
+        let (target, opcode) = (WlRegistry(message.target()), message.opcode());
         let mut fields = waywire::typed::fields(message);
-        let target = WlRegistry(message.target());
-        match message.opcode() {
+        match opcode {
             event::GLOBAL => handler.global(
                 target,
                 fields.uint()?,
@@ -230,15 +243,23 @@ pub mod wl_registry {
     pub fn dispatch_request(
         handler: &mut impl Requests,
         tables: &waywire::Tables,
-        message: &impl waywire::Readable,
+        message: &mut impl waywire::Readable,
     ) -> bool {
-        waywire::typed::is_for(tables, message, NAME) && request_of(handler, message).is_some()
+        waywire::typed::is_for(tables, message, NAME) && handle_request(handler, message)
     }
 
-    fn request_of(handler: &mut impl Requests, message: &impl waywire::Readable) -> Option<()> {
+    /// The same, for a request to an object that has this interface.
+    pub fn handle_request(
+        handler: &mut impl Requests,
+        message: &mut impl waywire::Readable,
+    ) -> bool {
+        request_of(handler, message).is_some()
+    }
+
+    fn request_of(handler: &mut impl Requests, message: &mut impl waywire::Readable) -> Option<()> {
+        let (target, opcode) = (WlRegistry(message.target()), message.opcode());
         let mut fields = waywire::typed::fields(message);
-        let target = WlRegistry(message.target());
-        match message.opcode() {
+        match opcode {
             request::BIND => {
                 let name = fields.uint()?;
                 let (interface, version, object) = fields.bound()?;
@@ -314,15 +335,20 @@ pub mod wl_callback {
     pub fn dispatch_event(
         handler: &mut impl Events,
         tables: &waywire::Tables,
-        message: &impl waywire::Readable,
+        message: &mut impl waywire::Readable,
     ) -> bool {
-        waywire::typed::is_for(tables, message, NAME) && event_of(handler, message).is_some()
+        waywire::typed::is_for(tables, message, NAME) && handle_event(handler, message)
     }
 
-    fn event_of(handler: &mut impl Events, message: &impl waywire::Readable) -> Option<()> {
+    /// The same, for an event to an object that has this interface.
+    pub fn handle_event(handler: &mut impl Events, message: &mut impl waywire::Readable) -> bool {
+        event_of(handler, message).is_some()
+    }
+
+    fn event_of(handler: &mut impl Events, message: &mut impl waywire::Readable) -> Option<()> {
+        let (target, opcode) = (WlCallback(message.target()), message.opcode());
         let mut fields = waywire::typed::fields(message);
-        let target = WlCallback(message.target());
-        match message.opcode() {
+        match opcode {
             event::DONE => handler.done(target, fields.uint()?),
             _ => return None,
         }
@@ -403,15 +429,23 @@ pub mod wl_compositor {
     pub fn dispatch_request(
         handler: &mut impl Requests,
         tables: &waywire::Tables,
-        message: &impl waywire::Readable,
+        message: &mut impl waywire::Readable,
     ) -> bool {
-        waywire::typed::is_for(tables, message, NAME) && request_of(handler, message).is_some()
+        waywire::typed::is_for(tables, message, NAME) && handle_request(handler, message)
     }
 
-    fn request_of(handler: &mut impl Requests, message: &impl waywire::Readable) -> Option<()> {
+    /// The same, for a request to an object that has this interface.
+    pub fn handle_request(
+        handler: &mut impl Requests,
+        message: &mut impl waywire::Readable,
+    ) -> bool {
+        request_of(handler, message).is_some()
+    }
+
+    fn request_of(handler: &mut impl Requests, message: &mut impl waywire::Readable) -> Option<()> {
+        let (target, opcode) = (WlCompositor(message.target()), message.opcode());
         let mut fields = waywire::typed::fields(message);
-        let target = WlCompositor(message.target());
-        match message.opcode() {
+        match opcode {
             request::CREATE_SURFACE => handler.create_surface(
                 target,
                 super::wl_surface::WlSurface(fields.new_object()?),
@@ -595,10 +629,14 @@ pub mod wl_shm {
         pub fn create_pool(
             self,
             client: &mut waywire::Client,
-            fd: u32,
+            fd: impl std::os::fd::AsFd,
             size: i32,
         ) -> Result<super::wl_shm_pool::WlShmPool, waywire::SendError> {
-            let args = [waywire::Arg::NewId, waywire::Arg::Fd(fd), waywire::Arg::Int(size)];
+            let args = [
+                waywire::Arg::NewId,
+                waywire::Arg::Fd(std::os::fd::AsFd::as_fd(&fd)),
+                waywire::Arg::Int(size),
+            ];
             waywire::typed::make(client, self.0, request::CREATE_POOL, &args)
         }
 
@@ -637,15 +675,20 @@ pub mod wl_shm {
     pub fn dispatch_event(
         handler: &mut impl Events,
         tables: &waywire::Tables,
-        message: &impl waywire::Readable,
+        message: &mut impl waywire::Readable,
     ) -> bool {
-        waywire::typed::is_for(tables, message, NAME) && event_of(handler, message).is_some()
+        waywire::typed::is_for(tables, message, NAME) && handle_event(handler, message)
     }
 
-    fn event_of(handler: &mut impl Events, message: &impl waywire::Readable) -> Option<()> {
+    /// The same, for an event to an object that has this interface.
+    pub fn handle_event(handler: &mut impl Events, message: &mut impl waywire::Readable) -> bool {
+        event_of(handler, message).is_some()
+    }
+
+    fn event_of(handler: &mut impl Events, message: &mut impl waywire::Readable) -> Option<()> {
+        let (target, opcode) = (WlShm(message.target()), message.opcode());
         let mut fields = waywire::typed::fields(message);
-        let target = WlShm(message.target());
-        match message.opcode() {
+        match opcode {
             event::FORMAT => handler.format(target, Format(fields.uint()?)),
             _ => return None,
         }
@@ -659,7 +702,7 @@ pub mod wl_shm {
             &mut self,
             wl_shm: WlShm,
             id: super::wl_shm_pool::WlShmPool,
-            fd: u32,
+            fd: std::os::fd::OwnedFd,
             size: i32,
         ) {
             let _ = (wl_shm, id, fd, size);
@@ -678,15 +721,23 @@ pub mod wl_shm {
     pub fn dispatch_request(
         handler: &mut impl Requests,
         tables: &waywire::Tables,
-        message: &impl waywire::Readable,
+        message: &mut impl waywire::Readable,
     ) -> bool {
-        waywire::typed::is_for(tables, message, NAME) && request_of(handler, message).is_some()
+        waywire::typed::is_for(tables, message, NAME) && handle_request(handler, message)
     }
 
-    fn request_of(handler: &mut impl Requests, message: &impl waywire::Readable) -> Option<()> {
+    /// The same, for a request to an object that has this interface.
+    pub fn handle_request(
+        handler: &mut impl Requests,
+        message: &mut impl waywire::Readable,
+    ) -> bool {
+        request_of(handler, message).is_some()
+    }
+
+    fn request_of(handler: &mut impl Requests, message: &mut impl waywire::Readable) -> Option<()> {
+        let (target, opcode) = (WlShm(message.target()), message.opcode());
         let mut fields = waywire::typed::fields(message);
-        let target = WlShm(message.target());
-        match message.opcode() {
+        match opcode {
             request::CREATE_POOL => handler.create_pool(
                 target,
                 super::wl_shm_pool::WlShmPool(fields.new_object()?),
@@ -808,15 +859,23 @@ pub mod wl_shm_pool {
     pub fn dispatch_request(
         handler: &mut impl Requests,
         tables: &waywire::Tables,
-        message: &impl waywire::Readable,
+        message: &mut impl waywire::Readable,
     ) -> bool {
-        waywire::typed::is_for(tables, message, NAME) && request_of(handler, message).is_some()
+        waywire::typed::is_for(tables, message, NAME) && handle_request(handler, message)
     }
 
-    fn request_of(handler: &mut impl Requests, message: &impl waywire::Readable) -> Option<()> {
+    /// The same, for a request to an object that has this interface.
+    pub fn handle_request(
+        handler: &mut impl Requests,
+        message: &mut impl waywire::Readable,
+    ) -> bool {
+        request_of(handler, message).is_some()
+    }
+
+    fn request_of(handler: &mut impl Requests, message: &mut impl waywire::Readable) -> Option<()> {
+        let (target, opcode) = (WlShmPool(message.target()), message.opcode());
         let mut fields = waywire::typed::fields(message);
-        let target = WlShmPool(message.target());
-        match message.opcode() {
+        match opcode {
             request::CREATE_BUFFER => handler.create_buffer(
                 target,
                 super::wl_buffer::WlBuffer(fields.new_object()?),
@@ -898,14 +957,19 @@ pub mod wl_buffer {
     pub fn dispatch_event(
         handler: &mut impl Events,
         tables: &waywire::Tables,
-        message: &impl waywire::Readable,
+        message: &mut impl waywire::Readable,
     ) -> bool {
-        waywire::typed::is_for(tables, message, NAME) && event_of(handler, message).is_some()
+        waywire::typed::is_for(tables, message, NAME) && handle_event(handler, message)
     }
 
-    fn event_of(handler: &mut impl Events, message: &impl waywire::Readable) -> Option<()> {
-        let target = WlBuffer(message.target());
-        match message.opcode() {
+    /// The same, for an event to an object that has this interface.
+    pub fn handle_event(handler: &mut impl Events, message: &mut impl waywire::Readable) -> bool {
+        event_of(handler, message).is_some()
+    }
+
+    fn event_of(handler: &mut impl Events, message: &mut impl waywire::Readable) -> Option<()> {
+        let (target, opcode) = (WlBuffer(message.target()), message.opcode());
+        match opcode {
             event::RELEASE => handler.release(target),
             _ => return None,
         }
@@ -927,14 +991,22 @@ pub mod wl_buffer {
     pub fn dispatch_request(
         handler: &mut impl Requests,
         tables: &waywire::Tables,
-        message: &impl waywire::Readable,
+        message: &mut impl waywire::Readable,
     ) -> bool {
-        waywire::typed::is_for(tables, message, NAME) && request_of(handler, message).is_some()
+        waywire::typed::is_for(tables, message, NAME) && handle_request(handler, message)
     }
 
-    fn request_of(handler: &mut impl Requests, message: &impl waywire::Readable) -> Option<()> {
-        let target = WlBuffer(message.target());
-        match message.opcode() {
+    /// The same, for a request to an object that has this interface.
+    pub fn handle_request(
+        handler: &mut impl Requests,
+        message: &mut impl waywire::Readable,
+    ) -> bool {
+        request_of(handler, message).is_some()
+    }
+
+    fn request_of(handler: &mut impl Requests, message: &mut impl waywire::Readable) -> Option<()> {
+        let (target, opcode) = (WlBuffer(message.target()), message.opcode());
+        match opcode {
             request::DESTROY => handler.destroy(target),
             _ => return None,
         }
@@ -1249,15 +1321,20 @@ pub mod wl_surface {
     pub fn dispatch_event(
         handler: &mut impl Events,
         tables: &waywire::Tables,
-        message: &impl waywire::Readable,
+        message: &mut impl waywire::Readable,
     ) -> bool {
-        waywire::typed::is_for(tables, message, NAME) && event_of(handler, message).is_some()
+        waywire::typed::is_for(tables, message, NAME) && handle_event(handler, message)
     }
 
-    fn event_of(handler: &mut impl Events, message: &impl waywire::Readable) -> Option<()> {
+    /// The same, for an event to an object that has this interface.
+    pub fn handle_event(handler: &mut impl Events, message: &mut impl waywire::Readable) -> bool {
+        event_of(handler, message).is_some()
+    }
+
+    fn event_of(handler: &mut impl Events, message: &mut impl waywire::Readable) -> Option<()> {
+        let (target, opcode) = (WlSurface(message.target()), message.opcode());
         let mut fields = waywire::typed::fields(message);
-        let target = WlSurface(message.target());
-        match message.opcode() {
+        match opcode {
             event::ENTER => handler.enter(target, super::wl_output::WlOutput(fields.object()?)),
             event::LEAVE => handler.leave(target, super::wl_output::WlOutput(fields.object()?)),
             event::PREFERRED_BUFFER_SCALE => handler.preferred_buffer_scale(target, fields.int()?),
@@ -1368,15 +1445,23 @@ pub mod wl_surface {
     pub fn dispatch_request(
         handler: &mut impl Requests,
         tables: &waywire::Tables,
-        message: &impl waywire::Readable,
+        message: &mut impl waywire::Readable,
     ) -> bool {
-        waywire::typed::is_for(tables, message, NAME) && request_of(handler, message).is_some()
+        waywire::typed::is_for(tables, message, NAME) && handle_request(handler, message)
     }
 
-    fn request_of(handler: &mut impl Requests, message: &impl waywire::Readable) -> Option<()> {
+    /// The same, for a request to an object that has this interface.
+    pub fn handle_request(
+        handler: &mut impl Requests,
+        message: &mut impl waywire::Readable,
+    ) -> bool {
+        request_of(handler, message).is_some()
+    }
+
+    fn request_of(handler: &mut impl Requests, message: &mut impl waywire::Readable) -> Option<()> {
+        let (target, opcode) = (WlSurface(message.target()), message.opcode());
         let mut fields = waywire::typed::fields(message);
-        let target = WlSurface(message.target());
-        match message.opcode() {
+        match opcode {
             request::DESTROY => handler.destroy(target),
             request::ATTACH => handler.attach(
                 target,
@@ -1528,15 +1613,23 @@ pub mod wl_region {
     pub fn dispatch_request(
         handler: &mut impl Requests,
         tables: &waywire::Tables,
-        message: &impl waywire::Readable,
+        message: &mut impl waywire::Readable,
     ) -> bool {
-        waywire::typed::is_for(tables, message, NAME) && request_of(handler, message).is_some()
+        waywire::typed::is_for(tables, message, NAME) && handle_request(handler, message)
     }
 
-    fn request_of(handler: &mut impl Requests, message: &impl waywire::Readable) -> Option<()> {
+    /// The same, for a request to an object that has this interface.
+    pub fn handle_request(
+        handler: &mut impl Requests,
+        message: &mut impl waywire::Readable,
+    ) -> bool {
+        request_of(handler, message).is_some()
+    }
+
+    fn request_of(handler: &mut impl Requests, message: &mut impl waywire::Readable) -> Option<()> {
+        let (target, opcode) = (WlRegion(message.target()), message.opcode());
         let mut fields = waywire::typed::fields(message);
-        let target = WlRegion(message.target());
-        match message.opcode() {
+        match opcode {
             request::DESTROY => handler.destroy(target),
             request::ADD => handler.add(
                 target,
@@ -1713,15 +1806,20 @@ pub mod wl_seat {
     pub fn dispatch_event(
         handler: &mut impl Events,
         tables: &waywire::Tables,
-        message: &impl waywire::Readable,
+        message: &mut impl waywire::Readable,
     ) -> bool {
-        waywire::typed::is_for(tables, message, NAME) && event_of(handler, message).is_some()
+        waywire::typed::is_for(tables, message, NAME) && handle_event(handler, message)
     }
 
-    fn event_of(handler: &mut impl Events, message: &impl waywire::Readable) -> Option<()> {
+    /// The same, for an event to an object that has this interface.
+    pub fn handle_event(handler: &mut impl Events, message: &mut impl waywire::Readable) -> bool {
+        event_of(handler, message).is_some()
+    }
+
+    fn event_of(handler: &mut impl Events, message: &mut impl waywire::Readable) -> Option<()> {
+        let (target, opcode) = (WlSeat(message.target()), message.opcode());
         let mut fields = waywire::typed::fields(message);
-        let target = WlSeat(message.target());
-        match message.opcode() {
+        match opcode {
             event::CAPABILITIES => handler.capabilities(target, Capability(fields.uint()?)),
             event::NAME => handler.name(target, fields.string()?),
             _ => return None,
@@ -1759,15 +1857,23 @@ pub mod wl_seat {
     pub fn dispatch_request(
         handler: &mut impl Requests,
         tables: &waywire::Tables,
-        message: &impl waywire::Readable,
+        message: &mut impl waywire::Readable,
     ) -> bool {
-        waywire::typed::is_for(tables, message, NAME) && request_of(handler, message).is_some()
+        waywire::typed::is_for(tables, message, NAME) && handle_request(handler, message)
     }
 
-    fn request_of(handler: &mut impl Requests, message: &impl waywire::Readable) -> Option<()> {
+    /// The same, for a request to an object that has this interface.
+    pub fn handle_request(
+        handler: &mut impl Requests,
+        message: &mut impl waywire::Readable,
+    ) -> bool {
+        request_of(handler, message).is_some()
+    }
+
+    fn request_of(handler: &mut impl Requests, message: &mut impl waywire::Readable) -> Option<()> {
+        let (target, opcode) = (WlSeat(message.target()), message.opcode());
         let mut fields = waywire::typed::fields(message);
-        let target = WlSeat(message.target());
-        match message.opcode() {
+        match opcode {
             request::GET_POINTER => handler.get_pointer(
                 target,
                 super::wl_pointer::WlPointer(fields.new_object()?),
@@ -2165,15 +2271,20 @@ pub mod wl_pointer {
     pub fn dispatch_event(
         handler: &mut impl Events,
         tables: &waywire::Tables,
-        message: &impl waywire::Readable,
+        message: &mut impl waywire::Readable,
     ) -> bool {
-        waywire::typed::is_for(tables, message, NAME) && event_of(handler, message).is_some()
+        waywire::typed::is_for(tables, message, NAME) && handle_event(handler, message)
     }
 
-    fn event_of(handler: &mut impl Events, message: &impl waywire::Readable) -> Option<()> {
+    /// The same, for an event to an object that has this interface.
+    pub fn handle_event(handler: &mut impl Events, message: &mut impl waywire::Readable) -> bool {
+        event_of(handler, message).is_some()
+    }
+
+    fn event_of(handler: &mut impl Events, message: &mut impl waywire::Readable) -> Option<()> {
+        let (target, opcode) = (WlPointer(message.target()), message.opcode());
         let mut fields = waywire::typed::fields(message);
-        let target = WlPointer(message.target());
-        match message.opcode() {
+        match opcode {
             event::ENTER => handler.enter(
                 target,
                 fields.uint()?,
@@ -2255,15 +2366,23 @@ pub mod wl_pointer {
     pub fn dispatch_request(
         handler: &mut impl Requests,
         tables: &waywire::Tables,
-        message: &impl waywire::Readable,
+        message: &mut impl waywire::Readable,
     ) -> bool {
-        waywire::typed::is_for(tables, message, NAME) && request_of(handler, message).is_some()
+        waywire::typed::is_for(tables, message, NAME) && handle_request(handler, message)
     }
 
-    fn request_of(handler: &mut impl Requests, message: &impl waywire::Readable) -> Option<()> {
+    /// The same, for a request to an object that has this interface.
+    pub fn handle_request(
+        handler: &mut impl Requests,
+        message: &mut impl waywire::Readable,
+    ) -> bool {
+        request_of(handler, message).is_some()
+    }
+
+    fn request_of(handler: &mut impl Requests, message: &mut impl waywire::Readable) -> Option<()> {
+        let (target, opcode) = (WlPointer(message.target()), message.opcode());
         let mut fields = waywire::typed::fields(message);
-        let target = WlPointer(message.target());
-        match message.opcode() {
+        match opcode {
             request::SET_CURSOR => handler.set_cursor(
                 target,
                 fields.uint()?,
@@ -2356,12 +2475,12 @@ pub mod wl_keyboard {
             self,
             server: &mut waywire::Server,
             format: KeymapFormat,
-            fd: u32,
+            fd: impl std::os::fd::AsFd,
             size: u32,
         ) -> Result<(), waywire::SendError> {
             let args = [
                 waywire::Arg::Uint(format.0),
-                waywire::Arg::Fd(fd),
+                waywire::Arg::Fd(std::os::fd::AsFd::as_fd(&fd)),
                 waywire::Arg::Uint(size),
             ];
             waywire::typed::send_at_server(server, self.0, event::KEYMAP, &args)
@@ -2449,7 +2568,13 @@ pub mod wl_keyboard {
     /// What becomes of the events. A method that is not written does nothing.
     pub trait Events {
         /// The keymap, behind a descriptor.
-        fn keymap(&mut self, wl_keyboard: WlKeyboard, format: KeymapFormat, fd: u32, size: u32) {
+        fn keymap(
+            &mut self,
+            wl_keyboard: WlKeyboard,
+            format: KeymapFormat,
+            fd: std::os::fd::OwnedFd,
+            size: u32,
+        ) {
             let _ = (wl_keyboard, format, fd, size);
         }
 
@@ -2512,15 +2637,20 @@ pub mod wl_keyboard {
     pub fn dispatch_event(
         handler: &mut impl Events,
         tables: &waywire::Tables,
-        message: &impl waywire::Readable,
+        message: &mut impl waywire::Readable,
     ) -> bool {
-        waywire::typed::is_for(tables, message, NAME) && event_of(handler, message).is_some()
+        waywire::typed::is_for(tables, message, NAME) && handle_event(handler, message)
     }
 
-    fn event_of(handler: &mut impl Events, message: &impl waywire::Readable) -> Option<()> {
+    /// The same, for an event to an object that has this interface.
+    pub fn handle_event(handler: &mut impl Events, message: &mut impl waywire::Readable) -> bool {
+        event_of(handler, message).is_some()
+    }
+
+    fn event_of(handler: &mut impl Events, message: &mut impl waywire::Readable) -> Option<()> {
+        let (target, opcode) = (WlKeyboard(message.target()), message.opcode());
         let mut fields = waywire::typed::fields(message);
-        let target = WlKeyboard(message.target());
-        match message.opcode() {
+        match opcode {
             event::KEYMAP => handler.keymap(
                 target,
                 KeymapFormat(fields.uint()?),
@@ -2574,14 +2704,22 @@ pub mod wl_keyboard {
     pub fn dispatch_request(
         handler: &mut impl Requests,
         tables: &waywire::Tables,
-        message: &impl waywire::Readable,
+        message: &mut impl waywire::Readable,
     ) -> bool {
-        waywire::typed::is_for(tables, message, NAME) && request_of(handler, message).is_some()
+        waywire::typed::is_for(tables, message, NAME) && handle_request(handler, message)
     }
 
-    fn request_of(handler: &mut impl Requests, message: &impl waywire::Readable) -> Option<()> {
-        let target = WlKeyboard(message.target());
-        match message.opcode() {
+    /// The same, for a request to an object that has this interface.
+    pub fn handle_request(
+        handler: &mut impl Requests,
+        message: &mut impl waywire::Readable,
+    ) -> bool {
+        request_of(handler, message).is_some()
+    }
+
+    fn request_of(handler: &mut impl Requests, message: &mut impl waywire::Readable) -> Option<()> {
+        let (target, opcode) = (WlKeyboard(message.target()), message.opcode());
+        match opcode {
             request::RELEASE => handler.release(target),
             _ => return None,
         }
@@ -2813,15 +2951,20 @@ pub mod wl_touch {
     pub fn dispatch_event(
         handler: &mut impl Events,
         tables: &waywire::Tables,
-        message: &impl waywire::Readable,
+        message: &mut impl waywire::Readable,
     ) -> bool {
-        waywire::typed::is_for(tables, message, NAME) && event_of(handler, message).is_some()
+        waywire::typed::is_for(tables, message, NAME) && handle_event(handler, message)
     }
 
-    fn event_of(handler: &mut impl Events, message: &impl waywire::Readable) -> Option<()> {
+    /// The same, for an event to an object that has this interface.
+    pub fn handle_event(handler: &mut impl Events, message: &mut impl waywire::Readable) -> bool {
+        event_of(handler, message).is_some()
+    }
+
+    fn event_of(handler: &mut impl Events, message: &mut impl waywire::Readable) -> Option<()> {
+        let (target, opcode) = (WlTouch(message.target()), message.opcode());
         let mut fields = waywire::typed::fields(message);
-        let target = WlTouch(message.target());
-        match message.opcode() {
+        match opcode {
             event::DOWN => handler.down(
                 target,
                 fields.uint()?,
@@ -2863,14 +3006,22 @@ pub mod wl_touch {
     pub fn dispatch_request(
         handler: &mut impl Requests,
         tables: &waywire::Tables,
-        message: &impl waywire::Readable,
+        message: &mut impl waywire::Readable,
     ) -> bool {
-        waywire::typed::is_for(tables, message, NAME) && request_of(handler, message).is_some()
+        waywire::typed::is_for(tables, message, NAME) && handle_request(handler, message)
     }
 
-    fn request_of(handler: &mut impl Requests, message: &impl waywire::Readable) -> Option<()> {
-        let target = WlTouch(message.target());
-        match message.opcode() {
+    /// The same, for a request to an object that has this interface.
+    pub fn handle_request(
+        handler: &mut impl Requests,
+        message: &mut impl waywire::Readable,
+    ) -> bool {
+        request_of(handler, message).is_some()
+    }
+
+    fn request_of(handler: &mut impl Requests, message: &mut impl waywire::Readable) -> Option<()> {
+        let (target, opcode) = (WlTouch(message.target()), message.opcode());
+        match opcode {
             request::RELEASE => handler.release(target),
             _ => return None,
         }
@@ -3149,15 +3300,20 @@ pub mod wl_output {
     pub fn dispatch_event(
         handler: &mut impl Events,
         tables: &waywire::Tables,
-        message: &impl waywire::Readable,
+        message: &mut impl waywire::Readable,
     ) -> bool {
-        waywire::typed::is_for(tables, message, NAME) && event_of(handler, message).is_some()
+        waywire::typed::is_for(tables, message, NAME) && handle_event(handler, message)
     }
 
-    fn event_of(handler: &mut impl Events, message: &impl waywire::Readable) -> Option<()> {
+    /// The same, for an event to an object that has this interface.
+    pub fn handle_event(handler: &mut impl Events, message: &mut impl waywire::Readable) -> bool {
+        event_of(handler, message).is_some()
+    }
+
+    fn event_of(handler: &mut impl Events, message: &mut impl waywire::Readable) -> Option<()> {
+        let (target, opcode) = (WlOutput(message.target()), message.opcode());
         let mut fields = waywire::typed::fields(message);
-        let target = WlOutput(message.target());
-        match message.opcode() {
+        match opcode {
             event::GEOMETRY => handler.geometry(
                 target,
                 fields.int()?,
@@ -3200,14 +3356,22 @@ pub mod wl_output {
     pub fn dispatch_request(
         handler: &mut impl Requests,
         tables: &waywire::Tables,
-        message: &impl waywire::Readable,
+        message: &mut impl waywire::Readable,
     ) -> bool {
-        waywire::typed::is_for(tables, message, NAME) && request_of(handler, message).is_some()
+        waywire::typed::is_for(tables, message, NAME) && handle_request(handler, message)
     }
 
-    fn request_of(handler: &mut impl Requests, message: &impl waywire::Readable) -> Option<()> {
-        let target = WlOutput(message.target());
-        match message.opcode() {
+    /// The same, for a request to an object that has this interface.
+    pub fn handle_request(
+        handler: &mut impl Requests,
+        message: &mut impl waywire::Readable,
+    ) -> bool {
+        request_of(handler, message).is_some()
+    }
+
+    fn request_of(handler: &mut impl Requests, message: &mut impl waywire::Readable) -> Option<()> {
+        let (target, opcode) = (WlOutput(message.target()), message.opcode());
+        match opcode {
             request::RELEASE => handler.release(target),
             _ => return None,
         }
@@ -3306,15 +3470,23 @@ pub mod wl_subcompositor {
     pub fn dispatch_request(
         handler: &mut impl Requests,
         tables: &waywire::Tables,
-        message: &impl waywire::Readable,
+        message: &mut impl waywire::Readable,
     ) -> bool {
-        waywire::typed::is_for(tables, message, NAME) && request_of(handler, message).is_some()
+        waywire::typed::is_for(tables, message, NAME) && handle_request(handler, message)
     }
 
-    fn request_of(handler: &mut impl Requests, message: &impl waywire::Readable) -> Option<()> {
+    /// The same, for a request to an object that has this interface.
+    pub fn handle_request(
+        handler: &mut impl Requests,
+        message: &mut impl waywire::Readable,
+    ) -> bool {
+        request_of(handler, message).is_some()
+    }
+
+    fn request_of(handler: &mut impl Requests, message: &mut impl waywire::Readable) -> Option<()> {
+        let (target, opcode) = (WlSubcompositor(message.target()), message.opcode());
         let mut fields = waywire::typed::fields(message);
-        let target = WlSubcompositor(message.target());
-        match message.opcode() {
+        match opcode {
             request::DESTROY => handler.destroy(target),
             request::GET_SUBSURFACE => handler.get_subsurface(
                 target,
@@ -3483,15 +3655,23 @@ pub mod wl_subsurface {
     pub fn dispatch_request(
         handler: &mut impl Requests,
         tables: &waywire::Tables,
-        message: &impl waywire::Readable,
+        message: &mut impl waywire::Readable,
     ) -> bool {
-        waywire::typed::is_for(tables, message, NAME) && request_of(handler, message).is_some()
+        waywire::typed::is_for(tables, message, NAME) && handle_request(handler, message)
     }
 
-    fn request_of(handler: &mut impl Requests, message: &impl waywire::Readable) -> Option<()> {
+    /// The same, for a request to an object that has this interface.
+    pub fn handle_request(
+        handler: &mut impl Requests,
+        message: &mut impl waywire::Readable,
+    ) -> bool {
+        request_of(handler, message).is_some()
+    }
+
+    fn request_of(handler: &mut impl Requests, message: &mut impl waywire::Readable) -> Option<()> {
+        let (target, opcode) = (WlSubsurface(message.target()), message.opcode());
         let mut fields = waywire::typed::fields(message);
-        let target = WlSubsurface(message.target());
-        match message.opcode() {
+        match opcode {
             request::DESTROY => handler.destroy(target),
             request::SET_POSITION => handler.set_position(target, fields.int()?, fields.int()?),
             request::PLACE_ABOVE => handler.place_above(
@@ -3579,15 +3759,23 @@ pub mod wl_shell {
     pub fn dispatch_request(
         handler: &mut impl Requests,
         tables: &waywire::Tables,
-        message: &impl waywire::Readable,
+        message: &mut impl waywire::Readable,
     ) -> bool {
-        waywire::typed::is_for(tables, message, NAME) && request_of(handler, message).is_some()
+        waywire::typed::is_for(tables, message, NAME) && handle_request(handler, message)
     }
 
-    fn request_of(handler: &mut impl Requests, message: &impl waywire::Readable) -> Option<()> {
+    /// The same, for a request to an object that has this interface.
+    pub fn handle_request(
+        handler: &mut impl Requests,
+        message: &mut impl waywire::Readable,
+    ) -> bool {
+        request_of(handler, message).is_some()
+    }
+
+    fn request_of(handler: &mut impl Requests, message: &mut impl waywire::Readable) -> Option<()> {
+        let (target, opcode) = (WlShell(message.target()), message.opcode());
         let mut fields = waywire::typed::fields(message);
-        let target = WlShell(message.target());
-        match message.opcode() {
+        match opcode {
             request::GET_SHELL_SURFACE => handler.get_shell_surface(
                 target,
                 super::wl_shell_surface::WlShellSurface(fields.new_object()?),
@@ -3915,15 +4103,20 @@ pub mod wl_shell_surface {
     pub fn dispatch_event(
         handler: &mut impl Events,
         tables: &waywire::Tables,
-        message: &impl waywire::Readable,
+        message: &mut impl waywire::Readable,
     ) -> bool {
-        waywire::typed::is_for(tables, message, NAME) && event_of(handler, message).is_some()
+        waywire::typed::is_for(tables, message, NAME) && handle_event(handler, message)
     }
 
-    fn event_of(handler: &mut impl Events, message: &impl waywire::Readable) -> Option<()> {
+    /// The same, for an event to an object that has this interface.
+    pub fn handle_event(handler: &mut impl Events, message: &mut impl waywire::Readable) -> bool {
+        event_of(handler, message).is_some()
+    }
+
+    fn event_of(handler: &mut impl Events, message: &mut impl waywire::Readable) -> Option<()> {
+        let (target, opcode) = (WlShellSurface(message.target()), message.opcode());
         let mut fields = waywire::typed::fields(message);
-        let target = WlShellSurface(message.target());
-        match message.opcode() {
+        match opcode {
             event::PING => handler.ping(target, fields.uint()?),
             event::CONFIGURE => handler.configure(
                 target,
@@ -4032,15 +4225,23 @@ pub mod wl_shell_surface {
     pub fn dispatch_request(
         handler: &mut impl Requests,
         tables: &waywire::Tables,
-        message: &impl waywire::Readable,
+        message: &mut impl waywire::Readable,
     ) -> bool {
-        waywire::typed::is_for(tables, message, NAME) && request_of(handler, message).is_some()
+        waywire::typed::is_for(tables, message, NAME) && handle_request(handler, message)
     }
 
-    fn request_of(handler: &mut impl Requests, message: &impl waywire::Readable) -> Option<()> {
+    /// The same, for a request to an object that has this interface.
+    pub fn handle_request(
+        handler: &mut impl Requests,
+        message: &mut impl waywire::Readable,
+    ) -> bool {
+        request_of(handler, message).is_some()
+    }
+
+    fn request_of(handler: &mut impl Requests, message: &mut impl waywire::Readable) -> Option<()> {
+        let (target, opcode) = (WlShellSurface(message.target()), message.opcode());
         let mut fields = waywire::typed::fields(message);
-        let target = WlShellSurface(message.target());
-        match message.opcode() {
+        match opcode {
             request::PONG => handler.pong(target, fields.uint()?),
             request::MOVE => handler.move_(
                 target,
@@ -4164,15 +4365,23 @@ pub mod wl_fixes {
     pub fn dispatch_request(
         handler: &mut impl Requests,
         tables: &waywire::Tables,
-        message: &impl waywire::Readable,
+        message: &mut impl waywire::Readable,
     ) -> bool {
-        waywire::typed::is_for(tables, message, NAME) && request_of(handler, message).is_some()
+        waywire::typed::is_for(tables, message, NAME) && handle_request(handler, message)
     }
 
-    fn request_of(handler: &mut impl Requests, message: &impl waywire::Readable) -> Option<()> {
+    /// The same, for a request to an object that has this interface.
+    pub fn handle_request(
+        handler: &mut impl Requests,
+        message: &mut impl waywire::Readable,
+    ) -> bool {
+        request_of(handler, message).is_some()
+    }
+
+    fn request_of(handler: &mut impl Requests, message: &mut impl waywire::Readable) -> Option<()> {
+        let (target, opcode) = (WlFixes(message.target()), message.opcode());
         let mut fields = waywire::typed::fields(message);
-        let target = WlFixes(message.target());
-        match message.opcode() {
+        match opcode {
             request::DESTROY => handler.destroy(target),
             request::DESTROY_REGISTRY => handler.destroy_registry(
                 target,

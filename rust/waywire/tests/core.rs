@@ -3,8 +3,9 @@
 
 mod common;
 
-use common::{core_messages, repository, Core};
+use common::{core_messages, number_of, numbered, repository, Core};
 use std::fs;
+use std::os::fd::{AsFd, OwnedFd};
 use waywire::{
     event, request, Arg, ArgKind, Client, Connection, Decoded, Destroys, Failed, FaultKind, Fixed,
     Incoming, NextError, Object, Replaced, SendError, Sender, Server, Sizes, Spelled, Tables,
@@ -21,9 +22,10 @@ struct Pair {
 
 /// Carries what waits at one end to the other, and returns its bytes.
 fn carry<A, B>(from: &mut Connection<A>, to: &mut Connection<B>) -> Vec<u8> {
-    let (mut bytes, mut tokens) = ([0; 4096], [0; 28]);
-    let taken = from.take(&mut bytes, &mut tokens);
-    assert_eq!(to.feed(&bytes[..taken.bytes], &tokens[..taken.tokens]), Ok(taken));
+    let (mut bytes, mut descriptors) = ([0; 4096], Vec::new());
+    let taken = from.take(&mut bytes, &mut descriptors, 28);
+    assert_eq!(descriptors.len(), taken.tokens);
+    assert_eq!(to.feed(&bytes[..taken.bytes], &mut descriptors), Ok(taken));
     bytes[..taken.bytes].to_vec()
 }
 
@@ -67,8 +69,8 @@ impl Pair {
         bound
     }
 
-    /// An argument of a kind, and whether it may come as an object.
-    fn arg(&mut self, kind: &str, corner: usize) -> Arg<'static> {
+    /// An argument of a kind.
+    fn arg<'a>(&mut self, kind: &str, corner: usize, descriptor: &'a OwnedFd) -> Arg<'a> {
         const TEXTS: [&[u8]; 3] = [b"", b"a text of more than one word", b"\x01\xff\""];
         let may_be_null = kind.starts_with('?') && corner == 2;
         match kind.trim_start_matches('?').chars().next().unwrap() {
@@ -78,7 +80,7 @@ impl Pair {
             's' if may_be_null => Arg::Str(None),
             's' => Arg::Str(Some(TEXTS[corner])),
             'a' => Arg::Array(TEXTS[corner]),
-            'h' => Arg::Fd([0, u32::MAX, 7][corner]),
+            'h' => descriptor.as_fd().into(),
             'n' => Arg::NewId,
             _ if may_be_null => Arg::Object(None),
             _ => {
@@ -93,7 +95,8 @@ impl Pair {
 fn is_sent(sent: &Arg<'_>, came: &Value<'_>, made: Option<Object>) -> bool {
     match (sent, came) {
         (Arg::Int(one), Value::Int(other)) => one == other,
-        (Arg::Uint(one), Value::Uint(other)) | (Arg::Fd(one), Value::Fd(other)) => one == other,
+        (Arg::Uint(one), Value::Uint(other)) => one == other,
+        (Arg::Fd(one), Value::Fd(Some(other))) => number_of(*one) == number_of(*other),
         (Arg::Fixed(one), Value::Fixed(other)) => one == other,
         (Arg::Str(one), Value::Str(other)) => one == other,
         (Arg::Array(one), Value::Array(other)) => one == other,
@@ -105,7 +108,9 @@ fn is_sent(sent: &Arg<'_>, came: &Value<'_>, made: Option<Object>) -> bool {
 
 fn passes(tables: &Tables, message: &Core, corner: usize) {
     let mut pair = Pair::new(tables);
-    let args: Vec<Arg<'_>> = message.kinds.iter().map(|it| pair.arg(it, corner)).collect();
+    let descriptor = numbered(corner as u32);
+    let kinds = message.kinds.iter();
+    let args: Vec<Arg<'_>> = kinds.map(|it| pair.arg(it, corner, &descriptor)).collect();
     let target = pair.object(&message.interface);
     let check = |came: Vec<Value<'_>>, made| {
         let Core { interface, name, .. } = message;
@@ -225,13 +230,13 @@ fn refusals_name_their_place() {
     assert_eq!(refused, Err(SendError::WrongArgs { place: 0 }));
 
     let mut pair = Pair::new(&tables);
-    pair.server.feed(&[9, 0, 0, 0, 0, 0, 8, 0], &[]).unwrap();
+    pair.server.feed(&[9, 0, 0, 0, 0, 0, 8, 0], &mut Vec::new()).unwrap();
     assert!(!pair.server.has_failed());
     let refused = pair.server.next().unwrap_err();
     assert_eq!(refused.to_string(), "message at byte 12: unknown object");
     assert!(pair.server.has_failed() && !pair.client.has_failed());
     assert_eq!(pair.server.next().unwrap_err().to_string(), "this end has failed");
-    assert_eq!(pair.server.feed(&[], &[]), Err(Failed));
+    assert_eq!(pair.server.feed(&[], &mut Vec::new()), Err(Failed));
     assert_eq!(Failed.to_string(), "this end has failed");
 }
 
@@ -256,6 +261,7 @@ fn objects_have_a_number_of_the_callers() {
     assert_eq!(commit.user(), 8);
     let wanted = format!("-> wl_surface@{}.commit()", surface.id());
     assert_eq!(commit.line(&pair.tables, Sender::Client), wanted);
+    drop(commit);
     assert_eq!(pair.server.next().unwrap().unwrap().user(), 8);
     assert!(!pair.server.objects().any(|it| it == surface));
     assert!(pair.client.objects().any(|it| it == surface));
@@ -283,7 +289,7 @@ fn an_event_makes_an_object() {
     assert_eq!(pair.client.made(), Some(first));
     pair.client.send(dev, 0, &[]).unwrap();
     assert!(
-        matches!(pair.client.next(), Ok(Some(Incoming::Discarded { target, .. })) if target == dev)
+        matches!(pair.client.next(), Ok(Some(Incoming::Discarded(event))) if event.target() == dev)
     );
     assert_eq!(pair.client.made(), Some(second));
     pair.client.send(first, 0, &[]).unwrap();
@@ -308,7 +314,7 @@ fn an_event_replaces_an_object() {
     let (dev, late) = (pair.object("dev"), pair.object("late"));
     let comes = |client: &mut Client, maker: Object| {
         let maker = maker.id().to_le_bytes();
-        client.feed(&[&maker[..], &[0, 0, 12, 0, 0, 0, 0, 255]].concat(), &[]).unwrap();
+        client.feed(&[&maker[..], &[0, 0, 12, 0, 0, 0, 0, 255]].concat(), &mut Vec::new()).unwrap();
     };
     // What the event for a live maker has made, and what that has replaced.
     let makes = |client: &mut Client, maker| {
@@ -338,7 +344,7 @@ fn an_event_replaces_an_object() {
 
     client.send(dev, 0, &[]).unwrap();
     comes(client, dev);
-    assert!(matches!(client.next(), Ok(Some(Incoming::Discarded { .. }))));
+    assert!(matches!(client.next(), Ok(Some(Incoming::Discarded(_)))));
     assert_eq!(client.replaced(), Some(Replaced { object: second, user: 8 }));
 
     // A request can end the next one.
@@ -370,11 +376,13 @@ fn messages_are_taken_apart() {
 
     let mut pair = Pair::new(&tables);
     let shm = pair.object("wl_shm");
-    let new = [Arg::NewId, Arg::Fd(77), Arg::Int(-5)];
+    let descriptor = numbered(77);
+    let new = [Arg::NewId, descriptor.as_fd().into(), Arg::Int(-5)];
     let pool = pair.client.send(shm, request::wl_shm::CREATE_POOL, &new).unwrap().unwrap();
     let bytes = pair.carry_to_server();
     let asked = pair.server.next().unwrap().unwrap();
-    assert_eq!(asked.tokens(), [77]);
+    assert_eq!(asked.descriptors().map(number_of).collect::<Vec<_>>(), [77]);
+    drop(asked);
     let create = Decoded::of(&tables, interface("wl_shm"), 1, Sender::Client, &bytes).unwrap();
     assert_eq!((create.name(), create.fault()), ("create_pool", None));
     assert_eq!((create.target(), usize::from(create.size())), (shm.id(), bytes.len()));

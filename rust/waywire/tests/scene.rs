@@ -3,8 +3,9 @@
 
 mod common;
 
-use common::{core_messages, repository, Core};
+use common::{core_messages, number_of, numbered, repository, Core};
 use std::collections::{HashMap, HashSet};
+use std::os::fd::{AsFd, OwnedFd};
 use std::{fmt::Write, fs};
 use waywire::{
     Arg, Args, Client, Connection, Fixed, Incoming, Inspector, Message, Named, NextError, Object,
@@ -108,17 +109,37 @@ impl Names {
         self.name(is_request, message.target(), message.opcode()) + &arguments(message.args())
     }
 
-    fn arg<'a>(&self, word: &str, bytes: &'a [u8]) -> Arg<'a> {
+    fn arg<'a>(&self, word: &str, given: &'a Given) -> Arg<'a> {
+        let bytes = &given.bytes;
         match word.split_once(':') {
             Some(("int", number)) => Arg::Int(number.parse().unwrap()),
             Some(("uint", number)) => Arg::Uint(number.parse().unwrap()),
             Some(("fixed", number)) => Arg::Fixed(Fixed::from_raw(number.parse().unwrap())),
-            Some(("fd", number)) => Arg::Fd(number.parse().unwrap()),
+            Some(("fd", _)) => given.descriptor.as_ref().unwrap().as_fd().into(),
             Some(("str", _)) => Arg::Str(Some(bytes)),
             Some(("array", _)) => Arg::Array(bytes),
             _ if word == "new" => Arg::NewId,
             _ if word == "nil" => Arg::Object(None),
             _ => self.objects[word].into(),
+        }
+    }
+}
+
+/// What a word of an argument lends to its call.
+struct Given {
+    bytes: Vec<u8>,
+    descriptor: Option<OwnedFd>,
+}
+
+impl Given {
+    fn of(word: &str) -> Given {
+        match word.split_once(':') {
+            Some(("str" | "array", bytes)) => Given { bytes: bytes_of(bytes), descriptor: None },
+            Some(("fd", number)) => {
+                let descriptor = Some(numbered(number.parse().unwrap()));
+                Given { bytes: Vec::new(), descriptor }
+            }
+            _ => Given { bytes: Vec::new(), descriptor: None },
         }
     }
 }
@@ -141,7 +162,7 @@ fn arguments(args: Args<'_>) -> String {
                 write!(text, " bound:{}:{version}:{object:?}", quoted(interface))
             }
             Value::Array(bytes) => write!(text, " array:{}", word_of(bytes)),
-            Value::Fd(token) => write!(text, " fd:{token}"),
+            Value::Fd(descriptor) => write!(text, " fd:{}", number_of(descriptor.unwrap())),
         }
         .unwrap();
     }
@@ -149,19 +170,14 @@ fn arguments(args: Args<'_>) -> String {
 }
 
 /// Moves at most so many bytes from one end to the other, and no more than the reader has room for.
-/// Returns them and their tokens.
-fn moved<A, B>(
-    from: &mut Connection<A>,
-    to: &mut Connection<B>,
-    most: usize,
-) -> (Vec<u8>, Vec<u32>) {
+/// Returns them, and how many descriptors went with them.
+fn moved<A, B>(from: &mut Connection<A>, to: &mut Connection<B>, most: usize) -> (Vec<u8>, usize) {
     let room = to.in_room();
-    let (mut bytes, mut tokens) = (vec![0; most.min(room.bytes)], vec![0; room.tokens]);
-    let taken = from.take(&mut bytes, &mut tokens);
+    let (mut bytes, mut descriptors) = (vec![0; most.min(room.bytes)], Vec::new());
+    let taken = from.take(&mut bytes, &mut descriptors, room.tokens);
     bytes.truncate(taken.bytes);
-    tokens.truncate(taken.tokens);
-    assert_eq!(to.feed(&bytes, &tokens), Ok(taken));
-    (bytes, tokens)
+    assert_eq!(to.feed(&bytes, &mut descriptors), Ok(taken));
+    (bytes, taken.tokens)
 }
 
 fn stopped(why: NextError) -> String {
@@ -218,15 +234,9 @@ impl Player {
     fn send(&mut self, is_request: bool, words: &[&str]) -> String {
         let (opcode, makes) = self.names.message(is_request, words[0]);
         let target = self.names.objects[words[1]];
-        let texts: Vec<Vec<u8>> = words[2..]
-            .iter()
-            .map(|it| match it.split_once(':') {
-                Some(("str" | "array", bytes)) => bytes_of(bytes),
-                _ => Vec::new(),
-            })
-            .collect();
-        let words = words[2..].iter().zip(&texts);
-        let args: Vec<Arg<'_>> = words.map(|(word, bytes)| self.names.arg(word, bytes)).collect();
+        let given: Vec<Given> = words[2..].iter().map(|it| Given::of(it)).collect();
+        let words = words[2..].iter().zip(&given);
+        let args: Vec<Arg<'_>> = words.map(|(word, given)| self.names.arg(word, given)).collect();
         let made = if is_request {
             self.client.send(target, opcode, &args).unwrap()
         } else {
@@ -254,10 +264,10 @@ impl Player {
         } else {
             ('<', Sender::Server, moved(server, client, most))
         };
-        self.inspector.pass(sender, &bytes, tokens.len()).unwrap();
-        let count = if tokens.is_empty() { String::new() } else { format!(" +{}", tokens.len()) };
+        self.inspector.pass(sender, &bytes, tokens).unwrap();
+        let count = if tokens == 0 { String::new() } else { format!(" +{tokens}") };
         self.pieces.push(format!("{sign} {}{count}", hex(&bytes)));
-        format!("{} bytes, {} tokens", bytes.len(), tokens.len())
+        format!("{} bytes, {tokens} tokens", bytes.len())
     }
 
     fn server_reads(&mut self) -> String {
@@ -271,9 +281,11 @@ impl Player {
     fn client_reads(&mut self) -> String {
         match self.client.next() {
             Ok(Some(Incoming::Event(event))) => format!("event {}", self.names.told(false, event)),
-            Ok(Some(Incoming::Discarded { target, opcode, tokens })) => {
-                let tokens: String = tokens.iter().map(|it| format!(" +{it}")).collect();
-                format!("discarded {}{tokens}", self.names.name(false, target, opcode))
+            Ok(Some(Incoming::Discarded(event))) => {
+                let numbers = event.descriptors().map(number_of);
+                let tokens: String = numbers.map(|it| format!(" +{it}")).collect();
+                let name = self.names.name(false, event.target(), event.opcode());
+                format!("discarded {name}{tokens}")
             }
             Ok(Some(Incoming::Deleted(object))) => format!("deleted {object:?}"),
             Ok(Some(Incoming::Error(error))) => {

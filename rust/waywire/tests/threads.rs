@@ -25,10 +25,10 @@ impl Pair {
         let (mut bytes, display) = ([0; 64], self.client.display());
         let new = [Arg::NewId];
         let made = self.client.send(display, request::wl_display::SYNC, &new).unwrap();
-        let taken = self.client.take(&mut bytes, &mut []);
-        assert_eq!(self.server.feed(&bytes[..taken.bytes], &[]), Ok(taken));
-        let asked = self.server.next().unwrap().unwrap();
-        assert_eq!(asked.opcode(), request::wl_display::SYNC);
+        let taken = self.client.take(&mut bytes, &mut Vec::new(), 0);
+        assert_eq!(self.server.feed(&bytes[..taken.bytes], &mut Vec::new()), Ok(taken));
+        let asked = self.server.next().unwrap().unwrap().opcode();
+        assert_eq!(asked, request::wl_display::SYNC);
         assert!(self.server.live(made.unwrap()).is_some());
         assert_eq!(self.client.object_count(), self.server.object_count());
     }

@@ -4,7 +4,10 @@
 use waywire::wayland::{
     wl_compositor, wl_display, wl_output, wl_registry, wl_seat, wl_shm, wl_surface,
 };
-use waywire::{Amounts, Client, Connection, Handle, Incoming, Object, Server, Sizes, Tables};
+use waywire::{
+    Amounts, Client, Connection, EventHandler, Handle, Incoming, Object, RequestHandler, Server,
+    Sizes, Tables,
+};
 
 /// All that handlers were called with.
 #[derive(Default)]
@@ -48,6 +51,9 @@ impl wl_surface::Events for Seen {
 
 impl wl_shm::Requests for Seen {}
 
+waywire::event_handler!(Seen: wl_registry, wl_surface);
+waywire::request_handler!(Seen: wl_registry, wl_shm);
+
 /// Two ends, and what passes between them without a buffer of its own.
 struct Pair {
     tables: Tables,
@@ -73,10 +79,11 @@ fn carry<A, B>(from: &mut Connection<A>, to: &mut Connection<B>) {
         if waiting.is_empty() {
             return;
         }
-        let tokens = waiting.tokens().to_vec();
-        let count = copy(waiting.parts, to.space());
-        let amounts = Amounts { bytes: count, tokens: tokens.len() };
-        assert_eq!(to.received(count, &tokens), Ok(amounts));
+        let lent = waiting.descriptors().iter();
+        let mut descriptors: Vec<_> = lent.map(|it| it.try_clone_to_owned().unwrap()).collect();
+        let count = copy(waiting.parts(), to.space());
+        let amounts = Amounts { bytes: count, tokens: descriptors.len() };
+        assert_eq!(to.received(count, &mut descriptors), Ok(amounts));
         assert_eq!(from.sent(count), amounts);
     }
 }
@@ -102,11 +109,8 @@ impl Pair {
         let mut seen = Seen::default();
         carry(&mut self.server, &mut self.client);
         while let Some(incoming) = self.client.next().unwrap() {
-            let Incoming::Event(event) = incoming else { continue };
-            assert!(
-                wl_registry::dispatch_event(&mut seen, &self.tables, &event)
-                    || wl_surface::dispatch_event(&mut seen, &self.tables, &event)
-            );
+            let Incoming::Event(mut event) = incoming else { continue };
+            assert!(seen.dispatch_event(&self.tables, &mut event));
         }
         seen.0
     }
@@ -116,8 +120,8 @@ impl Pair {
         let bound: T = self.registry.bind(&mut self.client, name, version).unwrap();
         let mut seen = Seen::default();
         carry(&mut self.client, &mut self.server);
-        let message = self.server.next().unwrap().unwrap();
-        assert!(wl_registry::dispatch_request(&mut seen, &self.tables, &message));
+        let mut message = self.server.next().unwrap().unwrap();
+        assert!(wl_registry::dispatch_request(&mut seen, &self.tables, &mut message));
         assert_eq!(seen.0, [format!("bind {name} {} {version} {:?}", T::NAME, bound.object())]);
         bound
     }
@@ -154,13 +158,15 @@ fn a_message_of_another_interface_is_not_dispatched() {
     let mut pair = Pair::new(&["wl_shm"]);
     assert_eq!(pair.events().len(), 1);
     let shm: wl_shm::WlShm = pair.bind(1);
-    shm.create_pool(&mut pair.client, 7, 4096).unwrap();
+    shm.create_pool(&mut pair.client, std::io::stdin(), 4096).unwrap();
     carry(&mut pair.client, &mut pair.server);
-    let message = pair.server.next().unwrap().unwrap().into_owned();
+    let mut message = pair.server.next().unwrap().unwrap().into_owned();
     assert_eq!(message.opcode, wl_shm::request::CREATE_POOL);
     let mut seen = Seen::default();
-    assert!(!wl_registry::dispatch_request(&mut seen, &pair.tables, &message));
-    assert!(wl_shm::dispatch_request(&mut seen, &pair.tables, &message));
+    assert!(!wl_registry::dispatch_request(&mut seen, &pair.tables, &mut message));
+    assert!(!().dispatch_request(&pair.tables, &mut message));
+    assert!(seen.dispatch_request(&pair.tables, &mut message));
+    assert!(!wl_shm::dispatch_request(&mut seen, &pair.tables, &mut message));
     assert_eq!(seen.0, [""; 0]);
 }
 

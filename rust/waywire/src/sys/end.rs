@@ -1,8 +1,8 @@
 //! The calls of ends. Each is declared once and wrapped once, also if both ends have it.
 
 use super::{
-    lent, RawArg, RawTables, Report, Tables, BAD_BIND, BAD_OBJECT, BAD_SIZES, FAILED, FULL,
-    MAX_ARGS, NOT_DROPPABLE, NO_IDS, NO_MEMORY, NO_SUCH_GLOBAL, OK, STALE, TOO_LONG,
+    lent, RawArg, RawTables, Reading, Report, Tables, BAD_BIND, BAD_OBJECT, BAD_SIZES, FAILED,
+    FULL, MAX_ARGS, NOT_DROPPABLE, NO_IDS, NO_MEMORY, NO_SUCH_GLOBAL, OK, STALE, TOO_LONG,
     TOO_MANY_GLOBALS, TOO_OLD, WRONG_ARGS,
 };
 use crate::amounts::{Amounts, Sizes};
@@ -10,12 +10,13 @@ use crate::args::Arg;
 use crate::error::{Failed, GlobalError, NewError, NextError, SendError};
 use crate::tables::{Interface, Object};
 use std::ffi::{c_char, c_void, CString};
-use std::mem::MaybeUninit;
+use std::mem::{self, MaybeUninit};
+use std::os::fd::{AsFd, BorrowedFd, FromRawFd, OwnedFd, RawFd};
 use std::ptr::{self, NonNull};
 use std::slice;
 
 /// `waywire_end`.
-type RawEnd = c_void;
+pub(super) type RawEnd = c_void;
 
 /// `waywire_client`.
 #[repr(C)]
@@ -32,9 +33,9 @@ struct RawServer {
 /// `waywire_part`.
 #[derive(Clone, Copy)]
 #[repr(C)]
-struct RawPart {
-    bytes: *mut c_void,
-    length: usize,
+pub(super) struct RawPart {
+    pub bytes: *mut c_void,
+    pub length: usize,
 }
 
 const NO_PART: RawPart = RawPart { bytes: ptr::null_mut(), length: 0 };
@@ -170,11 +171,29 @@ fn send_result(status: u32) -> Result<(), SendError> {
     }
 }
 
-fn feed_result(status: u32, fed: Amounts) -> Result<Amounts, Failed> {
+/// Gives an end the first descriptors of a list, those that it has taken in.
+fn feed_result(
+    status: u32,
+    fed: Amounts,
+    descriptors: &mut Vec<OwnedFd>,
+) -> Result<Amounts, Failed> {
+    if fed.tokens > 0 {
+        descriptors.drain(..fed.tokens).for_each(mem::forget);
+    }
     match status {
         OK => Ok(fed),
         _ => Err(Failed),
     }
+}
+
+/// The descriptor that an end gives away.
+///
+/// # Safety
+///
+/// The token is one of the end's, which has just given it out.
+unsafe fn given_out(token: u32) -> OwnedFd {
+    // Safety: the end owned the descriptor, and has given it out once.
+    unsafe { OwnedFd::from_raw_fd(token as RawFd) }
 }
 
 fn global_result(status: u32) -> Result<(), GlobalError> {
@@ -188,8 +207,33 @@ fn global_result(status: u32) -> Result<(), GlobalError> {
     }
 }
 
-/// The tokens that go with a first byte, at most as many as a message may have, and their number.
-pub type Tokens = ([u32; MAX_ARGS as usize], usize);
+/// The most descriptors of a message, and so of a first byte.
+const MOST: usize = MAX_ARGS as usize;
+/// As many descriptors as are moved at one time.
+const AT_ONCE: usize = 28;
+/// The most tokens that an outbox has.
+const MOST_IN_OUTBOX: usize = 65_536;
+
+/// What goes with one `sendmsg`: its bytes, and the descriptors that go with the first of them.
+#[derive(Clone, Debug)]
+pub struct Going<'a> {
+    pub parts: [&'a [u8]; 2],
+    tokens: [u32; MOST],
+    count: usize,
+}
+
+impl<'a> Going<'a> {
+    pub fn descriptors(&self) -> &[BorrowedFd<'a>] {
+        let tokens = &self.tokens[..self.count];
+        // Safety: the tokens are descriptors of the end's, which is lent for `'a` and closes none
+        // meanwhile; a BorrowedFd is laid out as the number of its descriptor.
+        unsafe { slice::from_raw_parts(tokens.as_ptr().cast(), tokens.len()) }
+    }
+
+    fn length(&self) -> usize {
+        self.parts[0].len() + self.parts[1].len()
+    }
+}
 
 /// The slice that an end lends to be written. Its pointer may be null where it is empty.
 ///
@@ -204,7 +248,8 @@ unsafe fn lent_mut<'a>(part: RawPart) -> &'a mut [u8] {
     unsafe { slice::from_raw_parts_mut(part.bytes.cast(), part.length) }
 }
 
-/// An end, freed when it is dropped: a client's or a server's. [`Connection`](crate::Connection)
+/// An end, freed when it is dropped, with the descriptors that wait in it closed: a client's or a
+/// server's. [`Connection`](crate::Connection)
 /// knows by its type which of the two it is, and offers only the calls of that end. The library
 /// refuses the others.
 #[derive(Debug)]
@@ -218,6 +263,7 @@ unsafe impl Send for End {}
 
 impl Drop for End {
     fn drop(&mut self) {
+        drop(self.take_waiting_tokens());
         // Safety: the end is the library's, and freed here alone.
         unsafe { waywire_end_free(self.at.as_ptr()) }
     }
@@ -229,6 +275,10 @@ impl Drop for End {
 // answers OK. What `peek` and `space` lend stays as it is until the end's next call. There is none
 // during the loan, which borrows `self`.
 impl End {
+    pub(super) fn at(&mut self) -> *mut RawEnd {
+        self.at.as_ptr()
+    }
+
     pub fn new_client(tables: &Tables, sizes: &Sizes) -> Result<End, NewError> {
         let mut made = RawClient { end: ptr::null_mut() };
         let status = unsafe { waywire_client_new(tables.at(), sizes, &mut made) };
@@ -292,19 +342,23 @@ impl End {
     }
 
     #[inline]
-    pub fn feed(&mut self, bytes: &[u8], tokens: &[u32]) -> Result<Amounts, Failed> {
+    pub fn feed(
+        &mut self,
+        bytes: &[u8],
+        descriptors: &mut Vec<OwnedFd>,
+    ) -> Result<Amounts, Failed> {
         let mut fed = Amounts::default();
         let status = unsafe {
             waywire_end_feed(
                 self.at.as_ptr(),
                 bytes.as_ptr().cast(),
                 bytes.len(),
-                tokens.as_ptr(),
-                tokens.len(),
+                descriptors.as_ptr().cast(),
+                descriptors.len(),
                 &mut fed,
             )
         };
-        feed_result(status, fed)
+        feed_result(status, fed, descriptors)
     }
 
     #[inline]
@@ -313,24 +367,35 @@ impl End {
     }
 
     #[inline]
-    pub fn take(&mut self, bytes: &mut [u8], tokens: &mut [u32]) -> Amounts {
+    pub fn take(
+        &mut self,
+        bytes: &mut [u8],
+        descriptors: &mut Vec<OwnedFd>,
+        most: usize,
+    ) -> Amounts {
+        let most = most.min(MOST_IN_OUTBOX);
+        descriptors.reserve(most);
+        let room = descriptors.spare_capacity_mut();
         let mut taken = Amounts::default();
         unsafe {
             waywire_end_take(
                 self.at.as_ptr(),
                 bytes.as_mut_ptr().cast(),
                 bytes.len(),
-                tokens.as_mut_ptr(),
-                tokens.len(),
+                room.as_mut_ptr().cast(),
+                most,
                 &mut taken,
             )
         };
+        // Safety, besides: an OwnedFd is laid out as the number of its descriptor, and the end has
+        // given out so many, which were written behind the others.
+        unsafe { descriptors.set_len(descriptors.len() + taken.tokens) };
         taken
     }
 
-    pub fn peek(&mut self) -> ([&[u8]; 2], Tokens) {
+    pub fn peek(&mut self) -> Going<'_> {
         let mut parts = [NO_PART; 2];
-        let mut tokens = [0; MAX_ARGS as usize];
+        let mut tokens = [0; MOST];
         let mut count = 0;
         unsafe {
             waywire_end_peek(
@@ -342,11 +407,24 @@ impl End {
             )
         };
         let parts = parts.map(|it| unsafe { lent(it.bytes.cast_const().cast(), it.length) });
-        (parts, (tokens, count))
+        Going { parts, tokens, count }
     }
 
     pub fn sent(&mut self, bytes: usize) -> Amounts {
-        unsafe { waywire_end_sent(self.at.as_ptr(), bytes) }
+        let mut all = Amounts::default();
+        loop {
+            let going = self.peek();
+            let (tokens, count) = (going.tokens, going.count);
+            let length = going.length().min(bytes - all.bytes);
+            if length == 0 {
+                return all;
+            }
+            let went = unsafe { waywire_end_sent(self.at.as_ptr(), length) };
+            // Safety, besides: all of these have gone out of the outbox with the first byte.
+            tokens[..count].iter().for_each(|it| drop(unsafe { given_out(*it) }));
+            all.bytes += went.bytes;
+            all.tokens += count;
+        }
     }
 
     pub fn space(&mut self) -> [&mut [u8]; 2] {
@@ -356,38 +434,99 @@ impl End {
         parts.map(|it| unsafe { lent_mut(it) })
     }
 
-    pub fn received(&mut self, bytes: usize, tokens: &[u32]) -> Result<Amounts, Failed> {
+    pub fn received(
+        &mut self,
+        bytes: usize,
+        descriptors: &mut Vec<OwnedFd>,
+    ) -> Result<Amounts, Failed> {
         let mut fed = Amounts::default();
         let status = unsafe {
-            waywire_end_received(self.at.as_ptr(), bytes, tokens.as_ptr(), tokens.len(), &mut fed)
-        };
-        feed_result(status, fed)
-    }
-
-    pub fn take_waiting_tokens(&mut self, tokens: &mut [u32]) -> usize {
-        let mut taken = 0;
-        unsafe {
-            waywire_end_take_waiting_tokens(
+            waywire_end_received(
                 self.at.as_ptr(),
-                tokens.as_mut_ptr(),
-                tokens.len(),
-                &mut taken,
+                bytes,
+                descriptors.as_ptr().cast(),
+                descriptors.len(),
+                &mut fed,
             )
         };
-        taken
+        feed_result(status, fed, descriptors)
     }
 
-    #[inline]
+    pub fn take_waiting_tokens(&mut self) -> Vec<OwnedFd> {
+        let mut waiting = Vec::new();
+        loop {
+            let (mut tokens, mut taken) = ([0; AT_ONCE], 0);
+            unsafe {
+                waywire_end_take_waiting_tokens(
+                    self.at.as_ptr(),
+                    tokens.as_mut_ptr(),
+                    tokens.len(),
+                    &mut taken,
+                )
+            };
+            if taken == 0 {
+                return waiting;
+            }
+            // Safety, besides: the end has given these out.
+            waiting.extend(tokens[..taken].iter().map(|it| unsafe { given_out(*it) }));
+        }
+    }
+
+    /// Sends a message with a duplicate of each of its descriptors.
+    #[inline(always)]
     pub fn send(
         &mut self,
         target: Object,
         opcode: u16,
         args: &[Arg<'_>],
     ) -> Result<Option<Object>, SendError> {
+        if args.iter().any(|it| matches!(it, Arg::Fd(_))) {
+            return self.send_duplicates(target, opcode, args);
+        }
+        self.send_own(target, opcode, args)
+    }
+
+    /// The same. The end owns the duplicates if the message is written; else they are closed.
+    #[cold]
+    fn send_duplicates(
+        &mut self,
+        target: Object,
+        opcode: u16,
+        args: &[Arg<'_>],
+    ) -> Result<Option<Object>, SendError> {
+        let mut duplicates = Vec::new();
+        for arg in args {
+            let Arg::Fd(fd) = arg else { continue };
+            let made = fd.try_clone_to_owned();
+            duplicates.push(made.map_err(|why| SendError::NotDuplicated {
+                error: why.raw_os_error().unwrap_or_default(),
+            })?);
+        }
+        let mut own = duplicates.iter().map(|it| Arg::Fd(it.as_fd()));
+        let args: Vec<Arg<'_>> = args
+            .iter()
+            .map(|it| match it {
+                Arg::Fd(_) => own.next().unwrap_or(*it),
+                _ => *it,
+            })
+            .collect();
+        let sent = self.send_own(target, opcode, &args)?;
+        duplicates.into_iter().for_each(mem::forget);
+        Ok(sent)
+    }
+
+    /// Sends a message with these descriptors, which are the end's if the message is written.
+    #[inline(always)]
+    fn send_own(
+        &mut self,
+        target: Object,
+        opcode: u16,
+        args: &[Arg<'_>],
+    ) -> Result<Option<Object>, SendError> {
         // One more than a message can have, so that too many are refused at their place.
-        const MOST: usize = MAX_ARGS as usize + 1;
-        let mut given = [const { MaybeUninit::<RawArg>::uninit() }; MOST];
-        let count = args.len().min(MOST);
+        const LENGTH: usize = MOST + 1;
+        let mut given = [const { MaybeUninit::<RawArg>::uninit() }; LENGTH];
+        let count = args.len().min(LENGTH);
         for (slot, arg) in given.iter_mut().zip(args) {
             slot.write(RawArg::of(arg));
         }
@@ -410,10 +549,16 @@ impl End {
         }
     }
 
+    /// Reads a message. The descriptors of the one before are closed, if nobody has taken them.
     #[inline]
-    pub fn next(&mut self, report: &mut Report) -> Result<(), NextError> {
-        let status = unsafe { waywire_end_next(self.at.as_ptr(), report) };
-        report.result(status)
+    pub fn next(&mut self, reading: &mut Reading) -> Result<(), NextError> {
+        reading.close();
+        let status = unsafe { waywire_end_next(self.at.as_ptr(), &mut reading.report) };
+        if status == OK {
+            // Safety: the end has just written this report, and has given its tokens away.
+            unsafe { reading.hold() };
+        }
+        reading.report.result(status)
     }
 
     // What a client alone has.

@@ -1,0 +1,375 @@
+//! A Unix socket for an end: connecting, listening, and the bytes and descriptors of a [`Link`].
+//!
+//! Over the calls of `waywire-socket.h`. Every descriptor that is made here is close-on-exec. No call
+//! makes a signal: a socket whose other end is closed is an error, [`io::ErrorKind::BrokenPipe`]. Only
+//! [`wait`], [`Link::wait`], [`Link::dispatch`] and [`Link::round_trip`] wait, each no longer than it is
+//! told, and [`connect`] while the other end has too many clients that it has not accepted yet.
+
+use crate::connection::{AsClient, Connection};
+use crate::report::{Incoming, ProtocolError};
+use crate::sys;
+use crate::tables::Object;
+use crate::typed::EventHandler;
+use crate::wayland::wl_display::WlDisplay;
+use std::env;
+use std::ffi::OsStr;
+use std::fmt;
+use std::io::{self, ErrorKind};
+use std::net::Shutdown;
+use std::ops::{Deref, DerefMut};
+use std::os::fd::{AsFd, BorrowedFd, OwnedFd};
+use std::os::unix::net::UnixStream;
+use std::path::Path;
+use std::time::{Duration, Instant};
+
+/// The most descriptors that go, or come, at once: as many as libwayland sends.
+pub const MOST_DESCRIPTORS: usize = sys::SOCKET_DESCRIPTORS as usize;
+
+/// Connects to a compositor, as `wl_display_connect` does.
+///
+/// A name that begins with a slash is a path; any other is looked up in the folder `XDG_RUNTIME_DIR`.
+/// `None` is that of `WAYLAND_DISPLAY`, and if that is not set, `wayland-0`. If `WAYLAND_SOCKET` is set,
+/// it is the number of a socket that is connected already, which this process was started with. A
+/// duplicate of that is returned then, and the variable is removed.
+///
+/// The number itself stays open, since no call can know whether it belongs to something else in this
+/// process. Dropping the [`Link`] ends the connection all the same.
+pub fn connect(name: Option<&Path>) -> io::Result<UnixStream> {
+    const VARIABLE: &str = "WAYLAND_SOCKET";
+    let socket = match env::var_os(VARIABLE) {
+        Some(number) => {
+            let socket = inherited(&number)?;
+            env::remove_var(VARIABLE);
+            socket
+        }
+        None => sys::connect(name.map(Path::as_os_str))?,
+    };
+    Ok(socket.into())
+}
+
+fn inherited(number: &OsStr) -> io::Result<OwnedFd> {
+    let number = number.to_str().and_then(|it| it.parse().ok());
+    sys::inherited(number.ok_or(ErrorKind::InvalidInput)?)
+}
+
+/// Sends bytes, and with the first of them at most [`MOST_DESCRIPTORS`] descriptors, which stay open here.
+/// Returns how many bytes went. It does not wait: [`io::ErrorKind::WouldBlock`].
+pub fn send(
+    socket: impl AsFd,
+    parts: [&[u8]; 2],
+    descriptors: &[BorrowedFd<'_>],
+) -> io::Result<usize> {
+    sys::send(socket.as_fd(), parts, descriptors)
+}
+
+/// Receives bytes into the parts, and appends the descriptors that came with them, at most
+/// [`MOST_DESCRIPTORS`]. Returns how many bytes came, 0 at the end of the stream. It does not wait:
+/// [`io::ErrorKind::WouldBlock`].
+pub fn receive(
+    socket: impl AsFd,
+    parts: [&mut [u8]; 2],
+    descriptors: &mut Vec<OwnedFd>,
+) -> io::Result<usize> {
+    sys::receive(socket.as_fd(), parts, descriptors)
+}
+
+/// Waits until one of these can be read, or, if its flag is set, be written: at most so long, and without
+/// `limit` as long as it takes. Says which of them can.
+///
+/// A loop over two links: `wait([a.awaited(), b.awaited()], None)`.
+pub fn wait<const N: usize>(
+    sockets: [(BorrowedFd<'_>, bool); N],
+    limit: Option<Duration>,
+) -> io::Result<[bool; N]> {
+    let until = Deadline::of(limit);
+    loop {
+        match sys::poll(sockets, until.milliseconds()) {
+            Err(error) if error.kind() == ErrorKind::Interrupted => {}
+            ready => return ready,
+        }
+    }
+}
+
+/// When waiting ends; `None` is never.
+#[derive(Clone, Copy)]
+struct Deadline(Option<Instant>);
+
+impl Deadline {
+    fn of(limit: Option<Duration>) -> Deadline {
+        Deadline(limit.and_then(|it| Instant::now().checked_add(it)))
+    }
+
+    fn left(self) -> Option<Duration> {
+        self.0.map(|it| it.saturating_duration_since(Instant::now()))
+    }
+
+    fn has_passed(self) -> bool {
+        self.left() == Some(Duration::ZERO)
+    }
+
+    /// The milliseconds until then, rounded up, as poll counts them.
+    fn milliseconds(self) -> i32 {
+        let Some(left) = self.left() else { return -1 };
+        i32::try_from(left.as_nanos().div_ceil(1_000_000)).unwrap_or(i32::MAX)
+    }
+}
+
+/// A socket at which clients connect, with the lock of its name. Dropping it closes the socket, and
+/// removes it and its lock file; clients that were accepted stay connected.
+#[derive(Debug)]
+pub struct Listener(sys::Listening);
+
+impl Listener {
+    /// Listens under a name, as `wl_display_add_socket` does: a path, if it begins with a slash, else a
+    /// name in `XDG_RUNTIME_DIR`. `None` takes the first of wayland-1 to wayland-32 that is free. A
+    /// socket that was left by a server that is gone is replaced.
+    pub fn bind(name: Option<&Path>) -> io::Result<Listener> {
+        sys::Listening::new(name.map(Path::as_os_str)).map(Listener)
+    }
+
+    /// The name for `WAYLAND_DISPLAY`.
+    pub fn name(&self) -> &OsStr {
+        self.0.name()
+    }
+
+    /// The socket of the next client. It does not wait: [`io::ErrorKind::WouldBlock`].
+    pub fn accept(&self) -> io::Result<UnixStream> {
+        self.0.accept().map(UnixStream::from)
+    }
+
+    /// Waits for a client, and returns its socket.
+    pub fn accept_next(&self) -> io::Result<UnixStream> {
+        loop {
+            match self.accept() {
+                Err(error) if error.kind() == ErrorKind::WouldBlock => {
+                    wait([(self.as_fd(), false)], None)?;
+                }
+                accepted => return accepted,
+            }
+        }
+    }
+}
+
+impl AsFd for Listener {
+    fn as_fd(&self) -> BorrowedFd<'_> {
+        self.0.fd()
+    }
+}
+
+/// An end and its socket. It is used as its end is.
+///
+/// Dropping it sends what still waits, as far as the socket takes it at once, ends the connection, and
+/// closes the descriptors that wait.
+///
+/// For a loop of your own: [`flush`](Link::flush), wait for what [`awaited`](Link::awaited) says,
+/// [`fill`](Link::fill), and read all messages.
+#[derive(Debug)]
+pub struct Link<R> {
+    end: Connection<R>,
+    socket: UnixStream,
+}
+
+impl<R> Deref for Link<R> {
+    type Target = Connection<R>;
+
+    #[inline]
+    fn deref(&self) -> &Connection<R> {
+        &self.end
+    }
+}
+
+impl<R> DerefMut for Link<R> {
+    #[inline]
+    fn deref_mut(&mut self) -> &mut Connection<R> {
+        &mut self.end
+    }
+}
+
+impl<R> AsFd for Link<R> {
+    fn as_fd(&self) -> BorrowedFd<'_> {
+        self.socket.as_fd()
+    }
+}
+
+impl<R> Drop for Link<R> {
+    fn drop(&mut self) {
+        // Nobody is left to hear of an error.
+        let _sent = self.flush();
+        let _ended = self.socket.shutdown(Shutdown::Both);
+    }
+}
+
+/// What came of waiting.
+#[derive(Clone, Copy, Debug, PartialEq, Eq)]
+pub enum Came {
+    /// Bytes, which may be a whole message.
+    Something,
+    /// Nothing in the time.
+    Nothing,
+    /// The other end has closed the connection.
+    End,
+}
+
+/// Whether an error says that the other end has closed the connection.
+fn has_gone(error: &io::Error) -> bool {
+    matches!(error.kind(), ErrorKind::BrokenPipe | ErrorKind::ConnectionReset)
+}
+
+impl<R> Link<R> {
+    /// An end, and the socket by which it is connected.
+    pub fn new(end: Connection<R>, socket: UnixStream) -> Link<R> {
+        Link { end, socket }
+    }
+
+    /// The socket.
+    pub fn socket(&self) -> &UnixStream {
+        &self.socket
+    }
+
+    /// The socket, and whether something waits to be sent: what [`wait`] takes.
+    pub fn awaited(&self) -> (BorrowedFd<'_>, bool) {
+        (self.as_fd(), self.wants_write())
+    }
+
+    /// Whether something waits to be sent.
+    pub fn wants_write(&self) -> bool {
+        self.end.goes(1, MOST_DESCRIPTORS).bytes > 0
+    }
+
+    /// Sends what waits, also at a failed end, and closes the descriptors that went. It does not wait:
+    /// [`io::ErrorKind::WouldBlock`] if the socket takes no more now. What has not gone still waits.
+    pub fn flush(&mut self) -> io::Result<()> {
+        self.end.end.flush(self.socket.as_fd())
+    }
+
+    /// Receives once, and returns how many bytes came, 0 at the end of the stream. Read all messages
+    /// before. It does not wait: [`io::ErrorKind::WouldBlock`] if nothing is there yet. Other errors are
+    /// that the inbox has no room, as if descriptors came that belong to no message; and that the end has
+    /// failed.
+    pub fn fill(&mut self) -> io::Result<usize> {
+        self.end.end.fill(self.socket.as_fd())
+    }
+
+    /// Sends what waits, and waits until something comes: at most so long, and without `limit` as long as
+    /// it takes. Read all messages before. What waits goes on being sent meanwhile.
+    pub fn wait(&mut self, limit: Option<Duration>) -> io::Result<Came> {
+        let until = Deadline::of(limit);
+        loop {
+            let is_stuck = match self.flush() {
+                Err(error) if error.kind() == ErrorKind::WouldBlock => true,
+                // It may have said why.
+                Err(error) if has_gone(&error) => false,
+                sent => sent.map(|()| false)?,
+            };
+            wait([(self.as_fd(), is_stuck)], until.left())?;
+            match self.fill() {
+                Ok(0) => return Ok(Came::End),
+                Ok(_) => return Ok(Came::Something),
+                Err(error) if has_gone(&error) => return Ok(Came::End),
+                Err(error) if error.kind() != ErrorKind::WouldBlock => return Err(error),
+                Err(_) if until.has_passed() => return Ok(Came::Nothing),
+                Err(_) => {}
+            }
+        }
+    }
+}
+
+/// What wl_display.error says, by which the compositor has ended the connection. It is inside the
+/// [`io::Error`] of [`Link::dispatch`] and [`Link::round_trip`].
+#[derive(Clone, Debug, PartialEq, Eq)]
+pub struct PostedError {
+    /// The id of the object that it is about.
+    pub id: u32,
+    /// A number whose meaning the object's interface gives.
+    pub code: u32,
+    /// All of it in English.
+    pub text: String,
+}
+
+impl fmt::Display for PostedError {
+    fn fmt(&self, f: &mut fmt::Formatter<'_>) -> fmt::Result {
+        f.write_str(&self.text)
+    }
+}
+
+impl std::error::Error for PostedError {}
+
+impl From<ProtocolError<'_>> for PostedError {
+    fn from(error: ProtocolError<'_>) -> PostedError {
+        PostedError { id: error.id, code: error.code, text: error.to_string() }
+    }
+}
+
+impl Link<AsClient> {
+    /// Gives the handler the events that were read. If there are none, waits for some: at most so long,
+    /// and without `limit` as long as it takes. Returns how many messages there were, 0 if the time is
+    /// over.
+    ///
+    /// An event that the handler does not take is dropped, with its descriptors closed. An object that
+    /// such an event has made stays open. An error ends the connection:
+    /// [`UnexpectedEof`](io::ErrorKind::UnexpectedEof) if the compositor has closed it, [`PostedError`],
+    /// or [`NextError`](crate::NextError).
+    pub fn dispatch(
+        &mut self,
+        handler: &mut impl EventHandler,
+        limit: Option<Duration>,
+    ) -> io::Result<usize> {
+        let until = Deadline::of(limit);
+        loop {
+            let (count, _) = self.read_all(handler, None)?;
+            if count > 0 || !self.waits(until)? {
+                return Ok(count);
+            }
+        }
+    }
+
+    /// Dispatches until the compositor has read all that was written before (wl_display.sync).
+    /// [`TimedOut`](io::ErrorKind::TimedOut) if that takes longer than `limit`; other errors as
+    /// [`dispatch`](Link::dispatch).
+    pub fn round_trip(
+        &mut self,
+        handler: &mut impl EventHandler,
+        limit: Option<Duration>,
+    ) -> io::Result<()> {
+        let until = Deadline::of(limit);
+        let display = WlDisplay(self.end.display());
+        let callback = display.sync(&mut self.end).map_err(io::Error::other)?;
+        while !self.read_all(handler, Some(callback.0))?.1 {
+            if !self.waits(until)? {
+                return Err(ErrorKind::TimedOut.into());
+            }
+        }
+        Ok(())
+    }
+
+    /// Waits until something comes; false if the time is over.
+    fn waits(&mut self, until: Deadline) -> io::Result<bool> {
+        match self.wait(until.left())? {
+            Came::Something => Ok(true),
+            Came::Nothing => Ok(false),
+            Came::End => Err(io::Error::new(ErrorKind::UnexpectedEof, "the compositor has gone")),
+        }
+    }
+
+    /// Reads all whole messages. Returns how many there were, and whether one of them ended this object.
+    fn read_all(
+        &mut self,
+        handler: &mut impl EventHandler,
+        ended: Option<Object>,
+    ) -> io::Result<(usize, bool)> {
+        let tables = self.end.tables().clone();
+        let (mut count, mut has_ended) = (0, false);
+        while let Some(incoming) = self.end.next().map_err(io::Error::other)? {
+            count += 1;
+            match incoming {
+                Incoming::Event(mut event) => {
+                    let _is_taken = handler.dispatch_event(&tables, &mut event);
+                }
+                Incoming::Deleted(object) => has_ended |= ended == Some(object),
+                Incoming::Error(error) => return Err(io::Error::other(PostedError::from(error))),
+                Incoming::Discarded(_) | Incoming::Stray { .. } => {}
+            }
+        }
+        Ok((count, has_ended))
+    }
+}

@@ -1,0 +1,221 @@
+//! The calls of waywire-socket.h that move bytes and descriptors, and what std does not have: poll.
+
+use super::end::{End, RawEnd, RawPart};
+use super::SOCKET_DESCRIPTORS;
+use crate::error::Failed;
+use std::ffi::{c_char, c_int, c_ulong, c_void, CStr, CString, OsStr};
+use std::io;
+use std::os::fd::{AsRawFd, BorrowedFd, FromRawFd, OwnedFd, RawFd};
+use std::os::unix::ffi::OsStrExt;
+use std::ptr::{self, NonNull};
+
+/// The most descriptors that come at once.
+const MOST: usize = SOCKET_DESCRIPTORS as usize;
+
+const F_SETFD: c_int = 2;
+const FD_CLOEXEC: c_int = 1;
+const F_DUPFD_CLOEXEC: c_int = 1030;
+/// The least number of a duplicate: those below it are the standard streams.
+const BEHIND_STREAMS: c_int = 3;
+
+const POLLIN: i16 = 1;
+const POLLOUT: i16 = 4;
+
+/// `waywire_listening_socket`.
+type RawListening = c_void;
+
+/// `struct pollfd`.
+#[repr(C)]
+struct Pollfd {
+    descriptor: RawFd,
+    events: i16,
+    came: i16,
+}
+
+extern "C" {
+    fn waywire_socket_connect(name: *const c_char) -> c_int;
+    fn waywire_socket_listen(name: *const c_char) -> *mut RawListening;
+    fn waywire_listening_socket_name(listening: *const RawListening) -> *const c_char;
+    fn waywire_listening_socket_fd(listening: *const RawListening) -> c_int;
+    fn waywire_listening_socket_accept(listening: *const RawListening) -> c_int;
+    fn waywire_listening_socket_close(listening: *mut RawListening);
+    fn waywire_socket_send(
+        socket: c_int,
+        parts: *const RawPart,
+        descriptors: *const c_int,
+        count: usize,
+    ) -> isize;
+    fn waywire_socket_receive(
+        socket: c_int,
+        parts: *const RawPart,
+        descriptors: *mut c_int,
+        count: *mut usize,
+    ) -> isize;
+    fn waywire_socket_flush(socket: c_int, end: *mut RawEnd) -> c_int;
+    fn waywire_socket_fill(socket: c_int, end: *mut RawEnd) -> isize;
+    fn fcntl(descriptor: c_int, command: c_int, ...) -> c_int;
+    #[link_name = "poll"]
+    fn wait_for(descriptors: *mut Pollfd, count: c_ulong, milliseconds: c_int) -> c_int;
+}
+
+/// The number of bytes that a call returns, or the error that it leaves.
+fn counted(result: isize) -> io::Result<usize> {
+    usize::try_from(result).map_err(|_| io::Error::last_os_error())
+}
+
+/// The descriptor that a call has made.
+///
+/// # Safety
+///
+/// The number is that of a descriptor that the call has made and that nobody has yet, or below 0.
+unsafe fn made(number: c_int) -> io::Result<OwnedFd> {
+    if number < 0 {
+        return Err(io::Error::last_os_error());
+    }
+    // Safety: the caller says so.
+    Ok(unsafe { OwnedFd::from_raw_fd(number) })
+}
+
+/// A name as C reads it.
+fn in_c(name: Option<&OsStr>) -> io::Result<Option<CString>> {
+    name.map(|it| CString::new(it.as_bytes())).transpose().map_err(io::Error::from)
+}
+
+fn at_of(name: &Option<CString>) -> *const c_char {
+    name.as_ref().map_or(ptr::null(), |it| it.as_ptr())
+}
+
+/// Connects to a compositor by its name, or by WAYLAND_DISPLAY.
+pub fn connect(name: Option<&OsStr>) -> io::Result<OwnedFd> {
+    let name = in_c(name)?;
+    // Safety: the name is null or a string of C; what comes back is a new descriptor.
+    unsafe { made(waywire_socket_connect(at_of(&name))) }
+}
+
+/// A duplicate of a descriptor that this process was started with. The number may be any: that of a
+/// descriptor which belongs to somebody else here stays theirs.
+pub fn inherited(number: RawFd) -> io::Result<OwnedFd> {
+    // Safety: the call refuses a number that is no open descriptor; it makes a new one.
+    let duplicate = unsafe { made(fcntl(number, F_DUPFD_CLOEXEC, BEHIND_STREAMS)) }?;
+    // Safety: as above; programs that this one starts do not get the descriptor.
+    unsafe { fcntl(number, F_SETFD, FD_CLOEXEC) };
+    Ok(duplicate)
+}
+
+/// The parts of a call that only reads them.
+fn parts_of(parts: [&[u8]; 2]) -> [RawPart; 2] {
+    parts.map(|it| RawPart { bytes: it.as_ptr().cast_mut().cast(), length: it.len() })
+}
+
+pub fn send(
+    socket: BorrowedFd<'_>,
+    parts: [&[u8]; 2],
+    descriptors: &[BorrowedFd<'_>],
+) -> io::Result<usize> {
+    let parts = parts_of(parts);
+    // Safety: the parts and the descriptors are lent for the call, which only reads them; a BorrowedFd
+    // is laid out as the number of its descriptor.
+    let sent = unsafe {
+        let (first, count) = (descriptors.as_ptr().cast(), descriptors.len());
+        waywire_socket_send(socket.as_raw_fd(), parts.as_ptr(), first, count)
+    };
+    counted(sent)
+}
+
+pub fn receive(
+    socket: BorrowedFd<'_>,
+    parts: [&mut [u8]; 2],
+    descriptors: &mut Vec<OwnedFd>,
+) -> io::Result<usize> {
+    let parts = parts.map(|it| RawPart { bytes: it.as_mut_ptr().cast(), length: it.len() });
+    let (mut numbers, mut count) = ([-1; MOST], 0);
+    // Safety: the parts are lent for the call, and `numbers` has room for the most descriptors.
+    let came = unsafe {
+        let numbers = numbers.as_mut_ptr();
+        waywire_socket_receive(socket.as_raw_fd(), parts.as_ptr(), numbers, &mut count)
+    };
+    let came = counted(came)?;
+    // Safety: the kernel has made these descriptors for this process, and nobody has them yet.
+    descriptors.extend(numbers[..count].iter().map(|it| unsafe { OwnedFd::from_raw_fd(*it) }));
+    Ok(came)
+}
+
+impl End {
+    /// Sends what waits, and closes the descriptors that went.
+    pub fn flush(&mut self, socket: BorrowedFd<'_>) -> io::Result<()> {
+        // Safety: the end is the library's, and owns the descriptors that are its tokens.
+        match unsafe { waywire_socket_flush(socket.as_raw_fd(), self.at()) } {
+            0 => Ok(()),
+            _ => Err(io::Error::last_os_error()),
+        }
+    }
+
+    /// Receives once. The descriptors that come are the end's.
+    pub fn fill(&mut self, socket: BorrowedFd<'_>) -> io::Result<usize> {
+        if self.has_failed() {
+            return Err(io::Error::other(Failed));
+        }
+        // Safety: the end is the library's, and becomes the owner of its tokens.
+        counted(unsafe { waywire_socket_fill(socket.as_raw_fd(), self.at()) })
+    }
+}
+
+/// A socket at which clients connect, closed when it is dropped.
+#[derive(Debug)]
+pub struct Listening(NonNull<RawListening>);
+
+// Safety: the header says so: the library has no state but the environment, and a listening socket is
+// bound to no thread. It is used by one call at a time, since it is not `Sync`.
+unsafe impl Send for Listening {}
+
+impl Drop for Listening {
+    fn drop(&mut self) {
+        // Safety: the socket is the library's, and closed here alone.
+        unsafe { waywire_listening_socket_close(self.0.as_ptr()) }
+    }
+}
+
+// Safety, for each call below: the socket is the library's and lives as long as `self`.
+impl Listening {
+    pub fn new(name: Option<&OsStr>) -> io::Result<Listening> {
+        let name = in_c(name)?;
+        let made = unsafe { waywire_socket_listen(at_of(&name)) };
+        NonNull::new(made).map(Listening).ok_or_else(io::Error::last_os_error)
+    }
+
+    pub fn name(&self) -> &OsStr {
+        // The name ends with a NUL, and is valid until the socket is closed.
+        let name = unsafe { CStr::from_ptr(waywire_listening_socket_name(self.0.as_ptr())) };
+        OsStr::from_bytes(name.to_bytes())
+    }
+
+    pub fn fd(&self) -> BorrowedFd<'_> {
+        // The descriptor is open until the socket is closed.
+        unsafe { BorrowedFd::borrow_raw(waywire_listening_socket_fd(self.0.as_ptr())) }
+    }
+
+    pub fn accept(&self) -> io::Result<OwnedFd> {
+        unsafe { made(waywire_listening_socket_accept(self.0.as_ptr())) }
+    }
+}
+
+/// A descriptor that is waited for until it can be read, and if the second is true, also until it can be
+/// written.
+pub type Polled<'a> = (BorrowedFd<'a>, bool);
+
+/// Waits for one of these, so many milliseconds at most; below 0 is no limit. Says which are ready.
+pub fn poll<const N: usize>(
+    descriptors: [Polled<'_>; N],
+    milliseconds: c_int,
+) -> io::Result<[bool; N]> {
+    let mut polled = descriptors.map(|(it, writes)| Pollfd {
+        descriptor: it.as_raw_fd(),
+        events: if writes { POLLIN | POLLOUT } else { POLLIN },
+        came: 0,
+    });
+    // Safety: the call reads and writes these.
+    if unsafe { wait_for(polled.as_mut_ptr(), N as c_ulong, milliseconds) } < 0 {
+        return Err(io::Error::last_os_error());
+    }
+    Ok(polled.map(|it| it.came != 0))
+}
