@@ -1,9 +1,10 @@
-//! Finds libwaywire: below `WAYWIRE_DIR`, where that is set, else by pkg-config.
+//! Finds libwaywire: below `WAYWIRE_DIR`, if that is set, else by pkg-config.
 //!
-//! The archive is linked where it is found, and the shared library where it is not. The library's version is
-//! to be compatible with this package's: of one major number, and below 1 of one minor number.
+//! The archive is linked if it is there, else the shared library. The library's version is to be compatible
+//! with this package's: of one major number, and below 1 of one minor number. Without the library the package
+//! can be checked and documented; what is linked then fails.
 //!
-//! It makes the module of xdg-shell, too, which the examples have.
+//! It makes the module of xdg-shell, too, which the examples have, with the installed tool.
 
 use std::env;
 use std::fs;
@@ -11,30 +12,60 @@ use std::path::{Path, PathBuf};
 use std::process::Command;
 
 fn main() {
-    println!("cargo:rerun-if-env-changed=WAYWIRE_DIR");
-    println!("cargo:rerun-if-env-changed=PKG_CONFIG_PATH");
-    let (libraries, headers) = match env::var_os("WAYWIRE_DIR") {
-        Some(folder) => {
-            let folder = PathBuf::from(folder);
-            (folder.join("lib"), folder.join("include"))
+    for variable in ["WAYWIRE_DIR", "PKG_CONFIG_PATH", "DOCS_RS", "PROTOCOLS"] {
+        println!("cargo:rerun-if-env-changed={variable}");
+    }
+    let installed = Installed::found();
+    match &installed {
+        Some(installed) => installed.link(),
+        None => {
+            let wanted = "libwaywire is not found, and nothing can be linked: set WAYWIRE_DIR to the folder \
+                where it is installed, or PKG_CONFIG_PATH for pkg-config";
+            println!("cargo:warning={wanted}");
+            // So that the linker says what is missing.
+            println!("cargo:rustc-link-lib=dylib=waywire");
         }
-        None => (folder_of("libdir"), folder_of("includedir")),
-    };
-    is_compatible(&headers.join("waywire-version.h"));
-    let kind = if libraries.join("libwaywire.a").exists() { "static" } else { "dylib" };
-    println!("cargo:rustc-link-search=native={}", libraries.display());
-    println!("cargo:rustc-link-lib={kind}=waywire");
+    }
     // The tests compare the declarations of this crate with the header.
+    let headers = installed.as_ref().map(|it| it.headers.clone()).unwrap_or_default();
     println!("cargo:rustc-env=WAYWIRE_INCLUDE={}", headers.display());
-    rerun(&libraries.join("libwaywire.a"));
-    make_xdg_shell();
+    let data = installed.as_ref().map(|it| it.data.clone()).unwrap_or_default();
+    println!("cargo:rustc-env=WAYWIRE_TABLES={}", data.join("tables").display());
+    make_xdg_shell(&data.join("tools/stubs-from-xml"));
 }
 
-/// A folder of the installed library.
-fn folder_of(variable: &str) -> PathBuf {
-    asked("waywire", variable).unwrap_or_else(|| {
-        panic!("libwaywire is not found: set WAYWIRE_DIR, or PKG_CONFIG_PATH for pkg-config")
-    })
+/// The folders of the installed library.
+struct Installed {
+    libraries: PathBuf,
+    headers: PathBuf,
+    data: PathBuf,
+}
+
+impl Installed {
+    /// `None` if the library is not installed, or is not asked for: docs.rs has none.
+    fn found() -> Option<Installed> {
+        if env::var_os("DOCS_RS").is_some() {
+            return None;
+        }
+        if let Some(folder) = env::var_os("WAYWIRE_DIR").map(PathBuf::from) {
+            let [libraries, headers] = ["lib", "include"].map(|it| folder.join(it));
+            return Some(Installed { libraries, headers, data: folder.join("share/waywire") });
+        }
+        Some(Installed {
+            libraries: asked("waywire", "libdir")?,
+            headers: asked("waywire", "includedir")?,
+            data: asked("waywire", "prefix")?.join("share/waywire"),
+        })
+    }
+
+    fn link(&self) {
+        is_compatible(&self.headers.join("waywire-version.h"));
+        let archive = self.libraries.join("libwaywire.a");
+        let kind = if archive.exists() { "static" } else { "dylib" };
+        println!("cargo:rustc-link-search=native={}", self.libraries.display());
+        println!("cargo:rustc-link-lib={kind}=waywire");
+        rerun(&archive);
+    }
 }
 
 /// What pkg-config says of a package.
@@ -43,11 +74,11 @@ fn asked(package: &str, variable: &str) -> Option<PathBuf> {
     said.status.success().then(|| PathBuf::from(String::from_utf8_lossy(&said.stdout).trim()))
 }
 
-/// Writes the module of the examples, which says what is missing where it cannot be made: the library has none
-/// of it.
-fn make_xdg_shell() {
-    let module = xdg_shell().unwrap_or_else(|| {
-        let wanted = "the examples are over xdg-shell: install wayland-protocols and python3, and \
+/// Writes the module of the examples. If it cannot be made, it says what is missing: the library has none of it.
+fn make_xdg_shell(tool: &Path) {
+    let module = xdg_shell(tool).unwrap_or_else(|| {
+        let wanted =
+            "the examples need xdg-shell: install libwaywire, wayland-protocols and python3, and \
             clean this package";
         format!("compile_error!({wanted:?});\n")
     });
@@ -55,20 +86,19 @@ fn make_xdg_shell() {
     fs::write(path, format!("pub mod xdg_shell {{\n{module}}}\n")).unwrap();
 }
 
-/// What stubs-from-xml makes of the protocol's file: that of the repository, else the installed one.
-fn xdg_shell() -> Option<String> {
-    println!("cargo:rerun-if-env-changed=PROTOCOLS");
+/// What the installed stubs-from-xml makes of the protocol's file, below `PROTOCOLS` or where pkg-config says.
+fn xdg_shell(tool: &Path) -> Option<String> {
     let protocols = env::var_os("PROTOCOLS").map(PathBuf::from);
     let protocols = protocols
         .or_else(|| asked("wayland-protocols", "pkgdatadir"))
         .unwrap_or_else(|| PathBuf::from("/usr/share/wayland-protocols"));
     let file = protocols.join("stable/xdg-shell/xdg-shell.xml");
-    let tools = Path::new(env!("CARGO_MANIFEST_DIR")).join("../../tools");
-    let own = tools.join("stubs-from-xml");
-    for path in [&file, &own, &tools.join("rust_stubs.py"), &tools.join("protocol.py")] {
+    for path in
+        [&file, tool, &tool.with_file_name("rust_stubs.py"), &tool.with_file_name("protocol.py")]
+    {
         rerun(path);
     }
-    let tool = if own.exists() { own } else { PathBuf::from("waywire-stubs-from-xml") };
+    let tool = if tool.exists() { tool } else { Path::new("waywire-stubs-from-xml") };
     let made = Command::new(tool).arg("--rust").arg(file).output().ok()?;
     made.status.success().then(|| String::from_utf8(made.stdout).ok()).flatten()
 }

@@ -1,26 +1,21 @@
-//! A small compositor: takes one client at a path, lets it open windows over xdg-shell, and says the
+//! A small compositor: takes one client, lets it open windows over xdg-shell, and says the
 //! first pixel of each picture that it commits. Behind the first picture of a window it plays a script.
 //!
-//!     compositor PATH [SCRIPT]
+//!     compositor NAME [SCRIPT]
 //!
+//! The name is that of its socket in XDG_RUNTIME_DIR, or a path that begins with a slash.
 //! The script is a file with an event a line: `key CODE` and `button CODE` press and release what has that
 //! number in linux/input-event-codes.h, `motion X Y` moves the pointer over the window, and `close` asks
 //! the window to close.
 
-mod common;
-
-use common::xdg_shell::xdg_popup::XdgPopup;
-use common::xdg_shell::xdg_positioner::XdgPositioner;
-use common::xdg_shell::xdg_surface::{self, XdgSurface};
-use common::xdg_shell::xdg_toplevel::XdgToplevel;
-use common::xdg_shell::xdg_wm_base::{self, XdgWmBase};
-use common::{xdg_shell, Came, Failure, Link};
 use std::collections::{HashMap, VecDeque};
 use std::fs::{self, File};
+use std::os::fd::OwnedFd;
 use std::os::unix::fs::FileExt;
-use std::os::unix::net::UnixListener;
+use std::path::Path;
 use std::rc::Rc;
 use std::time::{Duration, Instant};
+use waywire::socket::{has_gone, Came, Link, Listener};
 use waywire::wayland::wl_buffer::{self, WlBuffer};
 use waywire::wayland::wl_callback::WlCallback;
 use waywire::wayland::wl_compositor::{self, WlCompositor};
@@ -34,10 +29,17 @@ use waywire::wayland::wl_shm::{self, Format, WlShm};
 use waywire::wayland::wl_shm_pool::{self, WlShmPool};
 use waywire::wayland::wl_subcompositor::WlSubcompositor;
 use waywire::wayland::wl_surface::{self, WlSurface};
-use waywire::{AsServer, Fixed, Handle, Object, OwnedMessage, SendError, Server, Sizes, Tables};
+use waywire::{AsServer, Fixed, Handle, Object, RequestHandler, SendError, Server, Sizes, Tables};
+use xdg_shell::xdg_popup::XdgPopup;
+use xdg_shell::xdg_positioner::XdgPositioner;
+use xdg_shell::xdg_surface::{self, XdgSurface};
+use xdg_shell::xdg_toplevel::XdgToplevel;
+use xdg_shell::xdg_wm_base::{self, XdgWmBase};
+
+include!(concat!(env!("OUT_DIR"), "/xdg_shell.rs"));
 
 /// The tables of the clipboard, without which GTK has no seat. Its requests are read, and have no answer.
-const CLIPBOARD: &[u8] = include_bytes!("../../../examples/tables/data-device.tables");
+const CLIPBOARD: &[u8] = include_bytes!(concat!(env!("WAYWIRE_TABLES"), "/data-device.tables"));
 const GLOBALS: [(&str, u32); 7] = [
     (WlCompositor::NAME, 4),
     (WlSubcompositor::NAME, 1),
@@ -49,6 +51,8 @@ const GLOBALS: [(&str, u32); 7] = [
 ];
 /// The time between two lines of the script.
 const STEP: Duration = Duration::from_millis(100);
+
+type Failure = Box<dyn std::error::Error>;
 
 /// A buffer's memory, the place of its first pixel in that, its width and its height.
 type Picture = (Rc<File>, i32, i32, i32);
@@ -133,10 +137,8 @@ impl Compositor {
 }
 
 impl wl_shm::Requests for Compositor {
-    fn create_pool(&mut self, _: WlShm, pool: WlShmPool, fd: u32, _size: i32) {
-        if let Some(file) = self.link.descriptor(fd) {
-            self.pools.insert(pool, Rc::new(file.into()));
-        }
+    fn create_pool(&mut self, _: WlShm, pool: WlShmPool, fd: OwnedFd, _size: i32) {
+        self.pools.insert(pool, Rc::new(fd.into()));
     }
 }
 
@@ -255,8 +257,7 @@ impl wl_seat::Requests for Compositor {
     fn get_keyboard(&mut self, _: WlSeat, keyboard: WlKeyboard) {
         self.keyboards.push(keyboard);
         if let Ok(nothing) = File::open("/dev/null") {
-            let token = self.link.token(nothing);
-            let sent = keyboard.send_keymap(&mut self.link, KeymapFormat::NO_KEYMAP, token, 0);
+            let sent = keyboard.send_keymap(&mut self.link, KeymapFormat::NO_KEYMAP, nothing, 0);
             self.must(sent);
         }
         let sent = keyboard.send_repeat_info(&mut self.link, 0, 0);
@@ -284,22 +285,22 @@ impl wl_pointer::Requests for Compositor {
     }
 }
 
-impl Compositor {
-    fn serve(&mut self, tables: &Tables, message: &OwnedMessage) {
-        let _is_known = wl_display::dispatch_request(self, tables, message)
-            || wl_registry::dispatch_request(self, tables, message)
-            || wl_shm::dispatch_request(self, tables, message)
-            || wl_shm_pool::dispatch_request(self, tables, message)
-            || wl_buffer::dispatch_request(self, tables, message)
-            || wl_compositor::dispatch_request(self, tables, message)
-            || wl_surface::dispatch_request(self, tables, message)
-            || xdg_wm_base::dispatch_request(self, tables, message)
-            || xdg_surface::dispatch_request(self, tables, message)
-            || wl_seat::dispatch_request(self, tables, message)
-            || wl_keyboard::dispatch_request(self, tables, message)
-            || wl_pointer::dispatch_request(self, tables, message);
-    }
+waywire::request_handler!(
+    Compositor: wl_display,
+    wl_registry,
+    wl_shm,
+    wl_shm_pool,
+    wl_buffer,
+    wl_compositor,
+    wl_surface,
+    xdg_wm_base,
+    xdg_surface,
+    wl_seat,
+    wl_keyboard,
+    wl_pointer,
+);
 
+impl Compositor {
     /// Gives the window the keyboard and the pointer, once.
     fn enter(&mut self, surface: WlSurface) -> Result<(), SendError> {
         if std::mem::replace(&mut self.has_entered, true) {
@@ -363,9 +364,9 @@ impl Compositor {
     /// Serves the client until it goes, and plays the script meanwhile.
     fn run(&mut self, tables: &Tables, mut script: VecDeque<String>) -> Result<(), Failure> {
         let mut last = Instant::now();
-        while self.link.wait_at_most(STEP)? != Came::End {
-            while let Some(message) = self.link.next()?.map(|it| it.into_owned()) {
-                self.serve(tables, &message);
+        while self.link.wait(Some(STEP))? != Came::End {
+            while let Some(mut request) = self.link.next()?.map(|it| it.into_owned()) {
+                let _is_known = self.dispatch_request(tables, &mut request);
                 // It may have made a registry.
                 self.link.announce()?;
                 self.link.flush()?;
@@ -393,20 +394,19 @@ fn each<T: Copy, S: Copy + 'static>(
 }
 
 fn main() -> Result<(), Failure> {
-    let path = std::env::args().nth(1).ok_or("the socket's path is wanted")?;
+    let name = std::env::args_os().nth(1).ok_or("the socket's name is wanted")?;
     let script = match std::env::args().nth(2) {
         Some(file) => fs::read_to_string(file)?.lines().map(String::from).collect(),
         None => VecDeque::new(),
     };
-    let listener = UnixListener::bind(&path)?;
+    let listener = Listener::bind(Some(Path::new(&name)))?;
     let tables = Tables::core()?.read(CLIPBOARD)?.read(xdg_shell::TABLES)?;
     let mut server = Server::new(&tables, &Sizes::default())?;
-    for (name, version) in GLOBALS {
-        server.add_global(tables.interface(name).ok_or("no such interface")?, version)?;
+    for (interface, version) in GLOBALS {
+        server.add_global(tables.interface(interface).ok_or("no such interface")?, version)?;
     }
-    let (socket, _) = listener.accept()?;
     let mut compositor = Compositor {
-        link: Link::new(server, socket),
+        link: Link::new(server, listener.accept_next()?),
         began: Instant::now(),
         serial: 0,
         pools: HashMap::new(),
@@ -419,10 +419,8 @@ fn main() -> Result<(), Failure> {
         has_entered: false,
         refused: None,
     };
-    let ended = compositor.run(&tables, script);
-    fs::remove_file(&path)?;
-    match ended {
-        Err(error) if error.downcast_ref().is_some_and(common::has_gone) => Ok(()),
+    match compositor.run(&tables, script) {
+        Err(error) if error.downcast_ref().is_some_and(has_gone) => Ok(()),
         ended => ended,
     }
 }

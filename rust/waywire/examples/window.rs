@@ -1,13 +1,12 @@
 //! A client: opens a window of one colour, and closes it once the compositor has taken the picture in.
 
-mod common;
-
-use common::xdg_shell::{self, xdg_surface, xdg_wm_base::XdgWmBase};
-use common::{compositor_path, socket, Failure, Link};
-use std::{collections::HashMap, io::Write, os::unix::net::UnixStream};
+use std::{collections::HashMap, env, error::Error, fs, io::Write, process};
 use waywire::wayland::wl_shm::{Format, WlShm};
 use waywire::wayland::{wl_compositor::WlCompositor, wl_display::WlDisplay, wl_registry};
-use waywire::{AsClient, Client, Handle, Sizes, Tables};
+use waywire::{socket, Client, Handle, Sizes, Tables};
+use xdg_shell::{xdg_surface, xdg_wm_base::XdgWmBase};
+
+include!(concat!(env!("OUT_DIR"), "/xdg_shell.rs"));
 
 const SIDE: i32 = 64;
 /// The bytes of a pixel: blue, green, red.
@@ -28,43 +27,34 @@ impl xdg_surface::Events for Told {
         self.1 = Some(serial);
     }
 }
+waywire::event_handler!(Told: wl_registry, xdg_surface);
 
-fn round_trip(link: &mut Link<AsClient>, tables: &Tables, told: &mut Told) -> Result<(), Failure> {
-    link.round_trip(|event| {
-        let _is_known = wl_registry::dispatch_event(told, tables, event)
-            || xdg_surface::dispatch_event(told, tables, event);
-    })
-}
-
-fn main() -> Result<(), Failure> {
+fn main() -> Result<(), Box<dyn Error>> {
     let tables = Tables::core()?.read(xdg_shell::TABLES)?;
     let client = Client::new(&tables, &Sizes::default())?;
-    let mut link = Link::new(client, UnixStream::connect(compositor_path())?);
+    let mut link = socket::Link::new(client, socket::connect(None)?);
     let mut told = Told::default();
     let registry = WlDisplay(link.display()).get_registry(&mut link)?;
-    round_trip(&mut link, &tables, &mut told)?;
-    let name =
-        |interface: &str| told.0.get(interface.as_bytes()).copied().ok_or("a global is missing");
+    link.round_trip(&mut told, None)?;
+    let name = |it: &str| told.0.get(it.as_bytes()).copied().ok_or("a global is missing");
     let compositor: WlCompositor = registry.bind(&mut link, name(WlCompositor::NAME)?, 1)?;
     let shm: WlShm = registry.bind(&mut link, name(WlShm::NAME)?, 1)?;
     let base: XdgWmBase = registry.bind(&mut link, name(XdgWmBase::NAME)?, 1)?;
-
     let surface = compositor.create_surface(&mut link)?;
     let xdg_surface = base.get_xdg_surface(&mut link, surface)?;
     xdg_surface.get_toplevel(&mut link)?.set_title(&mut link, "waywire")?;
     surface.commit(&mut link)?;
     while told.1.is_none() {
-        round_trip(&mut link, &tables, &mut told)?;
+        link.dispatch(&mut told, None)?;
     }
     xdg_surface.ack_configure(&mut link, told.1.unwrap_or_default())?;
-
-    let mut memory = socket::memory()?;
+    let path = env::temp_dir().join(format!("waywire-window-{}", process::id()));
+    let mut memory = fs::File::options().read(true).write(true).create_new(true).open(&path)?;
+    fs::remove_file(&path)?;
     memory.write_all(&PIXEL.repeat((SIDE * SIDE) as usize))?;
-    let token = link.token(memory);
-    let pool = shm.create_pool(&mut link, token, SIDE * SIDE * 4)?;
+    let pool = shm.create_pool(&mut link, memory, SIDE * SIDE * 4)?;
     let buffer = pool.create_buffer(&mut link, 0, SIDE, SIDE, SIDE * 4, Format::XRGB8888)?;
     surface.attach(&mut link, Some(buffer), 0, 0)?;
-    surface.damage(&mut link, 0, 0, SIDE, SIDE)?;
     surface.commit(&mut link)?;
-    round_trip(&mut link, &tables, &mut told)
+    Ok(link.round_trip(&mut told, None)?)
 }

@@ -56,9 +56,9 @@
 //!
 //! - **Sent.** A call lends its descriptor ([`Arg::Fd`]; typed calls take `impl AsFd`). The end sends a
 //!   duplicate, and closes that once it has gone, or at once if the call is refused.
-//! - **Received.** A message owns its descriptors. A typed handler gets each as an
-//!   [`OwnedFd`](std::os::fd::OwnedFd); [`Message::take_descriptor`] and [`Message::into_owned`] take them.
-//!   What nobody takes is closed when the message is dropped, and at the latest when the next one is read.
+//! - **Received.** A typed handler gets each descriptor as an [`OwnedFd`](std::os::fd::OwnedFd);
+//!   [`Message::take_descriptor`] and [`Message::into_owned`] take them, too. What nobody takes is closed
+//!   when the end reads on, also if that brings no message.
 //! - **Waiting.** What waits in an end is closed when the end is dropped.
 //!
 //! # Typed calls

@@ -9,17 +9,10 @@ use std::os::fd::{AsFd, BorrowedFd, OwnedFd};
 
 /// A message that was read: its target, its opcode and its arguments. Lent from the end.
 ///
-/// It owns its descriptors: its arguments lend them, [`take_descriptor`](Message::take_descriptor) takes
-/// one out. What was not taken is closed when the message is dropped.
+/// Its arguments lend its descriptors, and [`take_descriptor`](Message::take_descriptor) takes one out.
+/// Those that nobody takes are closed when the end reads on, or with the end.
 pub struct Message<'a> {
     pub(crate) reading: &'a mut sys::Reading,
-}
-
-impl Drop for Message<'_> {
-    #[inline]
-    fn drop(&mut self) {
-        self.reading.close();
-    }
 }
 
 /// A message to a client.
@@ -194,7 +187,7 @@ impl<'a> Incoming<'a> {
             sys::DELETED => Incoming::Deleted(report.target()),
             sys::STRAY => Incoming::Stray { id: report.id() },
             sys::ERROR => {
-                let report = (&*reading).report();
+                let report = reading.report();
                 Incoming::Error(ProtocolError {
                     id: report.id(),
                     named: report.named(),

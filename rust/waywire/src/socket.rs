@@ -211,8 +211,9 @@ pub enum Came {
 }
 
 /// Whether an error says that the other end has closed the connection.
-fn has_gone(error: &io::Error) -> bool {
-    matches!(error.kind(), ErrorKind::BrokenPipe | ErrorKind::ConnectionReset)
+pub fn has_gone(error: &io::Error) -> bool {
+    use ErrorKind::{BrokenPipe, ConnectionReset, UnexpectedEof};
+    matches!(error.kind(), BrokenPipe | ConnectionReset | UnexpectedEof)
 }
 
 impl<R> Link<R> {
@@ -237,17 +238,24 @@ impl<R> Link<R> {
     }
 
     /// Sends what waits, also at a failed end, and closes the descriptors that went. It does not wait:
-    /// [`io::ErrorKind::WouldBlock`] if the socket takes no more now. What has not gone still waits.
-    pub fn flush(&mut self) -> io::Result<()> {
-        self.end.end.flush(self.socket.as_fd())
+    /// false if the socket takes no more now. What has not gone still waits.
+    pub fn flush(&mut self) -> io::Result<bool> {
+        match self.end.end.flush(self.socket.as_fd()) {
+            Err(error) if error.kind() == ErrorKind::WouldBlock => Ok(false),
+            sent => sent.map(|()| true),
+        }
     }
 
-    /// Receives once, and returns how many bytes came, 0 at the end of the stream. Read all messages
-    /// before. It does not wait: [`io::ErrorKind::WouldBlock`] if nothing is there yet. Other errors are
-    /// that the inbox has no room, as if descriptors came that belong to no message; and that the end has
-    /// failed.
-    pub fn fill(&mut self) -> io::Result<usize> {
-        self.end.end.fill(self.socket.as_fd())
+    /// Receives once. Read all messages before. It does not wait: [`Came::Nothing`] if nothing is there
+    /// yet. Errors are those of the socket; that the inbox has no room, as if descriptors came that belong
+    /// to no message; and that the end has failed.
+    pub fn fill(&mut self) -> io::Result<Came> {
+        match self.end.end.fill(self.socket.as_fd()) {
+            Ok(0) => Ok(Came::End),
+            Ok(_) => Ok(Came::Something),
+            Err(error) if error.kind() == ErrorKind::WouldBlock => Ok(Came::Nothing),
+            Err(error) => Err(error),
+        }
     }
 
     /// Sends what waits, and waits until something comes: at most so long, and without `limit` as long as
@@ -256,19 +264,15 @@ impl<R> Link<R> {
         let until = Deadline::of(limit);
         loop {
             let is_stuck = match self.flush() {
-                Err(error) if error.kind() == ErrorKind::WouldBlock => true,
                 // It may have said why.
                 Err(error) if has_gone(&error) => false,
-                sent => sent.map(|()| false)?,
+                sent => !sent?,
             };
             wait([(self.as_fd(), is_stuck)], until.left())?;
             match self.fill() {
-                Ok(0) => return Ok(Came::End),
-                Ok(_) => return Ok(Came::Something),
                 Err(error) if has_gone(&error) => return Ok(Came::End),
-                Err(error) if error.kind() != ErrorKind::WouldBlock => return Err(error),
-                Err(_) if until.has_passed() => return Ok(Came::Nothing),
-                Err(_) => {}
+                Ok(Came::Nothing) if !until.has_passed() => {}
+                came => return came,
             }
         }
     }

@@ -261,7 +261,6 @@ fn objects_have_a_number_of_the_callers() {
     assert_eq!(commit.user(), 8);
     let wanted = format!("-> wl_surface@{}.commit()", surface.id());
     assert_eq!(commit.line(&pair.tables, Sender::Client), wanted);
-    drop(commit);
     assert_eq!(pair.server.next().unwrap().unwrap().user(), 8);
     assert!(!pair.server.objects().any(|it| it == surface));
     assert!(pair.client.objects().any(|it| it == surface));
@@ -382,7 +381,6 @@ fn messages_are_taken_apart() {
     let bytes = pair.carry_to_server();
     let asked = pair.server.next().unwrap().unwrap();
     assert_eq!(asked.descriptors().map(number_of).collect::<Vec<_>>(), [77]);
-    drop(asked);
     let create = Decoded::of(&tables, interface("wl_shm"), 1, Sender::Client, &bytes).unwrap();
     assert_eq!((create.name(), create.fault()), ("create_pool", None));
     assert_eq!((create.target(), usize::from(create.size())), (shm.id(), bytes.len()));

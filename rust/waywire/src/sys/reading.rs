@@ -8,8 +8,7 @@ use std::slice;
 const MOST: usize = MAX_ARGS as usize;
 
 /// The report of the last message that was read, and those of its descriptors that nobody has taken
-/// yet. They are closed when the message is dropped; if it was leaked, when the next one is read; or
-/// else with the end.
+/// yet. They are closed when the next one is read, or with the end.
 #[derive(Debug)]
 pub struct Reading {
     pub(super) report: Report,
@@ -31,7 +30,7 @@ impl Reading {
 
     /// Closes the descriptors that nobody has taken.
     #[inline]
-    pub fn close(&mut self) {
+    pub(super) fn close(&mut self) {
         if self.count > 0 {
             self.close_all();
         }
