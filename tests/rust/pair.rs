@@ -3,6 +3,10 @@
 
 #![allow(dead_code)]
 
+use std::fs::File;
+use std::io::Write;
+use std::os::fd::{AsFd, OwnedFd};
+use std::os::unix::fs::FileExt;
 use std::sync::OnceLock;
 use waywire::wayland::wl_registry::WlRegistry;
 use waywire::{
@@ -20,6 +24,23 @@ pub fn fixed(corner: usize) -> Fixed {
     Fixed::from_raw([i32::MIN, i32::MAX, -1][corner])
 }
 
+/// A descriptor of a file without a name, which says this number.
+pub fn numbered(number: usize) -> OwnedFd {
+    let path = std::env::temp_dir().join(format!("waywire-typed-{}", std::process::id()));
+    let mut file = File::options().read(true).write(true).create_new(true).open(&path).unwrap();
+    std::fs::remove_file(&path).unwrap();
+    file.write_all(&[number as u8]).unwrap();
+    file.into()
+}
+
+/// The number that a descriptor says.
+pub fn number_of(descriptor: &OwnedFd) -> u8 {
+    let mut bytes = [0];
+    let file = File::from(descriptor.as_fd().try_clone_to_owned().unwrap());
+    file.read_exact_at(&mut bytes, 0).unwrap();
+    bytes[0]
+}
+
 /// The tables of all pairs, of which one has been made.
 pub fn tables() -> &'static Tables {
     TABLES.get().unwrap()
@@ -35,9 +56,9 @@ macro_rules! said {
 
 /// Carries what waits at one end to the other.
 fn carry<A, B>(from: &mut Connection<A>, to: &mut Connection<B>) {
-    let (mut bytes, mut tokens) = ([0; 4096], [0; 28]);
-    let taken = from.take(&mut bytes, &mut tokens);
-    assert_eq!(to.feed(&bytes[..taken.bytes], &tokens[..taken.tokens]), Ok(taken));
+    let (mut bytes, mut descriptors) = ([0; 4096], Vec::new());
+    let taken = from.take(&mut bytes, &mut descriptors, 28);
+    assert_eq!(to.feed(&bytes[..taken.bytes], &mut descriptors), Ok(taken));
 }
 
 /// A client and a server with nothing between.

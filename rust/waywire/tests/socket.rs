@@ -1,0 +1,217 @@
+//! Links between ends in one process: time limits, what is said as a connection ends, a socket that takes
+//! no more, and the names of sockets.
+
+mod common;
+
+use common::{number_of, numbered};
+use std::io::{ErrorKind, Read};
+use std::os::fd::{AsFd, AsRawFd, OwnedFd};
+use std::os::unix::net::UnixStream;
+use std::path::PathBuf;
+use std::time::{Duration, Instant};
+use std::{env, fs, thread};
+use waywire::socket::{self, has_gone, Came, Link, Listener, PostedError};
+use waywire::wayland::wl_callback::WlCallback;
+use waywire::wayland::wl_display::{self, WlDisplay};
+use waywire::wayland::wl_registry::{self, WlRegistry};
+use waywire::{
+    AsClient, AsServer, Client, NextError, RequestHandler, SendError, Server, Sizes, Tables,
+};
+
+const SOON: Option<Duration> = Some(Duration::from_millis(20));
+const LONG: Option<Duration> = Some(Duration::from_secs(60));
+
+fn pair() -> (Link<AsClient>, Link<AsServer>) {
+    let tables = Tables::core().unwrap();
+    let (its, other) = UnixStream::pair().unwrap();
+    let client = Client::new(&tables, &Sizes::default()).unwrap();
+    let server = Server::new(&tables, &Sizes::default()).unwrap();
+    (Link::new(client, its), Link::new(server, other))
+}
+
+/// A server that answers each sync.
+struct Answering(Link<AsServer>);
+
+impl wl_display::Requests for Answering {
+    fn sync(&mut self, _: WlDisplay, callback: WlCallback) {
+        callback.send_done(&mut self.0, 7).unwrap();
+    }
+}
+
+waywire::request_handler!(Answering: wl_display);
+
+impl Answering {
+    /// Serves until the client goes.
+    fn run(&mut self) {
+        let tables = self.0.tables().clone();
+        while self.0.wait(LONG).unwrap() == Came::Something {
+            while let Some(mut request) = self.0.next().unwrap().map(|it| it.into_owned()) {
+                assert!(self.dispatch_request(&tables, &mut request));
+                self.0.announce().unwrap();
+            }
+        }
+    }
+}
+
+/// The names of the globals that were told.
+#[derive(Default)]
+struct Told(Vec<u32>);
+
+impl wl_registry::Events for Told {
+    fn global(&mut self, _: WlRegistry, name: u32, _: &[u8], _: u32) {
+        self.0.push(name);
+    }
+}
+
+waywire::event_handler!(Told: wl_registry);
+
+#[test]
+fn a_round_trip_dispatches() {
+    let (mut client, mut server) = pair();
+    let seat = server.tables().interface("wl_seat").unwrap();
+    assert_eq!(server.add_global(seat, 1), Ok(1));
+    let server = thread::spawn(move || Answering(server).run());
+    let mut told = Told::default();
+    WlDisplay(client.display()).get_registry(&mut client).unwrap();
+    client.round_trip(&mut told, LONG).unwrap();
+    assert_eq!(told.0, [1]);
+    WlDisplay(client.display()).get_registry(&mut client).unwrap();
+    assert_eq!(client.dispatch(&mut told, LONG).unwrap(), 1);
+    assert_eq!(told.0, [1, 1]);
+    assert_eq!(client.dispatch(&mut told, SOON).unwrap(), 0);
+    drop(client);
+    server.join().unwrap();
+}
+
+#[test]
+fn waiting_ends_in_time() {
+    let (mut client, mut server) = pair();
+    let began = Instant::now();
+    assert_eq!(server.wait(SOON).unwrap(), Came::Nothing);
+    assert_eq!(server.fill().unwrap(), Came::Nothing);
+    assert_eq!(client.dispatch(&mut (), SOON).unwrap(), 0);
+    assert_eq!(client.round_trip(&mut (), SOON).unwrap_err().kind(), ErrorKind::TimedOut);
+    assert!(began.elapsed() >= 3 * SOON.unwrap());
+    assert_eq!(socket::wait([client.awaited(), server.awaited()], LONG).unwrap(), [false, true]);
+    drop(server);
+    let ended = client.round_trip(&mut (), LONG).unwrap_err();
+    assert!(has_gone(&ended), "{ended}");
+}
+
+#[test]
+fn what_ends_a_connection_is_said() {
+    let (mut client, mut server) = pair();
+    let display = server.display();
+    server.post_error(display, 3, "no memory").unwrap();
+    assert!(server.flush().unwrap());
+    assert!(server.fill().is_err());
+    drop(server);
+    let posted = client.round_trip(&mut (), LONG).unwrap_err();
+    let posted: &PostedError = posted.get_ref().unwrap().downcast_ref().unwrap();
+    assert_eq!((posted.id, posted.code), (1, 3));
+    assert_eq!(posted.to_string(), "error 3 of object 1: no memory");
+    assert_eq!(WlDisplay(client.display()).sync(&mut client), Err(SendError::Failed));
+
+    let (mut client, server) = pair();
+    socket::send(&server, [&[9, 0, 0, 0], &[0, 0, 8, 0]], &[]).unwrap();
+    let fault = client.dispatch(&mut (), LONG).unwrap_err();
+    assert!(matches!(
+        fault.get_ref().unwrap().downcast_ref(),
+        Some(NextError::Fault(fault)) if fault.offset == 0
+    ));
+}
+
+/// What the socket does not take goes on waiting, and goes as the other end reads.
+#[test]
+fn a_socket_that_takes_no_more_is_waited_for() {
+    let (mut client, mut server) = pair();
+    let mut syncs = 0;
+    let display = WlDisplay(client.display());
+    while client.flush().unwrap() {
+        while display.sync(&mut client).is_ok() {
+            syncs += 1;
+        }
+    }
+    assert!(client.wants_write());
+    assert_eq!(client.wait(SOON).unwrap(), Came::Nothing);
+    let reader = thread::spawn(move || {
+        let mut came = 0;
+        while came < syncs && server.wait(LONG).unwrap() == Came::Something {
+            while server.next().unwrap().is_some() {
+                came += 1;
+                // Nobody reads the answers.
+                let waits = server.goes(usize::MAX, 0).bytes;
+                server.sent(waits);
+            }
+        }
+        (came, server)
+    });
+    while client.wants_write() {
+        assert_eq!(client.wait(SOON).unwrap(), Came::Nothing);
+    }
+    let (came, _server) = reader.join().unwrap();
+    assert_eq!(came, syncs);
+}
+
+#[test]
+fn descriptors_go_with_the_first_byte() {
+    let (its, other) = UnixStream::pair().unwrap();
+    let given = [numbered(1), numbered(2)];
+    let lent = [given[0].as_fd(), given[1].as_fd()];
+    assert_eq!(socket::send(&its, [b"ab", b"c"], &lent).unwrap(), 3);
+    let too_many = [lent[0]; socket::MOST_DESCRIPTORS + 1];
+    assert_eq!(
+        socket::send(&its, [b"a", b""], &too_many).unwrap_err().kind(),
+        ErrorKind::InvalidInput
+    );
+    let (mut first, mut second, mut came) = ([0; 2], [0; 2], Vec::<OwnedFd>::new());
+    assert_eq!(socket::receive(&other, [&mut first, &mut second], &mut came).unwrap(), 3);
+    assert_eq!((&first, second[0]), (b"ab", b'c'));
+    assert_eq!(came.iter().map(|it| number_of(it.as_fd())).collect::<Vec<_>>(), [1, 2]);
+    let nothing = socket::receive(&other, [&mut first, &mut []], &mut came);
+    assert_eq!(nothing.unwrap_err().kind(), ErrorKind::WouldBlock);
+    drop(its);
+    assert_eq!(socket::receive(&other, [&mut first, &mut []], &mut came).unwrap(), 0);
+}
+
+fn folder() -> PathBuf {
+    let folder = env::temp_dir().join(format!("waywire-socket-{}", std::process::id()));
+    fs::create_dir_all(&folder).unwrap();
+    folder
+}
+
+/// One test of all names, since it changes the environment.
+#[test]
+fn sockets_have_names() {
+    let path = folder().join("named");
+    let listener = Listener::bind(Some(&path)).unwrap();
+    assert_eq!(listener.name(), path.as_os_str());
+    assert_eq!(listener.accept().unwrap_err().kind(), ErrorKind::WouldBlock);
+    assert_eq!(Listener::bind(Some(&path)).unwrap_err().kind(), ErrorKind::AddrInUse);
+    let its = socket::connect(Some(&path)).unwrap();
+    let other = listener.accept_next().unwrap();
+    socket::send(&its, [b"a", b""], &[]).unwrap();
+    assert_eq!(socket::receive(&other, [&mut [0; 8], &mut []], &mut Vec::new()).unwrap(), 1);
+    drop(listener);
+    assert_eq!(fs::read_dir(folder()).unwrap().count(), 0);
+    assert_eq!(socket::connect(Some(&path)).unwrap_err().kind(), ErrorKind::NotFound);
+    fs::remove_dir(folder()).unwrap();
+
+    // The socket that a parent has opened. Its number still belongs to `its` here.
+    let (its, mut other) = UnixStream::pair().unwrap();
+    env::set_var("WAYLAND_SOCKET", its.as_raw_fd().to_string());
+    let client = Client::new(&Tables::core().unwrap(), &Sizes::default()).unwrap();
+    let mut link = Link::new(client, socket::connect(None).unwrap());
+    assert_eq!(env::var_os("WAYLAND_SOCKET"), None);
+    assert_ne!(link.socket().as_raw_fd(), its.as_raw_fd());
+    WlDisplay(link.display()).sync(&mut link).unwrap();
+    drop(link);
+    let mut all = Vec::new();
+    assert_eq!(other.read_to_end(&mut all).unwrap(), 12);
+    assert!(its.peer_addr().is_ok());
+    env::set_var("WAYLAND_SOCKET", "none");
+    assert_eq!(socket::connect(None).unwrap_err().kind(), ErrorKind::InvalidInput);
+    env::set_var("WAYLAND_SOCKET", i32::MAX.to_string());
+    assert!(socket::connect(None).is_err());
+    env::remove_var("WAYLAND_SOCKET");
+}
