@@ -187,7 +187,7 @@ class Module:
         items = [f"- `{self.name(it)}`: {plain(it.summary)}" for it in message.args if it.summary]
         since = [f"Since version {message.since}."] if message.since > 1 else []
         ends = ["It destroys the object."] if message.destroys else []
-        texts = sentence(message.summary)
+        texts = sentence(message.summary) or [f"The message {plain(message.name)}."]
         return [*texts, *items, *([" ".join([*more, *ends, *since])] if more or ends or since else [])]
 
     def constants(self, interface):
@@ -198,7 +198,8 @@ class Module:
                      f"    pub mod {side} {{")
             for it in messages:
                 name = constant(it.name)
-                self.say(f"        pub const {name}: u16 = {it.opcode};",
+                self.say(f"        /// The opcode of {plain(it.name)}.", f"        pub const {name}: u16 = {it.opcode};",
+                         f"        /// The first version that has {plain(it.name)}.",
                          f"        pub const {name}_SINCE: u32 = {it.since};")
             self.say("    }")
 
@@ -206,7 +207,8 @@ class Module:
         name = self.enums[interface.name, enum.name]
         what = "Bits that can be joined by `|`." if enum.bitfield else "A number that has no name here may come."
         self.say("", *documented([*sentence(enum.summary), what], "    "),
-                 "    #[derive(Clone, Copy, Debug, PartialEq, Eq, Hash)]", f"    pub struct {name}(pub u32);", "",
+                 "    #[derive(Clone, Copy, Debug, PartialEq, Eq, Hash)]",
+                 f"    pub struct {name}(#[doc = \"The number.\"] pub u32);", "",
                  f"    impl {name} {{")
         taken = set()
         for it in enum.entries:
@@ -215,8 +217,8 @@ class Module:
                 entry += "_"
             taken.add(entry)
             since = [f"Since version {it.since}."] if it.since > 1 else []
-            summary = sentence(it.summary)
-            self.say(*documented([" ".join([*summary, *since])] if summary or since else [], "        "),
+            summary = sentence(it.summary) or [f"The value {plain(it.name)}."]
+            self.say(*documented([" ".join([*summary, *since])], "        "),
                      f"        pub const {entry}: {name} = {name}({it.value});")
         if enum.bitfield:
             self.say("", "        /// Whether it has all bits of the other.",
@@ -337,8 +339,8 @@ class Module:
                  "    /// The name of the interface.", f'    pub const NAME: &str = "{interface.name}";', "",
                  "    /// Its newest version.", f"    pub const VERSION: u32 = {interface.version};", "",
                  *documented(said, "    "),
-                 "    #[derive(Clone, Copy, Debug, PartialEq, Eq, Hash)]", f"    pub struct {name}(pub waywire::Object);",
-                 "", f"    impl waywire::Handle for {name} {{", "        const NAME: &'static str = NAME;",
+                 "    #[derive(Clone, Copy, Debug, PartialEq, Eq, Hash)]",
+                 f"    pub struct {name}(#[doc = \"The object.\"] pub waywire::Object);", "", f"    impl waywire::Handle for {name} {{", "        const NAME: &'static str = NAME;",
                  "        const VERSION: u32 = VERSION;", "",
                  "        fn of(object: waywire::Object) -> Self {", f"            {name}(object)", "        }", "",
                  "        fn object(self) -> waywire::Object {", "            self.0", "        }", "    }")
@@ -369,7 +371,7 @@ class Module:
         self.say(*([f"//! {it}".rstrip() for it in comments] or usual))
         if self.protocol.copyright:
             self.say("//!", "//! ```text", *(f"//! {it}".rstrip() for it in self.protocol.copyright), "//! ```")
-        self.say("", "#![allow(dead_code, missing_docs)]",
+        self.say("", "#![allow(dead_code)]",
                  "#![allow(clippy::module_inception, clippy::new_ret_no_self, clippy::too_many_arguments)]",
                  "#![allow(clippy::wrong_self_convention)]")
         if self.tables:

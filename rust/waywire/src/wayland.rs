@@ -1,7 +1,7 @@
 // Made by tools/dev/core-files.
 //! Typed calls for the core protocol, wayland.xml without data transfer.
 
-#![allow(dead_code, missing_docs)]
+#![allow(dead_code)]
 #![allow(clippy::module_inception, clippy::new_ret_no_self, clippy::too_many_arguments)]
 #![allow(clippy::wrong_self_convention)]
 
@@ -15,7 +15,7 @@ pub mod wl_display {
 
     /// The connection itself, object 1.
     #[derive(Clone, Copy, Debug, PartialEq, Eq, Hash)]
-    pub struct WlDisplay(pub waywire::Object);
+    pub struct WlDisplay(#[doc = "The object."] pub waywire::Object);
 
     impl waywire::Handle for WlDisplay {
         const NAME: &'static str = NAME;
@@ -32,28 +32,40 @@ pub mod wl_display {
 
     /// The opcodes of the requests, and the versions that have them.
     pub mod request {
+        /// The opcode of sync.
         pub const SYNC: u16 = 0;
+        /// The first version that has sync.
         pub const SYNC_SINCE: u32 = 1;
+        /// The opcode of get\_registry.
         pub const GET_REGISTRY: u16 = 1;
+        /// The first version that has get\_registry.
         pub const GET_REGISTRY_SINCE: u32 = 1;
     }
 
     /// The opcodes of the events, and the versions that have them.
     pub mod event {
+        /// The opcode of error.
         pub const ERROR: u16 = 0;
+        /// The first version that has error.
         pub const ERROR_SINCE: u32 = 1;
+        /// The opcode of delete\_id.
         pub const DELETE_ID: u16 = 1;
+        /// The first version that has delete\_id.
         pub const DELETE_ID_SINCE: u32 = 1;
     }
 
     /// A number that has no name here may come.
     #[derive(Clone, Copy, Debug, PartialEq, Eq, Hash)]
-    pub struct Error(pub u32);
+    pub struct Error(#[doc = "The number."] pub u32);
 
     impl Error {
+        /// The value invalid\_object.
         pub const INVALID_OBJECT: Error = Error(0);
+        /// The value invalid\_method.
         pub const INVALID_METHOD: Error = Error(1);
+        /// The value no\_memory.
         pub const NO_MEMORY: Error = Error(2);
+        /// The value implementation.
         pub const IMPLEMENTATION: Error = Error(3);
     }
 
@@ -138,7 +150,7 @@ pub mod wl_registry {
 
     /// Tells the globals of the server, and binds them.
     #[derive(Clone, Copy, Debug, PartialEq, Eq, Hash)]
-    pub struct WlRegistry(pub waywire::Object);
+    pub struct WlRegistry(#[doc = "The object."] pub waywire::Object);
 
     impl waywire::Handle for WlRegistry {
         const NAME: &'static str = NAME;
@@ -155,15 +167,21 @@ pub mod wl_registry {
 
     /// The opcodes of the requests, and the versions that have them.
     pub mod request {
+        /// The opcode of bind.
         pub const BIND: u16 = 0;
+        /// The first version that has bind.
         pub const BIND_SINCE: u32 = 1;
     }
 
     /// The opcodes of the events, and the versions that have them.
     pub mod event {
+        /// The opcode of global.
         pub const GLOBAL: u16 = 0;
+        /// The first version that has global.
         pub const GLOBAL_SINCE: u32 = 1;
+        /// The opcode of global\_remove.
         pub const GLOBAL_REMOVE: u16 = 1;
+        /// The first version that has global\_remove.
         pub const GLOBAL_REMOVE_SINCE: u32 = 1;
     }
 
@@ -281,7 +299,7 @@ pub mod wl_callback {
 
     /// Tells once that something is done.
     #[derive(Clone, Copy, Debug, PartialEq, Eq, Hash)]
-    pub struct WlCallback(pub waywire::Object);
+    pub struct WlCallback(#[doc = "The object."] pub waywire::Object);
 
     impl waywire::Handle for WlCallback {
         const NAME: &'static str = NAME;
@@ -298,7 +316,9 @@ pub mod wl_callback {
 
     /// The opcodes of the events, and the versions that have them.
     pub mod event {
+        /// The opcode of done.
         pub const DONE: u16 = 0;
+        /// The first version that has done.
         pub const DONE_SINCE: u32 = 1;
     }
 
@@ -366,7 +386,7 @@ pub mod wl_compositor {
 
     /// Makes surfaces and regions.
     #[derive(Clone, Copy, Debug, PartialEq, Eq, Hash)]
-    pub struct WlCompositor(pub waywire::Object);
+    pub struct WlCompositor(#[doc = "The object."] pub waywire::Object);
 
     impl waywire::Handle for WlCompositor {
         const NAME: &'static str = NAME;
@@ -383,9 +403,13 @@ pub mod wl_compositor {
 
     /// The opcodes of the requests, and the versions that have them.
     pub mod request {
+        /// The opcode of create\_surface.
         pub const CREATE_SURFACE: u16 = 0;
+        /// The first version that has create\_surface.
         pub const CREATE_SURFACE_SINCE: u32 = 1;
+        /// The opcode of create\_region.
         pub const CREATE_REGION: u16 = 1;
+        /// The first version that has create\_region.
         pub const CREATE_REGION_SINCE: u32 = 1;
     }
 
@@ -470,7 +494,7 @@ pub mod wl_shm {
 
     /// Memory that client and server share.
     #[derive(Clone, Copy, Debug, PartialEq, Eq, Hash)]
-    pub struct WlShm(pub waywire::Object);
+    pub struct WlShm(#[doc = "The object."] pub waywire::Object);
 
     impl waywire::Handle for WlShm {
         const NAME: &'static str = NAME;
@@ -487,140 +511,257 @@ pub mod wl_shm {
 
     /// The opcodes of the requests, and the versions that have them.
     pub mod request {
+        /// The opcode of create\_pool.
         pub const CREATE_POOL: u16 = 0;
+        /// The first version that has create\_pool.
         pub const CREATE_POOL_SINCE: u32 = 1;
+        /// The opcode of release.
         pub const RELEASE: u16 = 1;
+        /// The first version that has release.
         pub const RELEASE_SINCE: u32 = 2;
     }
 
     /// The opcodes of the events, and the versions that have them.
     pub mod event {
+        /// The opcode of format.
         pub const FORMAT: u16 = 0;
+        /// The first version that has format.
         pub const FORMAT_SINCE: u32 = 1;
     }
 
     /// A number that has no name here may come.
     #[derive(Clone, Copy, Debug, PartialEq, Eq, Hash)]
-    pub struct Error(pub u32);
+    pub struct Error(#[doc = "The number."] pub u32);
 
     impl Error {
+        /// The value invalid\_format.
         pub const INVALID_FORMAT: Error = Error(0);
+        /// The value invalid\_stride.
         pub const INVALID_STRIDE: Error = Error(1);
+        /// The value invalid\_fd.
         pub const INVALID_FD: Error = Error(2);
     }
 
     /// A number that has no name here may come.
     #[derive(Clone, Copy, Debug, PartialEq, Eq, Hash)]
-    pub struct Format(pub u32);
+    pub struct Format(#[doc = "The number."] pub u32);
 
     impl Format {
+        /// The value argb8888.
         pub const ARGB8888: Format = Format(0);
+        /// The value xrgb8888.
         pub const XRGB8888: Format = Format(1);
+        /// The value c8.
         pub const C8: Format = Format(538982467);
+        /// The value rgb332.
         pub const RGB332: Format = Format(943867730);
+        /// The value bgr233.
         pub const BGR233: Format = Format(944916290);
+        /// The value xrgb4444.
         pub const XRGB4444: Format = Format(842093144);
+        /// The value xbgr4444.
         pub const XBGR4444: Format = Format(842089048);
+        /// The value rgbx4444.
         pub const RGBX4444: Format = Format(842094674);
+        /// The value bgrx4444.
         pub const BGRX4444: Format = Format(842094658);
+        /// The value argb4444.
         pub const ARGB4444: Format = Format(842093121);
+        /// The value abgr4444.
         pub const ABGR4444: Format = Format(842089025);
+        /// The value rgba4444.
         pub const RGBA4444: Format = Format(842088786);
+        /// The value bgra4444.
         pub const BGRA4444: Format = Format(842088770);
+        /// The value xrgb1555.
         pub const XRGB1555: Format = Format(892424792);
+        /// The value xbgr1555.
         pub const XBGR1555: Format = Format(892420696);
+        /// The value rgbx5551.
         pub const RGBX5551: Format = Format(892426322);
+        /// The value bgrx5551.
         pub const BGRX5551: Format = Format(892426306);
+        /// The value argb1555.
         pub const ARGB1555: Format = Format(892424769);
+        /// The value abgr1555.
         pub const ABGR1555: Format = Format(892420673);
+        /// The value rgba5551.
         pub const RGBA5551: Format = Format(892420434);
+        /// The value bgra5551.
         pub const BGRA5551: Format = Format(892420418);
+        /// The value rgb565.
         pub const RGB565: Format = Format(909199186);
+        /// The value bgr565.
         pub const BGR565: Format = Format(909199170);
+        /// The value rgb888.
         pub const RGB888: Format = Format(875710290);
+        /// The value bgr888.
         pub const BGR888: Format = Format(875710274);
+        /// The value xbgr8888.
         pub const XBGR8888: Format = Format(875709016);
+        /// The value rgbx8888.
         pub const RGBX8888: Format = Format(875714642);
+        /// The value bgrx8888.
         pub const BGRX8888: Format = Format(875714626);
+        /// The value abgr8888.
         pub const ABGR8888: Format = Format(875708993);
+        /// The value rgba8888.
         pub const RGBA8888: Format = Format(875708754);
+        /// The value bgra8888.
         pub const BGRA8888: Format = Format(875708738);
+        /// The value xrgb2101010.
         pub const XRGB2101010: Format = Format(808669784);
+        /// The value xbgr2101010.
         pub const XBGR2101010: Format = Format(808665688);
+        /// The value rgbx1010102.
         pub const RGBX1010102: Format = Format(808671314);
+        /// The value bgrx1010102.
         pub const BGRX1010102: Format = Format(808671298);
+        /// The value argb2101010.
         pub const ARGB2101010: Format = Format(808669761);
+        /// The value abgr2101010.
         pub const ABGR2101010: Format = Format(808665665);
+        /// The value rgba1010102.
         pub const RGBA1010102: Format = Format(808665426);
+        /// The value bgra1010102.
         pub const BGRA1010102: Format = Format(808665410);
+        /// The value yuyv.
         pub const YUYV: Format = Format(1448695129);
+        /// The value yvyu.
         pub const YVYU: Format = Format(1431918169);
+        /// The value uyvy.
         pub const UYVY: Format = Format(1498831189);
+        /// The value vyuy.
         pub const VYUY: Format = Format(1498765654);
+        /// The value ayuv.
         pub const AYUV: Format = Format(1448433985);
+        /// The value nv12.
         pub const NV12: Format = Format(842094158);
+        /// The value nv21.
         pub const NV21: Format = Format(825382478);
+        /// The value nv16.
         pub const NV16: Format = Format(909203022);
+        /// The value nv61.
         pub const NV61: Format = Format(825644622);
+        /// The value yuv410.
         pub const YUV410: Format = Format(961959257);
+        /// The value yvu410.
         pub const YVU410: Format = Format(961893977);
+        /// The value yuv411.
         pub const YUV411: Format = Format(825316697);
+        /// The value yvu411.
         pub const YVU411: Format = Format(825316953);
+        /// The value yuv420.
         pub const YUV420: Format = Format(842093913);
+        /// The value yvu420.
         pub const YVU420: Format = Format(842094169);
+        /// The value yuv422.
         pub const YUV422: Format = Format(909202777);
+        /// The value yvu422.
         pub const YVU422: Format = Format(909203033);
+        /// The value yuv444.
         pub const YUV444: Format = Format(875713881);
+        /// The value yvu444.
         pub const YVU444: Format = Format(875714137);
+        /// The value r8.
         pub const R8: Format = Format(538982482);
+        /// The value r16.
         pub const R16: Format = Format(540422482);
+        /// The value rg88.
         pub const RG88: Format = Format(943212370);
+        /// The value gr88.
         pub const GR88: Format = Format(943215175);
+        /// The value rg1616.
         pub const RG1616: Format = Format(842221394);
+        /// The value gr1616.
         pub const GR1616: Format = Format(842224199);
+        /// The value xrgb16161616f.
         pub const XRGB16161616F: Format = Format(1211388504);
+        /// The value xbgr16161616f.
         pub const XBGR16161616F: Format = Format(1211384408);
+        /// The value argb16161616f.
         pub const ARGB16161616F: Format = Format(1211388481);
+        /// The value abgr16161616f.
         pub const ABGR16161616F: Format = Format(1211384385);
+        /// The value xyuv8888.
         pub const XYUV8888: Format = Format(1448434008);
+        /// The value vuy888.
         pub const VUY888: Format = Format(875713878);
+        /// The value vuy101010.
         pub const VUY101010: Format = Format(808670550);
+        /// The value y210.
         pub const Y210: Format = Format(808530521);
+        /// The value y212.
         pub const Y212: Format = Format(842084953);
+        /// The value y216.
         pub const Y216: Format = Format(909193817);
+        /// The value y410.
         pub const Y410: Format = Format(808531033);
+        /// The value y412.
         pub const Y412: Format = Format(842085465);
+        /// The value y416.
         pub const Y416: Format = Format(909194329);
+        /// The value xvyu2101010.
         pub const XVYU2101010: Format = Format(808670808);
+        /// The value xvyu12\_16161616.
         pub const XVYU12_16161616: Format = Format(909334104);
+        /// The value xvyu16161616.
         pub const XVYU16161616: Format = Format(942954072);
+        /// The value y0l0.
         pub const Y0L0: Format = Format(810299481);
+        /// The value x0l0.
         pub const X0L0: Format = Format(810299480);
+        /// The value y0l2.
         pub const Y0L2: Format = Format(843853913);
+        /// The value x0l2.
         pub const X0L2: Format = Format(843853912);
+        /// The value yuv420\_8bit.
         pub const YUV420_8BIT: Format = Format(942691673);
+        /// The value yuv420\_10bit.
         pub const YUV420_10BIT: Format = Format(808539481);
+        /// The value xrgb8888\_a8.
         pub const XRGB8888_A8: Format = Format(943805016);
+        /// The value xbgr8888\_a8.
         pub const XBGR8888_A8: Format = Format(943800920);
+        /// The value rgbx8888\_a8.
         pub const RGBX8888_A8: Format = Format(943806546);
+        /// The value bgrx8888\_a8.
         pub const BGRX8888_A8: Format = Format(943806530);
+        /// The value rgb888\_a8.
         pub const RGB888_A8: Format = Format(943798354);
+        /// The value bgr888\_a8.
         pub const BGR888_A8: Format = Format(943798338);
+        /// The value rgb565\_a8.
         pub const RGB565_A8: Format = Format(943797586);
+        /// The value bgr565\_a8.
         pub const BGR565_A8: Format = Format(943797570);
+        /// The value nv24.
         pub const NV24: Format = Format(875714126);
+        /// The value nv42.
         pub const NV42: Format = Format(842290766);
+        /// The value p210.
         pub const P210: Format = Format(808530512);
+        /// The value p010.
         pub const P010: Format = Format(808530000);
+        /// The value p012.
         pub const P012: Format = Format(842084432);
+        /// The value p016.
         pub const P016: Format = Format(909193296);
+        /// The value axbxgxrx106106106106.
         pub const AXBXGXRX106106106106: Format = Format(808534593);
+        /// The value nv15.
         pub const NV15: Format = Format(892425806);
+        /// The value q410.
         pub const Q410: Format = Format(808531025);
+        /// The value q401.
         pub const Q401: Format = Format(825242705);
+        /// The value xrgb16161616.
         pub const XRGB16161616: Format = Format(942953048);
+        /// The value xbgr16161616.
         pub const XBGR16161616: Format = Format(942948952);
+        /// The value argb16161616.
         pub const ARGB16161616: Format = Format(942953025);
+        /// The value abgr16161616.
         pub const ABGR16161616: Format = Format(942948929);
     }
 
@@ -761,7 +902,7 @@ pub mod wl_shm_pool {
 
     /// Shared memory that buffers are made of.
     #[derive(Clone, Copy, Debug, PartialEq, Eq, Hash)]
-    pub struct WlShmPool(pub waywire::Object);
+    pub struct WlShmPool(#[doc = "The object."] pub waywire::Object);
 
     impl waywire::Handle for WlShmPool {
         const NAME: &'static str = NAME;
@@ -778,11 +919,17 @@ pub mod wl_shm_pool {
 
     /// The opcodes of the requests, and the versions that have them.
     pub mod request {
+        /// The opcode of create\_buffer.
         pub const CREATE_BUFFER: u16 = 0;
+        /// The first version that has create\_buffer.
         pub const CREATE_BUFFER_SINCE: u32 = 1;
+        /// The opcode of destroy.
         pub const DESTROY: u16 = 1;
+        /// The first version that has destroy.
         pub const DESTROY_SINCE: u32 = 1;
+        /// The opcode of resize.
         pub const RESIZE: u16 = 2;
+        /// The first version that has resize.
         pub const RESIZE_SINCE: u32 = 1;
     }
 
@@ -903,7 +1050,7 @@ pub mod wl_buffer {
 
     /// The content of a surface.
     #[derive(Clone, Copy, Debug, PartialEq, Eq, Hash)]
-    pub struct WlBuffer(pub waywire::Object);
+    pub struct WlBuffer(#[doc = "The object."] pub waywire::Object);
 
     impl waywire::Handle for WlBuffer {
         const NAME: &'static str = NAME;
@@ -920,13 +1067,17 @@ pub mod wl_buffer {
 
     /// The opcodes of the requests, and the versions that have them.
     pub mod request {
+        /// The opcode of destroy.
         pub const DESTROY: u16 = 0;
+        /// The first version that has destroy.
         pub const DESTROY_SINCE: u32 = 1;
     }
 
     /// The opcodes of the events, and the versions that have them.
     pub mod event {
+        /// The opcode of release.
         pub const RELEASE: u16 = 0;
+        /// The first version that has release.
         pub const RELEASE_SINCE: u32 = 1;
     }
 
@@ -1024,7 +1175,7 @@ pub mod wl_surface {
 
     /// An area with content, which can be shown.
     #[derive(Clone, Copy, Debug, PartialEq, Eq, Hash)]
-    pub struct WlSurface(pub waywire::Object);
+    pub struct WlSurface(#[doc = "The object."] pub waywire::Object);
 
     impl waywire::Handle for WlSurface {
         const NAME: &'static str = NAME;
@@ -1041,50 +1192,84 @@ pub mod wl_surface {
 
     /// The opcodes of the requests, and the versions that have them.
     pub mod request {
+        /// The opcode of destroy.
         pub const DESTROY: u16 = 0;
+        /// The first version that has destroy.
         pub const DESTROY_SINCE: u32 = 1;
+        /// The opcode of attach.
         pub const ATTACH: u16 = 1;
+        /// The first version that has attach.
         pub const ATTACH_SINCE: u32 = 1;
+        /// The opcode of damage.
         pub const DAMAGE: u16 = 2;
+        /// The first version that has damage.
         pub const DAMAGE_SINCE: u32 = 1;
+        /// The opcode of frame.
         pub const FRAME: u16 = 3;
+        /// The first version that has frame.
         pub const FRAME_SINCE: u32 = 1;
+        /// The opcode of set\_opaque\_region.
         pub const SET_OPAQUE_REGION: u16 = 4;
+        /// The first version that has set\_opaque\_region.
         pub const SET_OPAQUE_REGION_SINCE: u32 = 1;
+        /// The opcode of set\_input\_region.
         pub const SET_INPUT_REGION: u16 = 5;
+        /// The first version that has set\_input\_region.
         pub const SET_INPUT_REGION_SINCE: u32 = 1;
+        /// The opcode of commit.
         pub const COMMIT: u16 = 6;
+        /// The first version that has commit.
         pub const COMMIT_SINCE: u32 = 1;
+        /// The opcode of set\_buffer\_transform.
         pub const SET_BUFFER_TRANSFORM: u16 = 7;
+        /// The first version that has set\_buffer\_transform.
         pub const SET_BUFFER_TRANSFORM_SINCE: u32 = 2;
+        /// The opcode of set\_buffer\_scale.
         pub const SET_BUFFER_SCALE: u16 = 8;
+        /// The first version that has set\_buffer\_scale.
         pub const SET_BUFFER_SCALE_SINCE: u32 = 3;
+        /// The opcode of damage\_buffer.
         pub const DAMAGE_BUFFER: u16 = 9;
+        /// The first version that has damage\_buffer.
         pub const DAMAGE_BUFFER_SINCE: u32 = 4;
+        /// The opcode of offset.
         pub const OFFSET: u16 = 10;
+        /// The first version that has offset.
         pub const OFFSET_SINCE: u32 = 5;
     }
 
     /// The opcodes of the events, and the versions that have them.
     pub mod event {
+        /// The opcode of enter.
         pub const ENTER: u16 = 0;
+        /// The first version that has enter.
         pub const ENTER_SINCE: u32 = 1;
+        /// The opcode of leave.
         pub const LEAVE: u16 = 1;
+        /// The first version that has leave.
         pub const LEAVE_SINCE: u32 = 1;
+        /// The opcode of preferred\_buffer\_scale.
         pub const PREFERRED_BUFFER_SCALE: u16 = 2;
+        /// The first version that has preferred\_buffer\_scale.
         pub const PREFERRED_BUFFER_SCALE_SINCE: u32 = 6;
+        /// The opcode of preferred\_buffer\_transform.
         pub const PREFERRED_BUFFER_TRANSFORM: u16 = 3;
+        /// The first version that has preferred\_buffer\_transform.
         pub const PREFERRED_BUFFER_TRANSFORM_SINCE: u32 = 6;
     }
 
     /// A number that has no name here may come.
     #[derive(Clone, Copy, Debug, PartialEq, Eq, Hash)]
-    pub struct Error(pub u32);
+    pub struct Error(#[doc = "The number."] pub u32);
 
     impl Error {
+        /// The value invalid\_scale.
         pub const INVALID_SCALE: Error = Error(0);
+        /// The value invalid\_transform.
         pub const INVALID_TRANSFORM: Error = Error(1);
+        /// The value invalid\_size.
         pub const INVALID_SIZE: Error = Error(2);
+        /// The value invalid\_offset.
         pub const INVALID_OFFSET: Error = Error(3);
     }
 
@@ -1518,7 +1703,7 @@ pub mod wl_region {
 
     /// An area made of rectangles.
     #[derive(Clone, Copy, Debug, PartialEq, Eq, Hash)]
-    pub struct WlRegion(pub waywire::Object);
+    pub struct WlRegion(#[doc = "The object."] pub waywire::Object);
 
     impl waywire::Handle for WlRegion {
         const NAME: &'static str = NAME;
@@ -1535,11 +1720,17 @@ pub mod wl_region {
 
     /// The opcodes of the requests, and the versions that have them.
     pub mod request {
+        /// The opcode of destroy.
         pub const DESTROY: u16 = 0;
+        /// The first version that has destroy.
         pub const DESTROY_SINCE: u32 = 1;
+        /// The opcode of add.
         pub const ADD: u16 = 1;
+        /// The first version that has add.
         pub const ADD_SINCE: u32 = 1;
+        /// The opcode of subtract.
         pub const SUBTRACT: u16 = 2;
+        /// The first version that has subtract.
         pub const SUBTRACT_SINCE: u32 = 1;
     }
 
@@ -1661,7 +1852,7 @@ pub mod wl_seat {
 
     /// The input devices of one user.
     #[derive(Clone, Copy, Debug, PartialEq, Eq, Hash)]
-    pub struct WlSeat(pub waywire::Object);
+    pub struct WlSeat(#[doc = "The object."] pub waywire::Object);
 
     impl waywire::Handle for WlSeat {
         const NAME: &'static str = NAME;
@@ -1678,31 +1869,46 @@ pub mod wl_seat {
 
     /// The opcodes of the requests, and the versions that have them.
     pub mod request {
+        /// The opcode of get\_pointer.
         pub const GET_POINTER: u16 = 0;
+        /// The first version that has get\_pointer.
         pub const GET_POINTER_SINCE: u32 = 1;
+        /// The opcode of get\_keyboard.
         pub const GET_KEYBOARD: u16 = 1;
+        /// The first version that has get\_keyboard.
         pub const GET_KEYBOARD_SINCE: u32 = 1;
+        /// The opcode of get\_touch.
         pub const GET_TOUCH: u16 = 2;
+        /// The first version that has get\_touch.
         pub const GET_TOUCH_SINCE: u32 = 1;
+        /// The opcode of release.
         pub const RELEASE: u16 = 3;
+        /// The first version that has release.
         pub const RELEASE_SINCE: u32 = 5;
     }
 
     /// The opcodes of the events, and the versions that have them.
     pub mod event {
+        /// The opcode of capabilities.
         pub const CAPABILITIES: u16 = 0;
+        /// The first version that has capabilities.
         pub const CAPABILITIES_SINCE: u32 = 1;
+        /// The opcode of name.
         pub const NAME: u16 = 1;
+        /// The first version that has name.
         pub const NAME_SINCE: u32 = 2;
     }
 
     /// Bits that can be joined by `|`.
     #[derive(Clone, Copy, Debug, PartialEq, Eq, Hash)]
-    pub struct Capability(pub u32);
+    pub struct Capability(#[doc = "The number."] pub u32);
 
     impl Capability {
+        /// The value pointer.
         pub const POINTER: Capability = Capability(1);
+        /// The value keyboard.
         pub const KEYBOARD: Capability = Capability(2);
+        /// The value touch.
         pub const TOUCH: Capability = Capability(4);
 
         /// Whether it has all bits of the other.
@@ -1721,9 +1927,10 @@ pub mod wl_seat {
 
     /// A number that has no name here may come.
     #[derive(Clone, Copy, Debug, PartialEq, Eq, Hash)]
-    pub struct Error(pub u32);
+    pub struct Error(#[doc = "The number."] pub u32);
 
     impl Error {
+        /// The value missing\_capability.
         pub const MISSING_CAPABILITY: Error = Error(0);
     }
 
@@ -1903,7 +2110,7 @@ pub mod wl_pointer {
 
     /// A mouse or the like.
     #[derive(Clone, Copy, Debug, PartialEq, Eq, Hash)]
-    pub struct WlPointer(pub waywire::Object);
+    pub struct WlPointer(#[doc = "The object."] pub waywire::Object);
 
     impl waywire::Handle for WlPointer {
         const NAME: &'static str = NAME;
@@ -1920,73 +2127,107 @@ pub mod wl_pointer {
 
     /// The opcodes of the requests, and the versions that have them.
     pub mod request {
+        /// The opcode of set\_cursor.
         pub const SET_CURSOR: u16 = 0;
+        /// The first version that has set\_cursor.
         pub const SET_CURSOR_SINCE: u32 = 1;
+        /// The opcode of release.
         pub const RELEASE: u16 = 1;
+        /// The first version that has release.
         pub const RELEASE_SINCE: u32 = 3;
     }
 
     /// The opcodes of the events, and the versions that have them.
     pub mod event {
+        /// The opcode of enter.
         pub const ENTER: u16 = 0;
+        /// The first version that has enter.
         pub const ENTER_SINCE: u32 = 1;
+        /// The opcode of leave.
         pub const LEAVE: u16 = 1;
+        /// The first version that has leave.
         pub const LEAVE_SINCE: u32 = 1;
+        /// The opcode of motion.
         pub const MOTION: u16 = 2;
+        /// The first version that has motion.
         pub const MOTION_SINCE: u32 = 1;
+        /// The opcode of button.
         pub const BUTTON: u16 = 3;
+        /// The first version that has button.
         pub const BUTTON_SINCE: u32 = 1;
+        /// The opcode of axis.
         pub const AXIS: u16 = 4;
+        /// The first version that has axis.
         pub const AXIS_SINCE: u32 = 1;
+        /// The opcode of frame.
         pub const FRAME: u16 = 5;
+        /// The first version that has frame.
         pub const FRAME_SINCE: u32 = 5;
+        /// The opcode of axis\_source.
         pub const AXIS_SOURCE: u16 = 6;
+        /// The first version that has axis\_source.
         pub const AXIS_SOURCE_SINCE: u32 = 5;
+        /// The opcode of axis\_stop.
         pub const AXIS_STOP: u16 = 7;
+        /// The first version that has axis\_stop.
         pub const AXIS_STOP_SINCE: u32 = 5;
+        /// The opcode of axis\_discrete.
         pub const AXIS_DISCRETE: u16 = 8;
+        /// The first version that has axis\_discrete.
         pub const AXIS_DISCRETE_SINCE: u32 = 5;
+        /// The opcode of axis\_value120.
         pub const AXIS_VALUE120: u16 = 9;
+        /// The first version that has axis\_value120.
         pub const AXIS_VALUE120_SINCE: u32 = 8;
+        /// The opcode of axis\_relative\_direction.
         pub const AXIS_RELATIVE_DIRECTION: u16 = 10;
+        /// The first version that has axis\_relative\_direction.
         pub const AXIS_RELATIVE_DIRECTION_SINCE: u32 = 9;
     }
 
     /// A number that has no name here may come.
     #[derive(Clone, Copy, Debug, PartialEq, Eq, Hash)]
-    pub struct Error(pub u32);
+    pub struct Error(#[doc = "The number."] pub u32);
 
     impl Error {
+        /// The value role.
         pub const ROLE: Error = Error(0);
     }
 
     /// A number that has no name here may come.
     #[derive(Clone, Copy, Debug, PartialEq, Eq, Hash)]
-    pub struct ButtonState(pub u32);
+    pub struct ButtonState(#[doc = "The number."] pub u32);
 
     impl ButtonState {
+        /// The value released.
         pub const RELEASED: ButtonState = ButtonState(0);
+        /// The value pressed.
         pub const PRESSED: ButtonState = ButtonState(1);
     }
 
     /// A number that has no name here may come.
     #[derive(Clone, Copy, Debug, PartialEq, Eq, Hash)]
-    pub struct Axis(pub u32);
+    pub struct Axis(#[doc = "The number."] pub u32);
 
     impl Axis {
+        /// The value vertical\_scroll.
         pub const VERTICAL_SCROLL: Axis = Axis(0);
+        /// The value horizontal\_scroll.
         pub const HORIZONTAL_SCROLL: Axis = Axis(1);
     }
 
     /// A number that has no name here may come.
     #[derive(Clone, Copy, Debug, PartialEq, Eq, Hash)]
-    pub struct AxisSource(pub u32);
+    pub struct AxisSource(#[doc = "The number."] pub u32);
 
     impl AxisSource {
+        /// The value wheel.
         pub const WHEEL: AxisSource = AxisSource(0);
+        /// The value finger.
         pub const FINGER: AxisSource = AxisSource(1);
+        /// The value continuous.
         pub const CONTINUOUS: AxisSource = AxisSource(2);
-        /// Since version 6.
+        /// The value wheel\_tilt. Since version 6.
         pub const WHEEL_TILT: AxisSource = AxisSource(3);
     }
 
@@ -2407,7 +2648,7 @@ pub mod wl_keyboard {
 
     /// A keyboard.
     #[derive(Clone, Copy, Debug, PartialEq, Eq, Hash)]
-    pub struct WlKeyboard(pub waywire::Object);
+    pub struct WlKeyboard(#[doc = "The object."] pub waywire::Object);
 
     impl waywire::Handle for WlKeyboard {
         const NAME: &'static str = NAME;
@@ -2424,41 +2665,59 @@ pub mod wl_keyboard {
 
     /// The opcodes of the requests, and the versions that have them.
     pub mod request {
+        /// The opcode of release.
         pub const RELEASE: u16 = 0;
+        /// The first version that has release.
         pub const RELEASE_SINCE: u32 = 3;
     }
 
     /// The opcodes of the events, and the versions that have them.
     pub mod event {
+        /// The opcode of keymap.
         pub const KEYMAP: u16 = 0;
+        /// The first version that has keymap.
         pub const KEYMAP_SINCE: u32 = 1;
+        /// The opcode of enter.
         pub const ENTER: u16 = 1;
+        /// The first version that has enter.
         pub const ENTER_SINCE: u32 = 1;
+        /// The opcode of leave.
         pub const LEAVE: u16 = 2;
+        /// The first version that has leave.
         pub const LEAVE_SINCE: u32 = 1;
+        /// The opcode of key.
         pub const KEY: u16 = 3;
+        /// The first version that has key.
         pub const KEY_SINCE: u32 = 1;
+        /// The opcode of modifiers.
         pub const MODIFIERS: u16 = 4;
+        /// The first version that has modifiers.
         pub const MODIFIERS_SINCE: u32 = 1;
+        /// The opcode of repeat\_info.
         pub const REPEAT_INFO: u16 = 5;
+        /// The first version that has repeat\_info.
         pub const REPEAT_INFO_SINCE: u32 = 4;
     }
 
     /// A number that has no name here may come.
     #[derive(Clone, Copy, Debug, PartialEq, Eq, Hash)]
-    pub struct KeymapFormat(pub u32);
+    pub struct KeymapFormat(#[doc = "The number."] pub u32);
 
     impl KeymapFormat {
+        /// The value no\_keymap.
         pub const NO_KEYMAP: KeymapFormat = KeymapFormat(0);
+        /// The value xkb\_v1.
         pub const XKB_V1: KeymapFormat = KeymapFormat(1);
     }
 
     /// A number that has no name here may come.
     #[derive(Clone, Copy, Debug, PartialEq, Eq, Hash)]
-    pub struct KeyState(pub u32);
+    pub struct KeyState(#[doc = "The number."] pub u32);
 
     impl KeyState {
+        /// The value released.
         pub const RELEASED: KeyState = KeyState(0);
+        /// The value pressed.
         pub const PRESSED: KeyState = KeyState(1);
     }
 
@@ -2737,7 +2996,7 @@ pub mod wl_touch {
 
     /// A touch screen.
     #[derive(Clone, Copy, Debug, PartialEq, Eq, Hash)]
-    pub struct WlTouch(pub waywire::Object);
+    pub struct WlTouch(#[doc = "The object."] pub waywire::Object);
 
     impl waywire::Handle for WlTouch {
         const NAME: &'static str = NAME;
@@ -2754,25 +3013,41 @@ pub mod wl_touch {
 
     /// The opcodes of the requests, and the versions that have them.
     pub mod request {
+        /// The opcode of release.
         pub const RELEASE: u16 = 0;
+        /// The first version that has release.
         pub const RELEASE_SINCE: u32 = 3;
     }
 
     /// The opcodes of the events, and the versions that have them.
     pub mod event {
+        /// The opcode of down.
         pub const DOWN: u16 = 0;
+        /// The first version that has down.
         pub const DOWN_SINCE: u32 = 1;
+        /// The opcode of up.
         pub const UP: u16 = 1;
+        /// The first version that has up.
         pub const UP_SINCE: u32 = 1;
+        /// The opcode of motion.
         pub const MOTION: u16 = 2;
+        /// The first version that has motion.
         pub const MOTION_SINCE: u32 = 1;
+        /// The opcode of frame.
         pub const FRAME: u16 = 3;
+        /// The first version that has frame.
         pub const FRAME_SINCE: u32 = 1;
+        /// The opcode of cancel.
         pub const CANCEL: u16 = 4;
+        /// The first version that has cancel.
         pub const CANCEL_SINCE: u32 = 1;
+        /// The opcode of shape.
         pub const SHAPE: u16 = 5;
+        /// The first version that has shape.
         pub const SHAPE_SINCE: u32 = 6;
+        /// The opcode of orientation.
         pub const ORIENTATION: u16 = 6;
+        /// The first version that has orientation.
         pub const ORIENTATION_SINCE: u32 = 6;
     }
 
@@ -3039,7 +3314,7 @@ pub mod wl_output {
 
     /// A screen.
     #[derive(Clone, Copy, Debug, PartialEq, Eq, Hash)]
-    pub struct WlOutput(pub waywire::Object);
+    pub struct WlOutput(#[doc = "The object."] pub waywire::Object);
 
     impl waywire::Handle for WlOutput {
         const NAME: &'static str = NAME;
@@ -3056,60 +3331,90 @@ pub mod wl_output {
 
     /// The opcodes of the requests, and the versions that have them.
     pub mod request {
+        /// The opcode of release.
         pub const RELEASE: u16 = 0;
+        /// The first version that has release.
         pub const RELEASE_SINCE: u32 = 3;
     }
 
     /// The opcodes of the events, and the versions that have them.
     pub mod event {
+        /// The opcode of geometry.
         pub const GEOMETRY: u16 = 0;
+        /// The first version that has geometry.
         pub const GEOMETRY_SINCE: u32 = 1;
+        /// The opcode of mode.
         pub const MODE: u16 = 1;
+        /// The first version that has mode.
         pub const MODE_SINCE: u32 = 1;
+        /// The opcode of done.
         pub const DONE: u16 = 2;
+        /// The first version that has done.
         pub const DONE_SINCE: u32 = 2;
+        /// The opcode of scale.
         pub const SCALE: u16 = 3;
+        /// The first version that has scale.
         pub const SCALE_SINCE: u32 = 2;
+        /// The opcode of name.
         pub const NAME: u16 = 4;
+        /// The first version that has name.
         pub const NAME_SINCE: u32 = 4;
+        /// The opcode of description.
         pub const DESCRIPTION: u16 = 5;
+        /// The first version that has description.
         pub const DESCRIPTION_SINCE: u32 = 4;
     }
 
     /// A number that has no name here may come.
     #[derive(Clone, Copy, Debug, PartialEq, Eq, Hash)]
-    pub struct Subpixel(pub u32);
+    pub struct Subpixel(#[doc = "The number."] pub u32);
 
     impl Subpixel {
+        /// The value unknown.
         pub const UNKNOWN: Subpixel = Subpixel(0);
+        /// The value none.
         pub const NONE: Subpixel = Subpixel(1);
+        /// The value horizontal\_rgb.
         pub const HORIZONTAL_RGB: Subpixel = Subpixel(2);
+        /// The value horizontal\_bgr.
         pub const HORIZONTAL_BGR: Subpixel = Subpixel(3);
+        /// The value vertical\_rgb.
         pub const VERTICAL_RGB: Subpixel = Subpixel(4);
+        /// The value vertical\_bgr.
         pub const VERTICAL_BGR: Subpixel = Subpixel(5);
     }
 
     /// A number that has no name here may come.
     #[derive(Clone, Copy, Debug, PartialEq, Eq, Hash)]
-    pub struct Transform(pub u32);
+    pub struct Transform(#[doc = "The number."] pub u32);
 
     impl Transform {
+        /// The value normal.
         pub const NORMAL: Transform = Transform(0);
+        /// The value 90.
         pub const _90: Transform = Transform(1);
+        /// The value 180.
         pub const _180: Transform = Transform(2);
+        /// The value 270.
         pub const _270: Transform = Transform(3);
+        /// The value flipped.
         pub const FLIPPED: Transform = Transform(4);
+        /// The value flipped\_90.
         pub const FLIPPED_90: Transform = Transform(5);
+        /// The value flipped\_180.
         pub const FLIPPED_180: Transform = Transform(6);
+        /// The value flipped\_270.
         pub const FLIPPED_270: Transform = Transform(7);
     }
 
     /// Bits that can be joined by `|`.
     #[derive(Clone, Copy, Debug, PartialEq, Eq, Hash)]
-    pub struct Mode(pub u32);
+    pub struct Mode(#[doc = "The number."] pub u32);
 
     impl Mode {
+        /// The value current.
         pub const CURRENT: Mode = Mode(1);
+        /// The value preferred.
         pub const PREFERRED: Mode = Mode(2);
 
         /// Whether it has all bits of the other.
@@ -3389,7 +3694,7 @@ pub mod wl_subcompositor {
 
     /// Makes surfaces parts of others.
     #[derive(Clone, Copy, Debug, PartialEq, Eq, Hash)]
-    pub struct WlSubcompositor(pub waywire::Object);
+    pub struct WlSubcompositor(#[doc = "The object."] pub waywire::Object);
 
     impl waywire::Handle for WlSubcompositor {
         const NAME: &'static str = NAME;
@@ -3406,17 +3711,22 @@ pub mod wl_subcompositor {
 
     /// The opcodes of the requests, and the versions that have them.
     pub mod request {
+        /// The opcode of destroy.
         pub const DESTROY: u16 = 0;
+        /// The first version that has destroy.
         pub const DESTROY_SINCE: u32 = 1;
+        /// The opcode of get\_subsurface.
         pub const GET_SUBSURFACE: u16 = 1;
+        /// The first version that has get\_subsurface.
         pub const GET_SUBSURFACE_SINCE: u32 = 1;
     }
 
     /// A number that has no name here may come.
     #[derive(Clone, Copy, Debug, PartialEq, Eq, Hash)]
-    pub struct Error(pub u32);
+    pub struct Error(#[doc = "The number."] pub u32);
 
     impl Error {
+        /// The value bad\_surface.
         pub const BAD_SURFACE: Error = Error(0);
     }
 
@@ -3510,7 +3820,7 @@ pub mod wl_subsurface {
 
     /// A surface that is part of another.
     #[derive(Clone, Copy, Debug, PartialEq, Eq, Hash)]
-    pub struct WlSubsurface(pub waywire::Object);
+    pub struct WlSubsurface(#[doc = "The object."] pub waywire::Object);
 
     impl waywire::Handle for WlSubsurface {
         const NAME: &'static str = NAME;
@@ -3527,25 +3837,38 @@ pub mod wl_subsurface {
 
     /// The opcodes of the requests, and the versions that have them.
     pub mod request {
+        /// The opcode of destroy.
         pub const DESTROY: u16 = 0;
+        /// The first version that has destroy.
         pub const DESTROY_SINCE: u32 = 1;
+        /// The opcode of set\_position.
         pub const SET_POSITION: u16 = 1;
+        /// The first version that has set\_position.
         pub const SET_POSITION_SINCE: u32 = 1;
+        /// The opcode of place\_above.
         pub const PLACE_ABOVE: u16 = 2;
+        /// The first version that has place\_above.
         pub const PLACE_ABOVE_SINCE: u32 = 1;
+        /// The opcode of place\_below.
         pub const PLACE_BELOW: u16 = 3;
+        /// The first version that has place\_below.
         pub const PLACE_BELOW_SINCE: u32 = 1;
+        /// The opcode of set\_sync.
         pub const SET_SYNC: u16 = 4;
+        /// The first version that has set\_sync.
         pub const SET_SYNC_SINCE: u32 = 1;
+        /// The opcode of set\_desync.
         pub const SET_DESYNC: u16 = 5;
+        /// The first version that has set\_desync.
         pub const SET_DESYNC_SINCE: u32 = 1;
     }
 
     /// A number that has no name here may come.
     #[derive(Clone, Copy, Debug, PartialEq, Eq, Hash)]
-    pub struct Error(pub u32);
+    pub struct Error(#[doc = "The number."] pub u32);
 
     impl Error {
+        /// The value bad\_surface.
         pub const BAD_SURFACE: Error = Error(0);
     }
 
@@ -3700,7 +4023,7 @@ pub mod wl_shell {
 
     /// Makes desktop windows; xdg\_shell took its place.
     #[derive(Clone, Copy, Debug, PartialEq, Eq, Hash)]
-    pub struct WlShell(pub waywire::Object);
+    pub struct WlShell(#[doc = "The object."] pub waywire::Object);
 
     impl waywire::Handle for WlShell {
         const NAME: &'static str = NAME;
@@ -3717,15 +4040,18 @@ pub mod wl_shell {
 
     /// The opcodes of the requests, and the versions that have them.
     pub mod request {
+        /// The opcode of get\_shell\_surface.
         pub const GET_SHELL_SURFACE: u16 = 0;
+        /// The first version that has get\_shell\_surface.
         pub const GET_SHELL_SURFACE_SINCE: u32 = 1;
     }
 
     /// A number that has no name here may come.
     #[derive(Clone, Copy, Debug, PartialEq, Eq, Hash)]
-    pub struct Error(pub u32);
+    pub struct Error(#[doc = "The number."] pub u32);
 
     impl Error {
+        /// The value role.
         pub const ROLE: Error = Error(0);
     }
 
@@ -3797,7 +4123,7 @@ pub mod wl_shell_surface {
 
     /// A desktop window.
     #[derive(Clone, Copy, Debug, PartialEq, Eq, Hash)]
-    pub struct WlShellSurface(pub waywire::Object);
+    pub struct WlShellSurface(#[doc = "The object."] pub waywire::Object);
 
     impl waywire::Handle for WlShellSurface {
         const NAME: &'static str = NAME;
@@ -3814,51 +4140,86 @@ pub mod wl_shell_surface {
 
     /// The opcodes of the requests, and the versions that have them.
     pub mod request {
+        /// The opcode of pong.
         pub const PONG: u16 = 0;
+        /// The first version that has pong.
         pub const PONG_SINCE: u32 = 1;
+        /// The opcode of move.
         pub const MOVE: u16 = 1;
+        /// The first version that has move.
         pub const MOVE_SINCE: u32 = 1;
+        /// The opcode of resize.
         pub const RESIZE: u16 = 2;
+        /// The first version that has resize.
         pub const RESIZE_SINCE: u32 = 1;
+        /// The opcode of set\_toplevel.
         pub const SET_TOPLEVEL: u16 = 3;
+        /// The first version that has set\_toplevel.
         pub const SET_TOPLEVEL_SINCE: u32 = 1;
+        /// The opcode of set\_transient.
         pub const SET_TRANSIENT: u16 = 4;
+        /// The first version that has set\_transient.
         pub const SET_TRANSIENT_SINCE: u32 = 1;
+        /// The opcode of set\_fullscreen.
         pub const SET_FULLSCREEN: u16 = 5;
+        /// The first version that has set\_fullscreen.
         pub const SET_FULLSCREEN_SINCE: u32 = 1;
+        /// The opcode of set\_popup.
         pub const SET_POPUP: u16 = 6;
+        /// The first version that has set\_popup.
         pub const SET_POPUP_SINCE: u32 = 1;
+        /// The opcode of set\_maximized.
         pub const SET_MAXIMIZED: u16 = 7;
+        /// The first version that has set\_maximized.
         pub const SET_MAXIMIZED_SINCE: u32 = 1;
+        /// The opcode of set\_title.
         pub const SET_TITLE: u16 = 8;
+        /// The first version that has set\_title.
         pub const SET_TITLE_SINCE: u32 = 1;
+        /// The opcode of set\_class.
         pub const SET_CLASS: u16 = 9;
+        /// The first version that has set\_class.
         pub const SET_CLASS_SINCE: u32 = 1;
     }
 
     /// The opcodes of the events, and the versions that have them.
     pub mod event {
+        /// The opcode of ping.
         pub const PING: u16 = 0;
+        /// The first version that has ping.
         pub const PING_SINCE: u32 = 1;
+        /// The opcode of configure.
         pub const CONFIGURE: u16 = 1;
+        /// The first version that has configure.
         pub const CONFIGURE_SINCE: u32 = 1;
+        /// The opcode of popup\_done.
         pub const POPUP_DONE: u16 = 2;
+        /// The first version that has popup\_done.
         pub const POPUP_DONE_SINCE: u32 = 1;
     }
 
     /// Bits that can be joined by `|`.
     #[derive(Clone, Copy, Debug, PartialEq, Eq, Hash)]
-    pub struct Resize(pub u32);
+    pub struct Resize(#[doc = "The number."] pub u32);
 
     impl Resize {
+        /// The value none.
         pub const NONE: Resize = Resize(0);
+        /// The value top.
         pub const TOP: Resize = Resize(1);
+        /// The value bottom.
         pub const BOTTOM: Resize = Resize(2);
+        /// The value left.
         pub const LEFT: Resize = Resize(4);
+        /// The value top\_left.
         pub const TOP_LEFT: Resize = Resize(5);
+        /// The value bottom\_left.
         pub const BOTTOM_LEFT: Resize = Resize(6);
+        /// The value right.
         pub const RIGHT: Resize = Resize(8);
+        /// The value top\_right.
         pub const TOP_RIGHT: Resize = Resize(9);
+        /// The value bottom\_right.
         pub const BOTTOM_RIGHT: Resize = Resize(10);
 
         /// Whether it has all bits of the other.
@@ -3877,9 +4238,10 @@ pub mod wl_shell_surface {
 
     /// Bits that can be joined by `|`.
     #[derive(Clone, Copy, Debug, PartialEq, Eq, Hash)]
-    pub struct Transient(pub u32);
+    pub struct Transient(#[doc = "The number."] pub u32);
 
     impl Transient {
+        /// The value inactive.
         pub const INACTIVE: Transient = Transient(1);
 
         /// Whether it has all bits of the other.
@@ -3898,12 +4260,16 @@ pub mod wl_shell_surface {
 
     /// A number that has no name here may come.
     #[derive(Clone, Copy, Debug, PartialEq, Eq, Hash)]
-    pub struct FullscreenMethod(pub u32);
+    pub struct FullscreenMethod(#[doc = "The number."] pub u32);
 
     impl FullscreenMethod {
+        /// The value default.
         pub const DEFAULT: FullscreenMethod = FullscreenMethod(0);
+        /// The value scale.
         pub const SCALE: FullscreenMethod = FullscreenMethod(1);
+        /// The value driver.
         pub const DRIVER: FullscreenMethod = FullscreenMethod(2);
+        /// The value fill.
         pub const FILL: FullscreenMethod = FullscreenMethod(3);
     }
 
@@ -4299,7 +4665,7 @@ pub mod wl_fixes {
 
     /// Mends the core protocol.
     #[derive(Clone, Copy, Debug, PartialEq, Eq, Hash)]
-    pub struct WlFixes(pub waywire::Object);
+    pub struct WlFixes(#[doc = "The object."] pub waywire::Object);
 
     impl waywire::Handle for WlFixes {
         const NAME: &'static str = NAME;
@@ -4316,9 +4682,13 @@ pub mod wl_fixes {
 
     /// The opcodes of the requests, and the versions that have them.
     pub mod request {
+        /// The opcode of destroy.
         pub const DESTROY: u16 = 0;
+        /// The first version that has destroy.
         pub const DESTROY_SINCE: u32 = 1;
+        /// The opcode of destroy\_registry.
         pub const DESTROY_REGISTRY: u16 = 1;
+        /// The first version that has destroy\_registry.
         pub const DESTROY_REGISTRY_SINCE: u32 = 1;
     }
 
