@@ -198,7 +198,8 @@ class Module:
                      f"    pub mod {side} {{")
             for it in messages:
                 name = constant(it.name)
-                self.say(f"        /// The opcode of {plain(it.name)}.", f"        pub const {name}: u16 = {it.opcode};",
+                self.say(f"        /// The opcode of {plain(it.name)}.",
+                         f"        pub const {name}: u16 = {it.opcode};",
                          f"        /// The first version that has {plain(it.name)}.",
                          f"        pub const {name}_SINCE: u32 = {it.since};")
             self.say("    }")
@@ -340,7 +341,8 @@ class Module:
                  "    /// Its newest version.", f"    pub const VERSION: u32 = {interface.version};", "",
                  *documented(said, "    "),
                  "    #[derive(Clone, Copy, Debug, PartialEq, Eq, Hash)]",
-                 f"    pub struct {name}(#[doc = \"The object.\"] pub waywire::Object);", "", f"    impl waywire::Handle for {name} {{", "        const NAME: &'static str = NAME;",
+                 f"    pub struct {name}(#[doc = \"The object.\"] pub waywire::Object);", "",
+                 f"    impl waywire::Handle for {name} {{", "        const NAME: &'static str = NAME;",
                  "        const VERSION: u32 = VERSION;", "",
                  "        fn of(object: waywire::Object) -> Self {", f"            {name}(object)", "        }", "",
                  "        fn object(self) -> waywire::Object {", "            self.0", "        }", "    }")

@@ -3,9 +3,10 @@
 //!
 //!     proxy NAME [TABLES..]
 //!
-//! The name is that of its socket in XDG_RUNTIME_DIR, or a path that begins with a slash. It is a server towards the client and a client towards the compositor. Each object has a twin at
-//! the other end; globals whose interfaces the tables do not have are not offered. The tables are
-//! those of the core and of xdg-shell, and the text of each file that is named.
+//! The name is that of its socket in XDG_RUNTIME_DIR, or a path that begins with a slash. The proxy is
+//! a server towards the client and a client towards the compositor. Each object has a twin at the other
+//! end. Globals whose interfaces the tables do not have are not offered. The tables are those of the core
+//! and of xdg-shell, and the text of each file that is named.
 
 use std::collections::HashMap;
 use std::path::{Path, PathBuf};

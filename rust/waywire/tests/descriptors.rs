@@ -312,9 +312,13 @@ fn what_waits_is_closed_with_its_end() {
     pair.shm.create_pool(&mut pair.client, numbered(2), 1).unwrap();
     let waiting = pair.client.peek();
     assert_eq!(waiting.descriptors().iter().map(|it| number_of(*it)).collect::<Vec<_>>(), [1]);
+    // The first byte takes the descriptor of its message, and no other.
+    assert_eq!(pair.client.sent(1), Amounts { bytes: 1, tokens: 1 });
+    assert_eq!(open_descriptors(), before + 1);
+    assert!(pair.client.peek().descriptors().is_empty());
     // More than there is: all goes.
     let all = pair.client.sent(usize::MAX);
-    assert_eq!((all.tokens, open_descriptors()), (2, before));
+    assert_eq!((all.tokens, open_descriptors()), (1, before));
     assert_eq!(pair.client.sent(1), Amounts::default());
 
     let mut fed: Vec<OwnedFd> = (0..70).map(numbered).collect();

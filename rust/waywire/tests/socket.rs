@@ -90,6 +90,13 @@ fn waiting_ends_in_time() {
     assert_eq!(server.wait(SOON).unwrap(), Came::Nothing);
     assert_eq!(server.fill().unwrap(), Came::Nothing);
     assert_eq!(client.dispatch(&mut (), SOON).unwrap(), 0);
+    let callback = WlDisplay(client.display()).sync(&mut client).unwrap();
+    client.flush().unwrap();
+    assert_eq!(server.wait(LONG).unwrap(), Came::Something);
+    assert!(server.next().unwrap().is_some());
+    callback.send_done(&mut server, 0).unwrap();
+    server.flush().unwrap();
+    // The callback that has ended is not that of the round trip.
     assert_eq!(client.round_trip(&mut (), SOON).unwrap_err().kind(), ErrorKind::TimedOut);
     assert!(began.elapsed() >= 3 * SOON.unwrap());
     assert_eq!(socket::wait([client.awaited(), server.awaited()], LONG).unwrap(), [false, true]);
@@ -144,13 +151,15 @@ fn a_socket_that_takes_no_more_is_waited_for() {
                 server.sent(waits);
             }
         }
-        (came, server)
+        let display = server.display();
+        server.post_error(display, 0, "all is read").unwrap();
+        server.flush().unwrap();
+        came
     });
-    while client.wants_write() {
-        assert_eq!(client.wait(SOON).unwrap(), Came::Nothing);
-    }
-    let (came, _server) = reader.join().unwrap();
-    assert_eq!(came, syncs);
+    // It sends all the while.
+    assert_eq!(client.wait(LONG).unwrap(), Came::Something);
+    assert!(!client.wants_write());
+    assert_eq!(reader.join().unwrap(), syncs);
 }
 
 #[test]
@@ -199,6 +208,7 @@ fn sockets_have_names() {
 
     // The socket that a parent has opened. Its number still belongs to `its` here.
     let (its, mut other) = UnixStream::pair().unwrap();
+    other.set_read_timeout(LONG).unwrap();
     env::set_var("WAYLAND_SOCKET", its.as_raw_fd().to_string());
     let client = Client::new(&Tables::core().unwrap(), &Sizes::default()).unwrap();
     let mut link = Link::new(client, socket::connect(None).unwrap());
