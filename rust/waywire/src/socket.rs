@@ -22,7 +22,7 @@ use std::os::unix::net::UnixStream;
 use std::path::Path;
 use std::time::{Duration, Instant};
 
-/// The most descriptors that go, or come, at once: as many as libwayland sends.
+/// The most descriptors that an end passes at once. libwayland has the same limit.
 pub const MOST_DESCRIPTORS: usize = sys::SOCKET_DESCRIPTORS as usize;
 
 /// Connects to a compositor, as `wl_display_connect` does.
@@ -52,8 +52,9 @@ fn inherited(number: &OsStr) -> io::Result<OwnedFd> {
     sys::inherited(number.ok_or(ErrorKind::InvalidInput)?)
 }
 
-/// Sends bytes, and with the first of them at most [`MOST_DESCRIPTORS`] descriptors, which stay open here.
-/// Returns how many bytes went. It does not wait: [`io::ErrorKind::WouldBlock`].
+/// Sends bytes, and descriptors with the first of them, which stay open here. Returns how many bytes went.
+/// It does not wait: [`io::ErrorKind::WouldBlock`]. More than 253 descriptors are an error, and an end at
+/// the other side receives no more than [`MOST_DESCRIPTORS`] at once.
 pub fn send(
     socket: impl AsFd,
     parts: [&[u8]; 2],

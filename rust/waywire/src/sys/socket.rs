@@ -33,7 +33,7 @@ struct Pollfd {
 }
 
 extern "C" {
-    fn waywire_socket_connect(name: *const c_char) -> c_int;
+    fn waywire_socket_connect_to(name: *const c_char, milliseconds: c_int) -> c_int;
     fn waywire_socket_listen(name: *const c_char) -> *mut RawListening;
     fn waywire_listening_socket_name(listening: *const RawListening) -> *const c_char;
     fn waywire_listening_socket_fd(listening: *const RawListening) -> c_int;
@@ -89,7 +89,7 @@ fn at_of(name: &Option<CString>) -> *const c_char {
 pub fn connect(name: Option<&OsStr>) -> io::Result<OwnedFd> {
     let name = in_c(name)?;
     // Safety: the name is null or a string of C; what comes back is a new descriptor.
-    unsafe { made(waywire_socket_connect(at_of(&name))) }
+    unsafe { made(waywire_socket_connect_to(at_of(&name), -1)) }
 }
 
 /// A duplicate of a descriptor that this process was started with. The number may be any: that of a
