@@ -1,5 +1,5 @@
-/* A client: opens a window of one colour over xdg-shell, and closes it once the compositor has taken the
- * picture in. */
+/* A client: opens a window of one colour over xdg-shell, and closes it once the compositor has
+ * taken the picture in. */
 #define _GNU_SOURCE
 #include "xdg-shell.h"
 
@@ -42,8 +42,8 @@ static void must_answer(int count)
 		errx(1, "%s", failure ? failure->text : "the compositor does not answer");
 }
 
-static void on_global(void *data, waywire_wl_registry registry, uint32_t name, const char *interface,
-	uint32_t version)
+static void on_global(void *data, waywire_wl_registry registry, uint32_t name,
+	const char *interface, uint32_t version)
 {
 	if (!strcmp(interface, WAYWIRE_WL_COMPOSITOR_NAME))
 		must(waywire_wl_compositor_bind(client, registry, name, 1, &compositor));

@@ -1,376 +1,126 @@
-/* A compositor without a screen: takes one client at a socket, lets it open windows over xdg-shell,
- * and says what colour each buffer has that is committed to a surface. Once a window has shown a picture, it
- * plays a script.
+/* A compositor without a screen: serves the clients at a socket, lets them open windows over
+ * xdg-shell, and says what colour each buffer has that is committed to a surface. Once a window has
+ * shown a picture, it plays a script.
  *
- *     server NAME [SCRIPT]
+ *     server [--stay] NAME [SCRIPT]
  *
- * The script is a file with an event a line: `key CODE` and `button CODE` press and release what has that
- * number in linux/input-event-codes.h, `motion X Y` moves the pointer over the window, and `close` asks the
- * window to close. */
+ * It ends with its last client, or with --stay at SIGINT or SIGTERM only. The exit status is 1 if
+ * it has ended a client, say for a request that breaks a rule.
+ *
+ * The script is a file with an event a line: `key CODE` and `button CODE` press and release what
+ * has that number in linux/input-event-codes.h, `modifiers MASK` holds modifiers down (Shift is 1,
+ * Ctrl 4), `motion X Y` moves the pointer over the window, and `close` asks the window to close. */
 #define _GNU_SOURCE
 #include "data-device.h"
-#include "xdg-shell.h"
+#include "server.h"
 
 #include <err.h>
 #include <errno.h>
-#include <fcntl.h>
 #include <poll.h>
+#include <signal.h>
 #include <stdio.h>
 #include <stdlib.h>
+#include <sys/signalfd.h>
 #include <time.h>
 #include <unistd.h>
-#include <waywire-core.h>
-#include <waywire-socket.h>
 
 /* The time between two lines of the script, in milliseconds. */
 #define STEP 100
 
-/* The most keyboards, and the most pointers, that a client has at a time. */
-#define MOST_DEVICES 8
+/* The most clients at a time; others wait. */
+#define MOST_CLIENTS 64
 
-/* The memory of a pool, or of a buffer in one. */
-struct memory {
-	int descriptor;
-	int32_t offset, width, height;
-};
+struct client *clients;
+static size_t client_count;
+static waywire_tables *tables;
+static bool has_ended_a_client;
 
-/* What is attached to a surface, who waits for its next frame, and the window that it shows. */
-struct surface {
-	waywire_wl_buffer buffer;
-	waywire_wl_callback callback;
-	waywire_xdg_toplevel toplevel;
-};
-
-struct devices {
-	waywire_object objects[MOST_DEVICES];
-};
-
-static waywire_connection *connection;
-static waywire_server server;
-static uint32_t serial;
-static struct devices keyboards, pointers;
-
-/* The first window that has shown a picture; of id 0 before. */
-static waywire_wl_surface window_surface;
-static waywire_xdg_toplevel window;
-
-static void must(waywire_status status)
+void must(waywire_status status)
 {
 	if (status)
 		errx(1, "%s", waywire_strerror(status));
 }
 
-/* The same for an event of which it is no failure that its object is gone, or older than the event. */
-static void may(waywire_status status)
+void may(struct client *client, waywire_status status)
 {
-	if (status != WAYWIRE_STALE && status != WAYWIRE_TOO_OLD)
+	if (status == WAYWIRE_FULL)
+		client->is_stuck = true;
+	else if (status != WAYWIRE_STALE && status != WAYWIRE_TOO_OLD && status != WAYWIRE_FAILED)
 		must(status);
 }
 
-static uint32_t milliseconds(void)
+bool is_live(const struct client *client, waywire_object object)
+{
+	return object.id && !waywire_end_live(client->server.end, object, NULL, NULL);
+}
+
+void *new_data(struct client *client, waywire_object object, size_t size,
+	void (*destroy)(void *data))
+{
+	void *data = calloc(1, size);
+	if (!data)
+		err(1, "memory");
+	must(waywire_connection_set_data(client->connection, object, data, destroy));
+	return data;
+}
+
+uint32_t next_serial(void)
+{
+	static uint32_t serial;
+	return serial++;
+}
+
+uint32_t milliseconds(void)
 {
 	struct timespec now;
 	clock_gettime(CLOCK_MONOTONIC, &now);
 	return (uint32_t)(now.tv_sec * 1000 + now.tv_nsec / 1000000);
 }
 
-static bool is_live(waywire_object object)
-{
-	return object.id && !waywire_end_live(server.end, object, NULL, NULL);
-}
-
-/* Memory for data of an object, which goes with it. */
-static void *new_data(waywire_object object, size_t size)
-{
-	void *data = calloc(1, size);
-	if (!data)
-		err(1, "memory");
-	must(waywire_connection_set_data(connection, object, data, free));
-	return data;
-}
+/* ---- globals */
 
 static void on_sync(void *data, waywire_wl_display display, waywire_wl_callback callback)
 {
-	must(waywire_wl_callback_send_done(server, callback, serial++));
+	struct client *client = data;
+	must(waywire_wl_callback_send_done(client->server, callback, next_serial()));
 }
 
 static const struct waywire_wl_display_requests display_requests = { .sync = on_sync };
 
-static void tell_output(waywire_wl_output output)
+static void tell_output(struct client *client, waywire_wl_output output)
 {
+	waywire_server server = client->server;
 	must(waywire_wl_output_send_geometry(server, output, 0, 0, 340, 190,
 		WAYWIRE_WL_OUTPUT_SUBPIXEL_UNKNOWN, "", "", WAYWIRE_WL_OUTPUT_TRANSFORM_NORMAL));
-	must(waywire_wl_output_send_mode(server, output, WAYWIRE_WL_OUTPUT_MODE_CURRENT, 1280, 720, 60000));
-	may(waywire_wl_output_send_done(server, output));
+	must(waywire_wl_output_send_mode(server, output, WAYWIRE_WL_OUTPUT_MODE_CURRENT, 1280, 720,
+		60000));
+	may(client, waywire_wl_output_send_done(server, output));
 }
 
 static void on_bind(void *data, waywire_wl_registry registry, uint32_t name, const char *interface,
 	uint32_t version, waywire_object made)
 {
+	struct client *client = data;
 	if (!strcmp(interface, WAYWIRE_WL_SHM_NAME)) {
-		must(waywire_wl_shm_send_format(server, waywire_wl_shm_of(made), WAYWIRE_WL_SHM_FORMAT_XRGB8888));
-		must(waywire_wl_shm_send_format(server, waywire_wl_shm_of(made), WAYWIRE_WL_SHM_FORMAT_ARGB8888));
+		waywire_wl_shm shm = waywire_wl_shm_of(made);
+		must(waywire_wl_shm_send_format(client->server, shm,
+			WAYWIRE_WL_SHM_FORMAT_XRGB8888));
+		must(waywire_wl_shm_send_format(client->server, shm,
+			WAYWIRE_WL_SHM_FORMAT_ARGB8888));
 	} else if (!strcmp(interface, WAYWIRE_WL_SEAT_NAME)) {
-		must(waywire_wl_seat_send_capabilities(server, waywire_wl_seat_of(made),
-			WAYWIRE_WL_SEAT_CAPABILITY_POINTER | WAYWIRE_WL_SEAT_CAPABILITY_KEYBOARD));
+		must(waywire_wl_seat_send_capabilities(client->server, waywire_wl_seat_of(made),
+			WAYWIRE_WL_SEAT_CAPABILITY_POINTER
+			| WAYWIRE_WL_SEAT_CAPABILITY_KEYBOARD));
 	} else if (!strcmp(interface, WAYWIRE_WL_OUTPUT_NAME)) {
-		tell_output(waywire_wl_output_of(made));
+		tell_output(client, waywire_wl_output_of(made));
 	}
 }
 
 static const struct waywire_wl_registry_requests registry_requests = { .bind = on_bind };
 
-static void free_memory(void *data)
-{
-	close(((struct memory *)data)->descriptor);
-	free(data);
-}
-
-static void set_memory(waywire_object object, struct memory memory)
-{
-	struct memory *kept = malloc(sizeof *kept);
-	if (!kept)
-		err(1, "memory");
-	*kept = memory;
-	must(waywire_connection_set_data(connection, object, kept, free_memory));
-}
-
-static void on_create_pool(void *data, waywire_wl_shm shm, waywire_wl_shm_pool pool, int fd, int32_t size)
-{
-	set_memory(pool.object, (struct memory){ fd, 0, 0, 0 });
-}
-
-static const struct waywire_wl_shm_requests shm_requests = { .create_pool = on_create_pool };
-
-static void on_create_buffer(void *data, waywire_wl_shm_pool pool, waywire_wl_buffer buffer, int32_t offset,
-	int32_t width, int32_t height, int32_t stride, uint32_t format)
-{
-	const struct memory *memory = data;
-	set_memory(buffer.object, (struct memory){ dup(memory->descriptor), offset, width, height });
-}
-
-static const struct waywire_wl_shm_pool_requests pool_requests = { .create_buffer = on_create_buffer };
-
-static void on_create_surface(void *data, waywire_wl_compositor compositor, waywire_wl_surface surface)
-{
-	new_data(surface.object, sizeof(struct surface));
-}
-
-static const struct waywire_wl_compositor_requests compositor_requests = {
-	.create_surface = on_create_surface };
-
-static void on_attach(void *data, waywire_wl_surface surface, waywire_wl_buffer buffer, int32_t x, int32_t y)
-{
-	((struct surface *)data)->buffer = buffer;
-}
-
-static void answer(struct surface *surface)
-{
-	if (surface->callback.object.id)
-		must(waywire_wl_callback_send_done(server, surface->callback, milliseconds()));
-	surface->callback.object.id = 0;
-}
-
-static void on_frame(void *data, waywire_wl_surface surface, waywire_wl_callback callback)
-{
-	answer(data); /* one waits at a time */
-	((struct surface *)data)->callback = callback;
-}
-
-static void on_commit(void *data, waywire_wl_surface it)
-{
-	struct surface *surface = data;
-	const struct memory *buffer = waywire_connection_data(connection, surface->buffer.object);
-	uint32_t pixel;
-	if (buffer && pread(buffer->descriptor, &pixel, sizeof pixel, buffer->offset) == sizeof pixel) {
-		printf("server: a picture of %d by %d, its first pixel %08x\n", buffer->width,
-			buffer->height, pixel);
-		must(waywire_wl_buffer_send_release(server, surface->buffer));
-		if (!window.object.id && is_live(surface->toplevel.object)) {
-			window_surface = it;
-			window = surface->toplevel;
-		}
-	}
-	surface->buffer.object.id = 0;
-	answer(surface);
-}
-
-static const struct waywire_wl_surface_requests surface_requests = {
-	.attach = on_attach, .frame = on_frame, .commit = on_commit };
-
-static void on_get_xdg_surface(void *data, waywire_xdg_wm_base base, waywire_xdg_surface xdg_surface,
-	waywire_wl_surface surface)
-{
-	*(waywire_wl_surface *)new_data(xdg_surface.object, sizeof surface) = surface;
-}
-
-static const struct ww_xdg_wm_base_requests wm_base_requests = { .get_xdg_surface = on_get_xdg_surface };
-
-static void on_get_toplevel(void *data, waywire_xdg_surface xdg_surface, waywire_xdg_toplevel toplevel)
-{
-	struct surface *surface = waywire_connection_data(connection,
-		((waywire_wl_surface *)data)->object);
-	if (surface)
-		surface->toplevel = toplevel;
-	must(ww_xdg_toplevel_send_configure(server, toplevel, 0, 0, NULL, 0));
-	must(ww_xdg_surface_send_configure(server, xdg_surface, serial++));
-}
-
-/* There is no place for menus: each is closed at once. */
-static void on_get_popup(void *data, waywire_xdg_surface xdg_surface, waywire_xdg_popup popup,
-	waywire_xdg_surface parent, waywire_xdg_positioner positioner)
-{
-	must(ww_xdg_popup_send_popup_done(server, popup));
-}
-
-static const struct ww_xdg_surface_requests xdg_surface_requests = {
-	.get_toplevel = on_get_toplevel, .get_popup = on_get_popup };
-
-/* ---- a keyboard and a pointer */
-
-/* Keeps a device in the place of one that is gone. */
-static void keep(struct devices *devices, waywire_object object)
-{
-	for (size_t each = 0; each < MOST_DEVICES; each++) {
-		if (!is_live(devices->objects[each])) {
-			devices->objects[each] = object;
-			return;
-		}
-	}
-}
-
-static void on_get_keyboard(void *data, waywire_wl_seat seat, waywire_wl_keyboard keyboard)
-{
-	int nothing = open("/dev/null", O_RDONLY | O_CLOEXEC);
-	if (nothing < 0)
-		err(1, "/dev/null");
-	must(waywire_wl_keyboard_send_keymap(server, keyboard, WAYWIRE_WL_KEYBOARD_KEYMAP_FORMAT_NO_KEYMAP,
-		nothing, 0));
-	may(waywire_wl_keyboard_send_repeat_info(server, keyboard, 0, 0));
-	keep(&keyboards, keyboard.object);
-}
-
-static void on_get_pointer(void *data, waywire_wl_seat seat, waywire_wl_pointer pointer)
-{
-	keep(&pointers, pointer.object);
-}
-
-static const struct waywire_wl_seat_requests seat_requests = {
-	.get_keyboard = on_get_keyboard, .get_pointer = on_get_pointer };
-
-static void on_set_cursor(void *data, waywire_wl_pointer pointer, uint32_t of, waywire_wl_surface surface,
-	int32_t x, int32_t y)
-{
-	printf("server: a cursor\n");
-}
-
-static const struct waywire_wl_pointer_requests pointer_requests = { .set_cursor = on_set_cursor };
-
-static waywire_wl_keyboard keyboard_at(size_t place)
-{
-	return waywire_wl_keyboard_of(keyboards.objects[place]);
-}
-
-static waywire_wl_pointer pointer_at(size_t place)
-{
-	return waywire_wl_pointer_of(pointers.objects[place]);
-}
-
-/* Gives the window the keyboard and the pointer. */
-static void enter(void)
-{
-	for (size_t each = 0; each < MOST_DEVICES; each++) {
-		waywire_wl_keyboard keyboard = keyboard_at(each);
-		waywire_wl_pointer pointer = pointer_at(each);
-		may(waywire_wl_keyboard_send_enter(server, keyboard, serial, window_surface, NULL, 0));
-		may(waywire_wl_keyboard_send_modifiers(server, keyboard, serial, 0, 0, 0, 0));
-		may(waywire_wl_pointer_send_enter(server, pointer, serial, window_surface, 256, 256));
-		may(waywire_wl_pointer_send_frame(server, pointer));
-	}
-	serial++;
-}
-
-static void press_key(uint32_t code)
-{
-	for (size_t each = 0; each < MOST_DEVICES; each++) {
-		waywire_wl_keyboard it = keyboard_at(each);
-		uint32_t time = milliseconds();
-		may(waywire_wl_keyboard_send_key(server, it, serial++, time, code,
-			WAYWIRE_WL_KEYBOARD_KEY_STATE_PRESSED));
-		may(waywire_wl_keyboard_send_key(server, it, serial++, time, code,
-			WAYWIRE_WL_KEYBOARD_KEY_STATE_RELEASED));
-	}
-}
-
-static void press_button(uint32_t code)
-{
-	for (size_t each = 0; each < MOST_DEVICES; each++) {
-		waywire_wl_pointer it = pointer_at(each);
-		uint32_t time = milliseconds();
-		may(waywire_wl_pointer_send_button(server, it, serial++, time, code,
-			WAYWIRE_WL_POINTER_BUTTON_STATE_PRESSED));
-		may(waywire_wl_pointer_send_frame(server, it));
-		may(waywire_wl_pointer_send_button(server, it, serial++, time, code,
-			WAYWIRE_WL_POINTER_BUTTON_STATE_RELEASED));
-		may(waywire_wl_pointer_send_frame(server, it));
-	}
-}
-
-static void move_to(int32_t x, int32_t y)
-{
-	for (size_t each = 0; each < MOST_DEVICES; each++) {
-		waywire_wl_pointer it = pointer_at(each);
-		may(waywire_wl_pointer_send_motion(server, it, milliseconds(), x * 256, y * 256));
-		may(waywire_wl_pointer_send_frame(server, it));
-	}
-}
-
-/* ---- the script */
-
-static void play(const char *line)
-{
-	uint32_t code;
-	int32_t x, y;
-	if (sscanf(line, "key %u", &code) == 1)
-		press_key(code);
-	else if (sscanf(line, "button %u", &code) == 1)
-		press_button(code);
-	else if (sscanf(line, "motion %d %d", &x, &y) == 2)
-		move_to(x, y);
-	else if (!strcmp(line, "close\n"))
-		must(ww_xdg_toplevel_send_close(server, window));
-	else
-		errx(1, "the script has %s", line);
-}
-
-/* Plays the next line of the script, a while behind the one before, if there is a window. */
-static void play_next(FILE *script)
-{
-	static uint32_t last;
-	static bool has_entered;
-	char line[64];
-	if (!is_live(window.object) || !is_live(window_surface.object) || milliseconds() - last < STEP)
-		return;
-	if (fgets(line, sizeof line, script)) {
-		if (!has_entered)
-			enter();
-		has_entered = true;
-		play(line);
-	}
-	last = milliseconds();
-}
-
 static const waywire_listener listeners[] = {
 	{ WAYWIRE_WL_DISPLAY_NAME, waywire_wl_display_request_dispatcher, &display_requests },
 	{ WAYWIRE_WL_REGISTRY_NAME, waywire_wl_registry_request_dispatcher, &registry_requests },
-	{ WAYWIRE_WL_COMPOSITOR_NAME, waywire_wl_compositor_request_dispatcher, &compositor_requests },
-	{ WAYWIRE_WL_SURFACE_NAME, waywire_wl_surface_request_dispatcher, &surface_requests },
-	{ WAYWIRE_WL_SHM_NAME, waywire_wl_shm_request_dispatcher, &shm_requests },
-	{ WAYWIRE_WL_SHM_POOL_NAME, waywire_wl_shm_pool_request_dispatcher, &pool_requests },
-	{ WAYWIRE_WL_SEAT_NAME, waywire_wl_seat_request_dispatcher, &seat_requests },
-	{ WAYWIRE_WL_POINTER_NAME, waywire_wl_pointer_request_dispatcher, &pointer_requests },
-	{ WW_XDG_WM_BASE_NAME, ww_xdg_wm_base_request_dispatcher, &wm_base_requests },
-	{ WW_XDG_SURFACE_NAME, ww_xdg_surface_request_dispatcher, &xdg_surface_requests },
 };
 
 static const struct global {
@@ -383,73 +133,173 @@ static const struct global {
 	{ "wl_data_device_manager", 3 }, /* without which GTK has no seat; nothing answers it */
 };
 
-/* The interfaces of the core, of xdg-shell and of clipboards. */
-static waywire_tables *read_tables(void)
+/* Reads the interfaces of the core, of xdg-shell and of clipboards. */
+static void read_tables(void)
 {
 	static const char text[] = WW_XDG_SHELL_TABLES DATA_DEVICE_TABLES;
-	waywire_tables *core, *tables;
+	waywire_tables *core;
 	must(waywire_tables_core(&core));
 	must(waywire_tables_read(core, text, strlen(text), &tables, NULL, NULL));
 	waywire_tables_free(core);
-	return tables;
 }
 
-/* Opens a server for the client at a socket, with its globals and what serves their objects. */
-static void open_server(int socket)
+/* ---- clients */
+
+/* Serves the client at a socket, with the globals. */
+static void add_client(int socket)
 {
-	waywire_tables *tables = read_tables();
-	connection = waywire_connection_of_server(tables, NULL, socket);
-	if (!connection)
-		err(1, "the connection");
-	waywire_tables_free(tables);
-	for (size_t each = 0; each < sizeof globals / sizeof *globals; each++) {
-		const struct global *it = &globals[each];
-		must(waywire_connection_add_global(connection, it->name, it->version, NULL));
-	}
-	must(waywire_connection_implement(connection, listeners, sizeof listeners / sizeof *listeners,
-		NULL));
-	server = waywire_connection_server(connection);
+	struct client *client = calloc(1, sizeof *client);
+	if (client)
+		client->connection = waywire_connection_of_server(tables, NULL, socket);
+	if (!client || !client->connection)
+		err(1, "a client");
+	client->server = waywire_connection_server(client->connection);
+	for (size_t each = 0; each < sizeof globals / sizeof *globals; each++)
+		must(waywire_connection_add_global(client->connection, globals[each].name,
+			globals[each].version, NULL));
+	must(waywire_connection_implement(client->connection, listeners,
+		sizeof listeners / sizeof *listeners, client));
+	serve_windows(client);
+	serve_seat(client);
+	client->next = clients;
+	clients = client;
+	client_count++;
 }
 
-/* The socket of the first client, for which it waits. */
-static int accept_client(const waywire_listening_socket *listening)
+/* Says why a client's connection has ended, unless the client has closed it. */
+static void tell_end(const struct client *client)
 {
-	struct pollfd polled = { waywire_listening_socket_fd(listening), POLLIN, 0 };
-	int socket;
-	while ((socket = waywire_listening_socket_accept(listening)) < 0 && errno == EAGAIN)
-		poll(&polled, 1, -1);
-	return socket;
-}
-
-/* Says why the connection has ended, unless the client has closed it. Returns the exit status. */
-static int tell_end(void)
-{
-	const waywire_failure *failure = waywire_connection_failure(connection);
+	const waywire_failure *failure = waywire_connection_failure(client->connection);
 	if (failure && (failure->error == EPIPE || failure->error == ECONNRESET))
-		return 0;
-	warnx("%s", failure ? failure->text : strerror(errno));
-	return 1;
+		return;
+	warnx("%s", failure ? failure->text : "a client does not read");
+	has_ended_a_client = true;
+}
+
+/* Takes a client out of the list, and ends it with all that it has. */
+static void end_client(struct client **place)
+{
+	struct client *client = *place;
+	*place = client->next;
+	client_count--;
+	leave_client(client);
+	waywire_connection_close(client->connection);
+	free(client);
+}
+
+static void end_those_that_failed(void)
+{
+	struct client **place = &clients;
+	while (*place) {
+		if (!(*place)->is_stuck && !waywire_connection_failure((*place)->connection)) {
+			place = &(*place)->next;
+			continue;
+		}
+		tell_end(*place);
+		end_client(place);
+	}
+}
+
+/* ---- the loop */
+
+/* What is to be waited for at a client. Sends first what was written for it. */
+static struct pollfd polled_at(struct client *client)
+{
+	struct pollfd polled = { waywire_connection_fd(client->connection), 0, 0 };
+	waywire_connection_flush(client->connection);
+	if (waywire_connection_wants_read(client->connection))
+		polled.events |= POLLIN;
+	if (waywire_connection_wants_write(client->connection))
+		polled.events |= POLLOUT;
+	return polled;
+}
+
+/* Waits for the clients, for so many milliseconds at most, and calls back for what they have
+ * sent. Returns false once a signal has come. */
+static bool serve(const waywire_listening_socket *listening, int signals, int timeout)
+{
+	struct pollfd polled[2 + MOST_CLIENTS] = { { signals, POLLIN, 0 },
+		{ waywire_listening_socket_fd(listening), POLLIN, 0 } };
+	size_t count = 2;
+	for (struct client *it = clients; it; it = it->next)
+		polled[count++] = polled_at(it);
+	if (client_count == MOST_CLIENTS)
+		polled[1].fd = -1;
+	if (poll(polled, count, timeout) < 0)
+		err(1, "poll");
+	count = 2;
+	for (struct client *it = clients; it; it = it->next) {
+		if (polled[count++].revents & ~POLLOUT)
+			waywire_connection_fill(it->connection);
+		waywire_connection_dispatch_pending(it->connection);
+	}
+	end_those_that_failed();
+	int socket = polled[1].revents ? waywire_listening_socket_accept(listening) : -1;
+	if (socket >= 0)
+		add_client(socket);
+	return !polled[0].revents;
+}
+
+/* Plays the next line of the script, a while after the one before, if a window has the focus. */
+static void play_next(FILE *script)
+{
+	static uint32_t last;
+	char line[64];
+	if (!focus || milliseconds() - last < STEP)
+		return;
+	if (fgets(line, sizeof line, script))
+		play(line);
+	last = milliseconds();
+}
+
+/* A descriptor that can be read once SIGINT or SIGTERM has come, which then do nothing else. */
+static int open_signals(void)
+{
+	sigset_t signals;
+	sigemptyset(&signals);
+	sigaddset(&signals, SIGINT);
+	sigaddset(&signals, SIGTERM);
+	sigprocmask(SIG_BLOCK, &signals, NULL);
+	int opened = signalfd(-1, &signals, SFD_CLOEXEC);
+	if (opened < 0)
+		err(1, "signals");
+	return opened;
+}
+
+/* Serves until a signal comes, or until no client is left of those that came. */
+static void run(const char *name, FILE *script, bool stays)
+{
+	int signals = open_signals();
+	waywire_listening_socket *listening = waywire_socket_listen(name);
+	if (!listening)
+		err(1, "%s", name);
+	bool had_clients = false;
+	while (serve(listening, signals, script ? STEP : -1)
+			&& (stays || clients || !had_clients)) {
+		had_clients |= clients != NULL;
+		find_focus();
+		if (script)
+			play_next(script);
+	}
+	while (clients)
+		end_client(&clients);
+	waywire_listening_socket_close(listening);
+	close(signals);
 }
 
 int main(int argc, char **argv)
 {
-	if (argc != 2 && argc != 3)
-		errx(1, "the name of a socket is wanted, and behind it a script if there is one");
-	FILE *script = argc == 3 ? fopen(argv[2], "re") : NULL;
-	if (argc == 3 && !script)
-		err(1, "%s", argv[2]);
-	waywire_listening_socket *listening = waywire_socket_listen(argv[1]);
-	int socket = listening ? accept_client(listening) : -1;
-	if (socket < 0)
-		err(1, "%s", argv[1]);
-	open_server(socket);
-	while (waywire_connection_dispatch(connection, script ? STEP : -1) >= 0)
-		if (script)
-			play_next(script);
-	int status = tell_end();
-	waywire_connection_close(connection);
-	waywire_listening_socket_close(listening);
+	bool stays = argc > 1 && !strcmp(argv[1], "--stay");
+	char **words = argv + 1 + stays;
+	if (argc - stays != 2 && argc - stays != 3)
+		errx(1, "the name of a socket is wanted, and after it a script if there is one");
+	FILE *script = words[1] ? fopen(words[1], "re") : NULL;
+	if (words[1] && !script)
+		err(1, "%s", words[1]);
+	read_tables();
+	run(words[0], script, stays);
+	waywire_tables_free(tables);
 	if (script)
 		fclose(script);
-	return status;
+	return has_ended_a_client;
 }
