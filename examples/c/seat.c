@@ -1,5 +1,5 @@
 /* The keyboard and the pointer: which window has them, and what a script does with them. */
-#include "server.h"
+#include "clipboard.h"
 
 #include <err.h>
 #include <fcntl.h>
@@ -56,6 +56,7 @@ void focus_on(struct client *client)
 	leave();
 	focus = client;
 	focused_surface = client->window.surface;
+	tell_selection_at_focus(client);
 	for (size_t each = 0; each < MOST_DEVICES; each++) {
 		if (is_live(client, client->keyboards[each]))
 			enter_keyboard(client, client->keyboards[each]);

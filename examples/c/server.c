@@ -1,18 +1,24 @@
 /* A compositor without a screen: serves the clients at a socket, lets them open windows over
- * xdg-shell, and says what colour each buffer has that is committed to a surface. Once a window has
- * shown a picture, it plays a script.
+ * xdg-shell and copy and paste, and says what colour each buffer has that is committed to a
+ * surface. Once a window has shown a picture, it plays a script.
  *
  *     server [--stay] NAME [SCRIPT]
  *
  * It ends with its last client, or with --stay at SIGINT or SIGTERM only. The exit status is 1 if
  * it has ended a client, say for a request that breaks a rule.
  *
- * The script is a file with an event a line: `key CODE` and `button CODE` press and release what
- * has that number in linux/input-event-codes.h, `modifiers MASK` holds modifiers down (Shift is 1,
- * Ctrl 4), `motion X Y` moves the pointer over the window, and `close` asks the window to close. */
+ * The script is a file with an event a line, which may grow while it is played: `key CODE` and
+ * `button CODE` press and release what has that number in linux/input-event-codes.h, `modifiers
+ * MASK` holds modifiers down (Shift is 1, Ctrl 4), `motion X Y` moves the pointer over the window,
+ * and `close` asks the window to close. */
 #define _GNU_SOURCE
-#include "data-device.h"
-#include "server.h"
+#include "clipboard.h"
+#include "wayland.h"
+#ifdef WITH_DATA_CONTROL
+#include "data-control.h"
+#else
+#define WW_WLR_DATA_CONTROL_UNSTABLE_V1_TABLES
+#endif
 
 #include <err.h>
 #include <errno.h>
@@ -130,13 +136,17 @@ static const struct global {
 	{ WAYWIRE_WL_COMPOSITOR_NAME, 4 }, { WAYWIRE_WL_SUBCOMPOSITOR_NAME, 1 },
 	{ WAYWIRE_WL_SHM_NAME, 1 }, { WAYWIRE_WL_SEAT_NAME, 5 },
 	{ WAYWIRE_WL_OUTPUT_NAME, 2 }, { WW_XDG_WM_BASE_NAME, 1 },
-	{ "wl_data_device_manager", 3 }, /* without which GTK has no seat; nothing answers it */
+	{ WW_WL_DATA_DEVICE_MANAGER_NAME, 3 },
+#ifdef WITH_DATA_CONTROL
+	{ WW_ZWLR_DATA_CONTROL_MANAGER_V1_NAME, 1 },
+#endif
 };
 
 /* Reads the interfaces of the core, of xdg-shell and of clipboards. */
 static void read_tables(void)
 {
-	static const char text[] = WW_XDG_SHELL_TABLES DATA_DEVICE_TABLES;
+	static const char text[] = WW_XDG_SHELL_TABLES WW_WAYLAND_TABLES
+		WW_WLR_DATA_CONTROL_UNSTABLE_V1_TABLES;
 	waywire_tables *core;
 	must(waywire_tables_core(&core));
 	must(waywire_tables_read(core, text, strlen(text), &tables, NULL, NULL));
@@ -161,6 +171,10 @@ static void add_client(int socket)
 		sizeof listeners / sizeof *listeners, client));
 	serve_windows(client);
 	serve_seat(client);
+	serve_data_device(client);
+#ifdef WITH_DATA_CONTROL
+	serve_data_control(client);
+#endif
 	client->next = clients;
 	clients = client;
 	client_count++;
@@ -247,6 +261,7 @@ static void play_next(FILE *script)
 	char line[64];
 	if (!focus || milliseconds() - last < STEP)
 		return;
+	clearerr(script);
 	if (fgets(line, sizeof line, script))
 		play(line);
 	last = milliseconds();
@@ -278,6 +293,7 @@ static void run(const char *name, FILE *script, bool stays)
 			&& (stays || clients || !had_clients)) {
 		had_clients |= clients != NULL;
 		find_focus();
+		tell_selection();
 		if (script)
 			play_next(script);
 	}

@@ -1,0 +1,192 @@
+"""Programs of the distribution that copy and paste at the example compositor in C, and at sway."""
+
+import base64
+import contextlib
+import os
+import subprocess
+import tempfile
+
+from checks import Failed, Skipped, end, has_come, has_client, is_listening, need
+
+# How long a text may take from one client to another, and a client to end, in seconds.
+PASSES = 60
+# How long keys are given before they are pressed again, in seconds.
+AGAIN = 3
+SMALL = "grüße\n".encode()
+# More than a pipe holds.
+LARGE = base64.b64encode(bytes(it * it % 251 for it in range(400_000)))
+# End; Ctrl and V; Ctrl and A, Ctrl and C; Return.
+END, PASTE, COPY_ALL, RETURN = ("key 107\n", "modifiers 4\nkey 47\nmodifiers 0\n",
+                                "modifiers 4\nkey 30\nkey 46\nmodifiers 0\n", "key 28\n")
+TYPE = ["--type", "text/plain"]
+
+
+class Clipboard:
+    """A compositor that listens at `path`, and the clients of a test."""
+
+    def __init__(self, path, process, env):
+        self.path, self.process, self.env = path, process, env
+        self.started = []
+
+    def start(self, words, stdin=None, **kept):
+        """A client that runs beside the test, and reads `stdin`."""
+        kept = {"stdin": subprocess.DEVNULL if stdin is None else subprocess.PIPE, "env": self.env, **kept}
+        client = subprocess.Popen(words, **kept)
+        self.started.append(client)
+        if stdin is not None:
+            client.stdin.write(stdin)
+            client.stdin.close()
+        return client
+
+    def copy(self, text, *options):
+        """A client that offers a text, until another is copied."""
+        return self.start(["wl-copy", "--foreground", *TYPE, *options], text)
+
+    def pasted(self):
+        """The text in the clipboard; none where nothing is copied."""
+        done = subprocess.run(["wl-paste", "--no-newline"], env=self.env, capture_output=True, timeout=PASSES, check=False)
+        return done.stdout if done.returncode == 0 else None
+
+    def has(self, test, what, seconds=PASSES):
+        if not has_come(test, seconds):
+            raise Failed(f"{what} has not come within {seconds} s")
+
+    def pastes(self, text):
+        self.has(lambda: self.pasted() == text,
+                 "the end of the text" if text is None else f"{text[:20]!r}, of {len(text)} bytes,")
+
+    def descriptors(self):
+        """How many descriptors the compositor has open."""
+        return len(os.listdir(f"/proc/{self.process.pid}/fd"))
+
+    def end_clients(self):
+        for client in self.started:
+            end(client)
+
+
+@contextlib.contextmanager
+def compositor(words, script=None):
+    """The example compositor for a test. It has to end without a failure."""
+    with tempfile.TemporaryDirectory() as folder:
+        path = f"{folder}/wayland-test"
+        env = {**os.environ, "XDG_RUNTIME_DIR": folder, "WAYLAND_DISPLAY": "wayland-test",
+               "HOME": folder, "GDK_BACKEND": "wayland", "NO_AT_BRIDGE": "1"}
+        if script:
+            open(f"{folder}/{script}", "wb").close()
+        more = [f"{folder}/{script}"] if script else []
+        with open(f"{folder}/said", "w+b") as said:
+            process = subprocess.Popen([*words, "--stay", path, *more], stdout=said, stderr=said)
+            board = Clipboard(path, process, env)
+            try:
+                has_come(lambda: is_listening(path) or process.poll() is not None)
+                yield board
+            finally:
+                board.end_clients()
+                end(process)
+            said.seek(0)
+            output = said.read()[-800:].decode(errors="replace")
+        if process.returncode or os.path.exists(path):
+            raise Failed(f"status {process.returncode} of the compositor\n{output}")
+
+
+def passes_texts(*words):
+    """A small text and one that no pipe holds: each is pasted as it was copied, several times. A
+    client whose text is replaced is told so, and ends. No descriptor stays open."""
+    need("wl-copy", "wl-paste")
+    with compositor(words) as board:
+        before = board.descriptors()
+        if board.pasted() is not None:
+            raise Failed("a text is pasted although none was copied")
+        copied = None
+        for text in (SMALL, LARGE, b"", SMALL):
+            replaced, copied = copied, board.copy(text)
+            board.pastes(text)
+            if replaced and replaced.wait(PASSES):
+                raise Failed(f"wl-copy ended with status {replaced.returncode}")
+        for _ in range(20):
+            board.pastes(SMALL)
+        board.has(lambda: board.descriptors() == before + 1, "that one client is left")
+        board.end_clients()
+        board.pastes(None)
+        board.has(lambda: board.descriptors() == before, "that all descriptors are closed")
+
+
+def goes_on_without_a_client(*words):
+    """The client whose text is copied is killed: nothing is copied any more, and another client,
+    which was there all the time, is told of the next text."""
+    need("wl-copy", "wl-paste")
+    with compositor(words) as board:
+        before = board.descriptors()
+        path = os.path.join(board.env["HOME"], "watched")
+        with open(path, "w+b") as said:
+            watching = board.start(["wl-paste", "--no-newline", "--watch", "cat"], stdout=said)
+
+            def watched():
+                with open(path, "rb") as file:
+                    return file.read()
+            copied = board.copy(b"one ")
+            board.has(lambda: watched() == b"one ", "the first text")
+            copied.kill()
+            copied.wait()
+            board.pastes(None)
+            copied = board.copy(b"two ")
+            board.has(lambda: watched() == b"one two ", "the second text")
+            # The one that watches goes while it waits; the text stays.
+            watching.kill()
+            watching.wait()
+            board.pastes(b"two ")
+        board.end_clients()
+        board.has(lambda: board.descriptors() == before, "that all descriptors are closed")
+
+
+def is_there(board, client):
+    """Waits until a client is connected. It is skipped where it does not come up."""
+    if not has_come(lambda: has_client(board.path) or client.poll() is not None):
+        raise Skipped(f"{client.args[0]} has made no connection")
+
+
+def press(board, *lines):
+    with open(os.path.join(board.env["HOME"], "script"), "a", encoding="ascii") as file:
+        file.write("".join(lines))
+
+
+def serves_gtk(*words):
+    """A text of wl-copy is pasted into an entry of GTK, whose text is copied there and pasted by
+    wl-paste: by a wl_data_device what came from a data-control source, and the other way round.
+    What is copied there before the text is in the entry ends the pasting, and all is done again."""
+    need("wl-copy", "wl-paste", "zenity")
+    with compositor(words, "script") as board:
+        window = ["zenity", "--entry", "--text=waywire", "--entry-text=old "]
+        entry = board.start(window, stdout=subprocess.PIPE)
+        is_there(board, entry)
+
+        def is_in_entry():
+            text = board.pasted() or b""
+            return text != b"new" and text.endswith(b"new")
+
+        def has_copied():
+            board.copy(b"new")
+            board.pastes(b"new")
+            press(board, END, PASTE, COPY_ALL)
+            return has_come(is_in_entry, AGAIN)
+        board.has(has_copied, "the text that was pasted into the entry")
+        text = board.pasted()
+        press(board, RETURN)
+        said = entry.communicate(timeout=PASSES)[0]
+        if said != text + b"\n":
+            raise Failed(f"the entry says {said!r}, and wl-paste {text!r}")
+
+
+def serves_foot(*words):
+    """A program in a terminal copies by an escape sequence (OSC 52)."""
+    need("wl-paste", "foot")
+    with compositor(words, "script") as board:
+        text = base64.b64encode(SMALL).decode()
+        again = f"while :; do printf '\\033]52;c;{text}\\033\\\\'; sleep 1; done"
+        terminal = board.start(["foot", "--config=/dev/null", "sh", "-c", again],
+                               stderr=subprocess.PIPE)
+        is_there(board, terminal)
+        if not has_come(lambda: board.pasted() == SMALL or terminal.poll() is not None, PASSES):
+            raise Failed("the text of foot has not come")
+        if terminal.poll() is not None:
+            raise Skipped(f"foot does not run here: {terminal.stderr.read()[-300:]!r}")
