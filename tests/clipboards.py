@@ -6,6 +6,7 @@ import os
 import subprocess
 import tempfile
 
+import compositors
 from checks import Failed, Skipped, end, has_come, has_client, is_listening, need
 
 # How long a text may take from one client to another, and a client to end, in seconds.
@@ -190,3 +191,47 @@ def serves_foot(*words):
             raise Failed("the text of foot has not come")
         if terminal.poll() is not None:
             raise Skipped(f"foot does not run here: {terminal.stderr.read()[-300:]!r}")
+
+
+def client_pastes(board, client, checked):
+    """The example client prints what wl-copy has copied, a small text and one that no pipe holds,
+    and says so where nothing is copied. `checked` are words of what runs it when it succeeds."""
+    def ran(*words):
+        done = subprocess.run([*words, client, "--paste"], env=board.env, capture_output=True,
+                              timeout=PASSES, check=False)
+        return done.returncode, done.stdout, done.stderr
+
+    status, said, error = ran()
+    if status != 1 or said or b"no text is copied" not in error:
+        raise Failed(f"nothing is copied: status {status}, {said[:200]!r}, {error[-600:]!r}")
+    for text in (SMALL, LARGE):
+        board.copy(text)
+        board.pastes(text)
+        status, said, error = ran(*checked)
+        if status or said != text:
+            raise Failed(f"status {status}, {len(said)} bytes, not {len(text)}: {error[-600:]!r}")
+
+
+def client_pastes_at_ours(client, checked, *words):
+    need("wl-copy", "wl-paste")
+    with compositor(words) as board:
+        client_pastes(board, client, checked)
+
+
+def client_pastes_at_sway(client, checked):
+    """At sway, which gives a new window the focus."""
+    need("sway", "wl-copy", "wl-paste")
+    with tempfile.TemporaryDirectory(prefix="sway-") as room:
+        words, path, kept = compositors.sway(room, dict(os.environ))
+        with open(f"{room}/said", "w+b") as said:
+            process = compositors.started(words, path, said, **kept)
+            board = Clipboard(path, process, {**os.environ, "XDG_RUNTIME_DIR": room,
+                                              "WAYLAND_DISPLAY": path, "HOME": room})
+            try:
+                if not is_listening(path):
+                    said.seek(0)
+                    raise Skipped(f"sway has not come up: {said.read()[-300:]!r}")
+                client_pastes(board, client, checked)
+            finally:
+                board.end_clients()
+                end(process)
