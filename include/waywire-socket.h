@@ -256,7 +256,8 @@ int waywire_connection_drain(waywire_connection *connection, int milliseconds);
 /* A loop of one's own polls this descriptor, for POLLIN if the connection wants_read, and for
  * POLLOUT if it wants_write. Before that it flushes, and afterwards it fills and dispatches what is
  * pending; or it makes one call for all of this, which does not wait:
- * waywire_connection_dispatch(it, 0). */
+ * waywire_connection_dispatch(it, 0). If the connection wants neither, messages wait that had no
+ * room for their answers before the flush, or that found no memory: dispatch without waiting. */
 int waywire_connection_fd(const waywire_connection *connection);
 
 /* Whether bytes wait to be sent. */

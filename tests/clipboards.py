@@ -7,7 +7,7 @@ import subprocess
 import tempfile
 
 import compositors
-from checks import Failed, Skipped, end, has_come, has_client, is_listening, need
+from checks import Failed, Skipped, end, has_come, has_client, is_listening, need, run
 
 # How long a text may take from one client to another, and a client to end, in seconds.
 PASSES = 60
@@ -66,8 +66,8 @@ class Clipboard:
 
 
 @contextlib.contextmanager
-def compositor(words, script=None):
-    """The example compositor for a test. It has to end without a failure."""
+def compositor(words, script=None, status=0):
+    """The example compositor for a test. It has to end with this status: 1 if it has ended a client."""
     with tempfile.TemporaryDirectory() as folder:
         path = f"{folder}/wayland-test"
         env = {**os.environ, "XDG_RUNTIME_DIR": folder, "WAYLAND_DISPLAY": "wayland-test",
@@ -86,7 +86,7 @@ def compositor(words, script=None):
                 end(process)
             said.seek(0)
             output = said.read()[-800:].decode(errors="replace")
-        if process.returncode or os.path.exists(path):
+        if process.returncode != status or os.path.exists(path):
             raise Failed(f"status {process.returncode} of the compositor\n{output}")
 
 
@@ -138,6 +138,18 @@ def goes_on_without_a_client(*words):
             board.pastes(b"two ")
         board.end_clients()
         board.has(lambda: board.descriptors() == before, "that all descriptors are closed")
+
+
+def bears_much(program, *words):
+    """Two clients of a program of ours use offers that are gone, write much and read nothing; one
+    breaks a rule, and is ended. Others copy and paste as before."""
+    need("wl-copy", "wl-paste")
+    with compositor(words, status=1) as board:
+        before = board.descriptors()
+        run([program, board.path])
+        board.has(lambda: board.descriptors() == before, "that all descriptors are closed")
+        board.copy(SMALL)
+        board.pastes(SMALL)
 
 
 def is_there(board, client):

@@ -235,8 +235,11 @@ static bool serve(const waywire_listening_socket *listening, int signals, int ti
 	struct pollfd polled[2 + MOST_CLIENTS] = { { signals, POLLIN, 0 },
 		{ waywire_listening_socket_fd(listening), POLLIN, 0 } };
 	size_t count = 2;
-	for (struct client *it = clients; it; it = it->next)
-		polled[count++] = polled_at(it);
+	for (struct client *it = clients; it; it = it->next) {
+		polled[count] = polled_at(it);
+		if (!polled[count++].events)
+			timeout = 0; /* requests wait that had no room for their answers before */
+	}
 	if (client_count == MOST_CLIENTS)
 		polled[1].fd = -1;
 	if (poll(polled, count, timeout) < 0)
