@@ -45,7 +45,8 @@ class Clipboard:
 
     def pasted(self):
         """The text in the clipboard; none where nothing is copied."""
-        done = subprocess.run(["wl-paste", "--no-newline"], env=self.env, capture_output=True, timeout=PASSES, check=False)
+        done = subprocess.run(["wl-paste", "--no-newline"], env=self.env, capture_output=True,
+                              timeout=PASSES, check=False)
         return done.stdout if done.returncode == 0 else None
 
     def has(self, test, what, seconds=PASSES):
@@ -67,7 +68,8 @@ class Clipboard:
 
 @contextlib.contextmanager
 def compositor(words, script=None, status=0):
-    """The example compositor for a test. It has to end with this status: 1 if it has ended a client."""
+    """The example compositor for a test. It has to end with this status: 1 if it has ended a
+    client."""
     with tempfile.TemporaryDirectory() as folder:
         path = f"{folder}/wayland-test"
         env = {**os.environ, "XDG_RUNTIME_DIR": folder, "WAYLAND_DISPLAY": "wayland-test",
@@ -163,10 +165,11 @@ def press(board, *lines):
         file.write("".join(lines))
 
 
-def serves_gtk(*words):
+def serves_gtk(client, *words):
     """A text of wl-copy is pasted into an entry of GTK, whose text is copied there and pasted by
     wl-paste: by a wl_data_device what came from a data-control source, and the other way round.
-    What is copied there before the text is in the entry ends the pasting, and all is done again."""
+    What is copied there before the text is in the entry ends the pasting, and all is done again.
+    The example client pastes the text, too: its window takes the focus, and gives it back."""
     need("wl-copy", "wl-paste", "zenity")
     with compositor(words, "script") as board:
         window = ["zenity", "--entry", "--text=waywire", "--entry-text=old "]
@@ -184,6 +187,8 @@ def serves_gtk(*words):
             return has_come(is_in_entry, AGAIN)
         board.has(has_copied, "the text that was pasted into the entry")
         text = board.pasted()
+        if run([client, "--paste"], env=board.env) != text.decode():
+            raise Failed("the example client pastes another text")
         press(board, RETURN)
         said = entry.communicate(timeout=PASSES)[0]
         if said != text + b"\n":

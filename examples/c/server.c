@@ -242,7 +242,7 @@ static bool serve(const waywire_listening_socket *listening, int signals, int ti
 	}
 	if (client_count == MOST_CLIENTS)
 		polled[1].fd = -1;
-	if (poll(polled, count, timeout) < 0)
+	if (poll(polled, count, timeout) < 0 && errno != EINTR)
 		err(1, "poll");
 	count = 2;
 	for (struct client *it = clients; it; it = it->next) {
