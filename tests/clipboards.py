@@ -232,7 +232,10 @@ def client_pastes(board, client, checked):
 def client_pastes_at_ours(client, checked, *words):
     need("wl-copy", "wl-paste")
     with compositor(words) as board:
+        before = board.descriptors()
         client_pastes(board, client, checked)
+        board.end_clients()
+        board.has(lambda: board.descriptors() == before, "that all descriptors are closed")
 
 
 def client_pastes_at_sway(client, checked):
