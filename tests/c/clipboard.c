@@ -10,8 +10,12 @@
 #include <fcntl.h>
 #include <poll.h>
 
-/* Selections that are set one after another, and readers that ask at once. */
-#define MANY 3000
+/* Selections that are set one after another, with so many types whose names are so long: more than a socket and
+ * an outbox hold. And readers that ask at once. */
+#define SELECTIONS 300
+#define TYPES 64
+#define LONG 200
+#define READERS 3000
 
 typedef waywire_zwlr_data_control_source_v1 source;
 typedef waywire_zwlr_data_control_offer_v1 offer;
@@ -122,19 +126,24 @@ static void connect_side(struct side *it, const char *path)
 		MUST(!status); \
 	} while (0)
 
-/* Selects a new source with so many types. */
-static source copy(struct side *it, int types)
+/* Selects a new source with so many types, whose names are at least so long. */
+static source copy_long(struct side *it, int types, int least)
 {
 	source made;
-	char name[16];
+	char name[LONG + 16];
 	SEND(it, ww_zwlr_data_control_manager_v1_create_data_source(it->client, it->manager, &made));
 	for (int each = 0; each < types; each++) {
-		snprintf(name, sizeof name, "type %d", each);
+		snprintf(name, sizeof name, "type %0*d", least, each);
 		SEND(it, ww_zwlr_data_control_source_v1_offer(it->client, made, name));
 	}
 	SEND(it, ww_zwlr_data_control_device_v1_set_selection(it->client, it->device, made));
 	MUST(!waywire_connection_drain(it->connection, WAIT));
 	return made;
+}
+
+static source copy(struct side *it, int types)
+{
+	return copy_long(it, types, 1);
 }
 
 /* Asks for a text, of which the other end of the pipe is returned. */
@@ -203,8 +212,8 @@ static void test_destroyed(struct side *one, struct side *other)
 /* One client sets many selections while the other reads nothing: that gets the last one. */
 static void test_much(struct side *one, struct side *other)
 {
-	for (int each = 0; each < MANY; each++) {
-		source it = copy(one, 8);
+	for (int each = 0; each < SELECTIONS; each++) {
+		source it = copy_long(one, TYPES, LONG);
 		SEND(one, ww_zwlr_data_control_source_v1_destroy(one->client, it));
 		MUST(waywire_connection_dispatch(one->connection, 0) >= 0);
 	}
@@ -217,10 +226,10 @@ static void test_much(struct side *one, struct side *other)
  * descriptor is closed. */
 static void test_readers(struct side *one, struct side *other)
 {
-	static char text[6 * MANY];
+	static char text[6 * READERS];
 	int ends[2], before = one->sends;
 	MUST(!pipe2(ends, O_CLOEXEC));
-	for (int each = 0; each < MANY; each++) {
+	for (int each = 0; each < READERS; each++) {
 		int fd = fcntl(ends[1], F_DUPFD_CLOEXEC, 0);
 		MUST(fd >= 0);
 		SEND(other, ww_zwlr_data_control_offer_v1_receive(other->client, other->selected, "type 0", fd));
