@@ -4,15 +4,19 @@
 //! with this package's: of one major number, and below 1 of one minor number. Without the library the package
 //! can be checked and documented; what is linked then fails.
 //!
-//! It makes the module of xdg-shell, too, which the examples have, with the installed tool.
+//! It also makes the modules of the examples from the protocols' files, with the installed tool. Without
+//! the file of wlr-data-control, which is rarely installed, the compositor is built without data-control.
 
 use std::env;
 use std::fs;
+use std::iter;
 use std::path::{Path, PathBuf};
 use std::process::Command;
 
 fn main() {
-    for variable in ["WAYWIRE_DIR", "PKG_CONFIG_PATH", "DOCS_RS", "PROTOCOLS"] {
+    for variable in
+        ["WAYWIRE_DIR", "PKG_CONFIG_PATH", "DOCS_RS", "PROTOCOLS", "WAYLAND_XML", "DATA_CONTROL"]
+    {
         println!("cargo:rerun-if-env-changed={variable}");
     }
     let installed = Installed::found();
@@ -30,8 +34,14 @@ fn main() {
     let headers = installed.as_ref().map(|it| it.headers.clone()).unwrap_or_default();
     println!("cargo:rustc-env=WAYWIRE_INCLUDE={}", headers.display());
     let data = installed.as_ref().map(|it| it.data.clone()).unwrap_or_default();
-    println!("cargo:rustc-env=WAYWIRE_TABLES={}", data.join("tables").display());
-    make_xdg_shell(&data.join("tools/stubs-from-xml"));
+    let tool = Tool::found(&data);
+    tool.make("xdg_shell", &xdg_shell(), "wayland-protocols");
+    tool.make("wayland", &wayland(), "libwayland-dev");
+    println!("cargo::rustc-check-cfg=cfg(data_control)");
+    if let Some(file) = data_control() {
+        tool.make("wlr_data_control_unstable_v1", &file, "wlr-protocols");
+        println!("cargo:rustc-cfg=data_control");
+    }
 }
 
 /// The folders of the installed library.
@@ -74,33 +84,72 @@ fn asked(package: &str, variable: &str) -> Option<PathBuf> {
     said.status.success().then(|| PathBuf::from(String::from_utf8_lossy(&said.stdout).trim()))
 }
 
-/// Writes the module of the examples. If it cannot be made, it says what is missing: the library has none of it.
-fn make_xdg_shell(tool: &Path) {
-    let module = xdg_shell(tool).unwrap_or_else(|| {
-        let wanted =
-            "the examples need xdg-shell: install libwaywire, wayland-protocols and python3, and \
-            clean this package";
-        format!("compile_error!({wanted:?});\n")
-    });
-    let path = PathBuf::from(env::var_os("OUT_DIR").unwrap()).join("xdg_shell.rs");
-    fs::write(path, format!("pub mod xdg_shell {{\n{module}}}\n")).unwrap();
+/// The tool that makes a module from a protocol's file.
+struct Tool(PathBuf);
+
+impl Tool {
+    /// The installed one, below the library's data or in the path.
+    fn found(data: &Path) -> Tool {
+        let tool = data.join("tools/stubs-from-xml");
+        for name in ["stubs-from-xml", "rust_stubs.py", "protocol.py"] {
+            rerun(&tool.with_file_name(name));
+        }
+        Tool(if tool.exists() { tool } else { "waywire-stubs-from-xml".into() })
+    }
+
+    /// Writes a module for the examples. If it cannot be made, it says what is missing: the library has
+    /// none of it.
+    fn make(&self, name: &str, file: &Path, package: &str) {
+        rerun(file);
+        let module = self.module(file).unwrap_or_else(|| {
+            let wanted = format!(
+                "the examples need {name}: install libwaywire, {package} and python3, and clean this package"
+            );
+            format!("compile_error!({wanted:?});\n")
+        });
+        let path = PathBuf::from(env::var_os("OUT_DIR").unwrap()).join(name).with_extension("rs");
+        fs::write(path, format!("pub mod {name} {{\n{module}}}\n")).unwrap();
+    }
+
+    fn module(&self, file: &Path) -> Option<String> {
+        let made = Command::new(&self.0).arg("--rust").arg(file).output().ok()?;
+        made.status.success().then(|| String::from_utf8(made.stdout).ok()).flatten()
+    }
 }
 
-/// What the installed stubs-from-xml makes of the protocol's file, below `PROTOCOLS` or where pkg-config says.
-fn xdg_shell(tool: &Path) -> Option<String> {
-    let protocols = env::var_os("PROTOCOLS").map(PathBuf::from);
-    let protocols = protocols
-        .or_else(|| asked("wayland-protocols", "pkgdatadir"))
-        .unwrap_or_else(|| PathBuf::from("/usr/share/wayland-protocols"));
-    let file = protocols.join("stable/xdg-shell/xdg-shell.xml");
-    for path in
-        [&file, tool, &tool.with_file_name("rust_stubs.py"), &tool.with_file_name("protocol.py")]
-    {
-        rerun(path);
-    }
-    let tool = if tool.exists() { tool } else { Path::new("waywire-stubs-from-xml") };
-    let made = Command::new(tool).arg("--rust").arg(file).output().ok()?;
-    made.status.success().then(|| String::from_utf8(made.stdout).ok()).flatten()
+/// The path that a variable names.
+fn named(variable: &str) -> Option<PathBuf> {
+    env::var_os(variable).map(PathBuf::from)
+}
+
+/// The folder of a package's files, by pkg-config or where it usually is.
+fn folder(package: &str, usual: &str) -> PathBuf {
+    asked(package, "pkgdatadir").unwrap_or_else(|| usual.into())
+}
+
+fn xdg_shell() -> PathBuf {
+    named("PROTOCOLS")
+        .unwrap_or_else(|| folder("wayland-protocols", "/usr/share/wayland-protocols"))
+        .join("stable/xdg-shell/xdg-shell.xml")
+}
+
+/// The file of the core, for its clipboard.
+fn wayland() -> PathBuf {
+    named("WAYLAND_XML")
+        .unwrap_or_else(|| folder("wayland-scanner", "/usr/share/wayland").join("wayland.xml"))
+}
+
+/// The file of wlr-data-control: what `DATA_CONTROL` names (nothing builds without), else that of
+/// wlr-protocols, else that of Debian's librust-wayland-protocols-dev.
+fn data_control() -> Option<PathBuf> {
+    const FILE: &str = "unstable/wlr-data-control-unstable-v1.xml";
+    let packages = fs::read_dir("/usr/share/cargo/registry").into_iter().flatten().flatten();
+    let debian = packages
+        .filter(|it| it.file_name().to_string_lossy().starts_with("wayland-protocols-"))
+        .map(|it| it.path().join("wlr-protocols"));
+    let folders = iter::once(folder("wlr-protocols", "/usr/share/wlr-protocols")).chain(debian);
+    let found = || folders.map(|it| it.join(FILE)).find(|it| it.exists());
+    named("DATA_CONTROL").or_else(found).filter(|it| !it.as_os_str().is_empty())
 }
 
 /// Ends the build where the header's version is not compatible with this package's.

@@ -2,12 +2,13 @@
 //!
 //! Over the calls of `waywire-socket.h`. Every descriptor that is made here is close-on-exec. No call
 //! makes a signal: a socket whose other end is closed is an error, [`io::ErrorKind::BrokenPipe`]. Only
-//! [`wait`], [`Link::wait`], [`Link::dispatch`] and [`Link::round_trip`] wait, each no longer than it is
-//! told, and [`connect`] while the other end has too many clients that it has not accepted yet.
+//! [`wait`], [`wait_many`], [`Link::wait`], [`Link::dispatch`] and [`Link::round_trip`] wait, each no
+//! longer than it is told, and [`connect`] while the other end has too many clients that it has not
+//! accepted yet.
 
 use crate::connection::{AsClient, Connection};
 use crate::report::{Incoming, ProtocolError};
-use crate::sys;
+use crate::sys::{self, Pollfd};
 use crate::tables::Object;
 use crate::typed::EventHandler;
 use crate::wayland::wl_display::WlDisplay;
@@ -82,11 +83,27 @@ pub fn wait<const N: usize>(
     sockets: [(BorrowedFd<'_>, bool); N],
     limit: Option<Duration>,
 ) -> io::Result<[bool; N]> {
+    let mut polled = sockets.map(Pollfd::new);
+    poll(&mut polled, limit)?;
+    Ok(polled.map(|it| it.is_ready()))
+}
+
+/// The same for any number of sockets, as those of a server's clients.
+pub fn wait_many<'a>(
+    sockets: impl IntoIterator<Item = (BorrowedFd<'a>, bool)>,
+    limit: Option<Duration>,
+) -> io::Result<Vec<bool>> {
+    let mut polled: Vec<Pollfd> = sockets.into_iter().map(Pollfd::new).collect();
+    poll(&mut polled, limit)?;
+    Ok(polled.iter().map(Pollfd::is_ready).collect())
+}
+
+fn poll(polled: &mut [Pollfd], limit: Option<Duration>) -> io::Result<()> {
     let until = Deadline::of(limit);
     loop {
-        match sys::poll(sockets, until.milliseconds()) {
+        match sys::poll(polled, until.milliseconds()) {
             Err(error) if error.kind() == ErrorKind::Interrupted => {}
-            ready => return ready,
+            ended => return ended,
         }
     }
 }

@@ -100,6 +100,9 @@ fn waiting_ends_in_time() {
     assert_eq!(client.round_trip(&mut (), SOON).unwrap_err().kind(), ErrorKind::TimedOut);
     assert!(began.elapsed() >= 3 * SOON.unwrap());
     assert_eq!(socket::wait([client.awaited(), server.awaited()], LONG).unwrap(), [false, true]);
+    let many = [&client, &client].map(|it| it.awaited()).into_iter().chain([server.awaited()]);
+    assert_eq!(socket::wait_many(many, LONG).unwrap(), [false, false, true]);
+    assert_eq!(socket::wait_many([client.awaited()], SOON).unwrap(), [false]);
     drop(server);
     let ended = client.round_trip(&mut (), LONG).unwrap_err();
     assert!(has_gone(&ended), "{ended}");

@@ -26,7 +26,7 @@ type RawListening = c_void;
 
 /// `struct pollfd`.
 #[repr(C)]
-struct Pollfd {
+pub struct Pollfd {
     descriptor: RawFd,
     events: i16,
     came: i16,
@@ -199,23 +199,25 @@ impl Listening {
     }
 }
 
-/// A descriptor that is waited for until it can be read, and if the second is true, also until it can be
-/// written.
-pub type Polled<'a> = (BorrowedFd<'a>, bool);
+impl Pollfd {
+    /// A descriptor that is waited for until it can be read, and if `writes`, also until it can be
+    /// written.
+    pub fn new((descriptor, writes): (BorrowedFd<'_>, bool)) -> Pollfd {
+        let events = if writes { POLLIN | POLLOUT } else { POLLIN };
+        Pollfd { descriptor: descriptor.as_raw_fd(), events, came: 0 }
+    }
 
-/// Waits for one of these, so many milliseconds at most; below 0 is no limit. Says which are ready.
-pub fn poll<const N: usize>(
-    descriptors: [Polled<'_>; N],
-    milliseconds: c_int,
-) -> io::Result<[bool; N]> {
-    let mut polled = descriptors.map(|(it, writes)| Pollfd {
-        descriptor: it.as_raw_fd(),
-        events: if writes { POLLIN | POLLOUT } else { POLLIN },
-        came: 0,
-    });
+    /// Whether the last call of [`poll`] has found it ready.
+    pub fn is_ready(&self) -> bool {
+        self.came != 0
+    }
+}
+
+/// Waits for one of these, so many milliseconds at most; below 0 is no limit.
+pub fn poll(polled: &mut [Pollfd], milliseconds: c_int) -> io::Result<()> {
     // Safety: the call reads and writes these.
-    if unsafe { wait_for(polled.as_mut_ptr(), N as c_ulong, milliseconds) } < 0 {
+    if unsafe { wait_for(polled.as_mut_ptr(), polled.len() as c_ulong, milliseconds) } < 0 {
         return Err(io::Error::last_os_error());
     }
-    Ok(polled.map(|it| it.came != 0))
+    Ok(())
 }

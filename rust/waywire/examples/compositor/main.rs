@@ -1,0 +1,193 @@
+//! A compositor without a screen: serves several clients, lets them open windows over xdg-shell and
+//! copy and paste, and prints the first pixel of each picture that they commit. Once a window has
+//! shown a picture, the compositor plays a script at it.
+//!
+//!     compositor NAME [SCRIPT]
+//!
+//! The name is that of its socket in XDG_RUNTIME_DIR, or a path that begins with a slash. The
+//! compositor ends with its last client. Its exit status is 1 if it has ended a client, for example
+//! for a request that breaks a rule.
+//!
+//! The script is a file with one event per line, which may grow while it is played: `key CODE` and
+//! `button CODE` press and release what has that number in linux/input-event-codes.h, `modifiers
+//! MASK` holds modifiers down (Shift is 1, Ctrl 4), `motion X Y` moves the pointer over the window,
+//! and `close` asks the window to close.
+//!
+//! - `main.rs`: the clients, in one loop
+//! - `client.rs`: one client, and its globals
+//! - `window.rs`: surfaces, their buffers, and windows
+//! - `seat.rs`: the keyboard and the pointer: which window has them, and the script
+//! - `clipboard.rs`: which source is selected, who is told, and where a reader's descriptor goes
+//! - `data_device.rs`, `data_control.rs`: the clipboard's two protocols. The second is built if its
+//!   file is installed.
+
+mod client;
+mod clipboard;
+#[cfg(data_control)]
+mod data_control;
+mod data_device;
+mod seat;
+mod window;
+
+use client::{Action, Client, ClientId};
+use clipboard::Selection;
+use seat::Script;
+use std::collections::BTreeMap;
+use std::io;
+use std::iter;
+use std::os::fd::AsFd;
+use std::path::Path;
+use std::process::ExitCode;
+use std::time::{Duration, Instant};
+use waywire::socket::{self, has_gone, Came, Listener};
+use waywire::Tables;
+
+include!(concat!(env!("OUT_DIR"), "/xdg_shell.rs"));
+include!(concat!(env!("OUT_DIR"), "/wayland.rs"));
+#[cfg(data_control)]
+include!(concat!(env!("OUT_DIR"), "/wlr_data_control_unstable_v1.rs"));
+
+/// The time between two lines of the script.
+const STEP: Duration = Duration::from_millis(100);
+
+type Failure = Box<dyn std::error::Error>;
+
+struct Compositor {
+    tables: Tables,
+    began: Instant,
+    /// By their ids: the last is the newest.
+    clients: BTreeMap<ClientId, Client>,
+    next_id: ClientId,
+    /// The client that has the keyboard and the pointer, over its window.
+    focus: Option<ClientId>,
+    selection: Option<Selection>,
+    /// The number of the selection's last change.
+    change: u64,
+    has_ended_a_client: bool,
+}
+
+impl Compositor {
+    fn new() -> Result<Compositor, Failure> {
+        let tables = Tables::core()?.read(xdg_shell::TABLES)?.read(wayland::TABLES)?;
+        #[cfg(data_control)]
+        let tables = tables.read(wlr_data_control_unstable_v1::TABLES)?;
+        Ok(Compositor {
+            tables,
+            began: Instant::now(),
+            clients: BTreeMap::new(),
+            next_id: 0,
+            focus: None,
+            selection: None,
+            change: 1,
+            has_ended_a_client: false,
+        })
+    }
+
+    /// A client that is still there.
+    fn client(&mut self, id: ClientId) -> &mut Client {
+        self.clients.get_mut(&id).expect("a client that is still there")
+    }
+
+    fn ids(&self) -> Vec<ClientId> {
+        self.clients.keys().copied().collect()
+    }
+
+    /// Serves clients until none is left of those that came.
+    fn run(&mut self, listener: &Listener, mut script: Option<Script>) -> Result<(), Failure> {
+        let limit = script.as_ref().map(|_| STEP);
+        while self.next_id == 0 || !self.clients.is_empty() {
+            self.serve(listener, limit)?;
+            self.settle();
+            if let (Some(script), Some(id)) = (&mut script, self.focus) {
+                if let Some(line) = script.next_line()? {
+                    self.client(id).play(line);
+                }
+            }
+        }
+        Ok(())
+    }
+
+    /// Waits for the clients, so long at most, and does what they ask for.
+    fn serve(&mut self, listener: &Listener, limit: Option<Duration>) -> Result<(), Failure> {
+        let ids = self.ids();
+        for client in self.clients.values_mut() {
+            client.flush();
+        }
+        let links = self.clients.values().map(|it| it.link.awaited());
+        let awaited = iter::once((listener.as_fd(), false)).chain(links);
+        let ready = socket::wait_many(awaited, limit)?;
+        for (id, _) in ids.into_iter().zip(&ready[1..]).filter(|(_, is_ready)| **is_ready) {
+            if let Err(why) = self.serve_client(id) {
+                self.client(id).fail(why);
+            }
+        }
+        if ready[0] {
+            self.accept(listener)?;
+        }
+        Ok(())
+    }
+
+    /// Reads all requests that a client has sent.
+    fn serve_client(&mut self, id: ClientId) -> Result<(), Failure> {
+        if self.client(id).link.fill()? == Came::End {
+            return Err(io::Error::from(io::ErrorKind::UnexpectedEof).into());
+        }
+        while self.client(id).serve_next()? {
+            match self.client(id).action.take() {
+                Some(Action::Focus) => self.focus_on(id),
+                Some(Action::Select(source)) => self.select(id, source),
+                Some(Action::Receive { offered, kind, fd }) => self.receive(offered, &kind, fd),
+                None => {}
+            }
+        }
+        Ok(())
+    }
+
+    fn accept(&mut self, listener: &Listener) -> Result<(), Failure> {
+        match listener.accept() {
+            Ok(socket) => {
+                self.clients.insert(self.next_id, Client::new(&self.tables, socket, self.began)?);
+                self.next_id += 1;
+            }
+            Err(error) if error.kind() == io::ErrorKind::WouldBlock => {}
+            Err(error) => return Err(error.into()),
+        }
+        Ok(())
+    }
+
+    /// Ends the clients that have failed, and tells the others what has changed by that.
+    fn settle(&mut self) {
+        loop {
+            self.end_clients();
+            self.find_focus();
+            self.find_selection();
+            self.tell_selection();
+            if self.clients.values().all(|it| it.failure.is_none()) {
+                return;
+            }
+        }
+    }
+
+    /// Ends the clients that have failed, with all that they have. Says why, unless a client has
+    /// closed its connection.
+    fn end_clients(&mut self) {
+        self.clients.retain(|_, client| {
+            let Some(why) = &client.failure else { return true };
+            if !why.downcast_ref().is_some_and(has_gone) {
+                eprintln!("a client has ended: {why}");
+                self.has_ended_a_client = true;
+            }
+            false
+        });
+    }
+}
+
+fn main() -> Result<ExitCode, Failure> {
+    let mut words = std::env::args_os().skip(1);
+    let name = words.next().ok_or("the socket's name is wanted")?;
+    let script = words.next().map(|it| Script::open(Path::new(&it))).transpose()?;
+    let listener = Listener::bind(Some(Path::new(&name)))?;
+    let mut compositor = Compositor::new()?;
+    compositor.run(&listener, script)?;
+    Ok(if compositor.has_ended_a_client { ExitCode::FAILURE } else { ExitCode::SUCCESS })
+}

@@ -1,0 +1,237 @@
+//! The keyboard and the pointer: which window has them, and what a script does with them.
+
+use crate::client::{Client, ClientId};
+use crate::{Compositor, Failure, STEP};
+use std::fs::File;
+use std::io::{self, BufRead, BufReader};
+use std::mem;
+use std::path::Path;
+use std::str::FromStr;
+use std::time::Instant;
+use waywire::wayland::wl_keyboard::{self, KeyState, KeymapFormat, WlKeyboard};
+use waywire::wayland::wl_pointer::{self, ButtonState, WlPointer};
+use waywire::wayland::wl_seat::{self, WlSeat};
+use waywire::wayland::wl_surface::WlSurface;
+use waywire::{Fixed, SendError, Server};
+
+/// The keyboards and the pointers of a client.
+#[derive(Default)]
+pub struct Seat {
+    keyboards: Vec<WlKeyboard>,
+    pointers: Vec<WlPointer>,
+    /// The surface that has the focus, if it is the client's.
+    entered: Option<WlSurface>,
+    /// The modifiers that are held down.
+    modifiers: u32,
+}
+
+impl Compositor {
+    /// Gives the keyboard and the pointer to a client's window. The client hears of the selection
+    /// before.
+    pub fn focus_on(&mut self, id: ClientId) {
+        if let Some(client) = self.focus.and_then(|it| self.clients.get_mut(&it)) {
+            client.leave();
+        }
+        self.focus = Some(id);
+        self.tell_selection_at_focus(id);
+        self.client(id).enter();
+    }
+
+    /// Gives them to the newest client with a window, if the window that had them is gone.
+    pub fn find_focus(&mut self) {
+        let has_window = |id: &ClientId| self.clients.get(id).is_some_and(|it| it.has_window());
+        if self.focus.is_some_and(|it| has_window(&it)) {
+            return;
+        }
+        match self.clients.keys().rev().copied().find(has_window) {
+            Some(id) => self.focus_on(id),
+            None => self.focus = None,
+        }
+    }
+}
+
+impl Client {
+    fn has_window(&self) -> bool {
+        self.window().is_some()
+    }
+
+    fn enter(&mut self) {
+        let Some(window) = self.window() else { return };
+        self.seat.entered = Some(window.surface);
+        for keyboard in self.seat.keyboards.clone() {
+            self.enter_keyboard(keyboard);
+        }
+        for pointer in self.seat.pointers.clone() {
+            self.enter_pointer(pointer);
+        }
+    }
+
+    fn enter_keyboard(&mut self, keyboard: WlKeyboard) {
+        let Some(surface) = self.seat.entered else { return };
+        let (serial, modifiers) = (self.next_serial(), self.seat.modifiers);
+        let sent = keyboard.send_enter(&mut self.link, serial, surface, []);
+        self.must(sent);
+        let sent = keyboard.send_modifiers(&mut self.link, serial, modifiers, 0, 0, 0);
+        self.must(sent);
+    }
+
+    fn enter_pointer(&mut self, pointer: WlPointer) {
+        let Some(surface) = self.seat.entered else { return };
+        let (serial, at) = (self.next_serial(), Fixed::from(1.0));
+        let sent = pointer.send_enter(&mut self.link, serial, surface, at, at);
+        self.must(sent);
+        let sent = pointer.send_frame(&mut self.link);
+        self.must(sent);
+    }
+
+    /// Takes the focus from the window that has it, if that is still there.
+    fn leave(&mut self) {
+        let entered = self.seat.entered.take().filter(|it| self.link.live(it.0).is_some());
+        let Some(surface) = entered else { return };
+        let serial = self.next_serial();
+        self.each_keyboard(|it, server| it.send_leave(server, serial, surface));
+        self.each_pointer(|it, server| it.send_leave(server, serial, surface));
+    }
+
+    /// Sends an event to each keyboard.
+    fn each_keyboard(&mut self, send: impl Fn(WlKeyboard, &mut Server) -> Result<(), SendError>) {
+        for keyboard in self.seat.keyboards.clone() {
+            let sent = send(keyboard, &mut self.link);
+            self.must(sent);
+        }
+    }
+
+    /// Sends an event to each pointer, and that it is all that belongs together.
+    fn each_pointer(&mut self, send: impl Fn(WlPointer, &mut Server) -> Result<(), SendError>) {
+        for pointer in self.seat.pointers.clone() {
+            let sent = send(pointer, &mut self.link);
+            self.must(sent);
+            let sent = pointer.send_frame(&mut self.link);
+            self.must(sent);
+        }
+    }
+}
+
+impl wl_seat::Requests for Client {
+    fn get_keyboard(&mut self, _: WlSeat, keyboard: WlKeyboard) {
+        self.seat.keyboards.push(keyboard);
+        match File::open("/dev/null") {
+            Ok(nothing) => {
+                let kind = KeymapFormat::NO_KEYMAP;
+                let sent = keyboard.send_keymap(&mut self.link, kind, nothing, 0);
+                self.must(sent);
+            }
+            Err(error) => self.fail(error),
+        }
+        let sent = keyboard.send_repeat_info(&mut self.link, 0, 0);
+        self.must(sent);
+        self.enter_keyboard(keyboard);
+    }
+
+    fn get_pointer(&mut self, _: WlSeat, pointer: WlPointer) {
+        self.seat.pointers.push(pointer);
+        self.enter_pointer(pointer);
+    }
+}
+
+impl wl_keyboard::Requests for Client {
+    fn release(&mut self, keyboard: WlKeyboard) {
+        self.seat.keyboards.retain(|it| *it != keyboard);
+    }
+}
+
+impl wl_pointer::Requests for Client {
+    fn set_cursor(&mut self, _: WlPointer, _: u32, _: Option<WlSurface>, _: i32, _: i32) {
+        println!("a cursor");
+    }
+
+    fn release(&mut self, pointer: WlPointer) {
+        self.seat.pointers.retain(|it| *it != pointer);
+    }
+}
+
+/// A line of a script.
+pub enum Line {
+    Key(u32),
+    Button(u32),
+    Modifiers(u32),
+    Motion(f64, f64),
+    Close,
+}
+
+impl FromStr for Line {
+    type Err = Failure;
+
+    fn from_str(line: &str) -> Result<Line, Failure> {
+        let words: Vec<&str> = line.split_whitespace().collect();
+        Ok(match words[..] {
+            ["key", code] => Line::Key(code.parse()?),
+            ["button", code] => Line::Button(code.parse()?),
+            ["modifiers", mask] => Line::Modifiers(mask.parse()?),
+            ["motion", x, y] => Line::Motion(x.parse()?, y.parse()?),
+            ["close"] => Line::Close,
+            _ => return Err(format!("the script has {line:?}").into()),
+        })
+    }
+}
+
+/// A file with lines, which may grow.
+pub struct Script {
+    file: BufReader<File>,
+    line: String,
+    last: Instant,
+}
+
+impl Script {
+    pub fn open(path: &Path) -> io::Result<Script> {
+        let file = BufReader::new(File::open(path)?);
+        Ok(Script { file, line: String::new(), last: Instant::now() })
+    }
+
+    /// The next line, if there is a whole one and a step has passed since the last.
+    pub fn next_line(&mut self) -> Result<Option<Line>, Failure> {
+        if self.last.elapsed() < STEP {
+            return Ok(None);
+        }
+        self.last = Instant::now();
+        self.file.read_line(&mut self.line)?;
+        if !self.line.ends_with('\n') {
+            return Ok(None);
+        }
+        mem::take(&mut self.line).parse().map(Some)
+    }
+}
+
+impl Client {
+    /// Plays a line at the client's window.
+    pub fn play(&mut self, line: Line) {
+        let (time, serial) = (self.milliseconds(), self.next_serial());
+        match line {
+            Line::Key(code) => {
+                for state in [KeyState::PRESSED, KeyState::RELEASED] {
+                    self.each_keyboard(|it, server| it.send_key(server, serial, time, code, state));
+                }
+            }
+            Line::Button(code) => {
+                for state in [ButtonState::PRESSED, ButtonState::RELEASED] {
+                    self.each_pointer(|it, server| {
+                        it.send_button(server, serial, time, code, state)
+                    });
+                }
+            }
+            Line::Modifiers(mask) => {
+                self.seat.modifiers = mask;
+                self.each_keyboard(|it, server| it.send_modifiers(server, serial, mask, 0, 0, 0));
+            }
+            Line::Motion(x, y) => {
+                self.each_pointer(|it, server| it.send_motion(server, time, x.into(), y.into()));
+            }
+            Line::Close => {
+                if let Some(window) = self.window() {
+                    let sent = window.toplevel.send_close(&mut self.link);
+                    self.must(sent);
+                }
+            }
+        }
+    }
+}
