@@ -133,9 +133,9 @@ def is_listening(path):
     return any(int(it[3], 16) & ACCEPTS for it in sockets_at(path))
 
 
-def has_client(path):
-    """Whether a client is connected to a socket that listens at a path, and was accepted."""
-    return any(it[5] == CONNECTED for it in sockets_at(path))
+def has_client(path, beside=0):
+    """Whether a client is connected to a socket that listens at a path, and was accepted, beside so many others."""
+    return sum(it[5] == CONNECTED for it in sockets_at(path)) > beside
 
 
 def module_of(path):

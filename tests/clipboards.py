@@ -1,8 +1,9 @@
-"""Programs of the distribution that copy and paste at the example compositor in C, and at sway."""
+"""Programs of the distribution that copy and paste at the example compositors in C and in Rust, and at sway."""
 
 import base64
 import contextlib
 import os
+import socket
 import subprocess
 import tempfile
 
@@ -67,9 +68,18 @@ class Clipboard:
 
 
 @contextlib.contextmanager
+def kept_client(path):
+    """A client that asks for nothing: it keeps a compositor from ending with its last one."""
+    with socket.socket(socket.AF_UNIX) as client:
+        client.connect(path)
+        has_come(lambda: has_client(path))
+        yield
+
+
+@contextlib.contextmanager
 def compositor(words, script=None, status=0):
-    """The example compositor for a test. It has to end with this status: 1 if it has ended a
-    client."""
+    """An example compositor for a test. With --stay it has to end at a signal, and otherwise with
+    its last client; with this status, which is 1 if it has ended a client."""
     with tempfile.TemporaryDirectory() as folder:
         path = f"{folder}/wayland-test"
         env = {**os.environ, "XDG_RUNTIME_DIR": folder, "WAYLAND_DISPLAY": "wayland-test",
@@ -78,11 +88,15 @@ def compositor(words, script=None, status=0):
             open(f"{folder}/{script}", "wb").close()
         more = [f"{folder}/{script}"] if script else []
         with open(f"{folder}/said", "w+b") as said:
-            process = subprocess.Popen([*words, "--stay", path, *more], stdout=said, stderr=said)
+            process = subprocess.Popen([*words, path, *more], stdout=said, stderr=said)
             board = Clipboard(path, process, env)
             try:
                 has_come(lambda: is_listening(path) or process.poll() is not None)
-                yield board
+                with kept_client(path):
+                    yield board
+                    board.end_clients()
+                if "--stay" not in words:
+                    has_come(lambda: process.poll() is not None, PASSES)
             finally:
                 board.end_clients()
                 end(process)
@@ -155,8 +169,9 @@ def bears_much(program, *words):
 
 
 def is_there(board, client):
-    """Waits until a client is connected. It is skipped where it does not come up."""
-    if not has_come(lambda: has_client(board.path) or client.poll() is not None):
+    """Waits until a client is connected beside that of the test. It is skipped where it does not
+    come up."""
+    if not has_come(lambda: has_client(board.path, beside=1) or client.poll() is not None):
         raise Skipped(f"{client.args[0]} has made no connection")
 
 
@@ -165,11 +180,12 @@ def press(board, *lines):
         file.write("".join(lines))
 
 
-def serves_gtk(client, *words):
+def serves_gtk(paste, *words):
     """A text of wl-copy is pasted into an entry of GTK, whose text is copied there and pasted by
     wl-paste: by a wl_data_device what came from a data-control source, and the other way round.
     What is copied there before the text is in the entry ends the pasting, and all is done again.
-    The example client pastes the text, too: its window takes the focus, and gives it back."""
+    The client that `paste` starts pastes the text, too: its window takes the focus, and gives it
+    back."""
     need("wl-copy", "wl-paste", "zenity")
     with compositor(words, "script") as board:
         window = ["zenity", "--entry", "--text=waywire", "--entry-text=old "]
@@ -187,7 +203,7 @@ def serves_gtk(client, *words):
             return has_come(is_in_entry, AGAIN)
         board.has(has_copied, "the text that was pasted into the entry")
         text = board.pasted()
-        if run([client, "--paste"], env=board.env) != text.decode():
+        if run(paste, env=board.env) != text.decode():
             raise Failed("the example client pastes another text")
         press(board, RETURN)
         said = entry.communicate(timeout=PASSES)[0]
@@ -210,12 +226,13 @@ def serves_foot(*words):
             raise Skipped(f"foot does not run here: {terminal.stderr.read()[-300:]!r}")
 
 
-def client_pastes(board, client, checked):
-    """The example client prints what wl-copy has copied, a small text and one that no pipe holds,
-    and says so where nothing is copied. `checked` are words of what runs it when it succeeds."""
+def client_pastes(board, paste, checked):
+    """The client that `paste` starts prints what wl-copy has copied, a small text and one that no
+    pipe holds, and says so where nothing is copied. `checked` are words of what runs it when it
+    succeeds."""
     def ran(*words):
-        done = subprocess.run([*words, client, "--paste"], env=board.env, capture_output=True,
-                              timeout=PASSES, check=False)
+        done = subprocess.run([*words, *paste], env=board.env, capture_output=True, timeout=PASSES,
+                              check=False)
         return done.returncode, done.stdout, done.stderr
 
     status, said, error = ran()
@@ -229,16 +246,16 @@ def client_pastes(board, client, checked):
             raise Failed(f"status {status}, {len(said)} bytes, not {len(text)}: {error[-600:]!r}")
 
 
-def client_pastes_at_ours(client, checked, *words):
+def client_pastes_at_ours(paste, checked, *words):
     need("wl-copy", "wl-paste")
     with compositor(words) as board:
         before = board.descriptors()
-        client_pastes(board, client, checked)
+        client_pastes(board, paste, checked)
         board.end_clients()
         board.has(lambda: board.descriptors() == before, "that all descriptors are closed")
 
 
-def client_pastes_at_sway(client, checked):
+def client_pastes_at_sway(paste, checked):
     """At sway, which gives a new window the focus."""
     need("sway", "wl-copy", "wl-paste")
     with tempfile.TemporaryDirectory(prefix="sway-") as room:
@@ -251,7 +268,7 @@ def client_pastes_at_sway(client, checked):
                 if not is_listening(path):
                     said.seek(0)
                     raise Skipped(f"sway has not come up: {said.read()[-300:]!r}")
-                client_pastes(board, client, checked)
+                client_pastes(board, paste, checked)
             finally:
                 board.end_clients()
                 end(process)
