@@ -34,7 +34,6 @@ use clipboard::Selection;
 use seat::Script;
 use std::collections::BTreeMap;
 use std::io;
-use std::iter;
 use std::os::fd::AsFd;
 use std::path::Path;
 use std::process::ExitCode;
@@ -49,6 +48,8 @@ include!(concat!(env!("OUT_DIR"), "/wlr_data_control_unstable_v1.rs"));
 
 /// The time between two lines of the script.
 const STEP: Duration = Duration::from_millis(100);
+/// The most clients at a time. Others wait.
+const MOST_CLIENTS: usize = 64;
 
 type Failure = Box<dyn std::error::Error>;
 
@@ -114,14 +115,15 @@ impl Compositor {
             client.flush();
         }
         let links = self.clients.values().map(|it| it.link.awaited());
-        let awaited = iter::once((listener.as_fd(), false)).chain(links);
+        let has_room = ids.len() < MOST_CLIENTS;
+        let awaited = links.chain(has_room.then(|| (listener.as_fd(), false)));
         let ready = socket::wait_many(awaited, limit)?;
-        for (id, _) in ids.into_iter().zip(&ready[1..]).filter(|(_, is_ready)| **is_ready) {
-            if let Err(why) = self.serve_client(id) {
-                self.client(id).fail(why);
+        for (id, _) in ids.iter().zip(&ready).filter(|(_, is_ready)| **is_ready) {
+            if let Err(why) = self.serve_client(*id) {
+                self.client(*id).fail(why);
             }
         }
-        if ready[0] {
+        if ready.get(ids.len()) == Some(&true) {
             self.accept(listener)?;
         }
         Ok(())
