@@ -134,7 +134,8 @@ def is_listening(path):
 
 
 def has_client(path, beside=0):
-    """Whether a client is connected to a socket that listens at a path, and was accepted, beside so many others."""
+    """Whether a client is connected to a socket that listens at a path, and was accepted, beside so
+    many others."""
     return sum(it[5] == CONNECTED for it in sockets_at(path)) > beside
 
 

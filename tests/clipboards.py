@@ -1,4 +1,5 @@
-"""Programs of the distribution that copy and paste at the example compositors in C and in Rust, and at sway."""
+"""Programs of the distribution that copy and paste at the example compositors in C and in Rust,
+and at sway."""
 
 import base64
 import contextlib
@@ -67,6 +68,12 @@ class Clipboard:
             end(client)
 
 
+def end_of(said):
+    """The end of what a process has written to a file."""
+    said.seek(0)
+    return said.read()[-800:].decode(errors="replace")
+
+
 @contextlib.contextmanager
 def kept_client(path):
     """A client that asks for nothing: it keeps a compositor from ending with its last one."""
@@ -92,6 +99,8 @@ def compositor(words, script=None, status=0):
             board = Clipboard(path, process, env)
             try:
                 has_come(lambda: is_listening(path) or process.poll() is not None)
+                if not is_listening(path):
+                    raise Failed(f"the compositor does not listen\n{end_of(said)}")
                 with kept_client(path):
                     yield board
                     board.end_clients()
@@ -100,8 +109,7 @@ def compositor(words, script=None, status=0):
             finally:
                 board.end_clients()
                 end(process)
-            said.seek(0)
-            output = said.read()[-800:].decode(errors="replace")
+            output = end_of(said)
         if process.returncode != status or os.path.exists(path):
             raise Failed(f"status {process.returncode} of the compositor\n{output}")
 
@@ -266,8 +274,7 @@ def client_pastes_at_sway(paste, checked):
                                               "WAYLAND_DISPLAY": path, "HOME": room})
             try:
                 if not is_listening(path):
-                    said.seek(0)
-                    raise Skipped(f"sway has not come up: {said.read()[-300:]!r}")
+                    raise Skipped(f"sway has not come up: {end_of(said)}")
                 client_pastes(board, paste, checked)
             finally:
                 board.end_clients()

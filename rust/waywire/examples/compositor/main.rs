@@ -89,10 +89,6 @@ impl Compositor {
         self.clients.get_mut(&id).expect("a client that is still there")
     }
 
-    fn ids(&self) -> Vec<ClientId> {
-        self.clients.keys().copied().collect()
-    }
-
     /// Serves clients until none is left of those that came.
     fn run(&mut self, listener: &Listener, mut script: Option<Script>) -> Result<(), Failure> {
         let limit = script.as_ref().map(|_| STEP);
@@ -108,9 +104,9 @@ impl Compositor {
         Ok(())
     }
 
-    /// Waits for the clients, so long at most, and does what they ask for.
+    /// Waits for requests, at most until the limit, and does what they ask for.
     fn serve(&mut self, listener: &Listener, limit: Option<Duration>) -> Result<(), Failure> {
-        let ids = self.ids();
+        let ids: Vec<ClientId> = self.clients.keys().copied().collect();
         for client in self.clients.values_mut() {
             client.flush();
         }
@@ -145,14 +141,11 @@ impl Compositor {
         Ok(())
     }
 
+    /// Takes in a new client. If it cannot be accepted now, it waits.
     fn accept(&mut self, listener: &Listener) -> Result<(), Failure> {
-        match listener.accept() {
-            Ok(socket) => {
-                self.clients.insert(self.next_id, Client::new(&self.tables, socket, self.began)?);
-                self.next_id += 1;
-            }
-            Err(error) if error.kind() == io::ErrorKind::WouldBlock => {}
-            Err(error) => return Err(error.into()),
+        if let Ok(socket) = listener.accept() {
+            self.clients.insert(self.next_id, Client::new(&self.tables, socket, self.began)?);
+            self.next_id += 1;
         }
         Ok(())
     }
@@ -170,7 +163,7 @@ impl Compositor {
         }
     }
 
-    /// Ends the clients that have failed, with all that they have. Says why, unless a client has
+    /// Ends the clients that have failed, with all their objects. Prints why, unless the client has
     /// closed its connection.
     fn end_clients(&mut self) {
         self.clients.retain(|_, client| {

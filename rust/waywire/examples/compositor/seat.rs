@@ -19,22 +19,27 @@ use waywire::{Fixed, SendError, Server};
 pub struct Seat {
     keyboards: Vec<WlKeyboard>,
     pointers: Vec<WlPointer>,
-    /// The surface that has the focus, if it is the client's.
+    /// The surface that was entered last, until it is left. It may be gone.
     entered: Option<WlSurface>,
     /// The modifiers that are held down.
     modifiers: u32,
 }
 
 impl Compositor {
-    /// Gives the keyboard and the pointer to a client's window. The client hears of the selection
-    /// before.
+    /// Gives the keyboard and the pointer to a client's window. Before that, the client is told of
+    /// the selection.
     pub fn focus_on(&mut self, id: ClientId) {
-        if let Some(client) = self.focus.and_then(|it| self.clients.get_mut(&it)) {
-            client.leave();
-        }
+        self.take_focus();
         self.focus = Some(id);
         self.tell_selection_at_focus(id);
         self.client(id).enter();
+    }
+
+    /// Takes them from the client that has them.
+    fn take_focus(&mut self) {
+        if let Some(client) = self.focus.take().and_then(|it| self.clients.get_mut(&it)) {
+            client.leave();
+        }
     }
 
     /// Gives them to the newest client with a window, if the window that had them is gone.
@@ -45,7 +50,7 @@ impl Compositor {
         }
         match self.clients.keys().rev().copied().find(has_window) {
             Some(id) => self.focus_on(id),
-            None => self.focus = None,
+            None => self.take_focus(),
         }
     }
 }
@@ -66,8 +71,13 @@ impl Client {
         }
     }
 
+    /// The surface that has the focus, if it is still there.
+    fn entered(&self) -> Option<WlSurface> {
+        self.seat.entered.filter(|it| self.link.live(it.0).is_some())
+    }
+
     fn enter_keyboard(&mut self, keyboard: WlKeyboard) {
-        let Some(surface) = self.seat.entered else { return };
+        let Some(surface) = self.entered() else { return };
         let (serial, modifiers) = (self.next_serial(), self.seat.modifiers);
         let sent = keyboard.send_enter(&mut self.link, serial, surface, []);
         self.must(sent);
@@ -76,7 +86,7 @@ impl Client {
     }
 
     fn enter_pointer(&mut self, pointer: WlPointer) {
-        let Some(surface) = self.seat.entered else { return };
+        let Some(surface) = self.entered() else { return };
         let (serial, at) = (self.next_serial(), Fixed::from(1.0));
         let sent = pointer.send_enter(&mut self.link, serial, surface, at, at);
         self.must(sent);
@@ -84,9 +94,9 @@ impl Client {
         self.must(sent);
     }
 
-    /// Takes the focus from the window that has it, if that is still there.
     fn leave(&mut self) {
-        let entered = self.seat.entered.take().filter(|it| self.link.live(it.0).is_some());
+        let entered = self.entered();
+        self.seat.entered = None;
         let Some(surface) = entered else { return };
         let serial = self.next_serial();
         self.each_keyboard(|it, server| it.send_leave(server, serial, surface));
@@ -101,7 +111,7 @@ impl Client {
         }
     }
 
-    /// Sends an event to each pointer, and that it is all that belongs together.
+    /// Sends an event to each pointer, and ends its frame.
     fn each_pointer(&mut self, send: impl Fn(WlPointer, &mut Server) -> Result<(), SendError>) {
         for pointer in self.seat.pointers.clone() {
             let sent = send(pointer, &mut self.link);

@@ -130,12 +130,12 @@ impl wl_surface::Requests for Client {
     fn commit(&mut self, surface: WlSurface) {
         let it = self.windows.surfaces.entry(surface).or_default();
         let (attached, frames) = (it.attached.take(), mem::take(&mut it.frames));
-        if attached.is_some() && !it.is_shown {
-            if let Some(toplevel) = it.toplevel {
-                it.is_shown = true;
-                self.windows.shown = Some(Window { surface, toplevel });
-                self.action = Some(Action::Focus);
-            }
+        let is_new = attached.is_some() && !it.is_shown;
+        let toplevel = it.toplevel.filter(|it| is_new && self.link.live(it.0).is_some());
+        if let Some(toplevel) = toplevel {
+            it.is_shown = true;
+            self.windows.shown = Some(Window { surface, toplevel });
+            self.action = Some(Action::Focus);
         }
         if let Some(buffer) = attached {
             self.show(buffer);
