@@ -108,7 +108,7 @@ ssize_t waywire_socket_send(int socket, const waywire_part parts[2], const int *
  * Returns -1 with errno: EAGAIN if nothing is there yet; ENOBUFS if `parts` have no room; EMFILE if
  * the process may open no more descriptors; EOVERFLOW if more than WAYWIRE_SOCKET_DESCRIPTORS came
  * at once; else as recvmsg. After EMFILE and EOVERFLOW bytes and descriptors are lost: close the
- * socket. */
+ * socket. With the option SO_PASSCRED there is room for fewer. */
 ssize_t waywire_socket_receive(int socket, const waywire_part parts[2],
 	int descriptors[WAYWIRE_SOCKET_DESCRIPTORS], size_t *count);
 
@@ -141,11 +141,11 @@ void waywire_socket_close(int socket, waywire_end *end);
 typedef struct waywire_connection waywire_connection;
 
 /* Connects a client to a compositor, as waywire_socket_connect. The tables may be freed afterwards.
- * `sizes` may be null: then the outbox and the inbox hold 65,536 bytes and 64 tokens each. The
+ * `sizes` may be null: then the outbox and the inbox hold 65,536 bytes each, and 64 and 256 tokens. The
  * caller closes the connection.
  * Returns null with errno: as waywire_socket_connect; ENOMEM; EINVAL if no end has these sizes, if
- * the outbox cannot hold every message, or if the inbox has fewer than WAYWIRE_SOCKET_DESCRIPTORS
- * tokens. */
+ * the outbox cannot hold every message, or if the inbox has fewer tokens than
+ * WAYWIRE_SOCKET_DESCRIPTORS and those of a message (48). */
 waywire_connection *waywire_connection_connect(const waywire_tables *tables,
 	const waywire_sizes *sizes, const char *name);
 
@@ -178,7 +178,8 @@ waywire_status waywire_connection_add_global(waywire_connection *connection, con
 /* Limits what the other end can cost. A connection ends with EPROTO once it has more objects than
  * this (a server tells its client: wl_display.error, no_memory), and with ETIMEDOUT once the other
  * end has read nothing for this many milliseconds while bytes wait for it. 0 objects and -1
- * milliseconds are no limit. A server begins with 50,000 and 120,000, a client with none. */
+ * milliseconds are no limit. A server begins with 50,000 and 120,000, a client with none. The time is
+ * looked at in flush and dispatch: while a connection wants_write, a loop of one's own polls no longer. */
 void waywire_connection_set_limits(waywire_connection *connection, size_t objects,
 	int milliseconds);
 
@@ -274,7 +275,8 @@ int waywire_connection_flush(waywire_connection *connection);
 
 /* Receives once. Returns 1, or 0 if nothing is there yet, or if messages are still to be
  * dispatched. Returns -1 with errno, and the connection has ended: EPIPE at the end of the stream;
- * ENOBUFS if descriptors came that belong to no message; else as waywire_socket_receive. */
+ * EPROTO if descriptors came that belong to no message; else as waywire_socket_receive. After ENOMEM
+ * the connection goes on. */
 int waywire_connection_fill(waywire_connection *connection);
 
 /* Calls back for all messages that were read, and announces globals. Returns how many messages

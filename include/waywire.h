@@ -32,11 +32,11 @@
  * another, and no call can tell them apart: keep an object with its end.
  *
  * Memory.  Tables, an end and an inspector belong to the caller, who frees each once. Tables may be freed
- * before the ends and inspectors made with them, which keep them as long as they need them. The library calls
- * `malloc`, `realloc` and `free`, and nothing else of the system. After `new` an end allocates only when it opens
- * an object (`send`, `bind`, `next`), in `set_user` and in `add_global`; an inspector allocates in `pass` and
- * `verdict`. A client's `next` does so only at an event that makes an object whose id the server has never used
- * before, and so never where the tables have no such event. If an allocation fails, nothing is lost.
+ * before the ends and inspectors made with them, which keep them as long as they need them. The calls of this
+ * header use `malloc`, `realloc` and `free`, and nothing else of the system. After `new` an end allocates only when
+ * it opens an object (`send`, `bind`, `next`), in `set_user` and in `add_global`; an inspector allocates in `pass`
+ * and `verdict`. A client's `next` does so only at an event that makes an object whose id the server has never
+ * used before, and so never if the tables have no such event. If an allocation fails, nothing is lost.
  *
  * Threads.  Nothing is bound to the thread that made it. Tables never change: any threads may use them at
  * once, and make and free ends and inspectors over them. Only one call at a time may use an end, on any
@@ -291,7 +291,8 @@ typedef struct waywire_part {
 /* How large the outbox and the inbox of an end are; they never grow. An outbox has at most 16,777,216
  * bytes and 65,536 tokens; an inbox has `limit` to 16,777,216 bytes and 20 to 65,536 tokens. libwayland sends
  * up to 28 descriptors at once, and those of a message may come before its bytes are whole: an inbox of 64
- * tokens has room for both.
+ * tokens has room for both. A newer one, whose buffers grow, can send 28 several times before it sends the bytes:
+ * give an inbox some hundreds.
  * `limit` is the most bytes that a message may have, its header counted: a multiple of 4 from 4,096 to 65,532,
  * or 0 for WAYWIRE_USUAL_LIMIT. Both ends of a connection need the same limit, since the wire does not
  * say it; libwayland has the usual one. */
@@ -521,8 +522,8 @@ typedef struct waywire_end waywire_end;
 
 /* A client's end, and a server's. `end` is what the calls of both take. These are two types, so that a program
  * which passes one where the other belongs does not compile. They are passed by value, which costs what a pointer
- * costs. A call that takes a waywire_client returns WAYWIRE_OTHER_END if its `end` is a server's, and so does a
- * call that takes a waywire_server if its `end` is a client's. */
+ * costs. A call that takes a waywire_client returns WAYWIRE_OTHER_END if its `end` is a server's, and a call that
+ * takes a waywire_server if its `end` is a client's. */
 typedef struct waywire_client { waywire_end *end; } waywire_client;
 typedef struct waywire_server { waywire_end *end; } waywire_server;
 

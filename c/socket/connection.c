@@ -12,7 +12,9 @@
 #define SERVER_OBJECTS 50000
 #define SERVER_PATIENCE 120000
 
-static const waywire_sizes usual_sizes = { 65536, 64, 65536, 64, WAYWIRE_USUAL_LIMIT };
+/* A libwayland whose buffers grow can send many descriptors before the bytes of their messages. Each that waits is one
+ * of the process, which often may have 1,024. */
+static const waywire_sizes usual_sizes = { 65536, 64, 65536, 256, WAYWIRE_USUAL_LIMIT };
 
 int64_t moment(void)
 {
@@ -23,12 +25,13 @@ int64_t moment(void)
 
 /* ---- making one */
 
-/* Whether an end of these sizes can pass what libwayland sends at once, and any message. */
+/* Whether an end of these sizes can pass what libwayland sends at once, and any message: also while the
+ * descriptors of one wait whose bytes are not whole. */
 static bool can_carry(const waywire_sizes *sizes)
 {
 	size_t limit = sizes->limit ? sizes->limit : WAYWIRE_USUAL_LIMIT;
 	return sizes->out_bytes >= limit && sizes->out_tokens >= WAYWIRE_MAX_ARGS
-		&& sizes->in_tokens >= WAYWIRE_SOCKET_DESCRIPTORS;
+		&& sizes->in_tokens >= WAYWIRE_SOCKET_DESCRIPTORS + WAYWIRE_MAX_ARGS;
 }
 
 /* A connection without an end; null with errno. */

@@ -99,8 +99,10 @@ int waywire_connection_fill(waywire_connection *connection)
 		return fail(connection, EPIPE, "the other end has closed the connection");
 	if (errno == EAGAIN)
 		return 0;
+	if (errno == ENOMEM)
+		return -1; /* nothing is lost: it is received by the next call */
 	if (errno == ENOBUFS)
-		return fail(connection, ENOBUFS, "descriptors came that belong to no message");
+		return fail(connection, EPROTO, "descriptors came that belong to no message");
 	if (errno == EMFILE)
 		return fail(connection, EMFILE, "no descriptor is left for one that came");
 	return fail(connection, errno, "the socket cannot be read");
@@ -165,6 +167,11 @@ static void hear(waywire_connection *connection, waywire_report *report)
 {
 	waywire_end *end = connection->end;
 	bool was_heard = false;
+	/* A callback that dispatches has the end write others in their place. */
+	uint32_t tokens[WAYWIRE_MAX_ARGS];
+	size_t token_count = report->token_count;
+	if (token_count)
+		memcpy(tokens, report->tokens, token_count * sizeof *tokens);
 	struct entry *target = take_entry(connection, report);
 	if (report->kind == WAYWIRE_MESSAGE) {
 		was_heard = call(connection, target, report->interface, report);
@@ -175,7 +182,7 @@ static void hear(waywire_connection *connection, waywire_report *report)
 		release_entry(display);
 	}
 	if (!was_heard) {
-		close_tokens(report->tokens, report->token_count);
+		close_tokens(tokens, token_count);
 		if (connection->client.end)
 			destroy_made(connection);
 	}
@@ -354,6 +361,14 @@ int waywire_connection_drain(waywire_connection *connection, int milliseconds)
 	return 0;
 }
 
+/* As `step`, but 0 if the time was over before it, and it has not done what is waited for. */
+static int step_in_time(waywire_connection *connection, int64_t end, int *count, const bool *is_done)
+{
+	bool is_late = end >= 0 && moment() >= end;
+	int went = step(connection, end, count);
+	return went > 0 && is_late && !*is_done ? 0 : went;
+}
+
 static bool on_done(const void *calls, void *data, const waywire_report *report)
 {
 	(void)calls, (void)report;
@@ -373,7 +388,7 @@ int waywire_connection_roundtrip(waywire_connection *connection, int millisecond
 		return ended_before(connection);
 	do
 		status = waywire_wl_display_sync(connection->client, display, &callback);
-	while (status == WAYWIRE_FULL && (went = step(connection, end, &count)) > 0);
+	while (status == WAYWIRE_FULL && (went = step_in_time(connection, end, &count, &is_done)) > 0);
 	if (went <= 0)
 		return went;
 	if (!status)
@@ -383,7 +398,7 @@ int waywire_connection_roundtrip(waywire_connection *connection, int millisecond
 		errno = status == WAYWIRE_NO_MEMORY ? ENOMEM : EINVAL;
 		return -1;
 	}
-	while (!is_done && (went = step(connection, end, &count)) > 0)
+	while (!is_done && (went = step_in_time(connection, end, &count, &is_done)) > 0)
 		;
 	waywire_connection_forget(connection, callback.object);
 	return is_done ? count : went;

@@ -33,6 +33,9 @@
 /* The time between two lines of the script, in milliseconds. */
 #define STEP 100
 
+/* How long the loop waits at most, so that a client that reads nothing is given up in time. */
+#define IDLE 10000
+
 /* The most clients at a time; others wait. */
 #define MOST_CLIENTS 64
 
@@ -292,7 +295,7 @@ static void run(const char *name, FILE *script, bool stays)
 	if (!listening)
 		err(1, "%s", name);
 	bool had_clients = false;
-	while (serve(listening, signals, script ? STEP : -1)
+	while (serve(listening, signals, script ? STEP : IDLE)
 			&& (stays || clients || !had_clients)) {
 		had_clients |= clients != NULL;
 		find_focus();

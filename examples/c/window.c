@@ -2,7 +2,6 @@
  * committed to a surface. */
 #include "server.h"
 
-#include <err.h>
 #include <stdio.h>
 #include <stdlib.h>
 #include <unistd.h>
@@ -39,8 +38,11 @@ static void free_memory(void *data)
 
 static void set_memory(struct client *client, waywire_object object, struct memory memory)
 {
-	if (memory.descriptor < 0)
-		err(1, "a descriptor");
+	if (memory.descriptor < 0) {
+		waywire_server_post_error(client->server, object, WAYWIRE_WL_DISPLAY_ERROR_NO_MEMORY,
+			"no descriptor is left");
+		return;
+	}
 	*(struct memory *)new_data(client, object, sizeof memory, free_memory) = memory;
 }
 

@@ -281,21 +281,23 @@ static void other_goes(void)
 /* Descriptors that belong to no message. */
 static void strange_descriptors(void)
 {
-	static const uint32_t half[] = { 1 };
-	waywire_part parts[2] = { { (void *)half, 1 }, { NULL, 0 } };
+	static const uint32_t begun[] = { 1, 4096u << 16, 0 };
+	waywire_part parts[2] = { { NULL, 1 }, { NULL, 0 } };
 	int descriptors[WAYWIRE_SOCKET_DESCRIPTORS];
 	begin(NULL);
 	for (int each = 0; each < WAYWIRE_SOCKET_DESCRIPTORS; each++)
 		descriptors[each] = new_descriptor(1);
-	for (int each = 0; each < 3; each++) {
+	/* 256 tokens find room: nine times 28 */
+	for (int each = 0; each < 10; each++) {
+		parts[0].bytes = (char *)begun + each;
 		MUST(waywire_socket_send(waywire_connection_fd(client), parts, descriptors,
 			WAYWIRE_SOCKET_DESCRIPTORS) == 1);
 		int read = waywire_connection_dispatch(server, 0);
-		MUST(each < 2 ? !read : read == -1 && errno == ENOBUFS);
+		MUST(each < 9 ? !read : read == -1 && errno == EPROTO);
 	}
 	for (int each = 0; each < WAYWIRE_SOCKET_DESCRIPTORS; each++)
 		close(descriptors[each]);
-	has_ended(server, ENOBUFS);
+	has_ended(server, EPROTO);
 	end();
 }
 
@@ -602,6 +604,34 @@ static void replaces_itself(void)
 	MUST(gone == 2);
 }
 
+/* Hears of an event a second later. */
+static bool on_stray(const void *calls, void *data, const waywire_report *report)
+{
+	(void)calls, (void)report;
+	skipped++;
+	++*(int *)data;
+	return true;
+}
+
+/* A round trip keeps its limit while events come. */
+static void many_events(void)
+{
+	enum { STRAYS = 1000 };
+	static const waywire_sizes small = { 4096, 20, 4096, 48, 0 };
+	static const uint32_t stray[] = { 1, 12 << 16 | WAYWIRE_WL_DISPLAY_EVENT_DELETE_ID, 9 };
+	uint32_t strays[STRAYS][3];
+	waywire_part parts[2] = { { strays, sizeof strays }, { NULL, 0 } };
+	int heard = 0;
+	for (int each = 0; each < STRAYS; each++)
+		memcpy(strays[each], stray, sizeof stray);
+	begin(&small);
+	MUST(!waywire_connection_listen(client, display.object, on_stray, NULL, &heard));
+	MUST(waywire_socket_send(waywire_connection_fd(server), parts, NULL, 0) == sizeof strays);
+	MUST(!waywire_connection_roundtrip(client, 10000));
+	MUST(heard > 0 && heard < STRAYS);
+	end();
+}
+
 int main(void)
 {
 	waywire_tables *core;
@@ -624,6 +654,7 @@ int main(void)
 	within_callbacks();
 	answers_and_ends();
 	replaces_itself();
+	many_events();
 	waywire_tables_free(tables);
 	printf("connection_ends: ok\n");
 	return 0;
