@@ -157,9 +157,7 @@ impl Client {
         };
         let (mut text, other) = UnixStream::pair()?;
         offer.receive(&mut self.link, kind, other)?;
-        while !self.link.flush()? {
-            socket::wait([self.link.awaited()], WAIT)?;
-        }
+        self.link.round_trip(&mut self.told, WAIT)?;
         text.set_read_timeout(WAIT)?;
         let mut output = io::stdout().lock();
         io::copy(&mut text, &mut output)?;

@@ -60,7 +60,7 @@ pub enum SendError {
     },
     /// No global of this name, interface and version was announced.
     BadBind,
-    /// The message is longer than 4096 bytes.
+    /// The message is longer than the end's limit ([`Sizes::limit`](crate::Sizes::limit)).
     TooLong,
     /// The outbox has no room for it: take, and send again.
     Full,

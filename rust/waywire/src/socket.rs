@@ -3,8 +3,8 @@
 //! Over the calls of `waywire-socket.h`. Every descriptor that is made here is close-on-exec. No call
 //! makes a signal: a socket whose other end is closed is an error, [`io::ErrorKind::BrokenPipe`]. Only
 //! [`wait`], [`wait_many`], [`Link::wait`], [`Link::dispatch`] and [`Link::round_trip`] wait, each no
-//! longer than it is told, and [`connect`] while the other end has too many clients that it has not
-//! accepted yet.
+//! longer than it is told; [`Listener::accept_next`] waits for a client, and [`connect`] while the
+//! other end has too many clients that it has not accepted yet.
 
 use crate::connection::{AsClient, Connection};
 use crate::report::{Incoming, ProtocolError};
@@ -31,7 +31,8 @@ pub const MOST_DESCRIPTORS: usize = sys::SOCKET_DESCRIPTORS as usize;
 /// A name that begins with a slash is a path; any other is looked up in the folder `XDG_RUNTIME_DIR`.
 /// `None` is that of `WAYLAND_DISPLAY`, and if that is not set, `wayland-0`. If `WAYLAND_SOCKET` is set,
 /// it is the number of a socket that is connected already, which this process was started with. A
-/// duplicate of that is returned then, and the variable is removed.
+/// duplicate of that is returned then, and the variable is removed. The environment is read and written:
+/// connect before other threads use it.
 ///
 /// The number itself stays open, since no call can know whether it belongs to something else in this
 /// process. Dropping the [`Link`] ends the connection all the same.
@@ -66,7 +67,8 @@ pub fn send(
 
 /// Receives bytes into the parts, and appends the descriptors that came with them, at most
 /// [`MOST_DESCRIPTORS`]. Returns how many bytes came, 0 at the end of the stream. It does not wait:
-/// [`io::ErrorKind::WouldBlock`].
+/// [`io::ErrorKind::WouldBlock`]. If the process may open no more descriptors, or more came at once, bytes
+/// and descriptors are lost: close the socket.
 pub fn receive(
     socket: impl AsFd,
     parts: [&mut [u8]; 2],
@@ -180,7 +182,9 @@ impl AsFd for Listener {
 /// closes the descriptors that wait.
 ///
 /// For a loop of your own: [`flush`](Link::flush), wait for what [`awaited`](Link::awaited) says,
-/// [`fill`](Link::fill), and read all messages.
+/// [`fill`](Link::fill), and read all messages. If a server's `next` is
+/// [`OutFull`](crate::NextError::OutFull), its client does not read: do not fill before a flush has sent
+/// something, or end the client.
 #[derive(Debug)]
 pub struct Link<R> {
     end: Connection<R>,
@@ -235,7 +239,8 @@ pub fn has_gone(error: &io::Error) -> bool {
 }
 
 impl<R> Link<R> {
-    /// An end, and the socket by which it is connected.
+    /// An end, and the socket by which it is connected. The inbox of the end needs room for
+    /// [`MOST_DESCRIPTORS`] tokens: nothing is received otherwise.
     pub fn new(end: Connection<R>, socket: UnixStream) -> Link<R> {
         Link { end, socket }
     }
@@ -266,13 +271,28 @@ impl<R> Link<R> {
 
     /// Receives once. Read all messages before. It does not wait: [`Came::Nothing`] if nothing is there
     /// yet. Errors are those of the socket; that the inbox has no room, as if descriptors came that belong
-    /// to no message; and that the end has failed.
+    /// to no message; and that the end has failed. If the process may open no more descriptors, or more
+    /// than [`MOST_DESCRIPTORS`] came at once, some are lost, and the end has failed afterwards.
     pub fn fill(&mut self) -> io::Result<Came> {
         match self.end.end.fill(self.socket.as_fd()) {
             Ok(0) => Ok(Came::End),
             Ok(_) => Ok(Came::Something),
             Err(error) if error.kind() == ErrorKind::WouldBlock => Ok(Came::Nothing),
-            Err(error) => Err(error),
+            Err(error) => {
+                if sys::has_lost(&error) {
+                    drop(self.end.take_waiting_tokens());
+                }
+                Err(error)
+            }
+        }
+    }
+
+    /// Sends what the socket takes, and says whether something still waits. If the other end has gone,
+    /// it may have said why, so that is no error here.
+    fn is_stuck(&mut self) -> io::Result<bool> {
+        match self.flush() {
+            Err(error) if has_gone(&error) => Ok(false),
+            sent => sent.map(|is_all| !is_all),
         }
     }
 
@@ -281,11 +301,7 @@ impl<R> Link<R> {
     pub fn wait(&mut self, limit: Option<Duration>) -> io::Result<Came> {
         let until = Deadline::of(limit);
         loop {
-            let is_stuck = match self.flush() {
-                // It may have said why.
-                Err(error) if has_gone(&error) => false,
-                sent => !sent?,
-            };
+            let is_stuck = self.is_stuck()?;
             wait([(self.as_fd(), is_stuck)], until.left())?;
             match self.fill() {
                 Err(error) if has_gone(&error) => return Ok(Came::End),
@@ -328,7 +344,9 @@ impl Link<AsClient> {
     /// over.
     ///
     /// An event that the handler does not take is dropped, with its descriptors closed. An object that
-    /// such an event has made stays open. An error ends the connection:
+    /// such an event has made stays open, and so does one of a discarded event. The handler is not told
+    /// which objects end: if you keep data for objects, read with `next` yourself. An error ends the
+    /// connection:
     /// [`UnexpectedEof`](io::ErrorKind::UnexpectedEof) if the compositor has closed it, [`PostedError`],
     /// or [`NextError`](crate::NextError).
     pub fn dispatch(
@@ -345,8 +363,9 @@ impl Link<AsClient> {
         }
     }
 
-    /// Dispatches until the compositor has read all that was written before (wl_display.sync).
-    /// [`TimedOut`](io::ErrorKind::TimedOut) if that takes longer than `limit`; other errors as
+    /// Dispatches until the compositor has read all that was written before (wl_display.sync). The
+    /// handler is not given the event of the sync. [`TimedOut`](io::ErrorKind::TimedOut) if that takes
+    /// longer than `limit`; [`SendError`](crate::SendError) if the sync cannot be written; other errors as
     /// [`dispatch`](Link::dispatch).
     pub fn round_trip(
         &mut self,
@@ -355,11 +374,14 @@ impl Link<AsClient> {
     ) -> io::Result<()> {
         let until = Deadline::of(limit);
         let display = WlDisplay(self.end.display());
+        self.is_stuck()?; // so that there is room
         let callback = display.sync(&mut self.end).map_err(io::Error::other)?;
+        let mut is_over = false;
         while !self.read_all(handler, Some(callback.0))?.1 {
-            if !self.waits(until)? {
+            if is_over || !self.waits(until)? {
                 return Err(ErrorKind::TimedOut.into());
             }
+            is_over = until.has_passed();
         }
         Ok(())
     }
@@ -373,7 +395,8 @@ impl Link<AsClient> {
         }
     }
 
-    /// Reads all whole messages. Returns how many there were, and whether one of them ended this object.
+    /// Reads all whole messages. Returns how many there were, and whether one of them ended this object,
+    /// whose events the handler is not given.
     fn read_all(
         &mut self,
         handler: &mut impl EventHandler,
@@ -384,6 +407,7 @@ impl Link<AsClient> {
         while let Some(incoming) = self.end.next().map_err(io::Error::other)? {
             count += 1;
             match incoming {
+                Incoming::Event(event) if ended == Some(event.target()) => {}
                 Incoming::Event(mut event) => {
                     let _is_taken = handler.dispatch_event(&tables, &mut event);
                 }

@@ -35,7 +35,7 @@ pub use decoded::Decoded;
 pub use end::{End, Going};
 pub use inspector::Inspector;
 pub use reading::Reading;
-pub use socket::{connect, inherited, poll, receive, send, Listening, Pollfd};
+pub use socket::{connect, has_lost, inherited, poll, receive, send, Listening, Pollfd};
 use tables::RawTables;
 pub use tables::Tables;
 

@@ -8,8 +8,10 @@ mod common;
 
 use common::{number_of, numbered};
 use std::os::fd::{AsFd, OwnedFd};
+use std::os::unix::net::UnixStream;
 use std::sync::{Mutex, MutexGuard};
 use std::{fs, mem};
+use waywire::socket::{self, Link};
 use waywire::wayland::wl_display::WlDisplay;
 use waywire::wayland::wl_keyboard::{self, KeymapFormat, WlKeyboard};
 use waywire::wayland::wl_registry::WlRegistry;
@@ -235,6 +237,7 @@ extern "C" {
 
 const RLIMIT_NOFILE: i32 = 7;
 const EMFILE: i32 = 24;
+const EOVERFLOW: i32 = 75;
 
 /// The process may open no more descriptors.
 #[test]
@@ -254,6 +257,24 @@ fn a_descriptor_that_is_not_duplicated_is_an_error() {
     assert_eq!(refused, SendError::NotDuplicated { error: EMFILE });
     assert!(refused.to_string().starts_with("a descriptor is not duplicated: "));
     assert!(pair.shm.create_pool(&mut pair.client, &lent, 1).is_ok());
+}
+
+/// A link that has lost descriptors reads nothing more: its end has failed.
+#[test]
+fn lost_descriptors_fail_the_end() {
+    let _alone = alone();
+    let (its, other) = UnixStream::pair().unwrap();
+    let client = Client::new(&Tables::core().unwrap(), &Sizes::default()).unwrap();
+    let mut link = Link::new(client, its);
+    let lent = numbered(7);
+    let before = open_descriptors();
+    let too_many = [lent.as_fd(); socket::MOST_DESCRIPTORS + 1];
+    socket::send(&other, [&[0; 8], &[]], &too_many).unwrap();
+    assert_eq!(link.fill().unwrap_err().raw_os_error(), Some(EOVERFLOW));
+    assert!(link.has_failed());
+    socket::send(&other, [&[0; 8], &[]], &[]).unwrap();
+    assert!(link.fill().is_err());
+    assert_eq!(open_descriptors(), before);
 }
 
 /// Nothing is closed twice: what would be is in the place of descriptors that are new.

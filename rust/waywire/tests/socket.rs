@@ -11,7 +11,7 @@ use std::path::PathBuf;
 use std::time::{Duration, Instant};
 use std::{env, fs, thread};
 use waywire::socket::{self, has_gone, Came, Link, Listener, PostedError};
-use waywire::wayland::wl_callback::WlCallback;
+use waywire::wayland::wl_callback::{self, WlCallback};
 use waywire::wayland::wl_display::{self, WlDisplay};
 use waywire::wayland::wl_registry::{self, WlRegistry};
 use waywire::{
@@ -81,6 +81,74 @@ fn a_round_trip_dispatches() {
     assert_eq!(client.dispatch(&mut told, SOON).unwrap(), 0);
     drop(client);
     server.join().unwrap();
+}
+
+/// The callbacks that were done.
+#[derive(Default)]
+struct Done(Vec<WlCallback>);
+
+impl wl_callback::Events for Done {
+    fn done(&mut self, callback: WlCallback, _: u32) {
+        self.0.push(callback);
+    }
+}
+
+waywire::event_handler!(Done: wl_callback);
+
+/// A round trip finds room in a full outbox, and the handler does not hear of its callback.
+#[test]
+fn a_round_trip_makes_room() {
+    let tables = Tables::core().unwrap();
+    let (its, other) = UnixStream::pair().unwrap();
+    let sizes = Sizes { out_bytes: 120, ..Sizes::default() };
+    let mut client = Link::new(Client::new(&tables, &sizes).unwrap(), its);
+    let server = Link::new(Server::new(&tables, &Sizes::default()).unwrap(), other);
+    let display = WlDisplay(client.display());
+    let callbacks: Vec<_> = (0..10).map(|_| display.sync(&mut client).unwrap()).collect();
+    assert_eq!(display.sync(&mut client), Err(SendError::Full));
+    let server = thread::spawn(move || Answering(server).run());
+    let mut done = Done::default();
+    client.round_trip(&mut done, LONG).unwrap();
+    assert!(done.0 == callbacks);
+    drop(client);
+    server.join().unwrap();
+}
+
+/// Takes its time with each event.
+struct Slow;
+
+impl wl_registry::Events for Slow {
+    fn global(&mut self, _: WlRegistry, _: u32, _: &[u8], _: u32) {
+        thread::sleep(SOON.unwrap());
+    }
+}
+
+waywire::event_handler!(Slow: wl_registry);
+
+/// A server that tells of globals without end, and answers no sync.
+#[test]
+fn a_round_trip_ends_in_time_while_events_come() {
+    let (mut client, mut server) = pair();
+    WlDisplay(client.display()).get_registry(&mut client).unwrap();
+    client.flush().unwrap();
+    let telling = thread::spawn(move || {
+        let seat = server.tables().interface("wl_seat").unwrap();
+        assert_eq!(server.wait(LONG).unwrap(), Came::Something);
+        assert!(server.next().unwrap().is_some());
+        for _ in 0..1000 {
+            if server.add_global(seat, 1).is_err()
+                || server.announce().is_err()
+                || server.flush().is_err()
+            {
+                return;
+            }
+            thread::sleep(SOON.unwrap() / 4);
+        }
+    });
+    let ended = client.round_trip(&mut Slow, SOON).unwrap_err();
+    assert_eq!(ended.kind(), ErrorKind::TimedOut);
+    drop(client);
+    telling.join().unwrap();
 }
 
 #[test]

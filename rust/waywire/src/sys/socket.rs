@@ -18,6 +18,11 @@ const F_DUPFD_CLOEXEC: c_int = 1030;
 /// The least number of a duplicate: those below it are the standard streams.
 const BEHIND_STREAMS: c_int = 3;
 
+/// The process may open no more descriptors.
+const EMFILE: i32 = 24;
+/// More descriptors came than there was room for.
+const EOVERFLOW: i32 = 75;
+
 const POLLIN: i16 = 1;
 const POLLOUT: i16 = 4;
 
@@ -56,6 +61,11 @@ extern "C" {
     fn fcntl(descriptor: c_int, command: c_int, ...) -> c_int;
     #[link_name = "poll"]
     fn wait_for(descriptors: *mut Pollfd, count: c_ulong, milliseconds: c_int) -> c_int;
+}
+
+/// Whether bytes and descriptors that came are lost with this error of receiving.
+pub fn has_lost(error: &io::Error) -> bool {
+    matches!(error.raw_os_error(), Some(EMFILE | EOVERFLOW))
 }
 
 /// The number of bytes that a call returns, or the error that it leaves.
@@ -97,8 +107,10 @@ pub fn connect(name: Option<&OsStr>) -> io::Result<OwnedFd> {
 pub fn inherited(number: RawFd) -> io::Result<OwnedFd> {
     // Safety: the call refuses a number that is no open descriptor; it makes a new one.
     let duplicate = unsafe { made(fcntl(number, F_DUPFD_CLOEXEC, BEHIND_STREAMS)) }?;
-    // Safety: as above; programs that this one starts do not get the descriptor.
-    unsafe { fcntl(number, F_SETFD, FD_CLOEXEC) };
+    if number >= BEHIND_STREAMS {
+        // Safety: as above; programs that this one starts do not get the descriptor.
+        unsafe { fcntl(number, F_SETFD, FD_CLOEXEC) };
+    }
     Ok(duplicate)
 }
 
