@@ -41,4 +41,8 @@ HIDDEN waywire_status slice(const void **bytes, size_t length, size_t size);
  * time. */
 HIDDEN waywire_tables *used(const waywire_tables *tables);
 
+/* Reads a text over the tables of a client, which takes what comes out: `more`, whose user it is. */
+HIDDEN waywire_status read_for_client(struct handle *client, const void *text, size_t length,
+	waywire_tables **more, size_t *line, uint32_t *rule);
+
 #endif

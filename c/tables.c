@@ -5,6 +5,8 @@
 uint32_t waywire_c_tables_core(void **tables);
 uint32_t waywire_c_tables_read(struct handle, const void *text, size_t length, void **more,
 	size_t *line, uint32_t *rule);
+uint32_t waywire_c_client_more_tables(struct handle *, const void *text, size_t length, void **more,
+	size_t *line, uint32_t *rule);
 uint32_t waywire_c_tables_interface(struct handle, const void *name, size_t length,
 	uint16_t *interface);
 uint32_t waywire_c_tables_name(struct handle, uint16_t interface, const void **name,
@@ -140,11 +142,10 @@ waywire_status waywire_tables_core(waywire_tables **tables)
 	return made_tables(status, made, tables);
 }
 
-waywire_status waywire_tables_read(const waywire_tables *tables, const void *text, size_t length,
-	waywire_tables **more, size_t *line, uint32_t *rule)
+/* Reads a text over these tables; or over those of a client, which takes what comes out. */
+static waywire_status read_over(const waywire_tables *tables, struct handle *client, const void *text,
+	size_t length, waywire_tables **more, size_t *line, uint32_t *rule)
 {
-	if (!tables || !more)
-		return WAYWIRE_NULL;
 	size_t no_line;
 	uint32_t no_rule;
 	waywire_status status = slice(&text, length, 1);
@@ -153,11 +154,30 @@ waywire_status waywire_tables_read(const waywire_tables *tables, const void *tex
 	waywire_tables *made = empty_tables();
 	if (!made)
 		return WAYWIRE_NO_MEMORY;
+	if (!line)
+		line = &no_line;
+	if (!rule)
+		rule = &no_rule;
 	making = &made->blocks;
-	status = waywire_c_tables_read(tables->handle, text, length, &made->handle.at, line ? line : &no_line,
-		rule ? rule : &no_rule);
+	status = client
+		? waywire_c_client_more_tables(client, text, length, &made->handle.at, line, rule)
+		: waywire_c_tables_read(tables->handle, text, length, &made->handle.at, line, rule);
 	making = NULL;
 	return made_tables(status, made, more);
+}
+
+waywire_status waywire_tables_read(const waywire_tables *tables, const void *text, size_t length,
+	waywire_tables **more, size_t *line, uint32_t *rule)
+{
+	if (!tables || !more)
+		return WAYWIRE_NULL;
+	return read_over(tables, NULL, text, length, more, line, rule);
+}
+
+waywire_status read_for_client(struct handle *client, const void *text, size_t length, waywire_tables **more,
+	size_t *line, uint32_t *rule)
+{
+	return read_over(NULL, client, text, length, more, line, rule);
 }
 
 waywire_status waywire_tables_interface(const waywire_tables *tables, const char *name,

@@ -40,6 +40,8 @@ uint32_t waywire_c_end_next(struct handle *, waywire_report *, waywire_arg *args
 uint32_t waywire_c_client_made(const struct handle *, waywire_object *made);
 uint32_t waywire_c_client_bind(struct handle *, waywire_object registry, uint32_t name,
 	const void *interface, size_t length, uint32_t version, waywire_object *bound);
+uint32_t waywire_c_client_bind_unannounced(struct handle *, waywire_object registry, uint32_t name,
+	const void *interface, size_t length, uint32_t version, waywire_object *bound);
 uint32_t waywire_c_server_drop_object(struct handle *, waywire_object);
 uint32_t waywire_c_server_post_error(struct handle *, waywire_object, uint32_t code,
 	const void *text, size_t length);
@@ -249,6 +251,11 @@ waywire_status waywire_end_object_after(const waywire_end *end, uint32_t id, way
 	return WAYWIRE_NOT_FOUND;
 }
 
+const waywire_tables *waywire_end_tables(const waywire_end *end)
+{
+	return end ? end->tables : NULL;
+}
+
 bool waywire_end_has_failed(const waywire_end *end)
 {
 	return !end || waywire_c_end_has_failed(&end->handle);
@@ -428,6 +435,30 @@ waywire_status waywire_client_bind(waywire_client client, waywire_object registr
 		strlen(interface), version, bound ? bound : &no_object);
 }
 
+waywire_status waywire_client_bind_unannounced(waywire_client client, waywire_object registry, uint32_t name,
+	const char *interface, uint32_t version, waywire_object *bound)
+{
+	waywire_object no_object;
+	if (!client.end || !interface)
+		return WAYWIRE_NULL;
+	return waywire_c_client_bind_unannounced(&client.end->handle, registry, name, interface,
+		strlen(interface), version, bound ? bound : &no_object);
+}
+
+waywire_status waywire_client_more_tables(waywire_client client, const void *text, size_t length,
+	size_t *line, uint32_t *rule)
+{
+	waywire_tables *more;
+	if (!client.end)
+		return WAYWIRE_NULL;
+	waywire_status status = read_for_client(&client.end->handle, text, length, &more, line, rule);
+	if (!status) {
+		waywire_tables_free(client.end->tables);
+		client.end->tables = more;
+	}
+	return status;
+}
+
 waywire_status waywire_client_made(waywire_client client, waywire_object *made)
 {
 	if (!client.end || !made)
@@ -536,6 +567,7 @@ const char *waywire_strerror(waywire_status status)
 	case WAYWIRE_OTHER_END: return "call of the other end";
 	case WAYWIRE_BAD_LINE: return "bad line";
 	case WAYWIRE_BAD_TABLE: return "line breaks a rule of tables";
+	case WAYWIRE_FIRST_SERVER_OBJECT: return "first event by which the server makes an object";
 	}
 	return "unknown status";
 }

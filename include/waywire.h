@@ -124,7 +124,9 @@ typedef enum waywire_status {
 
 	/* Why no tables are read from a text. */
 	WAYWIRE_BAD_LINE = 71,       /* a line has none of the forms of such a text */
-	WAYWIRE_BAD_TABLE = 72       /* a line breaks a rule of tables */
+	WAYWIRE_BAD_TABLE = 72,      /* a line breaks a rule of tables */
+	WAYWIRE_FIRST_SERVER_OBJECT = 73 /* waywire_client_more_tables: the text has the first event by which
+	                              * the server makes an object */
 } waywire_status;
 
 /* Whether a status says that a message which came was at fault. */
@@ -565,6 +567,10 @@ size_t waywire_end_object_count(const waywire_end *end);
  * All of it takes time linear in the number of ids that were ever used. WAYWIRE_NOT_FOUND if there is none. */
 waywire_status waywire_end_object_after(const waywire_end *end, uint32_t id, waywire_object *object);
 
+/* The tables that an end has: those that it was made with, or those of waywire_client_more_tables. They are valid
+ * until that call, or until the end is freed; the caller does not free them. Null for a null end. */
+const waywire_tables *waywire_end_tables(const waywire_end *end);
+
 /* Whether the end has failed. It fails for good when `next` reads a message at fault, and by `take_waiting_tokens`;
  * a client also when `next` reads wl_display.error, and a server by `post_error`. A refused call never makes it
  * fail. It then reads and writes nothing more, and what waits in its outbox can still be taken. */
@@ -667,6 +673,26 @@ waywire_status waywire_client_new(const waywire_tables *tables, const waywire_si
  * WAYWIRE_NO_IDS, WAYWIRE_NO_MEMORY. */
 waywire_status waywire_client_bind(waywire_client client, waywire_object registry, uint32_t name,
 	const char *interface, uint32_t version, waywire_object *bound);
+
+/* Binds a global that need not have been announced: the server judges the bind. Nothing that was announced is asked
+ * or changed, so a global that the client did not remember, or that was withdrawn, can be bound. The message has
+ * this version. At this end the object has the version of the tables, so no request and no event of it is too new;
+ * the server refuses the requests that are too new for it. Statuses as those of waywire_client_bind, with
+ * WAYWIRE_BAD_BIND only if the tables have no such interface, or the version is 0 or above theirs.
+ * What is proved of two ends together does not cover this call, since their versions of the object may differ. */
+waywire_status waywire_client_bind_unannounced(waywire_client client, waywire_object registry, uint32_t name,
+	const char *interface, uint32_t version, waywire_object *bound);
+
+/* Reads a text over the client's own tables, as waywire_tables_read does and with its statuses, and gives the
+ * client the tables that come out. Interfaces keep their places and messages their opcodes, so objects and globals
+ * stay what they are. A global that was announced before its interface was in the tables stays forgotten:
+ * waywire_client_bind_unannounced binds it. WAYWIRE_FIRST_SERVER_OBJECT if the text has the first event by which the
+ * server makes an object (`N`): a client that is made over tables without one has no room for such objects.
+ * Reports end, as with any call that may change an end. The tables that the client had are freed when nothing else
+ * uses them.
+ * What is proved of two ends together is about ends whose tables stay. */
+waywire_status waywire_client_more_tables(waywire_client client, const void *text, size_t length,
+	size_t *line, uint32_t *rule);
 
 /* The object that the last message read has made: one of the server's, also where its report was
  * WAYWIRE_DISCARDED, so that it can be destroyed. `made` gets id 0 if that message has made none, and before the

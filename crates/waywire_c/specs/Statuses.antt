@@ -1,11 +1,12 @@
 -- The number that stands for each refusal and each fault.
-use Rattle.std.specs.Prelude.{◌≡◌, ◌⊎◌, ℕ, Bool, true, false, Option, Some, None}
+use Rattle.std.specs.Prelude.{◌≡◌, ◌⊎◌, ℕ, Bool, true, false, if◌then◌else◌, List, Option, Some, None}
 use Rattle.std.specs.declared.result.Result.{Result}
 use Rattle.std.specs.declared.result.Result.TheVariants.{Ok, Err}
 use Rattle.wl_wire.specs.declared.kind.ArgFault.{ArgFault}
 use Rattle.wl_wire.specs.declared.kind.ArgFault.TheVariants as spellings
 use Rattle.wl_interface_text.specs.declared.fault.TableFault.{TableFault}
 use Rattle.wl_interface_text.specs.declared.fault.TableFault.TheVariants as tables
+use Rattle.wl_sigs.specs.Tables.{Interface}
 use Rattle.wl_object_map.specs.declared.object.Object.{Object}
 use Rattle.wl_objects.specs.declared.error.SendError.{SendError}
 use Rattle.wl_objects.specs.declared.error.SendError.TheVariants as refusals
@@ -13,6 +14,7 @@ use Rattle.wl_objects.specs.declared.error.NextError.{NextError}
 use Rattle.wl_objects.specs.declared.error.NextError.TheVariants as errors
 use Rattle.wl_objects.specs.declared.error.Fault.{Fault}
 use Rattle.wl_objects.specs.declared.error.Fault.TheVariants as faults
+use Rattle.wl_connection.specs.MoreTables.{has_first_server_object}
 use Rattle.wl_server.specs.declared.globals.GlobalError.{GlobalError}
 use Rattle.wl_server.specs.declared.globals.GlobalError.TheVariants as globals
 
@@ -105,6 +107,11 @@ table_status tables.Memory = 11
 abbrev pub table_outcome : {X : Type 0} → Result X TableFault → ℕ
 table_outcome (Ok found) = 0
 table_outcome (Err why) = table_status why
+
+-- TB1, TB2, TB3, and that of tables that an end over these cannot take
+abbrev pub more_tables_outcome : List Interface → Result (List Interface) TableFault → ℕ
+more_tables_outcome tables (Ok more) = if has_first_server_object tables more then 73 else 0
+more_tables_outcome tables (Err why) = table_status why
 
 -- The status of a call is this one; or, where that is an acceptance for which memory may be needed,
 -- that of out of memory.

@@ -5,6 +5,7 @@ ghost use Rattle.wl_message.specs.Cut.{IsLimit};
 ghost use Rattle.wl_sigs.specs.Core.{core_tables};
 ghost use Rattle.wl_sigs.specs.Outcome.{outcome};
 ghost use Rattle.wl_interface_text.specs.declared.fault.TableFault.TheVariants.{Memory};
+ghost use Rattle.wl_connection.specs.MoreTables.{Extend};
 ghost use Rattle.wl_client.specs.State.{new_state as new_client};
 ghost use Rattle.wl_server.specs.State.{new_state as new_server};
 ghost use Rattle.waywire_c.specs.declared.held.HeldEnd.TheVariants.{Client as MadeClient};
@@ -20,6 +21,7 @@ use crate::values::CSizes;
 use std::alloc::{AllocError, Global};
 use wl_check::Inspector;
 use wl_client::Client;
+use wl_connection::texts_extend;
 use wl_message::{Limit, Sizes};
 use wl_server::Server;
 use wl_sigs::{TableFault, Tables};
@@ -60,9 +62,11 @@ pub fn more_tables(
     tables: &Tables,
     text: &[u8],
 ) -> Result<Box<HeldTables>, TableFault>
-    ensures { MatchResult result (λ kept. outcome tables.now text.now ≡ Ok kept.value.tables.now)
+    ensures made { MatchResult result (λ kept. outcome tables.now text.now ≡ Ok kept.value.tables.now)
         (λ why. (outcome tables.now text.now ≡ Err why) ⊎ (why ≡ Memory)) }
+    ensures extend { IfOk result (λ kept. Extend tables.now kept.value.tables.now) }
 {
+    texts_extend();
     let joined = tables.read_more(text)?;
     match kept(alloc, joined) {
         Ok(boxed) => Ok(boxed),

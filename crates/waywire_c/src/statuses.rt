@@ -42,6 +42,10 @@ pub const BAD_LINE: u32 = 71;
 /// TB2: a line of a text of tables breaks a rule.
 pub const BAD_TABLE: u32 = 72;
 
+/// A text of tables has the first event by which the server makes an object, and the client that was
+/// to take it has none.
+pub const FIRST_SERVER_OBJECT: u32 = 73;
+
 /// The status of a refusal to send.
 pub fn send_status(error: SendError) -> u32
     ensures { result ≡ send_status error }

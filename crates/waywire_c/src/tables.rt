@@ -7,7 +7,7 @@ ghost use Rattle.wl_interface_text.specs.declared.fault.TableFault.TheVariants.{
 ghost use Rattle.wl_interface_text.specs.declared.fault.TableFault.TheVariants.{};
 ghost use Rattle.wl_interface_text.specs.declared.fault.TableFault.TheVariants.{BadTable as bad_table};
 ghost use Rattle.waywire_c.specs.Inspecting.{IsTried};
-ghost use Rattle.waywire_c.specs.Statuses.{find_outcome, table_outcome};
+ghost use Rattle.waywire_c.specs.Statuses.{find_outcome, table_outcome, table_status};
 ghost use Rattle.waywire_c.specs.Values.{iface_at};
 
 use crate::making::{core_tables, more_tables};
@@ -58,21 +58,32 @@ pub extern "C" fn waywire_c_tables_read(
             *more = lent_address(boxed);
             OK
         }
-        Err(TableFault::BadLine { line: bad }) => {
+        Err(why) => put_fault(why, line, rule),
+    }
+}
+
+/// Why a text is not read: writes where it is at fault to `line` and `rule`, and returns the status.
+pub fn put_fault(why: TableFault, line: &mut usize, rule: &mut u32) -> u32
+    ensures status { result ≡ table_status why }
+    ensures bad_line { result ≡ 71 → why ≡ bad_line line.new }
+    ensures bad_table { result ≡ 72 → why ≡ bad_table line.new rule.new }
+    ensures line { result ≢ 71 → result ≢ 72 → line.new ≡ line.old }
+    ensures rule { result ≢ 72 → rule.new ≡ rule.old }
+{
+    match why {
+        TableFault::BadLine { line: bad } => {
             *line = bad;
             BAD_LINE
         }
-        Err(
-            TableFault::BadTable {
-                line: broken,
-                rule: least,
-            },
-        ) => {
+        TableFault::BadTable {
+            line: broken,
+            rule: least,
+        } => {
             *line = broken;
             *rule = u32::from(least);
             BAD_TABLE
         }
-        Err(TableFault::Memory) => NO_MEMORY,
+        TableFault::Memory => NO_MEMORY,
     }
 }
 

@@ -20,8 +20,9 @@ use Rattle.wl_objects.specs.declared.parsed.ParsedArg.{ParsedArg}
 use Rattle.wl_objects.specs.Messages.{Received, received, reader_of}
 use Rattle.wl_connection.specs.Core.{Core}
 use Rattle.wl_connection.specs.Receiving.{Found, found, found_in, takes, own_tokens}
-use Rattle.wl_connection.specs.ServerRange.{OpensLasting}
-use Rattle.wl_connection.proofs.ServerRange.{opens_made}
+use Rattle.wl_connection.specs.ServerRange.{IsMadeBySome, NoEventEnds, OpensHolding, OpensLasting, OpensMadeBySome}
+use Rattle.wl_connection.proofs.MadeByEvent.{IsMadeByEvent}
+use Rattle.wl_connection.proofs.ServerRange.{opens_by, opens_made}
 use Rattle.wl_client.specs.declared.pending.PendingEvent.{PendingEvent}
 use Rattle.wl_client.specs.Reports.{Report, report, Event, Discarded, is_error_event}
 use Rattle.wl_client.specs.Reports.{is_delete_event, deleted_id, error_report, delete_report}
@@ -84,6 +85,9 @@ ahead core h body args waiting event m v f e found_it s =
     let p = is_received core.tables event_side (reader_of core.tables event_side core.view) h body waiting m e in
     let b = few_of core h body waiting m v e in
     let behind : body_of core h.size ≡ body = ap (drop 8) f.parts in
+    let new = made_by_found core.tables (headed h m) in
+    let opens : OpensHolding (IsMadeByEvent core.tables) new = opens_made core.tables v m.entry.iface.0 h.opcode
+    m.entry.version m.signature m.values new p.signature refl in
     record {
       can_take = record {
         message = f.whole ∙ ap Whole (sym s.bytes);
@@ -92,8 +96,9 @@ ahead core h body args waiting event m v f e found_it s =
         made = subst (CanOpen core.tables core.view) (sym s.made)
             (can_open core.tables core.view h body waiting m (made_by_found core.tables (headed h m)) v e refl);
         lasting = subst (OpensLasting core.tables) (sym s.made)
-            (opens_made core.tables v m.entry.iface.0 h.opcode m.entry.version m.signature m.values
-            (made_by_found core.tables (headed h m)) p.signature refl);
+            (opens_by (IsMadeByEvent core.tables) (NoEventEnds core.tables) (λ iface i. i.lasting) new opens);
+        by_some = subst (OpensMadeBySome core.tables) (sym s.made)
+            (opens_by (IsMadeByEvent core.tables) (IsMadeBySome core.tables) (λ iface i. i.by_some) new opens);
         change = s.can;
         entry = s.entry;
         wants = ap (event_opens core) found_it ∙ ap (opens_row core.view) (sym s.made);

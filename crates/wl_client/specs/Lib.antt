@@ -8,3 +8,4 @@ pub mod Reading
 pub mod Binding
 pub mod Outlines
 pub mod Shown
+pub mod Unannounced

@@ -14,7 +14,7 @@ use Rattle.wl_message.specs.Arrived.{in_front}
 use Rattle.wl_message.specs.Cut.{Whole}
 use Rattle.wl_connection.specs.Core.{Core}
 use Rattle.wl_connection.specs.Receiving.{Found, found, takes}
-use Rattle.wl_connection.specs.ServerRange.{OpensLasting}
+use Rattle.wl_connection.specs.ServerRange.{OpensLasting, OpensMadeBySome}
 use Rattle.wl_client.specs.declared.pending.PendingEvent.{PendingEvent}
 use Rattle.wl_client.specs.State.{Global}
 use Rattle.wl_client.specs.Reports.{Report, report, is_error_event, event_opens, opens_row}
@@ -58,6 +58,7 @@ pub record CanTake (core : Core) (event : PendingEvent) : Type 0 where
   pub waiting : event.tokens ≤ length core.inbox.tokens
   pub made : CanOpen core.tables core.view event.change.made
   pub lasting : OpensLasting core.tables event.change.made
+  pub by_some : OpensMadeBySome core.tables event.change.made
   pub change : CanChange (opens core.view event.change.made) event.change.objects
   pub entry : event.entry ≡ outline_entry core.view event.outline
   pub wants : event_opens core (found core event_side) ≡ opens_row core.view event.change.made

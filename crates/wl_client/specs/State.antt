@@ -5,7 +5,8 @@ use Rattle.wl_sigs.specs.Tables.{Interface}
 use Rattle.wl_message.specs.declared.amounts.Sizes.{Sizes}
 use Rattle.wl_object_map.specs.declared.object.Object.{Object}
 use Rattle.wl_connection.specs.Core.{Core, new_core}
-use Rattle.wl_connection.specs.ServerRange.{NoEventEndsMade}
+use Rattle.wl_connection.specs.MoreTables as connection
+use Rattle.wl_connection.specs.ServerRange.{EventsMakeMade, NoEventEndsMade}
 pub use Rattle.wl_client.specs.declared.globals.Global.{Global}
 
 -- The remembered globals, no name twice, in the order in which their names were told; the object
@@ -31,8 +32,14 @@ new_state tables sizes =
 abbrev pub with_core : State → Core → State
 with_core state core = record state { core = core }
 
--- What holds of a client between calls: it frees no id of the server's range, and no event destroys
--- an object that the server made.
+-- the client over other tables
+abbrev pub with_tables : State → List Interface → State
+with_tables state tables = with_core state (connection.with_tables state.core tables)
+
+-- What holds of a client between calls: it frees no id of the server's range, no event destroys an
+-- object that the server made, and events make objects of its interface. So the second still holds
+-- over tables that extend the client's.
 pub record IsSound (core : Core) : Type 0 where
   pub frees_none : core.view.server.freed ≡ []
   pub lasting : NoEventEndsMade core.tables core.view
+  pub by_some : EventsMakeMade core.tables core.view

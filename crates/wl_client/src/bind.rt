@@ -73,7 +73,7 @@ impl<'t, T: Table> Client<'t, T> {
 
 /// Whether a global is of this interface, and was advertised with at least this version, which
 /// the tables know.
-fn can_bind(tables: &Tables, global: Global, iface: &[u8], version: u32) -> bool
+pub(crate) fn can_bind(tables: &Tables, global: Global, iface: &[u8], version: u32) -> bool
     ensures answer { result ≡ can_bind tables.now iface.now version (Some global) }
     ensures fits { result ≡ true → FitsBind iface.now }
 {

@@ -1,13 +1,15 @@
 //! The client's end.
-ghost use Rattle.std.specs.Prelude.{◌≡◌, [], IfOk};
+ghost use Rattle.std.specs.Prelude.{◌≡◌, [], IfOk, OnErr, OnOk};
+ghost use Rattle.std.specs.Result.{is_err};
 ghost use Rattle.wl_message.specs.Arrived.{AreSizes};
-ghost use Rattle.wl_client.specs.State.{new_state};
+ghost use Rattle.wl_connection.specs.MoreTables.{Extend, has_first_server_object};
+ghost use Rattle.wl_client.specs.State.{new_state, with_tables};
 
 use crate::globals::Remembered;
 use crate::role::Kept;
 use std::alloc::AllocError;
 use std::marker::Model;
-use wl_connection::{Core, Endpoint};
+use wl_connection::{Core, Endpoint, FirstServerObject};
 use wl_message::Sizes;
 use wl_objects::{Object, Table};
 use wl_sigs::Tables;
@@ -82,5 +84,21 @@ impl<'t, T: Table> Client<'t, T> {
         ensures { result ≡ self.now.replaced }
     {
         self.kept.replaced
+    }
+    /// Takes tables in place of those that the client has, which they extend, as those do that
+    /// `Tables::read_more` makes of the client's. Nothing else changes: each object and each global
+    /// keeps the place of its interface, and each message its opcode. A global that was announced
+    /// while its interface was missing stays forgotten; `bind_unannounced` binds it.
+    ///
+    /// Refused if these tables have the first event by which the server makes an object: a client
+    /// has a table of the server's range of ids from the beginning, or never.
+    pub fn more_tables(&mut self, tables: &'t Tables) -> Result<(), FirstServerObject>
+        requires { Extend self.old.core.tables tables.now }
+        ensures refused { is_err result
+            ≡ has_first_server_object self.old.core.tables tables.now }
+        ensures ok { OnOk result (self.new ≡ with_tables self.old tables.now) }
+        ensures err { OnErr result (self.new ≡ self.old) }
+    {
+        self.end.core.more_tables(tables)
     }
 }

@@ -1,12 +1,18 @@
 //! What holds of what a client reads. These functions do nothing: each is called for what it
 //! ensures.
-ghost use Rattle.std.specs.Prelude.{ℕ, List};
+ghost use Rattle.std.specs.Prelude.{◌≡◌, ◌↔◌, ℕ, true, false, List, Some, Err};
 ghost use Rattle.wl_sigs.specs.declared.signature.Side.TheVariants.{Event as event_side};
 ghost use Rattle.wl_connection.specs.Reads.{AnyCutReads, HasOneReading, ReadsWhole};
+ghost use Rattle.wl_sigs.specs.Fixed.{registry};
+ghost use Rattle.wl_sigs.specs.Valid.{Valid};
 ghost use Rattle.wl_object_map.specs.declared.object.Object.{Object};
+ghost use Rattle.wl_object_map.specs.declared.object.Entry.{Entry};
+ghost use Rattle.wl_objects.specs.Messages.{live_row, same_iface};
+ghost use Rattle.wl_objects.specs.declared.error.SendError.TheVariants.{BadBind};
 ghost use Rattle.wl_client.specs.Binding.{BindSpells};
 ghost use Rattle.wl_client.specs.State.{State};
 ghost use Rattle.wl_client.specs.Streams.{client_reading};
+ghost use Rattle.wl_client.specs.Unannounced.{HasVersion, unannounced_answer};
 
 /// What waits is read in one way, also when more comes behind it.
 pub fn one_reading()
@@ -27,4 +33,14 @@ pub fn whole_messages_are_read()
 pub fn binds_are_spelled()
     ensures { (state : State) (registry : Object) (name version : ℕ) (iface : List ℕ)
         → BindSpells state registry name iface version }
+{}
+
+/// A bind that the server judges is refused for its interface and version (S7) exactly where the
+/// tables have no interface of this name that has this version.
+pub fn unannounced_binds_are_known()
+    ensures { (state : State) (target : Object) (entry : Entry) (name version : ℕ) (iface : List ℕ)
+        → Valid state.core.tables → state.core.failed ≡ false
+        → live_row state.core.view target ≡ Some entry → same_iface entry.iface registry ≡ true
+        → (unannounced_answer state target name iface version ≡ Err BadBind)
+        ↔ (¬ HasVersion state.core.tables iface version) }
 {}

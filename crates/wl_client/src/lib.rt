@@ -18,10 +18,14 @@ mod role;
 mod send;
 mod shown;
 mod tokens;
+mod unannounced;
 
 pub use client::Client;
-pub use laws::{any_cut_reads, binds_are_spelled, one_reading, whole_messages_are_read};
+pub use laws::{
+    any_cut_reads, binds_are_spelled, one_reading, unannounced_binds_are_known,
+    whole_messages_are_read,
+};
 pub use report::{Incoming, IncomingWithEntry, OwnedIncoming, OwnedIncomingWithEntry};
 pub use shown::ShownIncoming;
 pub use tokens::Tokens;
-pub use wl_connection::ReadAll;
+pub use wl_connection::{FirstServerObject, ReadAll};

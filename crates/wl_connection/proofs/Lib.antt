@@ -17,4 +17,5 @@ pub mod AnyCut
 pub mod Roles
 pub mod MadeByEvent
 pub mod ServerRange
+pub mod MoreTables
 pub mod Writes

@@ -2,8 +2,8 @@
 -- not wl_registry. The tables then have such events.
 use Rattle.std.proofs.Common.{◌≡◌, ◌≢◌, ℕ, inl, inr, true, false, List, [], ◌∷◌, refl, ap, subst, ◌∙◌}
 use Rattle.std.proofs.lemmas.Bool.{cases_Bool}
-use Rattle.std.proofs.lemmas.List.Elements.{All-head, All-tail}
-use Rattle.std.specs.List.{All}
+use Rattle.std.proofs.lemmas.List.Elements.{All-contains_itself, All-head, All-tail}
+use Rattle.std.specs.List.{All, Contains}
 use Rattle.std.specs.declared.option.Option.{Option}
 use Rattle.std.specs.declared.option.Option.TheVariants.{None, Some}
 use Rattle.wl_wire.specs.declared.kind.Kind.{Kind}
@@ -17,7 +17,7 @@ use Rattle.wl_sigs.specs.Rules.{has_server_objects, is_ended_by_event}
 use Rattle.wl_sigs.specs.Fixed.{wl_registry, registry}
 use Rattle.wl_sigs.specs.Valid.{Valid, IsFixedPlace}
 use Rattle.wl_objects.specs.Messages.{NewObject, made, made_by}
-use Rattle.wl_connection.specs.ServerRange.{NoEventEnds}
+use Rattle.wl_connection.specs.ServerRange.{IsMadeBySome, NoEventEnds}
 use Rattle.wl_connection.proofs.NewIds.{one_of, without_client}
 use Rattle.wl_connection.proofs.Openings.{event_makes_none, makes_none}
 
@@ -45,14 +45,15 @@ module _ (P : Kind → Type 0) (tables : List Interface) (version : ℕ) where
 pub record IsMadeByEvent (tables : List Interface) (iface : Iface) : Type 0 where
   pub named : has_server_objects tables ≡ true
   pub lasting : NoEventEnds tables iface
+  pub by_some : IsMadeBySome tables iface
   pub other : iface ≢ registry
 
 -- V11, of one kind of a message
-abbrev MadeRightly : List Interface → Kind → Type 0
+abbrev pub MadeRightly : List Interface → Kind → Type 0
 MadeRightly tables kind = (iface : Iface) (i : Interface) → kind ≡ kinds.NewByServer iface
     → interface_at tables iface.0 ≡ Some i → (has_destroying_event i ≡ false) × ¬ IsFixedPlace iface.0
 
-ended_by : (o : Option Interface) → ((i : Interface) → o ≡ Some i → has_destroying_event i ≡ false)
+pub ended_by : (o : Option Interface) → ((i : Interface) → o ≡ Some i → has_destroying_event i ≡ false)
     → is_ended_by_event o ≡ false
 ended_by None rule = refl
 ended_by (Some i) rule = rule i refl
@@ -71,6 +72,14 @@ made_by_event tables v place opcode version m values new at e =
             absurd (cc (none, e)))
       ];
       lasting = ended_by (interface_at tables new.iface.0) (λ i there. (rightly new.iface i refl there).0);
+      by_some = record {
+        place = place;
+        opcode = opcode;
+        event = m;
+        at = at;
+        has = made_kind (Contains m.kinds) tables version m.kinds values new
+            (v.few_objects_made.events place opcode m at) (All-contains_itself m.kinds) e;
+      };
       other = λ same. (let there : interface_at tables new.iface.0 ≡ Some wl_registry =
           ap (λ (i : Iface). interface_at tables i.0) same ∙ v.fixed_four.registry in
           (rightly new.iface wl_registry refl there).1 (inr (inl (ap (λ (i : Iface). i.0) same))));

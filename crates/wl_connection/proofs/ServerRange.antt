@@ -34,9 +34,9 @@ use Rattle.wl_objects.proofs.Wholes.{passes}
 use Rattle.wl_connection.specs.Core.{Core}
 use Rattle.wl_connection.specs.Sending.{after_send, after_checked, made_at, following, with_following}
 use Rattle.wl_connection.specs.Sending.{next_object, version_at}
-use Rattle.wl_connection.specs.ServerRange.{NoEventEnds, NoEventEndsMade, OpensLasting}
+use Rattle.wl_connection.specs.ServerRange.{HoldsOfMade, NoEventEnds, NoEventEndsMade, OpensHolding, OpensLasting}
 use Rattle.wl_connection.proofs.CheckedSends.{made-next}
-use Rattle.wl_connection.proofs.MadeByEvent.{made_by_event}
+use Rattle.wl_connection.proofs.MadeByEvent.{IsMadeByEvent, made_by_event}
 
 -- an opening that may be refused leaves whether there is a table of the range
 pub range_of : {X E : Type 0} (result : Result X E) (before now changed : Objects) → OnOk result (now ≡ changed) → OnErr result (now ≡ before)
@@ -44,63 +44,83 @@ pub range_of : {X E : Type 0} (result : Result X E) (before now changed : Object
 range_of (Ok x) before now changed ok err kept = ap (λ (o : Objects). o.has_server_range) ok ∙ kept
 range_of (Err why) before now changed ok err kept = ap (λ (o : Objects). o.has_server_range) err
 
--- No event destroys an object that the server made.
+-- What holds of the interface of each object that the server made, as that no event destroys it.
 
-module _ (tables : List Interface) where
+module _ (P : Iface → Type 0) where
   -- a new end has none
-  pub lasting_opening : (range : Bool) → NoEventEndsMade tables (opening display range)
-  lasting_opening range id e of_server row =
+  pub made_opening : (range : Bool) → HoldsOfMade P (opening display range)
+  made_opening range id e of_server row =
       let low = is_from id of_server in
       let other : eqb id 1 ≡ false = grind (arith, nat_tests, low) in
       let none : look (opening display range) id ≡ None = look-opening display range id ∙ rw other refl in
       absurd (cc (none, row))
 
-  pub lasting_closed : (view : Objects) (id : ℕ) → NoEventEndsMade tables view → NoEventEndsMade tables (closed view id)
-  lasting_closed view id h q e of_server row = h q e of_server (row-closed view id q e row).1
+  pub made_closed : (view : Objects) (id : ℕ) → HoldsOfMade P view → HoldsOfMade P (closed view id)
+  made_closed view id h q e of_server row = h q e of_server (row-closed view id q e row).1
 
-  pub lasting_zombied : (view : Objects) (id : ℕ) → NoEventEndsMade tables view → NoEventEndsMade tables (zombied view id)
-  lasting_zombied view id h q e of_server row =
+  pub made_zombied : (view : Objects) (id : ℕ) → HoldsOfMade P view → HoldsOfMade P (zombied view id)
+  made_zombied view id h q e of_server row =
       let d = row-zombied view id q e row in
-      subst (λ (x : Entry). NoEventEnds tables x.iface) (sym d.1.1)
-      (by_test (eqb q id) d.0 (h q d.0 of_server d.1.0))
+      subst (λ (x : Entry). P x.iface) (sym d.1.1) (by_test (eqb q id) d.0 (h q d.0 of_server d.1.0))
     where
-      by_test : (b : Bool) (x : Entry) → NoEventEnds tables x.iface → NoEventEnds tables (cond b (zombie x) x).iface
+      by_test : (b : Bool) (x : Entry) → P x.iface → P (cond b (zombie x) x).iface
       by_test true x p = p
       by_test false x p = p
 
-  pub lasting_opened : (view : Objects) (new : Option NewObject) → OpensLasting tables new → NoEventEndsMade tables view
-      → NoEventEndsMade tables (opens view new)
-  lasting_opened view None o h = h
-  lasting_opened view (Some m) o h = λ q e of_server row.
+  pub made_opened : (view : Objects) (new : Option NewObject) → OpensHolding P new → HoldsOfMade P view
+      → HoldsOfMade P (opens view new)
+  made_opened view None o h = h
+  made_opened view (Some m) o h = λ q e of_server row.
       elim (row-opened_at view m.id m.iface m.version q e row) [
-        | inl new ↦ subst (λ (x : Entry). NoEventEnds tables x.iface) (sym new.1)
+        | inl new ↦ subst (λ (x : Entry). P x.iface) (sym new.1)
             (o (ap is_of_server (sym new.0) ∙ of_server))
         | inr old ↦ h q e of_server old.1
       ]
 
-  lasting_destroyed : (side : Side) (view : Objects) (id : ℕ) → NoEventEndsMade tables view
-      → NoEventEndsMade tables (destroyed side view id)
-  lasting_destroyed Request view id h = lasting_zombied view id h
-  lasting_destroyed Event view id h = lasting_closed view id h
+  made_destroyed : (side : Side) (view : Objects) (id : ℕ) → HoldsOfMade P view
+      → HoldsOfMade P (destroyed side view id)
+  made_destroyed Request view id h = made_zombied view id h
+  made_destroyed Event view id h = made_closed view id h
 
-  pub lasting_destroys : (side : Side) (what : Destroys) (id : ℕ) (view : Objects) → NoEventEndsMade tables view
-      → NoEventEndsMade tables (destroys side what id view)
-  lasting_destroys side Nothing id view h = h
-  lasting_destroys side Target id view h = lasting_destroyed side view id h
-  lasting_destroys side (Arg place) id view h = lasting_destroyed side view id h
+  made_destroys : (side : Side) (what : Destroys) (id : ℕ) (view : Objects) → HoldsOfMade P view
+      → HoldsOfMade P (destroys side what id view)
+  made_destroys side Nothing id view h = h
+  made_destroys side Target id view h = made_destroyed side view id h
+  made_destroys side (Arg place) id view h = made_destroyed side view id h
 
-  pub lasting_after : (side : Side) (view : Objects) (new : Option NewObject) (what : Destroys) (id : ℕ)
-      → OpensLasting tables new → NoEventEndsMade tables view → NoEventEndsMade tables (after side view new what id)
-  lasting_after side view new what id o h =
-      lasting_destroys side what id (opens view new) (lasting_opened view new o h)
+  made_after : (side : Side) (view : Objects) (new : Option NewObject) (what : Destroys) (id : ℕ)
+      → OpensHolding P new → HoldsOfMade P view → HoldsOfMade P (after side view new what id)
+  made_after side view new what id o h =
+      made_destroys side what id (opens view new) (made_opened view new o h)
 
 -- what an event makes
 pub opens_made : (tables : List Interface) → Valid tables → (place opcode version : ℕ) (m : MessageSignature)
     (values : List Argument) (o : Option NewObject) → signature_at tables place Event opcode ≡ Some m
-    → made tables version m.kinds values ≡ o → OpensLasting tables o
+    → made tables version m.kinds values ≡ o → OpensHolding (IsMadeByEvent tables) o
 opens_made tables v place opcode version m values None at is = tt
 opens_made tables v place opcode version m values (Some new) at is =
-    λ of_server. (made_by_event tables v place opcode version m values new at is).lasting
+    λ of_server. made_by_event tables v place opcode version m values new at is
+
+-- what holds of each interface by which that is made
+pub opens_by : (P Q : Iface → Type 0) → ((iface : Iface) → P iface → Q iface) → (o : Option NewObject)
+    → OpensHolding P o → OpensHolding Q o
+opens_by P Q by None h = tt
+opens_by P Q by (Some new) h = λ of_server. by new.iface (h of_server)
+
+-- a request makes no object of the server's
+opens_none : (P : Iface → Type 0) (core : Core) (target : Object) (opcode : ℕ) (list : List CallArg) (m : MessageSignature)
+    → ObjectsAreSound core.view
+    → checked core.outbox.limit.bytes core.tables Request core.view target opcode (given list) ≡ Ok m
+    → OpensHolding P (made_at core Request target m (given list))
+opens_none P core target opcode list m s e =
+    let p = passes core.outbox.limit.bytes core.tables Request core.view target opcode (given list) m e in
+    subst (OpensHolding P) (sym (made-next core Request target opcode list m p.entry e p.row))
+    (by_iface (call_makes m.kinds) p.entry.version)
+  where
+    by_iface : (iface : Option Iface) (version : ℕ)
+        → OpensHolding P (next_object Client core.view version iface)
+    by_iface None version = tt
+    by_iface (Some iface) version = λ of_server. absurd (cc (next_of_client core.view s, of_server))
 
 -- what a call makes that passed its checks
 opens_lasting : (core : Core) (side : Side) (target : Object) (opcode : ℕ) (list : List CallArg) (m : MessageSignature)
@@ -108,18 +128,13 @@ opens_lasting : (core : Core) (side : Side) (target : Object) (opcode : ℕ) (li
     → checked core.outbox.limit.bytes core.tables side core.view target opcode (given list) ≡ Ok m
     → OpensLasting core.tables (made_at core side target m (given list))
 opens_lasting core Request target opcode list m v s e =
-    let p = passes core.outbox.limit.bytes core.tables Request core.view target opcode (given list) m e in
-    subst (OpensLasting core.tables) (sym (made-next core Request target opcode list m p.entry e p.row))
-    (by_iface (call_makes m.kinds) p.entry.version)
-  where
-    by_iface : (iface : Option Iface) (version : ℕ)
-        → OpensLasting core.tables (next_object Client core.view version iface)
-    by_iface None version = tt
-    by_iface (Some iface) version = λ of_server. absurd (cc (next_of_client core.view s, of_server))
+    opens_none (NoEventEnds core.tables) core target opcode list m s e
 opens_lasting core Event target opcode list m v s e =
     let p = passes core.outbox.limit.bytes core.tables Event core.view target opcode (given list) m e in
-    opens_made core.tables v p.entry.iface.0 opcode (version_at (look core.view target.id)) m
-    (map (wired (next_id Server core.view)) (given list)) (made_at core Event target m (given list)) p.exists refl
+    let new = made_at core Event target m (given list) in
+    opens_by (IsMadeByEvent core.tables) (NoEventEnds core.tables) (λ iface i. i.lasting) new
+    (opens_made core.tables v p.entry.iface.0 opcode (version_at (look core.view target.id)) m
+    (map (wired (next_id Server core.view)) (given list)) new p.exists refl)
 
 -- whatever is sent
 followed_view : (b : Bool) (id : ℕ) (k : Core) → (with_following b id k).view ≡ k.view
@@ -142,22 +157,36 @@ tables_sent core side target opcode list =
     by_check (Ok m) = followed_tables (following side m.destroys)
         (ended_id m.destroys target.id (map (wired 0) (given list))) _
 
-pub lasting_sent : (core : Core) (side : Side) (target : Object) (opcode : ℕ) (list : List CallArg)
-    → Valid core.tables → ObjectsAreSound core.view → NoEventEndsMade core.tables core.view
-    → NoEventEndsMade core.tables (after_send core side target opcode (given list)).view
-lasting_sent core side target opcode list v s h =
+made_sent : (P : Iface → Type 0) (core : Core) (side : Side) (target : Object) (opcode : ℕ) (list : List CallArg)
+    → ((m : MessageSignature)
+    → checked core.outbox.limit.bytes core.tables side core.view target opcode (given list) ≡ Ok m
+    → OpensHolding P (made_at core side target m (given list))) → HoldsOfMade P core.view
+    → HoldsOfMade P (after_send core side target opcode (given list)).view
+made_sent P core side target opcode list opening h =
     by_check (checked core.outbox.limit.bytes core.tables side core.view target opcode (given list)) refl
   where
     by_check : (r : Result MessageSignature SendError)
         → checked core.outbox.limit.bytes core.tables side core.view target opcode (given list) ≡ r
-        → NoEventEndsMade core.tables (after_checked core side target opcode (given list) r).view
+        → HoldsOfMade P (after_checked core side target opcode (given list) r).view
     by_check (Err why) e = h
     by_check (Ok m) e =
         let id = ended_id m.destroys target.id (map (wired 0) (given list)) in
         let new = made_at core side target m (given list) in
-        subst (NoEventEndsMade core.tables) (sym (followed_view (following side m.destroys) id _))
-        (lasting_after core.tables side core.view new m.destroys id
-        (opens_lasting core side target opcode list m v s e) h)
+        subst (HoldsOfMade P) (sym (followed_view (following side m.destroys) id _))
+        (made_after P side core.view new m.destroys id (opening m e) h)
+
+pub lasting_sent : (core : Core) (side : Side) (target : Object) (opcode : ℕ) (list : List CallArg)
+    → Valid core.tables → ObjectsAreSound core.view → NoEventEndsMade core.tables core.view
+    → NoEventEndsMade core.tables (after_send core side target opcode (given list)).view
+lasting_sent core side target opcode list v s h = made_sent (NoEventEnds core.tables) core side target opcode list
+    (λ m e. opens_lasting core side target opcode list m v s e) h
+
+-- a request leaves what holds of the objects that the server made
+pub made_requested : (P : Iface → Type 0) (core : Core) (target : Object) (opcode : ℕ) (list : List CallArg)
+    → ObjectsAreSound core.view → HoldsOfMade P core.view
+    → HoldsOfMade P (after_send core Request target opcode (given list)).view
+made_requested P core target opcode list s h = made_sent P core Request target opcode list
+    (λ m e. opens_none P core target opcode list m s e) h
 
 -- An end that frees no id of the server's range frees none by what it opens, nor by what it makes a
 -- zombie: so a client frees none.

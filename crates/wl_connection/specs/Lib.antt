@@ -6,6 +6,7 @@ pub mod Streams
 pub mod Reads
 pub mod Roles
 pub mod ServerRange
+pub mod MoreTables
 pub mod Spelled
 pub mod Transport
 pub mod Waiting

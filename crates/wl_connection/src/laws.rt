@@ -10,6 +10,7 @@ ghost use Rattle.wl_message.specs.declared.amounts.Amounts.{Amounts};
 ghost use Rattle.wl_message.specs.InStep.{Part, Need, part_bytes, part_tokens, InStep};
 ghost use Rattle.wl_sigs.specs.Tables.{Interface, MessageSignature};
 ghost use Rattle.wl_sigs.specs.Rules.{has_server_objects};
+ghost use Rattle.wl_sigs.specs.Outcome.{outcome};
 ghost use Rattle.wl_sigs.specs.Valid.{Valid};
 ghost use Rattle.wl_object_map.specs.declared.object.Object.{Object};
 ghost use Rattle.wl_object_map.specs.Objects.{Objects};
@@ -19,10 +20,13 @@ ghost use Rattle.wl_objects.specs.declared.error.SendError.{SendError};
 ghost use Rattle.wl_objects.specs.Messages.{checked};
 ghost use Rattle.wl_objects.specs.Writing.{Given};
 ghost use Rattle.wl_connection.specs.Core.{Core, with_arrived};
+ghost use Rattle.wl_connection.specs.MoreTables.{Extend};
 ghost use Rattle.wl_connection.specs.Receiving.{Found, found, reported, past_found};
 ghost use Rattle.wl_connection.specs.Sending.{IsSendAnswer, OpensNothing, opens_object};
 ghost use Rattle.wl_connection.specs.Spelled.{CallsSpell, FoundSpells};
 ghost use Rattle.wl_connection.specs.Streams.{IsTaken, taken_bytes, taken_tokens, untaken, longer};
+
+use wl_sigs::places_and_opcodes_stay;
 
 /// A message that stands in front is found there whatever comes behind it: it is reported by the
 /// same tokens, and what comes stays behind it. So is a fault, but for missing descriptors, which
@@ -85,3 +89,11 @@ pub fn openings_alone_need_memory()
         → Valid tables → has_server_objects tables ≡ false
         → opens_object (checked limit tables event_side view target opcode given) ≡ false }
 {}
+
+/// What is read of a text over tables extends these tables.
+pub fn texts_extend()
+    ensures { (tables more : List Interface) (text : List ℕ) → outcome tables text ≡ Ok more
+        → Extend tables more }
+{
+    places_and_opcodes_stay();
+}

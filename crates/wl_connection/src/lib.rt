@@ -21,10 +21,11 @@ pub use end::End;
 pub use endpoint::Endpoint;
 pub use laws::{
     found_stays, messages_are_spelled, openings_alone_need_memory, taking_keeps_pieces,
+    texts_extend,
 };
 pub use receive::MAX_TOKENS;
 pub use receiver::Receiver;
 pub use role::{Role, read, read_owned};
 pub use send::DELETE_ID_LEN;
-pub use shared::{Core, MAX_GLOBALS};
+pub use shared::{Core, FirstServerObject, MAX_GLOBALS};
 pub use streams::{ReadAll, read_all};

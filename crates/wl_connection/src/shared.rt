@@ -1,13 +1,18 @@
 //! What both ends of a connection have: tables, objects and two queues.
-ghost use Rattle.std.specs.Prelude.{◌≡◌, ◌≤◌, IfOk, take};
+ghost use Rattle.std.specs.Prelude.{◌≡◌, ◌≤◌, IfOk, OnErr, OnOk, take};
+ghost use Rattle.std.specs.Result.{is_err};
 ghost use Rattle.wl_sigs.specs.Fixed.{display};
 ghost use Rattle.wl_sigs.specs.Rules.{has_server_objects};
+ghost use Rattle.wl_sigs.specs.Valid.{Valid};
 ghost use Rattle.wl_message.specs.Arrived.{AreSizes};
 ghost use Rattle.wl_object_map.specs.Objects.{opening};
 ghost use Rattle.wl_connection.specs.Core.{new_core, live, feeds, with_arrived};
+ghost use Rattle.wl_connection.specs.MoreTables.{Extend, has_first_server_object, with_tables};
 ghost use Rattle.wl_connection.specs.ServerRange.{IsRangeNewUnlessMade};
 
 use std::alloc::AllocError;
+use std::error::Error;
+use std::fmt::{self, Display, Formatter};
 use std::marker::Model;
 use wl_message::{Fed, Inbox, Outbox, Sizes};
 use wl_objects::{DISPLAY, Object, Objects, Table, live_row};
@@ -16,6 +21,11 @@ use wl_wire::Iface;
 
 /// The most globals that a server advertises in its life, and the most that a client remembers.
 pub const MAX_GLOBALS: usize = 1024;
+
+/// Tables have the first event by which the server makes an object, and the end that was to take
+/// them has no table of the server's range of ids.
+#[derive(Clone, Copy, Debug, PartialEq, Eq)]
+pub struct FirstServerObject;
 
 /// An end: its tables, its objects and its two queues.
 ///
@@ -89,6 +99,26 @@ impl<'t, T: Table> Core<'t, T> {
         })
     }
 
+    /// Takes tables in place of those that the end has, which they extend. Nothing else changes: each
+    /// object keeps the place of its interface, and each message its opcode.
+    ///
+    /// Refused if these tables have the first event by which the server makes an object: an end has
+    /// a table of the server's range of ids from the beginning, or never.
+    pub fn more_tables(&mut self, tables: &'t Tables) -> Result<(), FirstServerObject>
+        requires { Extend self.old.tables tables.now }
+        ensures refused { is_err result ≡ has_first_server_object self.old.tables tables.now }
+        ensures ok { OnOk result (self.new ≡ with_tables self.old tables.now) }
+        ensures err { OnErr result (self.new ≡ self.old) }
+        // Tables are always valid; a proof learns it from a call that looked into them.
+        ensures valid { Valid tables.now }
+    {
+        if tables.has_server_objects() && !self.objects.has_server_range() {
+            return Err(FirstServerObject);
+        }
+        self.tables = tables;
+        Ok(())
+    }
+
     /// The objects, in both ranges of ids.
     pub fn objects(&self) -> &Objects<T>
         ensures objects { result.now ≡ self.now.view }
@@ -136,3 +166,15 @@ fn new_objects<T: Table>(alloc: T::Alloc, tables: &Tables) -> Result<Objects<T>,
         Objects::new(alloc, DISPLAY)
     }
 }
+
+impl Display for FirstServerObject {
+    ghost use Rattle.std.specs.Prelude.{Some, codes};
+
+    ghost output = { λ _. Some (codes "the first event by which the server makes an object") };
+
+    fn fmt<W: fmt::Write>(&self, f: &mut Formatter<W>) -> fmt::Result {
+        f.write_str("the first event by which the server makes an object")
+    }
+}
+
+impl Error for FirstServerObject {}

@@ -14,8 +14,8 @@ use Rattle.wl_objects.specs.Messages.{NewObject, opens}
 use Rattle.wl_objects.specs.Writing.{given}
 use Rattle.wl_connection.specs.Core.{Core, past, with_view}
 use Rattle.wl_connection.specs.Sending.{after_send, with_following}
-use Rattle.wl_connection.specs.ServerRange.{NoEventEndsMade, OpensLasting}
-use Rattle.wl_connection.proofs.ServerRange.{lasting_closed, lasting_opened, lasting_sent, tables_sent}
+use Rattle.wl_connection.specs.ServerRange.{NoEventEnds, NoEventEndsMade, OpensLasting}
+use Rattle.wl_connection.proofs.ServerRange.{lasting_sent, made_closed, made_opened, tables_sent}
 use Rattle.wl_server.specs.declared.announce.Announced.{Announced}
 use Rattle.wl_server.specs.State.{Registry}
 use Rattle.wl_server.specs.Announcing.{Due}
@@ -42,7 +42,7 @@ pub lasting_step : (core now : Core) (step : Step) → now ≡ core_by core step
     → IsLasting core → IsLasting now
 lasting_step core now step is fresh h =
     subst IsLasting (sym is) (ended step.ended (past (with_view core (opens core.view step.made)) step.size step.tokens)
-    (lasting_opened core.tables core.view step.made (of_client step.made fresh) h))
+    (made_opened (NoEventEnds core.tables) core.view step.made (of_client step.made fresh) h))
   where
     of_client : (made : Option NewObject) → IsFreshId core.view made → OpensLasting core.tables made
     of_client None f = tt
@@ -51,7 +51,7 @@ lasting_step core now step is fresh h =
     ended : (o : Option Object) (k : Core) → IsLasting k → IsLasting (core_without o k)
     ended None k l = l
     ended (Some object) k l = followed (not (is_of_server object.id)) object.id
-        (with_view k (closed k.view object.id)) (lasting_closed k.tables k.view object.id l)
+        (with_view k (closed k.view object.id)) (made_closed (NoEventEnds k.tables) k.view object.id l)
 
 -- after a call of send
 pub lasting_send : {X E : Type 0} (core now : Core) (target : Object) (opcode : ℕ) (list : List Arg) (result : Result X E)
@@ -67,7 +67,7 @@ lasting_send core now target opcode list (Err why) ok err valid sound h = subst 
 pub lasting_drop : {X E : Type 0} (core now : Core) (object : Object) (result : Result X E)
     → OnOk result (now ≡ after_drop core object) → OnErr result (now ≡ core) → IsLasting core → IsLasting now
 lasting_drop core now object (Ok x) ok err h =
-    subst IsLasting (sym ok) (lasting_closed core.tables core.view object.id h)
+    subst IsLasting (sym ok) (made_closed (NoEventEnds core.tables) core.view object.id h)
 lasting_drop core now object (Err why) ok err h = subst IsLasting (sym err) h
 
 -- after registries were told

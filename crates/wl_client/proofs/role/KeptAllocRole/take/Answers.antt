@@ -13,7 +13,7 @@ returns-clause-sound g c =
     let change = c.args.event.now.change in
     let can = c.requires.ahead.ahead.can_take in
     let opened : IsSound c.open_made.new.core =
-    subst IsSound (sym c.in_ok-self.ensures.ok) (sound_opened core change.made can.lasting c.requires.sound) in
+    subst IsSound (sym c.in_ok-self.ensures.ok) (sound_opened core change.made can.lasting can.by_some c.requires.sound) in
     let passed : IsSound c.pass.new.self = sound_by c.open_made.new.core c.pass.new.self
     (ap (λ (k : Core). k.tables) c.pass.ensures) (ap (λ (k : Core). k.view) c.pass.ensures) opened in
     let view : c.pass.new.self.view ≡ opens core.view change.made =
@@ -22,4 +22,4 @@ returns-clause-sound g c =
     (sound_changed c.pass.new.self change.objects
     (subst (λ (v : Objects). CanChange v change.objects) (sym view) can.change) passed) in
     let there = subst IsSound (sym (λ i. (c.end.view_is i).core)) changed in
-    record { frees_none = there.frees_none; lasting = there.lasting }
+    record { frees_none = there.frees_none; lasting = there.lasting; by_some = there.by_some }

@@ -2,8 +2,8 @@ use Rattle.std.proofs.Common.{rules, sym, ap, subst, ◌∙◌, arith, []}
 use Rattle.wl_object_map.specs.Objects.{Objects}
 use Rattle.wl_sigs.specs.Rules.{has_server_objects}
 use Rattle.wl_connection.specs.Core.{Core}
-use Rattle.wl_connection.specs.ServerRange.{NoEventEndsMade}
-use Rattle.wl_connection.proofs.ServerRange.{lasting_opening}
+use Rattle.wl_connection.specs.ServerRange.{NoEventEnds, NoEventEndsMade}
+use Rattle.wl_connection.proofs.ServerRange.{made_opening}
 use Rattle.wl_server.specs.Announcing.{owed_in}
 use Rattle.wl_server.specs.Registries.{HasRegistries}
 use Rattle.wl_server.proofs.Registries.{has_none}
@@ -23,5 +23,5 @@ invariant_of-result g c =
       past = omega (arith, c.new-registries.ensures.past);
       settled = ap (owed_in c.new-globals.result.items) c.new-registries.ensures.settled;
       lasting = subst (NoEventEndsMade c.new-2.result.core.tables) (sym view)
-          (lasting_opening c.new-2.result.core.tables range);
+          (made_opening (NoEventEnds c.new-2.result.core.tables) range);
     }

@@ -1,0 +1,74 @@
+-- What a client's bind returns and writes that asks nothing of what was announced.
+use Rattle.std.specs.Prelude.{◌≡◌, ℕ, ◌≤◌, not, if◌then◌else◌, List, [], Option, Some, None, option_map}
+use Rattle.std.specs.Option.{option_and_then}
+use Rattle.std.specs.declared.result.Result.{Result}
+use Rattle.std.specs.declared.result.Result.TheVariants.{Err}
+use Rattle.wl_sigs.specs.Tables.{Interface, interface_at, place_of}
+use Rattle.wl_sigs.specs.Fixed.{registry}
+use Rattle.wl_object_map.specs.declared.object.Object.{Object}
+use Rattle.wl_object_map.specs.declared.object.Entry.{Entry}
+use Rattle.wl_objects.specs.declared.error.SendError.{SendError}
+use Rattle.wl_objects.specs.declared.error.SendError.TheVariants as refusals
+use Rattle.wl_object_map.specs.declared.object.Maker.TheVariants.{Client}
+use Rattle.wl_object_map.specs.Objects.{next_id, opened_at}
+use Rattle.wl_objects.specs.Writing.{bind_values, message_len}
+use Rattle.wl_objects.specs.Messages.{NewObject, live_row, same_iface}
+use Rattle.wl_connection.specs.Core.{with_view}
+use Rattle.wl_connection.specs.Sending.{fits, with_sent, opening_answer}
+use Rattle.wl_client.specs.State.{State, Global}
+use Rattle.wl_client.specs.Calls.{can_bind, iface_or}
+
+-- the global of this name and interface, in the version that the tables have
+abbrev pub any_global : List Interface → ℕ → List ℕ → Option Global
+any_global tables name iface =
+    option_and_then (λ place. option_map
+    (λ i. record { name = name; iface = place; version = i.version })
+    (interface_at tables place.0)) (place_of tables iface)
+
+abbrev pub version_or : Option Global → ℕ
+version_or None = 1
+version_or (Some global) = global.version
+
+-- the object that the bind makes, at the next id: it has the version of the tables
+abbrev pub unannounced_object : State → ℕ → List ℕ → NewObject
+unannounced_object state name iface = record {
+  id = next_id Client state.core.view;
+  iface = iface_or (any_global state.core.tables name iface);
+  version = version_or (any_global state.core.tables name iface);
+}
+
+abbrev pub unannounced_at : State → ℕ → List ℕ → ℕ → Option Entry → Result (Option Object) SendError
+unannounced_at state name iface version None = Err refusals.Stale
+unannounced_at state name iface version (Some entry) =
+    if not (same_iface entry.iface registry) then Err refusals.NoSuchMessage
+    else if not (can_bind state.core.tables iface version (any_global state.core.tables name iface))
+    then Err refusals.BadBind
+    else if fits state.core.outbox (message_len (bind_values name iface version 0)) 0
+    then opening_answer state.core Client (Some (unannounced_object state name iface))
+    else Err refusals.Full
+
+-- What `bind_unannounced` returns, where no memory is needed: S1, S2, S3, S7, S9, S10; else the new
+-- object.
+abbrev pub unannounced_answer : State → Object → ℕ → List ℕ → ℕ → Result (Option Object) SendError
+unannounced_answer state target name iface version =
+    if state.core.failed then Err refusals.Failed
+    else unannounced_at state name iface version (live_row state.core.view target)
+
+-- The client after such a bind that was answered Ok: the message has the version that was asked for.
+abbrev pub after_unannounced : State → Object → ℕ → List ℕ → ℕ → State
+after_unannounced state target name iface version = record state {
+  core =
+      with_view (with_sent state.core target.id 0
+      (bind_values name iface version (next_id Client state.core.view)) [])
+      (opened_at state.core.view (next_id Client state.core.view)
+      (unannounced_object state name iface).iface (unannounced_object state name iface).version);
+}
+
+-- The tables have an interface of this name that has this version.
+pub record HasVersion (tables : List Interface) (iface : List ℕ) (version : ℕ) : Type 0 where
+  pub place : ℕ
+  pub interface : Interface
+  pub at : interface_at tables place ≡ Some interface
+  pub named : interface.name ≡ iface
+  pub some : 1 ≤ version
+  pub known : version ≤ interface.version
