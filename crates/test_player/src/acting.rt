@@ -70,6 +70,23 @@ impl<'a> Actor<'a> {
         }
     }
 
+    /// Makes the bind of these words at an end, of a global that need not have been announced, and
+    /// appends its reply.
+    pub fn bind_unannounced<E: Playable>(
+        &mut self,
+        end: &mut E,
+        words: &mut Words<'_>,
+        reply: &mut String,
+    ) -> Result<(), Trouble> {
+        let Some(action) = read_move(&self.alloc, self.tables, "bind", words)? else {
+            return Err(Trouble::Unreadable);
+        };
+        match end.act_unannounced(&action) {
+            Some(answer) => self.answer(Some(&action), Some(&answer), reply),
+            None => Err(Trouble::Unreadable),
+        }
+    }
+
     /// Appends the reply to a move.
     fn answer<A: Allocator, B: Allocator>(
         &mut self,

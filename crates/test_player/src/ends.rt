@@ -62,6 +62,7 @@ impl<'a, E: Playable + Drop> AtEnd<'a, E> {
     ) -> Result<(), Trouble> {
         match verb {
             "next-lent" => Ok(self.end.next_lent(&mut self.actor, reply)?),
+            "bind-unannounced" => self.actor.bind_unannounced(&mut self.end, words, reply),
             "feed" => self.feed(words.rest(), reply),
             "take" => self.take(words, true, reply),
             "go" => self.take(words, false, reply),

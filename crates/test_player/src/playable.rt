@@ -27,6 +27,10 @@ pub trait Playable: Receiver {
         args: &[Arg<'_>],
     ) -> Option<Reply<<Self::Table as Table>::Alloc>>;
 
+    /// Makes the bind of a move, of a global that need not have been announced; none where the move
+    /// is no bind, and at a server.
+    fn act_unannounced(&mut self, action: &Move) -> Option<Reply<<Self::Table as Table>::Alloc>>;
+
     /// Reads the next message by the call that lends its report, and appends that report in the
     /// words of an owned one.
     fn next_lent(&mut self, actor: &mut Actor<'_>, reply: &mut String) -> Result<(), AllocError>;
@@ -66,6 +70,20 @@ impl<'t, T: Table> Playable for Client<'t, T> {
             Move::ClientNext => Some(Reply::ClientNext(self.next_owned())),
             _ => None,
         }
+    }
+
+    fn act_unannounced(&mut self, action: &Move) -> Option<Reply<T::Alloc>> {
+        let Move::ClientBind {
+            registry,
+            name,
+            iface,
+            version,
+        } = action
+        else {
+            return None;
+        };
+        let bound = self.bind_unannounced(*registry, *name, iface.as_slice(), *version);
+        Some(Reply::ClientBind(bound))
     }
 
     fn next_lent(&mut self, actor: &mut Actor<'_>, reply: &mut String) -> Result<(), AllocError> {
@@ -125,6 +143,10 @@ impl<'t, T: Table> Playable for Server<'t, T> {
             Move::ServerNext => Some(Reply::ServerNext(self.next_owned())),
             _ => None,
         }
+    }
+
+    fn act_unannounced(&mut self, _action: &Move) -> Option<Reply<T::Alloc>> {
+        None
     }
 
     fn next_lent(&mut self, actor: &mut Actor<'_>, reply: &mut String) -> Result<(), AllocError> {
