@@ -2,7 +2,7 @@
 
 use crate::amounts::Sizes;
 use crate::connection::{AsClient, Connection};
-use crate::error::{NewError, NextError, SendError};
+use crate::error::{NewError, NextError, SendError, TablesError};
 use crate::report::{Incoming, Replaced};
 use crate::sys;
 use crate::tables::{Object, Tables};
@@ -26,6 +26,56 @@ impl Client {
         version: u32,
     ) -> Result<Object, SendError> {
         self.end.bind(registry, name, interface, version)
+    }
+
+    /// Binds a global that need not have been announced: the server judges the bind. Nothing that was
+    /// announced is asked or changed. So a global that the client does not remember, or that was
+    /// withdrawn, can be bound. The message has this version.
+    ///
+    /// At this end the object has the version of the tables, so no request and no event of it is too
+    /// new. The server refuses the requests that are too new for it. [`SendError::BadBind`] only if the
+    /// tables have no such interface, or the version is 0 or above theirs.
+    ///
+    /// Prefer [`bind`](Client::bind): what is proved of two ends together does not cover this call,
+    /// since their versions of the object may differ.
+    pub fn bind_unannounced(
+        &mut self,
+        registry: Object,
+        name: u32,
+        interface: &str,
+        version: u32,
+    ) -> Result<Object, SendError> {
+        self.end.bind_unannounced(registry, name, interface, version)
+    }
+
+    /// Reads a text over the client's own tables, as [`Tables::read`] does, and gives the client the
+    /// tables that come out: [`tables`](Connection::tables) returns them afterwards. Interfaces keep
+    /// their places and messages their opcodes, so objects and globals stay what they are.
+    ///
+    /// A global that was announced before its interface was in the tables stays forgotten:
+    /// [`bind_unannounced`](Client::bind_unannounced) binds it. [`TablesError::FirstServerObject`] if
+    /// the text has the first event by which the server makes an object (`N`): a client that is made
+    /// over tables without one has no room for such objects. An error changes nothing.
+    ///
+    /// What is proved of two ends together is about ends whose tables stay.
+    ///
+    /// ```
+    /// # use waywire::{Client, Sizes, Tables, TablesError};
+    /// let core = Tables::core().unwrap();
+    /// let mut client = Client::new(&core, &Sizes::default()).unwrap();
+    /// client.more_tables(b"interface wp_thing 2\nrequest destroy D\n").unwrap();
+    /// assert!(client.tables().interface("wp_thing").is_some());
+    /// assert!(core.interface("wp_thing").is_none());
+    ///
+    /// let first = client.more_tables(b"interface wp_maker 1\nevent made N(wp_thing)\n");
+    /// assert_eq!(first, Err(TablesError::FirstServerObject));
+    /// ```
+    pub fn more_tables(&mut self, text: &[u8]) -> Result<(), TablesError> {
+        // The end frees its tables with itself, and a clone of these may last longer.
+        let more = self.tables.read(text)?;
+        self.end.more_tables(text)?;
+        self.tables = more;
+        Ok(())
     }
 
     /// Reads the next message; `None` while none is whole. An event by which the server makes an

@@ -57,7 +57,7 @@ use std::os::fd::{BorrowedFd, OwnedFd};
 pub struct Connection<R> {
     pub(crate) end: sys::End,
     pub(crate) reading: Box<sys::Reading>,
-    tables: Tables,
+    pub(crate) tables: Tables,
     role: PhantomData<R>,
 }
 
@@ -76,7 +76,8 @@ impl<R> Connection<R> {
         Connection { end, reading, tables: tables.clone(), role: PhantomData }
     }
 
-    /// The tables for which it was made.
+    /// The tables that it has: those for which it was made, or those of
+    /// [`Client::more_tables`](crate::Client::more_tables).
     pub fn tables(&self) -> &Tables {
         &self.tables
     }

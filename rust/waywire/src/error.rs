@@ -32,6 +32,9 @@ pub enum TablesError {
         /// The least rule that it breaks: 1 to 9 for V1 to V9, 11 for V11.
         rule: u32,
     },
+    /// Of [`Client::more_tables`](crate::Client::more_tables) alone: the text has the first event by
+    /// which the server makes an object, and the client has no room for such objects.
+    FirstServerObject,
     /// Out of memory.
     NoMemory,
 }
@@ -58,7 +61,9 @@ pub enum SendError {
         /// The first such place.
         place: usize,
     },
-    /// No global of this name, interface and version was announced.
+    /// No global of this name, interface and version was announced; or, of
+    /// [`Client::bind_unannounced`](crate::Client::bind_unannounced), the tables have no such interface
+    /// and version.
     BadBind,
     /// The message is longer than the end's limit ([`Sizes::limit`](crate::Sizes::limit)).
     TooLong,
@@ -183,6 +188,7 @@ impl Status for TablesError {
         match self {
             TablesError::BadLine { .. } => sys::BAD_LINE,
             TablesError::BadTable { .. } => sys::BAD_TABLE,
+            TablesError::FirstServerObject => sys::FIRST_SERVER_OBJECT,
             TablesError::NoMemory => sys::NO_MEMORY,
         }
     }
@@ -272,7 +278,7 @@ impl fmt::Display for TablesError {
         match self {
             TablesError::BadLine { line } => write!(f, "line {line}: bad line"),
             TablesError::BadTable { line, rule } => write!(f, "line {line}: breaks V{rule}"),
-            TablesError::NoMemory => f.write_str(sys::text_of(self.status())),
+            _ => f.write_str(sys::text_of(self.status())),
         }
     }
 }

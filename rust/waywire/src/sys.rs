@@ -36,8 +36,8 @@ pub use end::{End, Going};
 pub use inspector::Inspector;
 pub use reading::Reading;
 pub use socket::{connect, has_lost, inherited, poll, receive, send, Listening, Pollfd};
-use tables::RawTables;
 pub use tables::Tables;
+use tables::{tables_error, RawTables};
 
 macro_rules! numbers {
     ($($name:ident = $number:expr, $header:literal;)*) => {
@@ -79,6 +79,7 @@ numbers! {
     BAD_SIZES = 63, "WAYWIRE_BAD_SIZES";
     BAD_LINE = 71, "WAYWIRE_BAD_LINE";
     BAD_TABLE = 72, "WAYWIRE_BAD_TABLE";
+    FIRST_SERVER_OBJECT = 73, "WAYWIRE_FIRST_SERVER_OBJECT";
     INT = 1, "WAYWIRE_INT";
     UINT = 2, "WAYWIRE_UINT";
     FIXED = 3, "WAYWIRE_FIXED";

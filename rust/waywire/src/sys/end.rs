@@ -1,13 +1,13 @@
 //! The calls of ends. Each is declared once and wrapped once, also if both ends have it.
 
 use super::{
-    lent, RawArg, RawTables, Reading, Report, Tables, BAD_BIND, BAD_OBJECT, BAD_SIZES, FAILED,
-    FULL, MAX_ARGS, NOT_DROPPABLE, NO_IDS, NO_MEMORY, NO_SUCH_GLOBAL, OK, STALE, TOO_LONG,
-    TOO_MANY_GLOBALS, TOO_OLD, WRONG_ARGS,
+    lent, tables_error, RawArg, RawTables, Reading, Report, Tables, BAD_BIND, BAD_OBJECT,
+    BAD_SIZES, FAILED, FULL, MAX_ARGS, NOT_DROPPABLE, NO_IDS, NO_MEMORY, NO_SUCH_GLOBAL, OK, STALE,
+    TOO_LONG, TOO_MANY_GLOBALS, TOO_OLD, WRONG_ARGS,
 };
 use crate::amounts::{Amounts, Sizes};
 use crate::args::Arg;
-use crate::error::{Failed, GlobalError, NewError, NextError, SendError};
+use crate::error::{Failed, GlobalError, NewError, NextError, SendError, TablesError};
 use crate::tables::{Interface, Object};
 use std::ffi::{c_char, c_void, CString};
 use std::mem::{self, MaybeUninit};
@@ -121,6 +121,21 @@ extern "C" {
         version: u32,
         bound: *mut Object,
     ) -> u32;
+    fn waywire_client_bind_unannounced(
+        client: RawClient,
+        registry: Object,
+        name: u32,
+        interface: *const c_char,
+        version: u32,
+        bound: *mut Object,
+    ) -> u32;
+    fn waywire_client_more_tables(
+        client: RawClient,
+        text: *const c_void,
+        length: usize,
+        line: *mut usize,
+        rule: *mut u32,
+    ) -> u32;
 
     // What a server alone has.
     fn waywire_server_new(
@@ -169,6 +184,11 @@ fn send_result(status: u32) -> Result<(), SendError> {
         OK => Ok(()),
         _ => Err(send_error(status, 0)),
     }
+}
+
+/// A name for C. No interface has a NUL in its name.
+fn interface_name(interface: &str) -> Result<CString, SendError> {
+    CString::new(interface).map_err(|_| SendError::BadBind)
 }
 
 /// Gives an end the first descriptors of a list, those that it has taken in.
@@ -580,8 +600,7 @@ impl End {
         interface: &str,
         version: u32,
     ) -> Result<Object, SendError> {
-        // No interface has a NUL in its name.
-        let interface = CString::new(interface).map_err(|_| SendError::BadBind)?;
+        let interface = interface_name(interface)?;
         let mut bound = Object::NONE;
         let status = unsafe {
             waywire_client_bind(
@@ -594,6 +613,45 @@ impl End {
             )
         };
         send_result(status).map(|()| bound)
+    }
+
+    pub fn bind_unannounced(
+        &mut self,
+        registry: Object,
+        name: u32,
+        interface: &str,
+        version: u32,
+    ) -> Result<Object, SendError> {
+        let interface = interface_name(interface)?;
+        let mut bound = Object::NONE;
+        let status = unsafe {
+            waywire_client_bind_unannounced(
+                self.as_client(),
+                registry,
+                name,
+                interface.as_ptr(),
+                version,
+                &mut bound,
+            )
+        };
+        send_result(status).map(|()| bound)
+    }
+
+    pub fn more_tables(&mut self, text: &[u8]) -> Result<(), TablesError> {
+        let (mut line, mut rule) = (0, 0);
+        let status = unsafe {
+            waywire_client_more_tables(
+                self.as_client(),
+                text.as_ptr().cast(),
+                text.len(),
+                &mut line,
+                &mut rule,
+            )
+        };
+        match status {
+            OK => Ok(()),
+            _ => Err(tables_error(status, line, rule)),
+        }
     }
 
     // What a server alone has.

@@ -1,8 +1,8 @@
 //! The calls of tables.
 
 use super::{
-    lent, ANY_INTERFACE, ARRAY, BAD_LINE, BAD_TABLE, DESTROYS_ARG, DESTROYS_TARGET, FIXED, INT,
-    NEW, NEW_BY_SERVER, OBJECT, OK, STRING, UINT,
+    lent, ANY_INTERFACE, ARRAY, BAD_LINE, BAD_TABLE, DESTROYS_ARG, DESTROYS_TARGET,
+    FIRST_SERVER_OBJECT, FIXED, INT, NEW, NEW_BY_SERVER, OBJECT, OK, STRING, UINT,
 };
 use crate::error::{NewError, TablesError};
 use crate::inspector::Sender;
@@ -97,6 +97,16 @@ impl RawKind {
     }
 }
 
+/// Why no tables were read from a text.
+pub(super) fn tables_error(status: u32, line: usize, rule: u32) -> TablesError {
+    match status {
+        BAD_LINE => TablesError::BadLine { line },
+        BAD_TABLE => TablesError::BadTable { line, rule },
+        FIRST_SERVER_OBJECT => TablesError::FirstServerObject,
+        _ => TablesError::NoMemory,
+    }
+}
+
 /// Tables as the library has them, freed when they are dropped. Ends keep what they need of them.
 #[derive(Debug)]
 struct OwnTables(NonNull<RawTables>);
@@ -148,9 +158,7 @@ impl Tables {
         };
         match (status, NonNull::new(more)) {
             (OK, Some(more)) => Ok(Tables::owned(more)),
-            (BAD_LINE, _) => Err(TablesError::BadLine { line }),
-            (BAD_TABLE, _) => Err(TablesError::BadTable { line, rule }),
-            _ => Err(TablesError::NoMemory),
+            _ => Err(tables_error(status, line, rule)),
         }
     }
 
