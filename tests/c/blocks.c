@@ -95,6 +95,13 @@ uint32_t waywire_c_tables_read(struct handle tables, const void *text, size_t le
 	return WAYWIRE_NO_MEMORY;
 }
 
+uint32_t waywire_c_client_more_tables(struct handle *client, const void *text, size_t length, void **more,
+	size_t *line, uint32_t *rule)
+{
+	(void)client, (void)text, (void)length, (void)more, (void)line, (void)rule;
+	return WAYWIRE_NO_MEMORY;
+}
+
 uint32_t waywire_c_tables_interface(struct handle tables, const void *name, size_t length, uint16_t *interface)
 {
 	(void)tables, (void)name, (void)length, (void)interface;

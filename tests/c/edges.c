@@ -475,6 +475,7 @@ static void ask(const waywire_end *end)
 	size_t count;
 	MUST(object.id == 1 && object.birth == 0 && !waywire_end_live(end, object, NULL, NULL));
 	MUST(!waywire_end_user(end, object) && waywire_end_object_count(end) > 1);
+	MUST(waywire_end_tables(end) == tables);
 	MUST(!waywire_end_object_after(end, 0, &object) && object.id == 1);
 	MUST(!waywire_end_has_failed(end) && !waywire_end_is_drained(end));
 	MUST(waywire_end_in_room(end).tokens == 64 && waywire_end_goes(end, 9, 9).bytes == 9);
@@ -538,11 +539,18 @@ static void refused_by_client(const struct pair *pair)
 {
 	waywire_client wrong = { pair->server.end };
 	struct state before = state_of(wrong.end);
-	waywire_object object = { 7, 7 };
-	MUST(waywire_client_bind(wrong, pair->registry.object, 1, "wl_seat", 1, &object) == WAYWIRE_OTHER_END);
-	MUST(waywire_client_bind(wrong, pair->registry.object, 1, "wl_seat", 1, NULL) == WAYWIRE_OTHER_END);
+	waywire_object registry = pair->registry.object, object = { 7, 7 };
+	size_t line = 7;
+	uint32_t rule = 7;
+	MUST(waywire_client_bind(wrong, registry, 1, "wl_seat", 1, &object) == WAYWIRE_OTHER_END);
+	MUST(waywire_client_bind(wrong, registry, 1, "wl_seat", 1, NULL) == WAYWIRE_OTHER_END);
+	MUST(waywire_client_bind_unannounced(wrong, registry, 1, "wl_seat", 1, &object) == WAYWIRE_OTHER_END);
+	MUST(waywire_client_bind_unannounced(wrong, registry, 1, "wl_seat", 1, NULL) == WAYWIRE_OTHER_END);
 	MUST(waywire_client_made(wrong, &object) == WAYWIRE_OTHER_END);
 	MUST(object.id == 7 && object.birth == 7);
+	MUST(waywire_client_more_tables(wrong, "interface one 1\n", 16, &line, &rule) == WAYWIRE_OTHER_END);
+	MUST(waywire_client_more_tables(wrong, "nonsense", 8, &line, &rule) == WAYWIRE_OTHER_END);
+	MUST(line == 7 && rule == 7 && waywire_end_tables(wrong.end) == tables);
 	MUST(is_state_of(wrong.end, before));
 }
 

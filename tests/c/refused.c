@@ -141,8 +141,8 @@ static waywire_status judges(void)
 	return status;
 }
 
-/* Refuses one allocation of a call at an inspector after the other; then it has what it keeps. */
-static void each_refused_of_inspector(const char *name, waywire_status (*call)(void))
+/* Refuses one allocation after the other of a call at an inspector or an end, which goes on. */
+static void each_refused_of_one(const char *name, waywire_status (*call)(void))
 {
 	long number = 0;
 	waywire_status status;
@@ -157,6 +157,49 @@ static void each_refused_of_inspector(const char *name, waywire_status (*call)(v
 	printf("%s: %ld allocations\n", name, number - 1);
 }
 
+/* A client over the core's tables, and a registry of it that was never told of a global. */
+static waywire_client growing;
+static waywire_object registry;
+
+static void opens_client(void)
+{
+	waywire_arg new = waywire_new();
+	MUST(!waywire_client_new(core, &sizes, &growing));
+	waywire_object display = waywire_end_display(growing.end);
+	MUST(!waywire_end_send(growing.end, display, WAYWIRE_WL_DISPLAY_REQUEST_GET_REGISTRY, &new, 1, &registry,
+		NULL));
+	for (int each = 0; each < 2; each++) /* the room made for ids is used up */
+		MUST(!waywire_end_send(growing.end, display, WAYWIRE_WL_DISPLAY_REQUEST_SYNC, &new, 1, NULL, NULL));
+}
+
+/* A text that is refused leaves the tables of its client. */
+static waywire_status grows(void)
+{
+	const waywire_tables *before = waywire_end_tables(growing.end);
+	long blocks = used;
+	size_t line = 7;
+	uint32_t rule = 7;
+	uint16_t place;
+	waywire_status status = waywire_client_more_tables(growing, text, strlen(text), &line, &rule);
+	const waywire_tables *now = waywire_end_tables(growing.end);
+	MUST(line == 7 && rule == 7 && (now == before) == (status != WAYWIRE_OK));
+	MUST(waywire_tables_interface(now, "wp_two", &place) == (status ? WAYWIRE_NOT_FOUND : WAYWIRE_OK));
+	MUST(!status || used == blocks);
+	return status;
+}
+
+/* A bind that is refused writes nothing, and opens no object. */
+static waywire_status binds_unannounced(void)
+{
+	waywire_object bound = { 7, 7 };
+	size_t bytes = waywire_end_goes(growing.end, 4096, 0).bytes, count = waywire_end_object_count(growing.end);
+	waywire_status status = waywire_client_bind_unannounced(growing, registry, 1, "wp_two", 1, &bound);
+	bool is_written = waywire_end_goes(growing.end, 4096, 0).bytes > bytes;
+	MUST(is_written == !status && waywire_end_object_count(growing.end) == count + is_written);
+	MUST(status ? bound.id == 7 && bound.birth == 7 : bound.id == 5 && bound.birth == 4);
+	return status;
+}
+
 int main(void)
 {
 	long before = used;
@@ -167,9 +210,13 @@ int main(void)
 	each_refused("a server", makes_server);
 	each_refused("an inspector", makes_inspector);
 	MUST(!waywire_inspector_new(core, WAYWIRE_USUAL_LIMIT, &passing));
-	each_refused_of_inspector("a piece", passes);
-	each_refused_of_inspector("a verdict", judges);
+	each_refused_of_one("a piece", passes);
+	each_refused_of_one("a verdict", judges);
 	waywire_inspector_free(passing);
+	opens_client();
+	each_refused_of_one("more tables of a client", grows);
+	each_refused_of_one("a bind that was not announced", binds_unannounced);
+	waywire_end_free(growing.end);
 	MUST(waywire_tables_read(core, "nonsense", 8, &made_tables, NULL, NULL) == WAYWIRE_BAD_LINE);
 	waywire_tables_free(core);
 	MUST(used == before);

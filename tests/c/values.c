@@ -30,6 +30,8 @@ static void nulls(void)
 	MUST(waywire_end_feed(server.end, NULL, 0, NULL, 0, &amounts) == WAYWIRE_OK);
 	MUST(waywire_end_send(client.end, display, 0, NULL, 1, NULL, NULL) == WAYWIRE_NULL);
 	MUST(waywire_client_bind(client, display, 1, NULL, 1, NULL) == WAYWIRE_NULL);
+	MUST(waywire_client_bind_unannounced(client, display, 1, NULL, 1, NULL) == WAYWIRE_NULL);
+	MUST(waywire_client_more_tables(client, NULL, 1, NULL, NULL) == WAYWIRE_NULL);
 	MUST(waywire_server_post_error(server, display, 0, NULL) == WAYWIRE_NULL);
 	waywire_tables_free(NULL);
 	waywire_end_free(NULL);
@@ -48,6 +50,8 @@ static void null_of_one_end(void)
 	waywire_object made = { 7, 7 };
 	MUST(waywire_client_new(tables, &sizes, NULL) == WAYWIRE_NULL);
 	MUST(waywire_client_bind(no_client, display, 1, "wl_seat", 1, &made) == WAYWIRE_NULL);
+	MUST(waywire_client_bind_unannounced(no_client, display, 1, "wl_seat", 1, &made) == WAYWIRE_NULL);
+	MUST(waywire_client_more_tables(no_client, "", 0, NULL, NULL) == WAYWIRE_NULL);
 	MUST(waywire_client_made(no_client, &made) == WAYWIRE_NULL && made.id == 7 && made.birth == 7);
 	MUST(waywire_client_made(client, NULL) == WAYWIRE_NULL);
 	MUST(waywire_server_new(tables, &sizes, NULL) == WAYWIRE_NULL);
@@ -66,6 +70,7 @@ static void null_end(void)
 	size_t length = 7;
 	MUST(!waywire_end_display(NULL).id && !waywire_end_display(NULL).birth);
 	MUST(!waywire_end_object_count(NULL) && !waywire_end_user(NULL, display));
+	MUST(!waywire_end_tables(NULL));
 	MUST(waywire_end_has_failed(NULL) && waywire_end_is_drained(NULL));
 	MUST(is_none(waywire_end_in_room(NULL)) && is_none(waywire_end_goes(NULL, 9, 9)));
 	MUST(is_none(waywire_end_sent(NULL, 9)));
@@ -92,6 +97,7 @@ static void lengths(void)
 	MUST(waywire_end_peek(client.end, parts, &token, SIZE_MAX / 4, &count) == WAYWIRE_TOO_LARGE);
 	MUST(waywire_end_peek(client.end, parts, NULL, 1, &count) == WAYWIRE_NULL && count == 7);
 	MUST(!waywire_end_peek(client.end, parts, NULL, 0, &count) && !count);
+	MUST(waywire_client_more_tables(client, &byte, SIZE_MAX, NULL, NULL) == WAYWIRE_TOO_LARGE);
 	args[0] = waywire_array(&byte, (size_t)PTRDIFF_MAX + 1);
 	MUST(waywire_end_send(client.end, display, 0, args, 1, NULL, NULL) == WAYWIRE_TOO_LARGE);
 	args[0] = waywire_array(NULL, 1);
@@ -132,6 +138,7 @@ static void calls(void)
 	MUST(waywire_end_send(client.end, display, 65535, &place, 1, NULL, NULL)
 		== WAYWIRE_NO_SUCH_MESSAGE);
 	MUST(waywire_client_bind(client, display, 1, "wl_seat", 1, NULL) == WAYWIRE_NO_SUCH_MESSAGE);
+	MUST(waywire_client_bind_unannounced(client, display, 1, "wl_seat", 1, NULL) == WAYWIRE_NO_SUCH_MESSAGE);
 	MUST(waywire_end_live(client.end, stale, NULL, NULL) == WAYWIRE_NOT_FOUND);
 	MUST(waywire_tables_interface(tables, "no_such", &interface) == WAYWIRE_NOT_FOUND);
 	MUST(interface == 999);
@@ -509,7 +516,7 @@ static void globals(void)
 static void texts(void)
 {
 	static const int all[] = { 0, 1, 2, 3, 4, 5, 6, 7, 8, 9, 10, 11, 12, 22, 23, 25, 31, 32, 33, 34,
-		35, 36, 37, 38, 39, 40, 51, 61, 62, 63, 64, 65, 66, 71, 72 };
+		35, 36, 37, 38, 39, 40, 51, 61, 62, 63, 64, 65, 66, 71, 72, 73 };
 	for (size_t each = 0; each < sizeof all / sizeof *all; each++) {
 		const char *text = waywire_strerror((waywire_status)all[each]);
 		MUST(*text && strcmp(text, "unknown status"));
