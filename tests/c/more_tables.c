@@ -211,7 +211,7 @@ static void in_steps(void)
 	close_pair(pair);
 }
 
-/* A message that is on its way, or waits in part, is read by the tables that came meanwhile; and a zombie stays one. */
+/* A message that is on its way, or waits in part, is read by the tables that came meanwhile. */
 static void on_the_way(void)
 {
 	struct pair pair = open_pair();
@@ -411,6 +411,22 @@ static void versions(void)
 	close_pair(pair);
 }
 
+/* An object has the version that the tables had at its bind, also when they have grown. */
+static void keeps_its_version(void)
+{
+	struct pair pair = open_pair();
+	waywire_client client = pair.client;
+	waywire_arg number = waywire_int(5);
+	waywire_object before, after;
+	MUST(!waywire_client_bind_unannounced(client, pair.registry, THING, "thing", 1, &before));
+	MUST(!grow(client, second) && is_live(client.end, before, "thing", 3));
+	MUST(waywire_end_send(client.end, before, TURN, &number, 1, NULL, NULL) == WAYWIRE_TOO_OLD);
+	MUST(!waywire_client_bind_unannounced(client, pair.registry, THING, "thing", 1, &after));
+	MUST(is_live(client.end, after, "thing", 4) && is_live(client.end, before, "thing", 3));
+	MUST(!waywire_end_send(client.end, after, TURN, &number, 1, NULL, NULL));
+	close_pair(pair);
+}
+
 /* A bind that is refused changes nothing, and writes no object. */
 static void refused_bind(waywire_client client, waywire_object registry, const char *interface, uint32_t version,
 	waywire_status wanted)
@@ -491,6 +507,7 @@ int main(int argc, char **argv)
 	bytes_of(waywire_client_bind, 2);
 	bytes_of(waywire_client_bind_unannounced, 3);
 	versions();
+	keeps_its_version();
 	refusals();
 	if (argc > 1)
 		no_ids();

@@ -344,6 +344,8 @@
 //!
 //! - `new` of a client, a server and a pair for sizes that [`Sizes::is_allowed`] allows, and that
 //!   of a pair for one limit in both;
+//! - `more_tables` for tables that extend the client's, as those do that [`Tables::read_more`] makes
+//!   of them (the law `texts_extend` of `wl_connection`);
 //! - [`Recording::add`] for at most 65,536 tokens;
 //! - `make_zombie` of a table for a live object, `close` and `reopen` for an id that has one,
 //!   `reopen` where [`Table::has_room`] says so too, and none of them for id 1.
@@ -379,6 +381,10 @@
 //!     fn bind(
 //!         &mut self, registry: Object, name: u32, iface: &[u8], version: u32,
 //!     ) -> Result<Object, SendError>
+//!     fn bind_unannounced(
+//!         &mut self, registry: Object, name: u32, iface: &[u8], version: u32,
+//!     ) -> Result<Object, SendError>
+//!     fn more_tables(&mut self, tables: &'t Tables) -> Result<(), FirstServerObject>
 //!     fn next(&mut self) -> Result<Option<Incoming<'_>>, NextError>
 //!     fn next_with_entry(&mut self) -> Result<Option<IncomingWithEntry<'_>>, NextError>
 //!     fn next_owned(&mut self) -> Result<Option<OwnedIncoming<T::Alloc>>, NextError>
@@ -572,6 +578,7 @@
 //! GlobalError: Failed, BadGlobal, TooMany, Memory, NoSuchGlobal
 //! FillError: Io, NoRoom
 //! FlushError: Io { written: usize }, NeedsTokens { written: usize }
+//! FirstServerObject, why a client does not take other tables
 //! TableError: NoIds, NotNext, InUse, Memory
 //! TableFault: BadLine { line: usize }, BadTable { line: usize, rule: u8 }, Memory
 //! RecordingError: BadLine { line: usize }, Memory
@@ -593,8 +600,8 @@
 
 pub use wl_check::Inspector;
 pub use wl_client::{
-    Client, Incoming, IncomingWithEntry, OwnedIncoming, OwnedIncomingWithEntry, ShownIncoming,
-    Tokens,
+    Client, FirstServerObject, Incoming, IncomingWithEntry, OwnedIncoming, OwnedIncomingWithEntry,
+    ShownIncoming, Tokens,
 };
 pub use wl_connection::{End, ReadAll};
 pub use wl_message::{Amounts, Fed, FillError, FlushError, Limit, Peek, Piece, Sizes, Taken};

@@ -32,9 +32,10 @@ impl Client {
     /// announced is asked or changed. So a global that the client does not remember, or that was
     /// withdrawn, can be bound. The message has this version.
     ///
-    /// At this end the object has the version of the tables, so no request and no event of it is too
-    /// new. The server refuses the requests that are too new for it. [`SendError::BadBind`] only if the
-    /// tables have no such interface, or the version is 0 or above theirs.
+    /// At this end the object has the version that the tables have now, so no request and no event in
+    /// them is too new for it. A request that is newer than the bind is written, and the server ends the
+    /// connection. [`SendError::BadBind`] only if the tables have no such interface, or the version is 0
+    /// or above theirs.
     ///
     /// Prefer [`bind`](Client::bind): what is proved of two ends together does not cover this call,
     /// since their versions of the object may differ.

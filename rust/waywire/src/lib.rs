@@ -3,8 +3,8 @@
 //! The ends of libwaywire are proved: whatever requests and events two of them write, in whatever
 //! order, and however the bytes between them are cut, each reads exactly the messages that the other
 //! wrote, and every object in them arrives as the one that its writer meant. This holds of two ends
-//! that begin together, over a transport that keeps order and descriptors in step, up to the first
-//! error that the server posts. What the calls of C add to these ends is proved in part, and this
+//! that begin together and keep their tables, over a transport that keeps order and descriptors in
+//! step, up to the first error that the server posts. What the calls of C add to these ends is proved in part, and this
 //! crate, which gives them Rust's types, is tested. It has no dependency, and looks for the library
 //! by pkg-config or `WAYWIRE_DIR`.
 //!

@@ -70,8 +70,10 @@ impl<'a> Message<'a> {
         self.report().replaced()
     }
 
-    /// Whether it is wl_registry.global and the client does not remember the global, which then
-    /// cannot be bound: it remembers 1,024 at a time, and none whose interface is not in the tables.
+    /// Whether it is wl_registry.global and the client does not remember the global: it remembers
+    /// 1,024 at a time, and none whose interface is not in the tables.
+    /// [`Client::bind`](crate::Client::bind) then refuses it, and
+    /// [`Client::bind_unannounced`](crate::Client::bind_unannounced) binds it.
     #[inline]
     pub fn is_forgotten(&self) -> bool {
         self.report().is_forgotten()
