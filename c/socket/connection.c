@@ -46,7 +46,6 @@ static waywire_connection *new_connection(const waywire_tables *tables, const wa
 	if (!connection)
 		return NULL;
 	connection->socket = socket;
-	connection->tables = tables;
 	connection->half.bytes = sizes->out_bytes / 2;
 	connection->half.tokens = sizes->out_tokens / 2;
 	connection->entries.before = connection->entries.after = &connection->entries;
@@ -147,7 +146,8 @@ waywire_status waywire_connection_add_global(waywire_connection *connection, con
 	uint32_t version, uint32_t *name)
 {
 	uint16_t place;
-	waywire_status status = waywire_tables_interface(connection->tables, interface, &place);
+	waywire_status status = waywire_tables_interface(waywire_end_tables(connection->end), interface,
+		&place);
 	if (!status)
 		status = waywire_server_add_global(connection->server, place, version, name);
 	return status;
@@ -211,7 +211,7 @@ int fail_by_error(waywire_connection *connection, const waywire_report *report)
 	const char *name = "object";
 	size_t length = strlen(name);
 	if (report->named != WAYWIRE_NULL_OBJECT)
-		waywire_tables_name(connection->tables, report->interface, &name, &length);
+		waywire_tables_name(waywire_end_tables(connection->end), report->interface, &name, &length);
 	snprintf(connection->text, sizeof connection->text,
 		"%.*s@%" PRIu32 ": error %" PRIu32 ": %s", (int)length, name, report->id,
 		report->code, report->text);

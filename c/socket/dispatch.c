@@ -120,7 +120,7 @@ static void destroy_made(waywire_connection *connection)
 		|| waywire_end_live(connection->end, made, &interface, &version)
 		|| is_heard(connection, made, interface))
 		return;
-	for (uint16_t opcode = 0; !waywire_tables_message(connection->tables, interface,
+	for (uint16_t opcode = 0; !waywire_tables_message(waywire_end_tables(connection->end), interface,
 			WAYWIRE_FROM_CLIENT, opcode, &request, NULL, NULL); opcode++) {
 		if (request.destroys != WAYWIRE_DESTROYS_TARGET || request.arg_count
 			|| request.since > version)

@@ -206,11 +206,11 @@ static waywire_status reach(waywire_connection *connection, size_t count)
 waywire_status waywire_connection_implement(waywire_connection *connection,
 	const waywire_listener *listeners, size_t count, void *data)
 {
+	const waywire_tables *tables = waywire_end_tables(connection->end);
 	size_t places = 0;
 	uint16_t place;
 	for (size_t each = 0; each < count; each++) {
-		waywire_status status = waywire_tables_interface(connection->tables,
-			listeners[each].interface, &place);
+		waywire_status status = waywire_tables_interface(tables, listeners[each].interface, &place);
 		if (status)
 			return status;
 		if (places <= place)
@@ -219,7 +219,7 @@ waywire_status waywire_connection_implement(waywire_connection *connection,
 	waywire_status status = reach(connection, places);
 	for (size_t each = 0; !status && each < count; each++) {
 		const waywire_listener *it = &listeners[each];
-		status = waywire_tables_interface(connection->tables, it->interface, &place);
+		status = waywire_tables_interface(tables, it->interface, &place);
 		connection->implemented[place] = (struct implemented){
 			it->dispatch, it->calls, data };
 	}

@@ -53,7 +53,6 @@ struct waywire_connection {
 	waywire_end *end;
 	waywire_client client; /* one of these two has the end, the other null */
 	waywire_server server;
-	const waywire_tables *tables; /* the end keeps them */
 	waywire_amounts half; /* half of what the outbox holds */
 
 	struct entry entries; /* the head of the ring */

@@ -434,6 +434,49 @@ static void none_hears(void)
 	MUST(count_open() == before);
 }
 
+static uint32_t pinged;
+
+static bool on_ping(const void *calls, void *data, const waywire_report *report)
+{
+	(void)calls, (void)data;
+	pinged += report->args[0].u;
+	return true;
+}
+
+/* The tables of a client grow that nobody else has: its connection goes by those that came. */
+static void more_tables(void)
+{
+	static const char text[] = "interface pinger 1\nevent ping u\n";
+	static const waywire_listener listener = { "pinger", on_ping, NULL };
+	waywire_tables *few, *more;
+	waywire_object pinger;
+	waywire_arg number = waywire_uint(5);
+	uint32_t name;
+	int sockets[2];
+	make_pair(sockets);
+	MUST(!waywire_tables_read(tables, NULL, 0, &few, NULL, NULL));
+	MUST(!waywire_tables_read(tables, text, strlen(text), &more, NULL, NULL));
+	client = waywire_connection_of_client(few, NULL, sockets[0]);
+	server = waywire_connection_of_server(more, NULL, sockets[1]);
+	waywire_tables_free(few);
+	waywire_tables_free(more);
+	requests = waywire_connection_client(client), events = waywire_connection_server(server);
+	MUST(waywire_connection_implement(client, &listener, 1, NULL) == WAYWIRE_NOT_FOUND);
+	MUST(!waywire_client_more_tables(requests, text, strlen(text), NULL, NULL));
+	MUST(!waywire_connection_implement(client, &listener, 1, NULL));
+	MUST(!waywire_connection_add_global(server, "pinger", 1, &name));
+	display = waywire_wl_display_of(waywire_end_display(requests.end));
+	MUST(!waywire_wl_display_get_registry(requests, display, &registry));
+	turn(1, 1);
+	MUST(!waywire_client_bind_unannounced(requests, registry.object, name, "pinger", 1, &pinger));
+	turn(1, 0);
+	MUST(!waywire_end_send(events.end, pinger, 0, &number, 1, NULL, NULL));
+	MUST(!waywire_server_post_error(events, pinger, 3, "no") && !waywire_connection_flush(server));
+	MUST(waywire_connection_dispatch(client, WAIT) == -1 && pinged == 5);
+	MUST(!strcmp(waywire_connection_failure(client)->text, "pinger@3: error 3: no"));
+	end();
+}
+
 int main(void)
 {
 	MUST(!waywire_tables_core(&tables));
@@ -448,6 +491,7 @@ int main(void)
 	listens();
 	many_at_once();
 	none_hears();
+	more_tables();
 	MUST(count_open() == before);
 	waywire_tables_free(tables);
 	printf("connections: ok\n");
