@@ -362,8 +362,6 @@ static void forgotten(void)
 	MUST(!waywire_client_bind_unannounced(client, pair.registry, NONE, "thing", 1, NULL));
 	carry(client.end, pair.server.end);
 	MUST(waywire_end_next(pair.server.end, &report) == WAYWIRE_FAULT_BAD_BIND);
-	report = reads(pair.server.end, client.end); /* the event global_remove went before */
-	(void)report;
 	close_pair(pair);
 }
 
@@ -371,7 +369,7 @@ static void forgotten(void)
 static void bytes_of(waywire_status (*bind)(waywire_client, waywire_object, uint32_t, const char *, uint32_t,
 	waywire_object *), uint32_t version)
 {
-	static const unsigned char wanted[] = { 2, 0, 0, 0, 0, 0, 28, 0, 1, 0, 0, 0, 6, 0, 0, 0, 't', 'h', 'i', 'n',
+	static const unsigned char wanted[] = { 2, 0, 0, 0, 0, 0, 32, 0, 1, 0, 0, 0, 6, 0, 0, 0, 't', 'h', 'i', 'n',
 		'g', 0, 0, 0, 2, 0, 0, 0, 3, 0, 0, 0 };
 	struct pair pair = open_pair();
 	unsigned char bytes[64];
@@ -380,9 +378,7 @@ static void bytes_of(waywire_status (*bind)(waywire_client, waywire_object, uint
 	MUST(!bind(pair.client, pair.registry, THING, "thing", 2, &bound));
 	MUST(bound.id == 3 && bound.birth == 2 && is_live(pair.client.end, bound, "thing", version));
 	MUST(!waywire_end_take(pair.client.end, bytes, sizeof bytes, NULL, 0, &taken));
-	MUST(taken.bytes == sizeof wanted);
-	for (size_t at = 0; at < sizeof wanted; at++)
-		MUST(bytes[at] == (at == 6 ? sizeof wanted : wanted[at]));
+	MUST(taken.bytes == sizeof wanted && !memcmp(bytes, wanted, sizeof wanted));
 	close_pair(pair);
 }
 
