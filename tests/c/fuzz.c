@@ -558,10 +558,34 @@ static void misuses(void)
 	MUST(waywire_end_set_user(NULL, display, &byte) == WAYWIRE_NULL);
 	MUST(!waywire_end_user(NULL, display));
 	MUST(waywire_client_bind(wrong_client, display, 1, "fz_all", 1, NULL) == WAYWIRE_OTHER_END);
+	MUST(waywire_client_bind_unannounced(wrong_client, display, 1, "fz_all", 1, NULL) == WAYWIRE_OTHER_END);
+	MUST(waywire_client_more_tables(wrong_client, text, strlen(text), NULL, NULL) == WAYWIRE_OTHER_END);
 	MUST(waywire_server_post_error(wrong_server, display, 1, "x") == WAYWIRE_OTHER_END);
 	MUST(amounts.bytes == 9 && amounts.tokens == 9);
 	for (int by = BY_CLIENT; by <= BY_SERVER; by++)
 		MUST(waywire_end_is_drained(ends[by]) == (ways[by].sent == ways[by].length && !came[1 - by]));
+}
+
+/* The client's tables grow: what is there stays, so the model does not change. Where an allocation fails, they are
+ * what they were. */
+static void grows(void)
+{
+	static unsigned number;
+	char more[160], name[32];
+	const waywire_tables *before = waywire_end_tables(client.end);
+	uint16_t place;
+	number++;
+	snprintf(name, sizeof name, "fz_%u", number);
+	snprintf(more, sizeof more, "extend fz_all 1\nrequest more_%u u\nevent more_%u u\ninterface %s 1\n", number,
+		number, name);
+	if (chance(2))
+		refuse_some();
+	waywire_status status = waywire_client_more_tables(client, more, strlen(more), NULL, NULL);
+	refuse_none();
+	MUST(!status || (status == WAYWIRE_NO_MEMORY && was_refused));
+	const waywire_tables *now = waywire_end_tables(client.end);
+	MUST((now == before) == (status != WAYWIRE_OK));
+	MUST(waywire_tables_interface(now, name, &place) == (status ? WAYWIRE_NOT_FOUND : WAYWIRE_OK));
 }
 
 /* ---- the whole session */
@@ -622,7 +646,11 @@ static void begins(void)
 	carry_raw(BY_SERVER);
 	MUST(!waywire_end_next(client.end, &report) && report.args[0].u == name);
 	MUST(waywire_client_bind(client, registry, name, "fz_all", 2, &bound) == WAYWIRE_BAD_BIND);
-	MUST(!waywire_client_bind(client, registry, name, "fz_all", 1, &bound) && bound.id == BOUND_ID);
+	if (chance(2))
+		MUST(!waywire_client_bind(client, registry, name, "fz_all", 1, &bound));
+	else
+		MUST(!waywire_client_bind_unannounced(client, registry, name, "fz_all", 1, &bound));
+	MUST(bound.id == BOUND_ID);
 	carry_raw(BY_CLIENT);
 	MUST(!waywire_end_next(server.end, &report));
 	MUST(report.args[1].kind == WAYWIRE_BOUND && report.args[1].u == 1);
@@ -658,7 +686,12 @@ static void session(unsigned long messages)
 		case 0: case 1: case 2: case 3: requests(); break;
 		case 4: case 5: writes_events(); break;
 		case 6: asks((int)chance(2)); break;
-		case 7: chance(40) ? reads((int)chance(2)) : misuses(); break;
+		case 7:
+			if (chance(40))
+				reads((int)chance(2));
+			else
+				chance(2) ? misuses() : grows();
+			break;
 		case 8: case 9: reads((int)chance(2)); break;
 		default: carries((int)chance(2), chance(1500), chance(24));
 		}
