@@ -244,6 +244,69 @@ static void on_the_way(void)
 	close_pair(pair);
 }
 
+/* A message that is added without a since number is one of the old objects too. */
+static void without_since(void)
+{
+	static const char text[] = "extend wl_shm 3\nrequest more u\nevent more u\n";
+	static const uint32_t event[] = { 3, 12 << 16 | 1, 5 };
+	waywire_client client;
+	waywire_arg number = waywire_uint(5);
+	waywire_amounts fed;
+	waywire_report report;
+	waywire_object shm;
+	MUST(!waywire_client_new(core, &sizes, &client));
+	MUST(!waywire_client_bind_unannounced(client, get_registry(client), NONE, "wl_shm", 1, &shm) && shm.id == 3);
+	MUST(waywire_end_send(client.end, shm, 2, &number, 1, NULL, NULL) == WAYWIRE_NO_SUCH_MESSAGE);
+	MUST(!grow(client, text) && is_live(client.end, shm, "wl_shm", 2));
+	MUST(!waywire_end_send(client.end, shm, 2, &number, 1, NULL, NULL));
+	MUST(!waywire_end_feed(client.end, event, sizeof event, NULL, 0, &fed));
+	MUST(!waywire_end_next(client.end, &report) && report.kind == WAYWIRE_MESSAGE && report.args[0].u == 5);
+	waywire_end_free(client.end);
+}
+
+/* An object that the client has destroyed stays so, with its pointer, until its delete_id. */
+static void zombies(void)
+{
+	static const uint32_t words[] = { 4, 8 << 16 | WAYWIRE_WL_POINTER_EVENT_FRAME,
+		1, 12 << 16 | WAYWIRE_WL_DISPLAY_EVENT_DELETE_ID, 4 };
+	waywire_client client;
+	waywire_object seat, pointer;
+	waywire_arg new = waywire_new();
+	waywire_report report;
+	waywire_amounts fed;
+	int user;
+	MUST(!waywire_client_new(core, &sizes, &client));
+	MUST(!waywire_client_bind_unannounced(client, get_registry(client), NONE, "wl_seat", 5, &seat));
+	MUST(!waywire_end_send(client.end, seat, WAYWIRE_WL_SEAT_REQUEST_GET_POINTER, &new, 1, &pointer, NULL));
+	MUST(pointer.id == 4 && !waywire_end_set_user(client.end, pointer, &user));
+	MUST(!waywire_end_send(client.end, pointer, WAYWIRE_WL_POINTER_REQUEST_RELEASE, NULL, 0, NULL, NULL));
+	MUST(!grow(client, "extend wl_pointer 10\nevent more u @10\n"));
+	MUST(waywire_end_live(client.end, pointer, NULL, NULL) == WAYWIRE_NOT_FOUND);
+	MUST(!waywire_end_feed(client.end, words, sizeof words, NULL, 0, &fed) && fed.bytes == sizeof words);
+	MUST(!waywire_end_next(client.end, &report) && report.kind == WAYWIRE_DISCARDED && report.user == &user);
+	MUST(!grow(client, "interface one 1\n"));
+	MUST(!waywire_end_next(client.end, &report) && report.kind == WAYWIRE_DELETED && report.user == &user);
+	MUST(report.version == 9 && waywire_end_object_count(client.end) == 3);
+	waywire_end_free(client.end);
+}
+
+/* No text makes an event that destroys an object which the server has made. */
+static void lasting(void)
+{
+	waywire_tables *few = read_over(core, "interface maker 1\nevent made N(quiet)\ninterface quiet 1\nevent told u\n");
+	waywire_client client;
+	size_t line = 0;
+	uint32_t rule = 0;
+	MUST(!waywire_client_new(few, &sizes, &client));
+	waywire_tables_free(few);
+	MUST(!grow(client, "extend quiet 2\nevent louder u @2\ninterface other 1\nevent made N(quiet)\n"));
+	const waywire_tables *before = waywire_end_tables(client.end);
+	static const char over[] = "extend quiet 3\nevent over D @3\n";
+	MUST(waywire_client_more_tables(client, over, strlen(over), &line, &rule) == WAYWIRE_BAD_TABLE);
+	MUST(line == 2 && rule == 11 && waywire_end_tables(client.end) == before);
+	waywire_end_free(client.end);
+}
+
 /* A text that is refused: the status, where it is at fault, and nothing else changed or written. */
 static void refused(waywire_client client, const char *text, waywire_status wanted, size_t at, uint32_t broken)
 {
@@ -496,6 +559,9 @@ int main(int argc, char **argv)
 	MUST(!waywire_tables_core(&core));
 	in_steps();
 	on_the_way();
+	without_since();
+	zombies();
+	lasting();
 	texts();
 	of_a_failed_client();
 	freed_once();
