@@ -5,7 +5,8 @@ ghost use Rattle.wl_sigs.specs.Tables.{Interface};
 ghost use Rattle.wl_interface_text.specs.declared.fault.TableFault.TheVariants.{BadLine as bad_line};
 ghost use Rattle.wl_interface_text.specs.declared.fault.TableFault.TheVariants.{BadTable as bad_table};
 ghost use Rattle.wl_client.specs.Calls.{after_bind, bind_answer};
-ghost use Rattle.wl_client.specs.State.{with_tables};
+ghost use Rattle.wl_connection.specs.MoreTables.{with_tables};
+ghost use Rattle.wl_client.specs.State.{with_core};
 ghost use Rattle.wl_client.specs.Unannounced.{after_unannounced, unannounced_answer};
 ghost use Rattle.waywire_c.specs.declared.held.HeldEnd.TheVariants.{Client};
 ghost use Rattle.waywire_c.specs.Ends.{IfClient, IfServer};
@@ -152,7 +153,7 @@ pub extern "C" fn waywire_c_client_more_tables(
     ensures rule { result ≢ 72 → rule.new ≡ rule.old }
     ensures state { result ≡ 0 → IfClient end.old.held (λ client. (tables : List Interface)
         × (outcome client.core.tables text.now ≡ Ok tables)
-        × (end.new.held ≡ Client (with_tables client tables))) }
+        × (end.new.held ≡ Client (with_core client (with_tables client.core tables)))) }
     ensures unchanged { result ≢ 0 → end.new.held ≡ end.old.held }
 {
     let HeldEnd::Client(client) = end.get_mut() else {

@@ -5,7 +5,6 @@ use Rattle.wl_sigs.specs.Tables.{Interface}
 use Rattle.wl_message.specs.declared.amounts.Sizes.{Sizes}
 use Rattle.wl_object_map.specs.declared.object.Object.{Object}
 use Rattle.wl_connection.specs.Core.{Core, new_core}
-use Rattle.wl_connection.specs.MoreTables as connection
 use Rattle.wl_connection.specs.ServerRange.{EventsMakeMade, NoEventEndsMade}
 pub use Rattle.wl_client.specs.declared.globals.Global.{Global}
 
@@ -31,10 +30,6 @@ new_state tables sizes =
 
 abbrev pub with_core : State → Core → State
 with_core state core = record state { core = core }
-
--- the client over other tables
-abbrev pub with_tables : State → List Interface → State
-with_tables state tables = with_core state (connection.with_tables state.core tables)
 
 -- What holds of a client between calls: it frees no id of the server's range, no event destroys an
 -- object that the server made, and events make objects of its interface. So the second still holds

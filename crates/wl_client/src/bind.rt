@@ -11,9 +11,9 @@ use wl_objects::{BindMessage, Maker, Object, REGISTRY, SendError, Table, live_ro
 use wl_sigs::Tables;
 
 impl<'t, T: Table> Client<'t, T> {
-    /// Whether the client remembers a global of this name. One that it was told is not remembered
-    /// where its interface is not in the tables, or 1,024 others were remembered then, and so it
-    /// cannot be bound.
+    /// Whether the client remembers a global of this name, so that `bind` can bind it. One that was
+    /// announced is not remembered if its interface was not in the tables then, or if 1,024 others
+    /// were remembered.
     pub fn remembers(&self, name: u32) -> bool
         ensures { result ≡ is_some (global_of self.now.globals name) }
     {

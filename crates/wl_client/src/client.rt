@@ -2,8 +2,8 @@
 ghost use Rattle.std.specs.Prelude.{◌≡◌, [], IfOk, OnErr, OnOk};
 ghost use Rattle.std.specs.Result.{is_err};
 ghost use Rattle.wl_message.specs.Arrived.{AreSizes};
-ghost use Rattle.wl_connection.specs.MoreTables.{Extend, has_first_server_object};
-ghost use Rattle.wl_client.specs.State.{new_state, with_tables};
+ghost use Rattle.wl_connection.specs.MoreTables.{Extend, has_first_server_object, with_tables};
+ghost use Rattle.wl_client.specs.State.{new_state, with_core};
 
 use crate::globals::Remembered;
 use crate::role::Kept;
@@ -96,7 +96,8 @@ impl<'t, T: Table> Client<'t, T> {
         requires { Extend self.old.core.tables tables.now }
         ensures refused { is_err result
             ≡ has_first_server_object self.old.core.tables tables.now }
-        ensures ok { OnOk result (self.new ≡ with_tables self.old tables.now) }
+        ensures ok { OnOk result
+            (self.new ≡ with_core self.old (with_tables self.old.core tables.now)) }
         ensures err { OnErr result (self.new ≡ self.old) }
     {
         self.end.core.more_tables(tables)

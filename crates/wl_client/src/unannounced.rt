@@ -13,9 +13,10 @@ impl<'t, T: Table> Client<'t, T> {
     /// Binds a global that need not have been announced: the server judges the bind. What was
     /// announced is neither asked nor changed.
     ///
-    /// The message has this version. The object has the version of the tables at this end, so no
-    /// request and no event of it is too new here; the server refuses the requests that are too new
-    /// for it. So two ends can differ in the version of such an object, and a pair has no such move.
+    /// The message has this version. The object has the version that the tables at this end have now,
+    /// so no message of these tables is too new for it here; the server refuses what is too new for
+    /// its object. The two ends can then differ in the version of the object, and a pair has no such
+    /// move.
     ///
     /// The refusals are tested in the order of their numbers: S1, S2, S3 where `registry` is no
     /// wl_registry, S7 where the tables have no such interface, or the version is 0 or above theirs,
