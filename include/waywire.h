@@ -5,8 +5,8 @@
  * bytes, or bytes into a report, and the caller moves the bytes: by waywire-socket.h, or by other means.
  *
  *  1. Send.   waywire_end_send writes a request at a client and an event at a server. A client's requests
- *             are also written by waywire_client_bind, a server's events by waywire_server_announce,
- *             _drop_object and _post_error. They wait in the end's outbox.
+ *             are also written by waywire_client_bind and _bind_unannounced, a server's events by
+ *             waywire_server_announce, _drop_object and _post_error. They wait in the end's outbox.
  *  2. Take.   `take` moves what waits into the caller's memory: write it to the socket. Or write from
  *             where `peek` points, and tell `sent` how much of it went.
  *  3. Feed.   `feed` moves what came from the socket into the end's inbox, cut anywhere. Or read to where
@@ -31,12 +31,13 @@
  * server's, so it takes the id and the birth to tell an object. An object of one connection may equal one of
  * another, and no call can tell them apart: keep an object with its end.
  *
- * Memory.  Tables, an end and an inspector belong to the caller, who frees each once. Tables may be freed
- * before the ends and inspectors made with them, which keep them as long as they need them. The calls of this
- * header use `malloc`, `realloc` and `free`, and nothing else of the system. After `new` an end allocates only when
- * it opens an object (`send`, `bind`, `next`), in `set_user` and in `add_global`; an inspector allocates in `pass`
- * and `verdict`. A client's `next` does so only at an event that makes an object whose id the server has never
- * used before, and so never if the tables have no such event. If an allocation fails, nothing is lost.
+ * Memory.  Tables, an end and an inspector belong to the caller, who frees each once. Tables may be freed before
+ * the ends and inspectors made with them, which keep them as long as they need them. The calls of this header
+ * use `malloc`, `realloc` and `free`, and nothing else of the system. After `new` an end allocates only when it
+ * opens an object (`send`, `bind`, `next`), in `set_user`, `more_tables` and `add_global`; an inspector
+ * allocates in `pass` and `verdict`. A client's `next` does so only at an event that makes an object whose id
+ * the server has never used before, and so never if the tables have no such event. If an allocation fails,
+ * nothing is lost.
  *
  * Threads.  Nothing is bound to the thread that made it. Tables never change: any threads may use them at
  * once, and make and free ends and inspectors over them. Only one call at a time may use an end, on any
@@ -663,7 +664,8 @@ waywire_status waywire_end_next(waywire_end *end, waywire_report *report);
 
 /* Makes a client with wl_display alone, an empty inbox and an empty outbox. The caller frees its end. It remembers
  * 1,024 of the announced globals at a time. A global beyond these, or one whose interface is not in the tables, is
- * not remembered, as its report says (`forgotten`), and cannot be bound. WAYWIRE_BAD_SIZES, WAYWIRE_NO_MEMORY. */
+ * not remembered, as its report says (`forgotten`), and waywire_client_bind does not bind it. WAYWIRE_BAD_SIZES,
+ * WAYWIRE_NO_MEMORY. */
 waywire_status waywire_client_new(const waywire_tables *tables, const waywire_sizes *sizes,
 	waywire_client *client);
 
@@ -676,9 +678,9 @@ waywire_status waywire_client_bind(waywire_client client, waywire_object registr
 
 /* Binds a global that need not have been announced: the server judges the bind. Nothing that was announced is asked
  * or changed, so a global that the client did not remember, or that was withdrawn, can be bound. The message has
- * this version. At this end the object has the version of the tables, so no request and no event of it is too new;
- * the server refuses the requests that are too new for it. Statuses as those of waywire_client_bind, with
- * WAYWIRE_BAD_BIND only if the tables have no such interface, or the version is 0 or above theirs.
+ * this version. At this end the object has the version that the tables have now, so none of their messages is too
+ * new for it here; the server refuses what is too new for its object. Statuses as those of waywire_client_bind,
+ * but WAYWIRE_BAD_BIND only if the tables have no such interface, or the version is 0 or above theirs.
  * What is proved of two ends together does not cover this call, since their versions of the object may differ. */
 waywire_status waywire_client_bind_unannounced(waywire_client client, waywire_object registry, uint32_t name,
 	const char *interface, uint32_t version, waywire_object *bound);
@@ -689,7 +691,7 @@ waywire_status waywire_client_bind_unannounced(waywire_client client, waywire_ob
  * waywire_client_bind_unannounced binds it. WAYWIRE_FIRST_SERVER_OBJECT if the text has the first event by which the
  * server makes an object (`N`): a client that is made over tables without one has no room for such objects.
  * Reports end, as with any call that may change an end. The tables that the client had are freed when nothing else
- * uses them.
+ * uses them, and the names that they gave are gone then.
  * What is proved of two ends together is about ends whose tables stay. */
 waywire_status waywire_client_more_tables(waywire_client client, const void *text, size_t length,
 	size_t *line, uint32_t *rule);
