@@ -1,6 +1,7 @@
-# The library for C, and the tool `waywire-inspect` over it. `make` proves and builds the library where
-# it is not built yet, over what a run has proved in this clone (tools/library-of-c). `make install`
-# installs both, and the program `waywire` with its manual page where that is built (./waywire --build).
+# The library for C, the tool `waywire-inspect` over it, and the libwayland-client over it that
+# `waywire-run` puts before the system's. `make` proves and builds the library where it is not built yet,
+# over what a run has proved in this clone (tools/library-of-c). `make install` installs all three, and
+# the program `waywire` with its manual page where that is built (./waywire --build).
 # `make dist` packs all of that for machines that have no toolchain.
 #
 #     make install PREFIX=/usr/local LIBDIR=/usr/local/lib DESTDIR=
@@ -31,6 +32,8 @@ soname = libwaywire.so.$(abi)
 shared = out/c/libwaywire.so.$(VERSION)
 program ?= crates/waywire/out/waywire
 inspect = out/c/waywire-inspect
+wayland = out/c/wayland/libwayland-client.so.0
+run = out/c/waywire-run
 headers = include/waywire.h include/waywire-core.h include/waywire-socket.h include/waywire-version.h
 package = waywire-$(VERSION)-x86_64-linux
 # A file that a build tool reads finds the other folders from its own, so that an installed tree can move.
@@ -44,7 +47,12 @@ fill = sed 's|@UP@|$(call from,$(1),$(PREFIX))|; s|@LIBDIR@|$(call from,$(PREFIX
 inspect_with = $(CC) $(CFLAGS) -std=c99 -Wall -Wextra -Wpedantic -Iinclude -DWAYWIRE_TABLES='"$(1)"' \
 	-DWAYWIRE_TOOLS='"$(2)"' -DWAYWIRE_PICTURE='"$(3)"' c/inspect/*.c $(archive) -o $(4)
 
-all: $(archive) $(shared) $(inspect)
+# `waywire-run` finds the folder of its libwayland-client and the inspector from its own folder:
+# $(call run_with,LIBRARIES,INSPECTOR,FILE).
+run_with = sed 's|^libraries=.*|libraries=$(1)|; s|^inspector=.*|inspector=$(2)|; \
+	s|^version=.*|version=$(VERSION)|' c/libwayland/waywire-run > $(3) && chmod 755 $(3)
+
+all: $(archive) $(shared) $(inspect) $(wayland) $(run)
 
 $(proved): $(sources)
 	tools/library-of-c
@@ -107,6 +115,34 @@ $(inspect): c/inspect/*.c c/inspect/*.h $(archive)
 	$(call inspect_with,$(call from,$(dir $@),examples/tables),$(call from,$(dir $@),tools),$(call \
 		from,$(dir $@),tools)/waywire-picture,$@)
 
+# The libwayland-client, in a folder of its own: no program is to find it unless it is told to. It has
+# the archive within it, and exports the symbols of libwayland alone. Some programs load it by its name
+# without a number, as alacritty.
+wayland_objects = $(patsubst c/libwayland/%.c,out/c/wayland/%.o,$(wildcard c/libwayland/*.c)) \
+	out/c/wayland/interfaces.o
+wayland_flags = -std=c99 -Wall -Wextra -Wpedantic -fPIC -fvisibility=hidden -pthread -Iinclude -Ic/libwayland
+
+out/c/wayland/%.o: c/libwayland/%.c $(wildcard c/libwayland/*.h) include/waywire-socket.h include/waywire.h \
+		include/waywire-version.h
+	@mkdir -p out/c/wayland
+	$(CC) $(CFLAGS) $(wayland_flags) -c $< -o $@
+
+out/c/wayland/interfaces.c: tools/core.xml tools/data-device.xml tools/interfaces-from-xml tools/protocol.py
+	@mkdir -p out/c/wayland
+	tools/interfaces-from-xml tools/core.xml tools/data-device.xml > $@
+
+out/c/wayland/interfaces.o: out/c/wayland/interfaces.c c/libwayland/wayland-abi.h
+	$(CC) $(CFLAGS) $(wayland_flags) -c $< -o $@
+
+$(wayland): $(wayland_objects) $(archive)
+	$(CC) -shared -pthread -Wl,-soname,$(notdir $@) -Wl,-z,defs -Wl,--build-id=sha1 \
+		-Wl,--exclude-libs,ALL $(wayland_objects) $(archive) -o $@
+	@ln -sf $(notdir $@) $(@D)/libwayland-client.so
+
+$(run): c/libwayland/waywire-run Makefile $(numbered)
+	@mkdir -p out/c
+	$(call run_with,wayland,waywire-inspect,$@)
+
 install: all
 	install -d $(DESTDIR)$(INCLUDEDIR) $(DESTDIR)$(LIBDIR)/pkgconfig $(DESTDIR)$(LIBDIR)/cmake/waywire \
 		$(DESTDIR)$(BINDIR) $(DESTDIR)$(DATADIR)/waywire/tables $(DESTDIR)$(DATADIR)/waywire/tools \
@@ -114,6 +150,12 @@ install: all
 	install -m 644 $(headers) $(DESTDIR)$(INCLUDEDIR)
 	install -m 644 $(archive) $(DESTDIR)$(LIBDIR)
 	install -m 755 $(shared) $(DESTDIR)$(LIBDIR)
+	install -d $(DESTDIR)$(LIBDIR)/waywire
+	install -m 755 $(wayland) $(DESTDIR)$(LIBDIR)/waywire
+	ln -sf $(notdir $(wayland)) $(DESTDIR)$(LIBDIR)/waywire/libwayland-client.so
+	$(call run_with,$(call from,$(BINDIR),$(LIBDIR)/waywire),waywire-inspect,$(DESTDIR)$(BINDIR)/waywire-run)
+	sed 's|@VERSION@|$(VERSION)|' c/libwayland/waywire-run.1.in > $(DESTDIR)$(DATADIR)/man/man1/waywire-run.1
+	chmod 644 $(DESTDIR)$(DATADIR)/man/man1/waywire-run.1
 	ln -sf $(notdir $(shared)) $(DESTDIR)$(LIBDIR)/$(soname)
 	ln -sf $(soname) $(DESTDIR)$(LIBDIR)/libwaywire.so
 	$(call fill,$(LIBDIR)/pkgconfig) c/waywire.pc.in > $(DESTDIR)$(LIBDIR)/pkgconfig/waywire.pc

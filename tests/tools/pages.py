@@ -58,7 +58,7 @@ class Lint(unittest.TestCase):
     def scripts(self, language, ending):
         """The files whose first line names this language, or that end as its modules do."""
         found = []
-        for folder in (".", ".ci", "bench", "bench/*", "tests", "tests/*", "tools", "tools/*"):
+        for folder in (".", ".ci", "bench", "bench/*", "c/*", "tests", "tests/*", "tools", "tools/*"):
             for path in glob.glob(f"{TOP}/{folder}/*"):
                 if os.path.isfile(path):
                     with open(path, "rb") as file:

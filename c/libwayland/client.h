@@ -1,0 +1,162 @@
+/* What the files of c/libwayland share: a libwayland-client over the client of waywire.h.
+ *
+ * A display has a client, which reads and writes its messages, and a lock, which every call takes
+ * before it uses the client. Each object of the client has a proxy, which is what the client keeps
+ * as the user's pointer of the object. What the client reports is copied into events, which wait in
+ * queues and are dispatched without the lock. */
+#ifndef WAYWIRE_WAYLAND_CLIENT_H
+#define WAYWIRE_WAYLAND_CLIENT_H
+
+#include "log.h"
+#include "wayland-abi.h"
+
+#include <pthread.h>
+#include <waywire-socket.h>
+
+/* The ids from here on are those of objects that the server made. */
+#define FIRST_SERVER_ID 0xff000000u
+
+/* ---- signatures (signature.c) */
+
+/* The arguments of a message, by its signature. */
+struct signature {
+	size_t count;
+	char letters[WAYWIRE_MAX_ARGS];
+	bool nullable[WAYWIRE_MAX_ARGS];
+};
+
+/* Reads a signature. False if it is malformed: a number that is too large, a character that is no
+ * letter of an argument, a `?` that is not before `s`, `o`, `n` or `a`, or more than
+ * WAYWIRE_MAX_ARGS arguments. */
+bool read_signature(struct signature *signature, const char *text);
+
+/* ---- what the types of libwayland-client are here */
+
+struct wl_proxy {
+	struct wl_object object; /* first, where Mesa looks for the interface */
+	struct wl_display *display;
+	struct wl_event_queue *queue;
+	int references;    /* the program's, the client's, and one of each event that has it */
+	bool is_destroyed; /* by the program */
+	bool is_held;      /* the client has it as the user's pointer of its object */
+	bool is_wrapper;   /* this and the next are read without the lock */
+	bool is_registry;
+	void *user_data;
+	wl_dispatcher_func_t dispatcher;
+	uint32_t version;
+	const char *const *tag;
+	waywire_object handle; /* its object at the client; id 0 if there is none */
+};
+
+struct wl_event_queue {
+	struct wl_list events;
+	struct wl_display *display;
+	char *name; /* null if it has none */
+};
+
+/* An interface that agrees with the tables, as it was when that was found out. A plug-in may be
+ * unloaded, and another interface lie at its address. */
+struct known_interface {
+	const struct wl_interface *at;
+	struct wl_interface was;
+};
+
+#define KNOWN_INTERFACES 512
+
+struct wl_display {
+	struct wl_proxy proxy; /* first, since a display is a proxy, too */
+	waywire_client client;
+	int fd;
+	int last_error; /* an errno; 0 while the connection goes on */
+	struct {
+		const struct wl_interface *interface;
+		uint32_t id, code;
+	} protocol_error;
+	struct wl_event_queue display_queue, default_queue;
+	pthread_mutex_t mutex;
+	pthread_cond_t has_read;
+	int reader_count;     /* threads that have prepared to read */
+	uint32_t read_serial; /* goes on whenever those that wait for a reader are woken */
+	int deleted_count;    /* delete_id that were read, and that no dispatch has counted */
+	struct known_interface known[KNOWN_INTERFACES];
+};
+
+/* ---- tables (tables.c) */
+
+/* Makes the client of a display, over the tables that every display begins with. False with
+ * errno. */
+bool make_client(struct wl_display *display, const waywire_sizes *sizes);
+
+/* Whether the client's tables agree with an interface: they have all its messages, with the same
+ * arguments. If not, it says why on stderr. */
+bool agrees_with_tables(struct wl_display *display, const struct wl_interface *interface);
+
+/* Adds to the client's tables what they lack of an interface, and of all interfaces that its
+ * messages name. False with errno if that cannot be, or if the interface contradicts the tables;
+ * then it has said why on stderr. Ends reports. */
+bool learn_interface(struct wl_display *display, const struct wl_interface *interface);
+
+/* ---- proxies (proxy.c) */
+
+/* Makes a proxy without an object, for one that `factory` makes. Null with errno. */
+struct wl_proxy *create_proxy(struct wl_proxy *factory, const struct wl_interface *interface,
+	uint32_t version);
+
+/* Gives a proxy an object of the client. The display fails if there is no memory for that. */
+void give_object(struct wl_proxy *proxy, waywire_object object);
+
+/* Ends the client's reference to a proxy, if it has one: the object is gone. */
+void let_go(struct wl_proxy *proxy);
+
+void release_proxy(struct wl_proxy *proxy);
+
+/* What wl_proxy_destroy does. The lock is taken. */
+void destroy_proxy(struct wl_proxy *proxy);
+
+/* The proxy of an object that a report names; null if it has none, or if the program has destroyed
+ * it. */
+struct wl_proxy *proxy_of(const struct wl_display *display, waywire_object object);
+
+/* ---- the connection (display.c) */
+
+/* Ends the connection for good with an errno, unless it has ended already, and wakes all
+ * readers. */
+void fail_display(struct wl_display *display, int error);
+
+/* Wakes the threads that wait for another to read. */
+void wake_readers(struct wl_display *display);
+
+/* Sends what waits. Returns how many bytes went, or -1 with errno. */
+int flush_display(struct wl_display *display);
+
+/* Closes the descriptors of a report. */
+void close_descriptors(const waywire_report *report);
+
+/* ---- events (event.c) */
+
+struct event {
+	struct wl_list link;
+	struct wl_proxy *proxy; /* its target */
+	const struct wl_message *message;
+	uint32_t opcode;
+	bool was_delivered; /* its descriptors are the program's */
+	bool is_stray;      /* a delete_id of no object */
+	struct signature signature;
+	union wl_argument args[]; /* behind them lie the arrays, and then the bytes */
+};
+
+/* Puts what a report says into a queue. `length` is how many bytes the message had, if messages are
+ * printed. Its descriptors are the event's then, or closed. -1 with errno if the connection has to
+ * end. */
+int take_report(struct wl_display *display, const waywire_report *report, size_t length);
+
+/* Takes the first event out of a queue, and calls what listens. The lock is taken, and given up
+ * during the call. */
+void dispatch_first(struct wl_display *display, struct wl_event_queue *queue);
+
+/* Drops all events of a queue. */
+void empty_queue(struct wl_event_queue *queue);
+
+void init_queue(struct wl_event_queue *queue, struct wl_display *display);
+
+#endif

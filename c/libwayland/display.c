@@ -1,0 +1,191 @@
+/* Displays: connecting, sending, and how a connection ends. See client.h. */
+#define _GNU_SOURCE
+#include "client.h"
+
+#include <errno.h>
+#include <stdlib.h>
+#include <sys/un.h>
+#include <unistd.h>
+
+/* A libwayland whose buffers grow can send many descriptors before the bytes of their messages. */
+static const waywire_sizes display_sizes = { 65536, 256, 65536, 256, WAYWIRE_USUAL_LIMIT };
+
+/* ---- errors */
+
+void wake_readers(struct wl_display *display)
+{
+	display->read_serial++;
+	pthread_cond_broadcast(&display->has_read);
+}
+
+void fail_display(struct wl_display *display, int error)
+{
+	if (display->last_error)
+		return;
+	display->last_error = error ? error : EFAULT;
+	wake_readers(display);
+}
+
+EXPORT int wl_display_get_error(struct wl_display *display)
+{
+	pthread_mutex_lock(&display->mutex);
+	int error = display->last_error;
+	pthread_mutex_unlock(&display->mutex);
+	return error;
+}
+
+EXPORT uint32_t wl_display_get_protocol_error(struct wl_display *display,
+	const struct wl_interface **interface, uint32_t *id)
+{
+	pthread_mutex_lock(&display->mutex);
+	uint32_t code = display->protocol_error.code;
+	if (interface)
+		*interface = display->protocol_error.interface;
+	if (id)
+		*id = display->protocol_error.id;
+	pthread_mutex_unlock(&display->mutex);
+	return code;
+}
+
+/* ---- connecting */
+
+/* Begins a display over a client that is made. */
+static void init_display(struct wl_display *display)
+{
+	struct wl_proxy *proxy = &display->proxy;
+	init_queue(&display->display_queue, display);
+	init_queue(&display->default_queue, display);
+	pthread_mutex_init(&display->mutex, NULL);
+	pthread_cond_init(&display->has_read, NULL);
+	proxy->object.interface = &wl_display_interface;
+	proxy->object.implementation = display; /* it has a listener already */
+	proxy->display = display;
+	proxy->queue = &display->default_queue;
+	proxy->user_data = display;
+	proxy->references = 1;
+	give_object(proxy, waywire_end_display(display->client.end));
+}
+
+/* Takes a display apart, of which the descriptor is closed and the end given up. */
+static void free_display(struct wl_display *display)
+{
+	waywire_end_free(display->client.end);
+	pthread_mutex_destroy(&display->mutex);
+	pthread_cond_destroy(&display->has_read);
+	free(display);
+}
+
+EXPORT struct wl_display *wl_display_connect_to_fd(int fd)
+{
+	read_debug();
+	struct wl_display *display = calloc(1, sizeof *display);
+	if (!display || !make_client(display, &display_sizes)) {
+		free(display);
+		waywire_socket_close(fd, NULL);
+		return NULL;
+	}
+	display->fd = fd;
+	init_display(display);
+	if (!display->last_error)
+		return display;
+	errno = display->last_error;
+	waywire_socket_close(fd, NULL);
+	free_display(display);
+	return NULL;
+}
+
+/* Says on stderr why the environment has no address of a compositor. errno is kept. */
+static void explain(const char *name)
+{
+	const char *folder = getenv("XDG_RUNTIME_DIR");
+	if (!name)
+		name = getenv("WAYLAND_DISPLAY");
+	if (!name)
+		name = "wayland-0";
+	if (errno == ENAMETOOLONG)
+		log_line("the path of the socket %s is longer than %zu bytes\n", name,
+			sizeof((struct sockaddr_un *)0)->sun_path - 1);
+	else if (errno == ENOENT && *name != '/' && (!folder || *folder != '/'))
+		log_line("XDG_RUNTIME_DIR is not set to an absolute path\n");
+}
+
+EXPORT struct wl_display *wl_display_connect(const char *name)
+{
+	bool is_inherited = getenv("WAYLAND_SOCKET");
+	int fd = waywire_socket_connect(name);
+	if (fd >= 0)
+		return wl_display_connect_to_fd(fd);
+	if (!is_inherited)
+		explain(name);
+	return NULL;
+}
+
+/* Ends the client's references to the proxies of its objects. */
+static void let_go_of_all(struct wl_display *display)
+{
+	const waywire_end *end = display->client.end;
+	waywire_object it = { 0, 0 };
+	while (!waywire_end_object_after(end, it.id, &it)) {
+		struct wl_proxy *proxy = NULL;
+		/* That of a dead object of the server may be gone. */
+		if (it.id < FIRST_SERVER_ID || !waywire_end_live(end, it, NULL, NULL))
+			proxy = waywire_end_user(end, it);
+		if (proxy)
+			let_go(proxy);
+	}
+}
+
+/* What was not flushed is dropped, as in libwayland. The proxies that the program has not destroyed
+ * are its own to free no more. */
+EXPORT void wl_display_disconnect(struct wl_display *display)
+{
+	empty_queue(&display->default_queue);
+	empty_queue(&display->display_queue);
+	let_go_of_all(display);
+	waywire_socket_close(display->fd, display->client.end);
+	free_display(display);
+}
+
+EXPORT int wl_display_get_fd(struct wl_display *display)
+{
+	return display->fd;
+}
+
+/* ---- sending */
+
+int flush_display(struct wl_display *display)
+{
+	waywire_end *end = display->client.end;
+	size_t waits = waywire_end_goes(end, PTRDIFF_MAX, PTRDIFF_MAX).bytes;
+	return waywire_socket_flush(display->fd, end) ? -1 : (int)waits;
+}
+
+/* A compositor that has gone may have said why: that can still be read. */
+EXPORT int wl_display_flush(struct wl_display *display)
+{
+	int sent = -1;
+	pthread_mutex_lock(&display->mutex);
+	if (display->last_error) {
+		errno = display->last_error;
+	} else {
+		sent = flush_display(display);
+		if (sent < 0 && errno != EAGAIN && errno != EPIPE)
+			fail_display(display, errno);
+	}
+	pthread_mutex_unlock(&display->mutex);
+	return sent;
+}
+
+/* The outbox has its size from the beginning. */
+EXPORT void wl_display_set_max_buffer_size(struct wl_display *display, size_t most)
+{
+	(void)display, (void)most;
+}
+
+void close_descriptors(const waywire_report *report)
+{
+	int error = errno;
+	for (size_t each = 0; each < report->token_count; each++)
+		close((int)report->tokens[each]);
+	errno = error;
+}

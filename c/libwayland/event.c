@@ -1,0 +1,521 @@
+/* Events: copies of what the client reports, until something listens. See client.h. */
+#include "client.h"
+
+#include <errno.h>
+#include <stdlib.h>
+#include <string.h>
+#include <unistd.h>
+
+/* The opcodes of wl_display's events, and the codes of its errors. */
+#define DISPLAY_ERROR 0
+#define DISPLAY_DELETE_ID 1
+#define INVALID_OBJECT 0
+#define INVALID_METHOD 1
+#define NO_MEMORY 2
+#define IMPLEMENTATION 3
+
+/* The opcode of wl_registry.global, and two of its arguments. */
+#define REGISTRY_GLOBAL 0
+#define GLOBAL_INTERFACE 1
+#define GLOBAL_VERSION 2
+
+/* Arrays and strings are copied to multiples of 8 bytes. */
+#define ALIGNED(length) (((length) + 7) / 8 * 8)
+
+/* ---- making and dropping them */
+
+/* An event with so many bytes behind its arguments; null with errno. Its message is one that was
+ * read by `read_signature`. */
+static struct event *new_event(struct wl_proxy *proxy, const struct signature *signature,
+	uint32_t opcode, size_t room)
+{
+	struct event *event = malloc(sizeof *event + signature->count * sizeof *event->args + room);
+	if (!event)
+		return NULL;
+	event->proxy = proxy;
+	proxy->references++;
+	event->message = &proxy->object.interface->events[opcode];
+	event->opcode = opcode;
+	event->was_delivered = false;
+	event->is_stray = false;
+	event->signature = *signature;
+	return event;
+}
+
+/* Whether an argument is a proxy, or null. */
+static bool is_object(const struct event *event, size_t place)
+{
+	return event->signature.letters[place] == 'o' || event->signature.letters[place] == 'n';
+}
+
+static void free_event(struct event *event)
+{
+	for (size_t place = 0; place < event->signature.count; place++) {
+		union wl_argument *arg = &event->args[place];
+		if (event->signature.letters[place] == 'h' && !event->was_delivered)
+			close(arg->h);
+		if (is_object(event, place) && arg->o)
+			release_proxy((struct wl_proxy *)arg->o);
+	}
+	release_proxy(event->proxy);
+	free(event);
+}
+
+/* Destroys the proxy that an event has made, which the program will never see. */
+static void destroy_made(const struct event *event)
+{
+	for (size_t place = 0; place < event->signature.count; place++)
+		if (event->signature.letters[place] == 'n' && event->args[place].o)
+			destroy_proxy((struct wl_proxy *)event->args[place].o);
+}
+
+void empty_queue(struct wl_event_queue *queue)
+{
+	while (!wl_list_empty(&queue->events)) {
+		struct event *event = wl_container_of(queue->events.next, event, link);
+		wl_list_remove(&event->link);
+		destroy_made(event);
+		free_event(event);
+	}
+}
+
+static void put_in_queue(struct wl_event_queue *queue, struct event *event)
+{
+	wl_list_insert(queue->events.prev, &event->link);
+}
+
+/* ---- copying a message */
+
+/* Whether an argument of a report is what a letter of a signature asks for. A new object of no
+ * interface is an `n` there, and a number in the tables. */
+static bool is_of_letter(const waywire_arg *arg, char letter)
+{
+	switch (arg->kind) {
+	case WAYWIRE_INT:
+		return letter == 'i';
+	case WAYWIRE_UINT:
+		return letter == 'u' || letter == 'n';
+	case WAYWIRE_FIXED:
+		return letter == 'f';
+	case WAYWIRE_STRING:
+	case WAYWIRE_NULL_STRING:
+		return letter == 's';
+	case WAYWIRE_OBJECT:
+	case WAYWIRE_NULL_OBJECT:
+	case WAYWIRE_DEAD_OBJECT:
+		return letter == 'o';
+	case WAYWIRE_NEW:
+		return letter == 'n';
+	case WAYWIRE_ARRAY:
+		return letter == 'a';
+	case WAYWIRE_FD:
+		return letter == 'h';
+	}
+	return false;
+}
+
+static bool is_null(const waywire_arg *arg)
+{
+	return arg->kind == WAYWIRE_NULL_STRING || arg->kind == WAYWIRE_NULL_OBJECT;
+}
+
+/* How much memory the arrays and strings of a report take, behind the arguments. */
+struct sizes {
+	size_t arrays, bytes;
+};
+
+/* Reads the signature of the event that a report is for. False if the interface of its proxy has no
+ * such event, or one of other arguments: the tables were made of another struct. The tables allow
+ * null in more places. */
+static bool read_event(const struct wl_proxy *proxy, const waywire_report *report,
+	struct signature *signature, struct sizes *sizes)
+{
+	const struct wl_interface *interface = proxy->object.interface;
+	sizes->arrays = sizes->bytes = 0;
+	if (report->opcode >= (uint32_t)interface->event_count
+		|| !read_signature(signature, interface->events[report->opcode].signature)
+		|| signature->count != report->arg_count)
+		return false;
+	for (size_t place = 0; place < signature->count; place++) {
+		const waywire_arg *arg = &report->args[place];
+		if (!is_of_letter(arg, signature->letters[place])
+			|| (is_null(arg) && !signature->nullable[place]))
+			return false;
+		if (arg->kind == WAYWIRE_ARRAY)
+			sizes->arrays += sizeof(struct wl_array);
+		if (arg->kind == WAYWIRE_ARRAY || arg->kind == WAYWIRE_STRING)
+			sizes->bytes += ALIGNED(arg->length + 1);
+	}
+	return true;
+}
+
+/* Where the next array, and the next bytes, of an event are copied to. */
+struct behind {
+	struct wl_array *array;
+	char *bytes;
+};
+
+/* Copies bytes, and a NUL behind them. */
+static char *copy_bytes(struct behind *behind, const waywire_arg *arg)
+{
+	char *copy = behind->bytes;
+	if (arg->length)
+		memcpy(copy, arg->bytes, arg->length);
+	copy[arg->length] = '\0';
+	behind->bytes += ALIGNED(arg->length + 1);
+	return copy;
+}
+
+static struct wl_array *copy_array(struct behind *behind, const waywire_arg *arg)
+{
+	struct wl_array *array = behind->array++;
+	array->size = arg->length;
+	array->alloc = 0; /* its data are not its own */
+	array->data = copy_bytes(behind, arg);
+	return array;
+}
+
+static struct wl_object *referenced(struct wl_proxy *proxy)
+{
+	if (!proxy)
+		return NULL;
+	proxy->references++;
+	return &proxy->object;
+}
+
+/* Copies one argument. The proxy of a new object is null until it is made. */
+static void copy_argument(const struct wl_display *display, const waywire_arg *arg, char letter,
+	struct behind *behind, union wl_argument *to)
+{
+	switch (letter) {
+	case 'i':
+	case 'f':
+		to->i = arg->i;
+		break;
+	case 'u':
+		to->u = arg->u;
+		break;
+	case 'h':
+		to->h = (int32_t)arg->u;
+		break;
+	case 's':
+		to->s = arg->kind == WAYWIRE_STRING ? copy_bytes(behind, arg) : NULL;
+		break;
+	case 'a':
+		to->a = copy_array(behind, arg);
+		break;
+	case 'o':
+		to->o = arg->kind == WAYWIRE_NULL_OBJECT ? NULL
+			: referenced(proxy_of(display, arg->object));
+		break;
+	default:
+		to->o = NULL;
+		break;
+	}
+}
+
+/* Offers wl_fixes at no version above 1, which is that of all tables: a program that bound another
+ * could not be served. */
+static void limit_fixes(struct event *event)
+{
+	if (!event->proxy->is_registry || event->opcode != REGISTRY_GLOBAL
+		|| strcmp(event->args[GLOBAL_INTERFACE].s, "wl_fixes"))
+		return;
+	if (event->args[GLOBAL_VERSION].u > 1)
+		event->args[GLOBAL_VERSION].u = 1;
+}
+
+/* Makes the proxy of a new object. False with errno. */
+static bool make_new(struct event *event, size_t place, waywire_object object)
+{
+	struct wl_proxy *maker = event->proxy;
+	const struct wl_interface **types = event->message->types;
+	const struct wl_interface *interface = types ? types[place] : NULL;
+	if (!interface || !agrees_with_tables(maker->display, interface)) {
+		errno = EINVAL;
+		return false;
+	}
+	struct wl_proxy *made = create_proxy(maker, interface, maker->version);
+	if (!made)
+		return false;
+	give_object(made, object);
+	event->args[place].o = referenced(made);
+	return true;
+}
+
+/* Copies a message for a proxy, and makes the proxy of an object that it makes. Null with errno;
+ * its descriptors are closed then. */
+static struct event *copy_message(struct wl_proxy *proxy, const waywire_report *report)
+{
+	struct signature signature;
+	struct sizes sizes;
+	size_t new_place = WAYWIRE_MAX_ARGS;
+	if (!read_event(proxy, report, &signature, &sizes)) {
+		log_line("%s@%u: event %u is none of its interface, or has a wrong null\n",
+			proxy->object.interface->name, proxy->object.id, report->opcode);
+		close_descriptors(report);
+		errno = EINVAL;
+		return NULL;
+	}
+	struct event *event = new_event(proxy, &signature, report->opcode,
+		sizes.arrays + sizes.bytes);
+	if (!event) {
+		close_descriptors(report);
+		return NULL;
+	}
+	union wl_argument *end = event->args + signature.count;
+	struct behind behind = { (void *)end, (char *)end + sizes.arrays };
+	for (size_t place = 0; place < signature.count; place++) {
+		const waywire_arg *arg = &report->args[place];
+		copy_argument(proxy->display, arg, signature.letters[place], &behind,
+			&event->args[place]);
+		if (arg->kind == WAYWIRE_NEW)
+			new_place = place;
+	}
+	limit_fixes(event);
+	/* Last, since this ends the report. */
+	if (new_place < WAYWIRE_MAX_ARGS
+		&& !make_new(event, new_place, report->args[new_place].object)) {
+		free_event(event);
+		return NULL;
+	}
+	return event;
+}
+
+/* ---- what reports say */
+
+/* Drops a message for an object whose proxy the program has destroyed. */
+static void discard(const waywire_report *report, size_t length)
+{
+	if (is_debugging())
+		print_discarded(report->target.id < FIRST_SERVER_ID, report->target.id,
+			report->opcode, report->token_count, length);
+	close_descriptors(report);
+}
+
+/* The object whose id the new object has taken over is gone. */
+static void end_replaced(const waywire_report *report)
+{
+	if (report->replaced_user)
+		let_go(report->replaced_user);
+}
+
+static int take_message(const waywire_report *report, size_t length)
+{
+	struct wl_proxy *proxy = report->user;
+	if (!proxy || proxy->is_destroyed) {
+		discard(report, length);
+		end_replaced(report);
+		return 0;
+	}
+	struct wl_proxy *replaced = report->replaced_user;
+	struct event *event = copy_message(proxy, report);
+	if (event)
+		put_in_queue(proxy->queue, event);
+	if (replaced)
+		let_go(replaced);
+	return event ? 0 : -1;
+}
+
+/* A delete_id counts among the events of the next dispatch, but has none of its own unless there is
+ * something to print. */
+static int take_delete_id(struct wl_display *display, uint32_t id, bool is_stray)
+{
+	static const struct signature signature = { .count = 1, .letters = { 'u' } };
+	if (!is_stray && !is_debugging()) {
+		display->deleted_count++;
+		return 0;
+	}
+	struct event *event = new_event(&display->proxy, &signature, DISPLAY_DELETE_ID, 0);
+	if (!event)
+		return -1;
+	event->args[0].u = id;
+	event->is_stray = is_stray;
+	put_in_queue(&display->display_queue, event);
+	return 0;
+}
+
+/* The error takes effect when it is dispatched. One about an id of no object is a fault, as in
+ * libwayland. */
+static int take_error(struct wl_display *display, const waywire_report *report)
+{
+	static const struct signature signature = { .count = 3, .letters = { 'o', 'u', 's' } };
+	if (report->named == WAYWIRE_NULL_OBJECT) {
+		log_line("unknown object %u: error %u: %s\n", report->id, report->code,
+			report->text);
+		errno = EINVAL;
+		return -1;
+	}
+	struct event *event = new_event(&display->proxy, &signature, DISPLAY_ERROR,
+		report->text_length + 1);
+	if (!event)
+		return -1;
+	char *text = (char *)(event->args + signature.count);
+	memcpy(text, report->text, report->text_length);
+	text[report->text_length] = '\0';
+	event->args[0].o = referenced(proxy_of(display, report->target));
+	event->args[1].u = report->code;
+	event->args[2].s = text;
+	put_in_queue(&display->display_queue, event);
+	return 0;
+}
+
+int take_report(struct wl_display *display, const waywire_report *report, size_t length)
+{
+	switch (report->kind) {
+	case WAYWIRE_MESSAGE:
+		return take_message(report, length);
+	case WAYWIRE_DISCARDED:
+		discard(report, length);
+		end_replaced(report);
+		return 0;
+	case WAYWIRE_DELETED:
+		if (report->user)
+			let_go(report->user);
+		return take_delete_id(display, report->target.id, false);
+	case WAYWIRE_STRAY:
+		return take_delete_id(display, report->id, true);
+	case WAYWIRE_ERROR:
+		return take_error(display, report);
+	}
+	return 0;
+}
+
+/* ---- dispatching */
+
+static void print_event(const struct event *event, bool is_discarded)
+{
+	struct printed_message printed = { &event->proxy->object, event->message, event->args, 0,
+		false, is_discarded };
+	if (is_debugging())
+		print_message(&printed);
+}
+
+/* Makes null the arguments whose proxies the program has destroyed since they were read. */
+static void drop_destroyed(struct event *event)
+{
+	for (size_t place = 0; place < event->signature.count; place++) {
+		if (!is_object(event, place))
+			continue;
+		struct wl_proxy *proxy = (struct wl_proxy *)event->args[place].o;
+		if (!proxy || !proxy->is_destroyed)
+			continue;
+		release_proxy(proxy);
+		event->args[place].o = NULL;
+	}
+}
+
+/* The errno of a wl_display.error about an object of this interface. */
+static int errno_of(const struct wl_interface *interface, uint32_t code)
+{
+	if (!interface || strcmp(interface->name, wl_display_interface.name))
+		return EPROTO;
+	switch (code) {
+	case INVALID_OBJECT:
+	case INVALID_METHOD:
+		return EINVAL;
+	case NO_MEMORY:
+		return ENOMEM;
+	case IMPLEMENTATION:
+		return EPROTO;
+	}
+	return EFAULT;
+}
+
+/* The connection ends by wl_display.error. No thread waits for a reader now. */
+static void hear_error(struct wl_display *display, const struct event *event)
+{
+	const struct wl_object *object = event->args[0].o;
+	uint32_t code = event->args[1].u;
+	pthread_mutex_unlock(&display->mutex);
+	if (object)
+		log_line("%s@%u: error %d: %s\n", object->interface->name, object->id, (int)code,
+			event->args[2].s);
+	else
+		log_line("[destroyed object]: error %d: %s\n", (int)code, event->args[2].s);
+	pthread_mutex_lock(&display->mutex);
+	if (display->last_error)
+		return;
+	display->last_error = errno_of(object ? object->interface : NULL, code);
+	display->protocol_error.interface = object ? object->interface : NULL;
+	display->protocol_error.id = object ? object->id : 0;
+	display->protocol_error.code = code;
+}
+
+static void hear_display(struct wl_display *display, const struct event *event)
+{
+	print_event(event, false);
+	if (event->opcode == DISPLAY_ERROR)
+		hear_error(display, event);
+	else if (event->is_stray)
+		log_line("delete_id of an id that has no object: %u\n", event->args[0].u);
+}
+
+typedef uintptr_t word;
+
+/* The type of a listener's function. On x86-64 each argument of an event is in a register, or in 8
+ * bytes of the stack, and a function that takes fewer does not see the others. */
+typedef void call_4(void *data, void *proxy, word, word, word, word);
+typedef void call_8(void *data, void *proxy, word, word, word, word, word, word, word, word);
+typedef void call_20(void *data, void *proxy, word, word, word, word, word, word, word, word, word,
+	word, word, word, word, word, word, word, word, word, word, word);
+
+static void call_listener(void (*function)(void), void *data, const struct event *event)
+{
+	word v[WAYWIRE_MAX_ARGS] = { 0 };
+	size_t count = event->signature.count;
+	void *proxy = event->proxy;
+	for (size_t place = 0; place < count; place++) {
+		const union wl_argument *arg = &event->args[place];
+		char letter = event->signature.letters[place];
+		bool is_pointer = letter == 's' || letter == 'a' || is_object(event, place);
+		v[place] = is_pointer ? (word)arg->s : arg->u;
+	}
+	if (count <= 4)
+		((call_4 *)function)(data, proxy, v[0], v[1], v[2], v[3]);
+	else if (count <= 8)
+		((call_8 *)function)(data, proxy, v[0], v[1], v[2], v[3], v[4], v[5], v[6], v[7]);
+	else
+		((call_20 *)function)(data, proxy, v[0], v[1], v[2], v[3], v[4], v[5], v[6], v[7],
+			v[8], v[9], v[10], v[11], v[12], v[13], v[14], v[15], v[16], v[17], v[18],
+			v[19]);
+}
+
+/* Calls what listens to a proxy, without the lock. */
+static void hear(struct event *event)
+{
+	struct wl_proxy *proxy = event->proxy;
+	print_event(event, false);
+	event->was_delivered = true;
+	if (proxy->dispatcher) {
+		proxy->dispatcher(proxy->object.implementation, proxy, event->opcode,
+			event->message, event->args);
+		return;
+	}
+	void (*const *functions)(void) = proxy->object.implementation;
+	if (!functions[event->opcode]) {
+		log_line("the listener of %s@%u has no function for the event %s\n",
+			proxy->object.interface->name, proxy->object.id, event->message->name);
+		abort();
+	}
+	call_listener(functions[event->opcode], proxy->user_data, event);
+}
+
+void dispatch_first(struct wl_display *display, struct wl_event_queue *queue)
+{
+	struct event *event = wl_container_of(queue->events.next, event, link);
+	struct wl_proxy *proxy = event->proxy;
+	wl_list_remove(&event->link);
+	drop_destroyed(event);
+	if (proxy->is_destroyed) {
+		print_event(event, true);
+		destroy_made(event);
+	} else if (proxy == &display->proxy) {
+		hear_display(display, event);
+	} else if (proxy->dispatcher || proxy->object.implementation) {
+		pthread_mutex_unlock(&display->mutex);
+		hear(event);
+		pthread_mutex_lock(&display->mutex);
+	}
+	free_event(event);
+}

@@ -1,0 +1,410 @@
+/* Requests: the nine calls that write one. See client.h. */
+#define _GNU_SOURCE
+#include "client.h"
+
+#include <errno.h>
+#include <fcntl.h>
+#include <stdarg.h>
+#include <unistd.h>
+
+/* The opcode of wl_registry.bind, its signature, and its arguments. */
+#define REGISTRY_BIND 0
+#define BIND_SIGNATURE "usun"
+enum { BIND_NAME, BIND_INTERFACE, BIND_VERSION, BIND_COUNT = 4 };
+
+/* A request on its way from the program to the outbox. */
+struct request {
+	struct wl_proxy *proxy; /* its target */
+	uint32_t opcode;
+	const struct wl_message *message; /* null if the interface has no such request */
+	struct signature signature;
+	union wl_argument *args;
+	struct wl_proxy *made; /* the proxy of the object that it makes; null if it makes none */
+	size_t new_place;      /* the argument that is the new object */
+	bool is_bind;
+};
+
+static bool is_of_bind(const struct signature *signature)
+{
+	return signature->count == BIND_COUNT
+		&& !memcmp(signature->letters, BIND_SIGNATURE, BIND_COUNT);
+}
+
+/* Finds the message of a request, and takes its signature apart. */
+static void begin_request(struct request *request, struct wl_proxy *proxy, uint32_t opcode)
+{
+	const struct wl_interface *interface = proxy->object.interface;
+	request->proxy = proxy;
+	request->opcode = opcode;
+	request->message = NULL;
+	request->signature.count = 0;
+	request->made = NULL;
+	request->is_bind = proxy->is_registry && opcode == REGISTRY_BIND;
+	if (!interface->methods || interface->method_count <= 0
+		|| opcode >= (uint32_t)interface->method_count)
+		return;
+	const struct wl_message *message = &interface->methods[opcode];
+	if (message->signature && read_signature(&request->signature, message->signature)
+		&& (!request->is_bind || is_of_bind(&request->signature)))
+		request->message = message;
+	else
+		request->signature.count = 0;
+}
+
+/* ---- refusing */
+
+static const char *name_of(const struct request *request)
+{
+	return request->message && request->message->name ? request->message->name : "?";
+}
+
+/* Says why a request is not sent. */
+static void say_refused(const struct request *request, const char *why)
+{
+	const struct wl_object *object = &request->proxy->object;
+	log_line("%s@%u: the request %s (%u) is not sent: %s\n", object->interface->name,
+		object->id, name_of(request), request->opcode, why);
+}
+
+/* Refuses a request for good: the display fails with an errno. Returns false. */
+static bool refuse(const struct request *request, int error, const char *why)
+{
+	say_refused(request, why);
+	fail_display(request->proxy->display, error);
+	return false;
+}
+
+/* What the client does not write. A target that is gone is no error unless the program waits for a
+ * new object: the server may have ended it while the program could not know. */
+static bool refuse_status(const struct request *request, waywire_status status)
+{
+	switch (status) {
+	case WAYWIRE_FAILED: /* by wl_display.error, which waits to be dispatched */
+		return false;
+	case WAYWIRE_STALE:
+		if (request->made)
+			return refuse(request, EINVAL, waywire_strerror(status));
+		say_refused(request, waywire_strerror(status));
+		return false;
+	case WAYWIRE_NO_MEMORY:
+		return refuse(request, ENOMEM, waywire_strerror(status));
+	case WAYWIRE_NO_IDS:
+		return refuse(request, ENOSPC, waywire_strerror(status));
+	case WAYWIRE_TOO_LONG:
+	case WAYWIRE_TOO_LARGE:
+		return refuse(request, E2BIG, waywire_strerror(status));
+	default:
+		return refuse(request, EINVAL, waywire_strerror(status));
+	}
+}
+
+/* ---- the new object */
+
+/* Finds the argument that is a new object. False if there is none. */
+static bool find_new(struct request *request)
+{
+	for (size_t place = 0; place < request->signature.count; place++)
+		if (request->signature.letters[place] == 'n') {
+			request->new_place = place;
+			return true;
+		}
+	return false;
+}
+
+/* The name of the interface that the tables give the new object; null if the struct has none. */
+static const char *name_of_new(const struct request *request)
+{
+	const struct wl_interface **types = request->message->types;
+	if (request->is_bind)
+		return request->args[BIND_INTERFACE].s;
+	return types && types[request->new_place] ? types[request->new_place]->name : NULL;
+}
+
+/* Whether an object can be made whose interface is that of the proxy. */
+static bool can_be_made(const struct request *request)
+{
+	const struct wl_interface *interface = request->made->object.interface;
+	struct wl_display *display = request->proxy->display;
+	const char *name = name_of_new(request);
+	if (request->made->display != display || request->made->handle.id)
+		return refuse(request, EINVAL, "its new object has an id already");
+	if (!learn_interface(display, interface))
+		return refuse(request, errno, "no object of this interface can be made");
+	if (name != interface->name && (!name || strcmp(name, interface->name)))
+		return refuse(request, EINVAL, "its new object is of another interface");
+	return true;
+}
+
+/* ---- arguments */
+
+/* Duplicates a descriptor: the duplicate belongs to the outbox. -1 with errno. */
+static int duplicate(int descriptor)
+{
+	return fcntl(descriptor, F_DUPFD_CLOEXEC, 0);
+}
+
+static void close_duplicates(const waywire_arg *args, size_t count)
+{
+	for (size_t place = 0; place < count; place++)
+		if (args[place].kind == WAYWIRE_FD)
+			close((int)args[place].u);
+}
+
+static waywire_arg object_argument(const struct wl_object *object)
+{
+	/* An object that was never made has id 0, and is refused as one that is gone. */
+	return object ? waywire_of(((const struct wl_proxy *)(const void *)object)->handle)
+		: waywire_no_object();
+}
+
+static waywire_arg array_argument(const struct wl_array *array)
+{
+	return array ? waywire_array(array->data, array->size) : waywire_array(NULL, 0);
+}
+
+/* Puts an argument into the form of the client. Returns 0, or an errno: EINVAL for null where that
+ * is not allowed, else why a descriptor cannot be duplicated. */
+static int convert_argument(char letter, bool nullable, const union wl_argument *arg,
+	waywire_arg *out)
+{
+	switch (letter) {
+	case 'i':
+		*out = waywire_int(arg->i);
+		return 0;
+	case 'u':
+		*out = waywire_uint(arg->u);
+		return 0;
+	case 'f':
+		*out = waywire_fixed(arg->f);
+		return 0;
+	case 'n':
+		*out = waywire_new();
+		return 0;
+	case 'h':
+		*out = waywire_fd((uint32_t)duplicate(arg->h));
+		return (int)out->u < 0 ? errno : 0;
+	case 's':
+		*out = waywire_string(arg->s);
+		break;
+	case 'o':
+		*out = object_argument(arg->o);
+		break;
+	case 'a':
+		*out = array_argument(arg->a);
+		break;
+	}
+	return arg->s || nullable ? 0 : EINVAL; /* each of these three is a pointer */
+}
+
+/* Puts the arguments of a request into the form of the client. Returns 0, or an errno. */
+static int convert(const struct request *request, waywire_arg out[WAYWIRE_MAX_ARGS])
+{
+	const struct signature *signature = &request->signature;
+	for (size_t place = 0; place < signature->count; place++) {
+		int error = convert_argument(signature->letters[place], signature->nullable[place],
+			&request->args[place], &out[place]);
+		if (error) {
+			close_duplicates(out, place);
+			return error;
+		}
+	}
+	return 0;
+}
+
+/* ---- writing */
+
+/* Writes a request to the outbox, which has room for it or not. */
+static waywire_status write_once(const struct request *request, const waywire_arg *args,
+	waywire_object *made)
+{
+	const struct wl_proxy *proxy = request->proxy;
+	waywire_client client = proxy->display->client;
+	const union wl_argument *given = request->args;
+	if (!request->is_bind)
+		return waywire_end_send(client.end, proxy->handle, (uint16_t)request->opcode, args,
+			request->signature.count, made, NULL);
+	return waywire_client_bind_unannounced(client, proxy->handle, given[BIND_NAME].u,
+		given[BIND_INTERFACE].s, given[BIND_VERSION].u, made);
+}
+
+/* Writes a request. If the outbox is full it is flushed, and a socket that takes no more is an
+ * error, as in libwayland 1.21. False if it is refused. */
+static bool write_request(const struct request *request, const waywire_arg *args,
+	waywire_object *made)
+{
+	struct wl_display *display = request->proxy->display;
+	waywire_status status;
+	while ((status = write_once(request, args, made)) == WAYWIRE_FULL)
+		if (flush_display(display) < 0)
+			return refuse(request, errno, "the socket takes no more");
+	return status ? refuse_status(request, status) : true;
+}
+
+/* Prints a request. As in libwayland, its descriptors are the duplicates. */
+static void print_request(const struct request *request, const waywire_arg *args, uint32_t made)
+{
+	union wl_argument printed_args[WAYWIRE_MAX_ARGS];
+	struct printed_message printed = { &request->proxy->object, request->message, printed_args,
+		made, true, false };
+	for (size_t place = 0; place < request->signature.count; place++)
+		if (request->signature.letters[place] == 'h')
+			printed_args[place].h = (int32_t)args[place].u;
+		else
+			printed_args[place] = request->args[place];
+	print_message(&printed);
+}
+
+/* Sends a request whose message was found, and gives the new proxy its object. */
+static void send_request(const struct request *request)
+{
+	waywire_arg args[WAYWIRE_MAX_ARGS];
+	waywire_object made = { 0, 0 };
+	if (request->made && !can_be_made(request))
+		return;
+	int error = convert(request, args);
+	if (error) {
+		refuse(request, error, "an argument cannot be sent");
+		return;
+	}
+	if (!write_request(request, args, &made)) {
+		close_duplicates(args, request->signature.count);
+		return;
+	}
+	if (request->made)
+		give_object(request->made, made);
+	if (is_debugging())
+		print_request(request, args, made.id);
+}
+
+/* ---- the calls */
+
+/* Makes the proxy of the new object, or finds the one that the program has made. False if there is
+ * none, or if the request is not one of its interface. */
+static bool find_made(struct request *request, const struct wl_interface *interface,
+	uint32_t version)
+{
+	union wl_argument *args = request->args;
+	if (interface)
+		request->made = create_proxy(request->proxy, interface, version);
+	if (!request->message)
+		return refuse(request, EINVAL, "its interface has none, or a malformed one");
+	if (!find_new(request))
+		return !interface || refuse(request, EINVAL, "it makes no object");
+	if (!interface) { /* the program has called wl_proxy_create */
+		request->made = (struct wl_proxy *)args[request->new_place].o;
+		return request->made || refuse(request, EINVAL, "its new object is null");
+	}
+	if (request->made)
+		args[request->new_place].o = &request->made->object;
+	return request->made;
+}
+
+/* Makes a request. Returns the proxy of the object that it makes, if `interface` says which; it is
+ * returned also if the request is refused, since then the display has failed. */
+static struct wl_proxy *make_request(struct request *request, const struct wl_interface *interface,
+	uint32_t version, uint32_t flags, union wl_argument *args)
+{
+	struct wl_proxy *proxy = request->proxy;
+	struct wl_display *display = proxy->display;
+	request->args = args;
+	pthread_mutex_lock(&display->mutex);
+	if (find_made(request, interface, version) && !display->last_error)
+		send_request(request);
+	if (flags & WL_MARSHAL_FLAG_DESTROY)
+		destroy_proxy(proxy);
+	pthread_mutex_unlock(&display->mutex);
+	return interface ? request->made : NULL;
+}
+
+/* Reads the arguments that follow a call's last one. */
+static void read_arguments(const struct signature *signature, union wl_argument *args,
+	va_list given)
+{
+	for (size_t place = 0; place < signature->count; place++) {
+		union wl_argument *arg = &args[place];
+		switch (signature->letters[place]) {
+		case 'i':
+		case 'f':
+		case 'h':
+			arg->i = va_arg(given, int32_t);
+			break;
+		case 'u':
+			arg->u = va_arg(given, uint32_t);
+			break;
+		case 's':
+			arg->s = va_arg(given, const char *);
+			break;
+		case 'o':
+		case 'n':
+			arg->o = va_arg(given, struct wl_object *);
+			break;
+		case 'a':
+			arg->a = va_arg(given, struct wl_array *);
+			break;
+		}
+	}
+}
+
+EXPORT struct wl_proxy *wl_proxy_marshal_array_flags(struct wl_proxy *proxy, uint32_t opcode,
+	const struct wl_interface *interface, uint32_t version, uint32_t flags,
+	union wl_argument *args)
+{
+	struct request request;
+	begin_request(&request, proxy, opcode);
+	return make_request(&request, interface, version, flags, args);
+}
+
+EXPORT void wl_proxy_marshal_array(struct wl_proxy *proxy, uint32_t opcode, union wl_argument *args)
+{
+	wl_proxy_marshal_array_flags(proxy, opcode, NULL, 0, 0, args);
+}
+
+EXPORT struct wl_proxy *wl_proxy_marshal_array_constructor(struct wl_proxy *proxy, uint32_t opcode,
+	union wl_argument *args, const struct wl_interface *interface)
+{
+	return wl_proxy_marshal_array_flags(proxy, opcode, interface, proxy->version, 0, args);
+}
+
+EXPORT struct wl_proxy *wl_proxy_marshal_array_constructor_versioned(struct wl_proxy *proxy,
+	uint32_t opcode, union wl_argument *args, const struct wl_interface *interface,
+	uint32_t version)
+{
+	return wl_proxy_marshal_array_flags(proxy, opcode, interface, version, 0, args);
+}
+
+/* Begins a request whose arguments follow `last`. */
+#define WITH_ARGUMENTS(request, args, last) \
+	struct request request; \
+	union wl_argument args[WAYWIRE_MAX_ARGS]; \
+	va_list given; \
+	begin_request(&request, proxy, opcode); \
+	va_start(given, last); \
+	read_arguments(&request.signature, args, given); \
+	va_end(given)
+
+EXPORT struct wl_proxy *wl_proxy_marshal_flags(struct wl_proxy *proxy, uint32_t opcode,
+	const struct wl_interface *interface, uint32_t version, uint32_t flags, ...)
+{
+	WITH_ARGUMENTS(request, args, flags);
+	return make_request(&request, interface, version, flags, args);
+}
+
+EXPORT void wl_proxy_marshal(struct wl_proxy *proxy, uint32_t opcode, ...)
+{
+	WITH_ARGUMENTS(request, args, opcode);
+	make_request(&request, NULL, 0, 0, args);
+}
+
+EXPORT struct wl_proxy *wl_proxy_marshal_constructor(struct wl_proxy *proxy, uint32_t opcode,
+	const struct wl_interface *interface, ...)
+{
+	WITH_ARGUMENTS(request, args, interface);
+	return make_request(&request, interface, proxy->version, 0, args);
+}
+
+EXPORT struct wl_proxy *wl_proxy_marshal_constructor_versioned(struct wl_proxy *proxy,
+	uint32_t opcode, const struct wl_interface *interface, uint32_t version, ...)
+{
+	WITH_ARGUMENTS(request, args, version);
+	return make_request(&request, interface, version, 0, args);
+}

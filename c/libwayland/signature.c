@@ -1,0 +1,56 @@
+/* The signatures of messages, which programs hand in as text: see client.h. */
+#include "client.h"
+
+#include <limits.h>
+
+/* A number in front of a signature has at most so many digits. */
+#define MOST_DIGITS 10
+
+/* What a character is: none of the letters, if it is not in the table below. */
+enum letter_class {
+	PLAIN = 1,
+	WITH_NULL = 2 /* a `?` may precede it */
+};
+
+/* Each request and each event asks, so it is a table. */
+static const uint8_t classes[UCHAR_MAX + 1] = {
+	['i'] = PLAIN, ['u'] = PLAIN, ['f'] = PLAIN, ['h'] = PLAIN,
+	['s'] = WITH_NULL, ['o'] = WITH_NULL, ['n'] = WITH_NULL, ['a'] = WITH_NULL,
+};
+
+static bool is_digit(char it)
+{
+	return it >= '0' && it <= '9';
+}
+
+/* The text behind the number in front of a signature; null if the number is above UINT32_MAX. */
+static const char *behind_number(const char *text)
+{
+	uint64_t number = 0;
+	for (int digits = 0; is_digit(*text); text++) {
+		number = number * 10 + (uint64_t)(*text - '0');
+		if (++digits > MOST_DIGITS || number > UINT32_MAX)
+			return NULL;
+	}
+	return text;
+}
+
+bool read_signature(struct signature *signature, const char *text)
+{
+	size_t count = 0;
+	text = behind_number(text);
+	if (!text)
+		return false;
+	for (; *text; text++) {
+		bool nullable = *text == '?';
+		text += nullable;
+		uint8_t class = classes[(unsigned char)*text];
+		if (!class || (nullable && class != WITH_NULL) || count == WAYWIRE_MAX_ARGS)
+			return false;
+		signature->letters[count] = *text;
+		signature->nullable[count] = nullable;
+		count++;
+	}
+	signature->count = count;
+	return true;
+}

@@ -1,0 +1,620 @@
+/* The tables of a client, which grow by the wl_interface structs that the program hands in. See
+ * client.h.
+ *
+ * Before the program makes its first object of an interface, the interface and all those that its
+ * messages name are written as a text of tables, as far as the tables lack them, and the client
+ * reads that. So the tables have every interface before an event can be of it.
+ *
+ * A struct does not say which messages destroy an object, so nothing is marked `D`. A delete_id
+ * then ends a live object, and the server may reuse the id of a live object of its own. No message
+ * has a since number: libwayland delivers an event that is newer than its object, and leaves it to
+ * the server to refuse a request that is. */
+#include "client.h"
+
+#include <errno.h>
+#include <stdio.h>
+#include <stdlib.h>
+
+/* The version of every interface: that of a struct is no limit, since programs bind above it. */
+#define ANY_VERSION "4294967295"
+
+/* What tables can have: the rules V1 and V3 of docs/FORMATS.md. */
+#define MOST_NAME 256
+#define MOST_MESSAGES 256
+
+/* The places of interfaces in all tables. */
+#define REGISTRY 1
+#define CALLBACK 2
+#define FIXES 18
+
+/* ---- what a message has, whether a struct or the tables say it */
+
+/* An argument: its letter in a text of tables, `N` where an event makes an object. */
+struct shown_argument {
+	char letter;
+	const char *interface; /* null for any */
+	size_t length;
+};
+
+struct shown_message {
+	size_t count;
+	struct shown_argument args[WAYWIRE_MAX_ARGS];
+};
+
+/* The name of an interface as a text of tables can have it. */
+static bool is_name(const char *name)
+{
+	size_t length = name ? strspn(name, "abcdefghijklmnopqrstuvwxyz0123456789_") : 0;
+	return length && length <= MOST_NAME && !name[length];
+}
+
+/* Shows a message of a struct. False if it is malformed. An event without an interface for a new
+ * object has its id as a number. */
+static bool show_struct(struct shown_message *shown, const struct wl_message *message,
+	waywire_sender sender)
+{
+	struct signature signature;
+	if (!message->name || !message->signature
+		|| !read_signature(&signature, message->signature))
+		return false;
+	shown->count = signature.count;
+	for (size_t place = 0; place < signature.count; place++) {
+		struct shown_argument *arg = &shown->args[place];
+		char letter = signature.letters[place];
+		bool is_object = letter == 'o' || letter == 'n';
+		const struct wl_interface *type = NULL;
+		if (is_object && !message->types)
+			return false;
+		if (is_object)
+			type = message->types[place];
+		if (type && !is_name(type->name))
+			return false;
+		if (letter == 'n' && sender == WAYWIRE_FROM_SERVER)
+			letter = type ? 'N' : 'u';
+		arg->letter = letter;
+		arg->interface = type ? type->name : NULL;
+		arg->length = type ? strlen(type->name) : 0;
+	}
+	return true;
+}
+
+static char letter_of(uint32_t kind)
+{
+	switch (kind) {
+	case WAYWIRE_INT: return 'i';
+	case WAYWIRE_UINT: return 'u';
+	case WAYWIRE_FIXED: return 'f';
+	case WAYWIRE_STRING: return 's';
+	case WAYWIRE_OBJECT: return 'o';
+	case WAYWIRE_NEW: return 'n';
+	case WAYWIRE_NEW_BY_SERVER: return 'N';
+	case WAYWIRE_ARRAY: return 'a';
+	}
+	return 'h';
+}
+
+/* Shows a message of the tables. False if they have none of this opcode. */
+static bool show_tables(struct shown_message *shown, const waywire_tables *tables,
+	uint16_t interface, waywire_sender sender, size_t opcode)
+{
+	waywire_message message;
+	if (waywire_tables_message(tables, interface, sender, (uint16_t)opcode, &message, NULL,
+			NULL))
+		return false;
+	shown->count = message.arg_count;
+	for (size_t place = 0; place < message.arg_count; place++) {
+		struct shown_argument *arg = &shown->args[place];
+		waywire_kind kind;
+		waywire_tables_kind(tables, interface, sender, (uint16_t)opcode, place, &kind);
+		arg->letter = letter_of(kind.kind);
+		arg->interface = NULL;
+		arg->length = 0;
+		if (arg->letter == 'o' || arg->letter == 'n' || arg->letter == 'N')
+			waywire_tables_name(tables, kind.interface, &arg->interface, &arg->length);
+	}
+	return true;
+}
+
+/* Whether two messages have the same arguments. */
+static bool are_same(const struct shown_message *one, const struct shown_message *other)
+{
+	if (one->count != other->count)
+		return false;
+	for (size_t place = 0; place < one->count; place++) {
+		const struct shown_argument *a = &one->args[place], *b = &other->args[place];
+		if (a->letter != b->letter || a->length != b->length
+			|| (a->length && memcmp(a->interface, b->interface, a->length)))
+			return false;
+	}
+	return true;
+}
+
+/* ---- structs */
+
+static const struct wl_message *messages_of(const struct wl_interface *interface,
+	waywire_sender sender, size_t *count)
+{
+	bool is_client = sender == WAYWIRE_FROM_CLIENT;
+	*count = (size_t)(is_client ? interface->method_count : interface->event_count);
+	return is_client ? interface->methods : interface->events;
+}
+
+/* Whether a struct is one that tables can have. If not, it says so on stderr. */
+static bool is_well_formed(const struct wl_interface *interface)
+{
+	struct shown_message shown;
+	if (!is_name(interface->name)) {
+		log_line("an interface has a name that is not of a to z, 0 to 9 and _\n");
+		return false;
+	}
+	for (int sender = 0; sender < 2; sender++) {
+		size_t count;
+		const struct wl_message *messages = messages_of(interface, sender, &count);
+		if (count > MOST_MESSAGES || (count && !messages)) {
+			log_line("%s: it cannot have so many messages\n", interface->name);
+			return false;
+		}
+		for (size_t opcode = 0; opcode < count; opcode++)
+			if (!show_struct(&shown, &messages[opcode], sender)) {
+				log_line("%s: its %s %zu is malformed\n", interface->name,
+					sender ? "event" : "request", opcode);
+				return false;
+			}
+	}
+	return true;
+}
+
+/* wl_display, wl_registry, wl_callback and wl_fixes stay as they are in all tables. */
+static bool is_fixed(uint16_t place)
+{
+	return place <= CALLBACK || place == FIXES;
+}
+
+/* Whether a message of a struct is that of the tables. The interface and version of a bind are
+ * arguments in a struct, and belong to the new object in the tables. */
+static bool is_in_tables(const waywire_tables *tables, uint16_t interface, waywire_sender sender,
+	size_t opcode, const struct wl_message *message)
+{
+	struct shown_message shown, wanted;
+	struct signature signature;
+	if (interface == REGISTRY && sender == WAYWIRE_FROM_CLIENT && !opcode)
+		return read_signature(&signature, message->signature) && signature.count == 4
+			&& !memcmp(signature.letters, "usun", 4);
+	return show_struct(&shown, message, sender)
+		&& show_tables(&wanted, tables, interface, sender, opcode)
+		&& are_same(&shown, &wanted);
+}
+
+static size_t count_in_tables(const waywire_tables *tables, uint16_t interface,
+	waywire_sender sender)
+{
+	waywire_message message;
+	size_t count = 0;
+	while (!waywire_tables_message(tables, interface, sender, (uint16_t)count, &message, NULL,
+			NULL))
+		count++;
+	return count;
+}
+
+/* The first message of a struct that differs from the tables; its count if there is none. Messages
+ * that the tables do not have differ too, unless the interface is fixed. */
+static size_t first_that_differs(const waywire_tables *tables, uint16_t interface,
+	waywire_sender sender, const struct wl_interface *it)
+{
+	size_t count, opcode = 0, known = count_in_tables(tables, interface, sender);
+	const struct wl_message *messages = messages_of(it, sender, &count);
+	while (opcode < count) {
+		if (opcode == known && is_fixed(interface))
+			return count;
+		if (!is_in_tables(tables, interface, sender, opcode, &messages[opcode]))
+			break;
+		opcode++;
+	}
+	return opcode;
+}
+
+static bool agrees(const waywire_tables *tables, const struct wl_interface *interface)
+{
+	uint16_t place;
+	if (!is_well_formed(interface))
+		return false;
+	if (waywire_tables_interface(tables, interface->name, &place)) {
+		log_line("%s: the interface is not known\n", interface->name);
+		return false;
+	}
+	for (int sender = 0; sender < 2; sender++) {
+		size_t count, differs = first_that_differs(tables, place, sender, interface);
+		const struct wl_message *messages = messages_of(interface, sender, &count);
+		if (differs == count)
+			continue;
+		log_line("%s: its %s %s (%s) contradicts another interface of this name\n",
+			interface->name, sender ? "event" : "request", messages[differs].name,
+			messages[differs].signature);
+		return false;
+	}
+	return true;
+}
+
+static struct known_interface *place_of_known(struct wl_display *display,
+	const struct wl_interface *interface)
+{
+	uint32_t mixed = (uint32_t)((uintptr_t)interface >> 3) * 2654435761u;
+	return &display->known[mixed >> 8 & (KNOWN_INTERFACES - 1)];
+}
+
+static bool is_known(struct wl_display *display, const struct wl_interface *interface)
+{
+	const struct known_interface *known = place_of_known(display, interface);
+	const struct wl_interface *was = &known->was;
+	return known->at == interface && was->name == interface->name
+		&& was->methods == interface->methods && was->events == interface->events
+		&& was->method_count == interface->method_count
+		&& was->event_count == interface->event_count;
+}
+
+static void remember(struct wl_display *display, const struct wl_interface *interface)
+{
+	struct known_interface *known = place_of_known(display, interface);
+	known->at = interface;
+	known->was = *interface;
+}
+
+bool agrees_with_tables(struct wl_display *display, const struct wl_interface *interface)
+{
+	if (is_known(display, interface))
+		return true;
+	if (!agrees(waywire_end_tables(display->client.end), interface))
+		return false;
+	remember(display, interface);
+	return true;
+}
+
+/* ---- a text of tables */
+
+struct text {
+	char *bytes;
+	size_t length, room;
+	bool has_failed; /* there was no memory for all of it */
+};
+
+static void add_bytes(struct text *text, const char *bytes, size_t length)
+{
+	if (text->has_failed)
+		return;
+	if (length > text->room - text->length) {
+		size_t room = 2 * (text->length + length) + 1024;
+		char *more = realloc(text->bytes, room);
+		if (!more) {
+			text->has_failed = true;
+			return;
+		}
+		text->bytes = more;
+		text->room = room;
+	}
+	memcpy(text->bytes + text->length, bytes, length);
+	text->length += length;
+}
+
+static void add(struct text *text, const char *words)
+{
+	add_bytes(text, words, strlen(words));
+}
+
+/* Null is allowed wherever it can be: copies of an interface may differ in that, and the struct of
+ * each proxy decides for its own messages. */
+static void add_argument(struct text *text, const struct shown_argument *arg)
+{
+	add(text, arg->letter == 's' || arg->letter == 'o' ? " ?" : " ");
+	add_bytes(text, &arg->letter, 1);
+	if (arg->interface) {
+		add(text, "(");
+		add_bytes(text, arg->interface, arg->length);
+		add(text, ")");
+	}
+}
+
+/* Messages are named by their opcodes, since the names of some have capitals, which tables do not
+ * take. */
+static void add_message(struct text *text, waywire_sender sender, size_t opcode,
+	const struct wl_message *message)
+{
+	struct shown_message shown;
+	char name[32];
+	show_struct(&shown, message, sender);
+	snprintf(name, sizeof name, "%s m%zu", sender ? "event" : "request", opcode);
+	add(text, name);
+	for (size_t place = 0; place < shown.count; place++)
+		add_argument(text, &shown.args[place]);
+	add(text, "\n");
+}
+
+static void add_head(struct text *text, const char *kind, const char *name, size_t length)
+{
+	add(text, kind);
+	add_bytes(text, name, length);
+	add(text, " " ANY_VERSION "\n");
+}
+
+/* ---- what is to be added */
+
+/* An interface that is added, or looked through for others. */
+struct reached {
+	const struct wl_interface *interface;
+	bool is_written; /* the text or the tables have all of it */
+};
+
+struct growth {
+	struct wl_display *display;
+	const waywire_tables *tables;
+	struct reached *reached;
+	size_t count, room;
+	struct text text;
+};
+
+/* Lists an interface, unless it is listed or known. False with errno. */
+static bool reach(struct growth *growth, const struct wl_interface *interface)
+{
+	for (size_t each = 0; each < growth->count; each++)
+		if (growth->reached[each].interface == interface)
+			return true;
+	if (is_known(growth->display, interface))
+		return true;
+	if (growth->count == growth->room) {
+		size_t room = 2 * growth->room + 16;
+		struct reached *more = realloc(growth->reached, room * sizeof *more);
+		if (!more)
+			return false;
+		growth->reached = more;
+		growth->room = room;
+	}
+	growth->reached[growth->count++] = (struct reached){ interface, false };
+	return true;
+}
+
+/* Lists the interfaces that the messages of one name. False with errno. */
+static bool reach_named(struct growth *growth, const struct wl_interface *interface)
+{
+	for (int sender = 0; sender < 2; sender++) {
+		size_t count;
+		const struct wl_message *messages = messages_of(interface, sender, &count);
+		for (const struct wl_message *it = messages; it < messages + count; it++) {
+			struct signature signature;
+			read_signature(&signature, it->signature);
+			for (size_t place = 0; it->types && place < signature.count; place++) {
+				char letter = signature.letters[place];
+				const struct wl_interface *type = it->types[place];
+				if ((letter == 'o' || letter == 'n') && type
+					&& !reach(growth, type))
+					return false;
+			}
+		}
+	}
+	return true;
+}
+
+/* Lists an interface and all that can be reached from it. False with errno. */
+static bool reach_all(struct growth *growth, const struct wl_interface *interface)
+{
+	if (!reach(growth, interface))
+		return false;
+	for (size_t each = 0; each < growth->count; each++) {
+		const struct wl_interface *it = growth->reached[each].interface;
+		if (!is_well_formed(it)) {
+			errno = EINVAL;
+			return false;
+		}
+		if (!reach_named(growth, it))
+			return false;
+	}
+	return true;
+}
+
+/* Whether two structs have the same messages, as far as both have them. */
+static bool have_same(const struct wl_interface *one, const struct wl_interface *other)
+{
+	for (int sender = 0; sender < 2; sender++) {
+		size_t count, other_count;
+		const struct wl_message *messages = messages_of(one, sender, &count);
+		const struct wl_message *others = messages_of(other, sender, &other_count);
+		for (size_t opcode = 0; opcode < count && opcode < other_count; opcode++) {
+			struct shown_message shown, other_shown;
+			show_struct(&shown, &messages[opcode], sender);
+			show_struct(&other_shown, &others[opcode], sender);
+			if (!are_same(&shown, &other_shown))
+				return false;
+		}
+	}
+	return true;
+}
+
+/* How many messages of an interface the tables and the text have, by their senders. */
+struct known_messages {
+	bool is_new; /* they have no interface of this name */
+	size_t counts[2];
+};
+
+/* Counts the messages that the tables have of a struct. False if they differ. */
+static bool count_known(const struct growth *growth, const struct wl_interface *interface,
+	struct known_messages *known)
+{
+	uint16_t place;
+	if (waywire_tables_interface(growth->tables, interface->name, &place))
+		return true;
+	known->is_new = false;
+	if (is_fixed(place))
+		return false;
+	for (int sender = 0; sender < 2; sender++) {
+		size_t count;
+		messages_of(interface, sender, &count);
+		known->counts[sender] = count_in_tables(growth->tables, place, sender);
+		size_t differs = first_that_differs(growth->tables, place, sender, interface);
+		if (differs < count && differs < known->counts[sender])
+			return false;
+	}
+	return true;
+}
+
+/* Counts also those of the structs of this name that were written before. False if they differ. */
+static bool count_written(const struct growth *growth, size_t place, struct known_messages *known)
+{
+	const struct wl_interface *interface = growth->reached[place].interface;
+	for (size_t each = 0; each < place; each++) {
+		const struct wl_interface *other = growth->reached[each].interface;
+		if (!growth->reached[each].is_written || strcmp(other->name, interface->name))
+			continue;
+		if (!have_same(interface, other))
+			return false;
+		known->is_new = false;
+		for (int sender = 0; sender < 2; sender++) {
+			size_t count;
+			messages_of(other, sender, &count);
+			if (count > known->counts[sender])
+				known->counts[sender] = count;
+		}
+	}
+	return true;
+}
+
+/* Writes what the tables and the text lack of a struct. One that contradicts them is left out: it
+ * is refused once the program makes an object of it. */
+static void write_interface(struct growth *growth, size_t place)
+{
+	const struct wl_interface *interface = growth->reached[place].interface;
+	struct known_messages known = { true, { 0, 0 } };
+	if (!count_known(growth, interface, &known) || !count_written(growth, place, &known))
+		return;
+	growth->reached[place].is_written = true;
+	bool is_longer = (size_t)interface->method_count > known.counts[WAYWIRE_FROM_CLIENT]
+		|| (size_t)interface->event_count > known.counts[WAYWIRE_FROM_SERVER];
+	if (!known.is_new && !is_longer)
+		return;
+	add_head(&growth->text, known.is_new ? "interface " : "extend ", interface->name,
+		strlen(interface->name));
+	for (int sender = 0; sender < 2; sender++) {
+		size_t count;
+		const struct wl_message *messages = messages_of(interface, sender, &count);
+		for (size_t opcode = known.counts[sender]; opcode < count; opcode++)
+			add_message(&growth->text, sender, opcode, &messages[opcode]);
+	}
+}
+
+/* Writes what the tables lack of an interface, and of all that can be reached from it. False with
+ * errno. */
+static bool write_growth(struct growth *growth, const struct wl_interface *interface)
+{
+	if (!reach_all(growth, interface))
+		return false;
+	for (size_t place = 0; place < growth->count; place++)
+		write_interface(growth, place);
+	if (growth->text.has_failed)
+		errno = ENOMEM;
+	return !growth->text.has_failed;
+}
+
+static void end_growth(struct growth *growth)
+{
+	free(growth->reached);
+	free(growth->text.bytes);
+}
+
+/* Remembers the interfaces that the tables have all of, once they have the text. */
+static void remember_written(const struct growth *growth)
+{
+	for (size_t each = 0; each < growth->count; each++)
+		if (growth->reached[each].is_written)
+			remember(growth->display, growth->reached[each].interface);
+}
+
+/* Whether a text was read. If not, sets errno, and says on stderr which line breaks which rule. */
+static bool was_read(const struct text *text, const struct wl_interface *interface,
+	waywire_status status, size_t line, uint32_t rule)
+{
+	if (!status)
+		return true;
+	errno = status == WAYWIRE_NO_MEMORY ? ENOMEM : EINVAL;
+	if (status == WAYWIRE_NO_MEMORY)
+		return false;
+	const char *at = text->bytes, *end = text->bytes + text->length;
+	for (size_t before = 1; before < line && at < end; at++)
+		before += *at == '\n';
+	const char *behind = at < end ? memchr(at, '\n', (size_t)(end - at)) : NULL;
+	log_line("%s cannot be known: %s V%u: %.*s\n", interface->name, waywire_strerror(status),
+		rule, behind ? (int)(behind - at) : 0, behind ? at : "");
+	return false;
+}
+
+/* Gives the client tables that have the text. False with errno. */
+static bool read_growth(const struct growth *growth, const struct wl_interface *interface)
+{
+	const struct text *text = &growth->text;
+	size_t line = 0;
+	uint32_t rule = 0;
+	if (!text->length)
+		return true;
+	waywire_status status = waywire_client_more_tables(growth->display->client, text->bytes,
+		text->length, &line, &rule);
+	return was_read(text, interface, status, line, rule);
+}
+
+bool learn_interface(struct wl_display *display, const struct wl_interface *interface)
+{
+	if (is_known(display, interface))
+		return true;
+	struct growth growth = { .display = display };
+	growth.tables = waywire_end_tables(display->client.end);
+	bool has_grown = write_growth(&growth, interface) && read_growth(&growth, interface);
+	if (has_grown)
+		remember_written(&growth);
+	end_growth(&growth);
+	if (has_grown && !agrees_with_tables(display, interface)) {
+		errno = EINVAL;
+		return false;
+	}
+	return has_grown;
+}
+
+/* ---- the tables that every display begins with */
+
+/* Gives the interfaces of the core versions without an end. */
+static void write_versions(struct growth *growth)
+{
+	const char *name;
+	size_t length;
+	uint16_t place = 0;
+	for (; !waywire_tables_name(growth->tables, place, &name, &length); place++)
+		if (!is_fixed(place))
+			add_head(&growth->text, "extend ", name, length);
+}
+
+/* Tables of the core and of data transfer: they have an event that makes an object, so the client
+ * knows the server's ids from the beginning. Null with errno. */
+static waywire_tables *first_tables(struct wl_display *display, const waywire_tables *core)
+{
+	waywire_tables *more = NULL;
+	size_t line = 0;
+	uint32_t rule = 0;
+	struct growth growth = { .display = display, .tables = core };
+	write_versions(&growth);
+	if (write_growth(&growth, &wl_data_device_manager_interface)) {
+		waywire_status status = waywire_tables_read(core, growth.text.bytes,
+			growth.text.length, &more, &line, &rule);
+		if (was_read(&growth.text, &wl_data_device_manager_interface, status, line, rule))
+			remember_written(&growth);
+	}
+	end_growth(&growth);
+	return more;
+}
+
+bool make_client(struct wl_display *display, const waywire_sizes *sizes)
+{
+	waywire_tables *core;
+	errno = ENOMEM;
+	if (waywire_tables_core(&core))
+		return false;
+	waywire_tables *tables = first_tables(display, core);
+	waywire_tables_free(core);
+	waywire_status status = tables ? waywire_client_new(tables, sizes, &display->client)
+		: WAYWIRE_NO_MEMORY;
+	waywire_tables_free(tables); /* the client keeps them */
+	return !status;
+}
