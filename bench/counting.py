@@ -11,23 +11,24 @@ import subprocess
 WHOLE_COPIES = "glibc.cpu.x86_rep_stosb_threshold=1000000000:glibc.cpu.x86_rep_movsb_threshold=1000000000"
 
 
-def under_valgrind(tool, words):
-    """Runs a program under a tool of valgrind. Returns what the tool says."""
+def under_valgrind(tool, words, **env):
+    """Runs a program under a tool of valgrind, with these words in its environment. Returns what the
+    tool says."""
     ran = subprocess.run(
         ["valgrind", f"--tool={tool}", *words],
         capture_output=True,
         text=True,
         errors="replace",
-        env={**os.environ, "GLIBC_TUNABLES": WHOLE_COPIES},
+        env={**os.environ, "GLIBC_TUNABLES": WHOLE_COPIES, **env},
     )
     if ran.returncode != 0:
         raise SystemExit(f"{' '.join(words)}: status {ran.returncode}\n{ran.stderr}")
     return ran.stderr
 
 
-def instructions(words):
+def instructions(words, **env):
     """The instructions of a run."""
-    text = under_valgrind("callgrind", ["--callgrind-out-file=/dev/null", *words])
+    text = under_valgrind("callgrind", ["--callgrind-out-file=/dev/null", *words], **env)
     return int(re.search(r"Collected *: *(\d+)", text)[1])
 
 

@@ -196,6 +196,12 @@ def why_of(error):
 
 def count_functions(tests, *given):
     """Runs functions as tests. Says which failed and which were skipped, and why; counts them."""
+    return counted(*passed_and_failed(tests, *given))
+
+
+def passed_and_failed(tests, *given):
+    """Runs functions as tests. Says which failed and which were skipped, and why. Returns how many
+    passed and failed."""
     passed = failed = 0
     for test in tests:
         name = test.__name__.replace("_", " ")
@@ -209,7 +215,7 @@ def count_functions(tests, *given):
             print(f"failed: {name}: {why_of(why)}")
             failed += 1
         sys.stdout.flush()
-    return counted(passed, failed)
+    return passed, failed
 
 
 def count_cases(suite):

@@ -118,13 +118,14 @@ class Sockets(unittest.TestCase):
 
 class Packages(unittest.TestCase):
     """`install-packages`, with stand-ins for apt-get and dpkg, whose state is a folder with a file
-    for each package that is whole."""
+    for each package that is whole, and one with the source of wayland."""
 
     APT = """#!/bin/sh
 echo "apt $*" >>"$ROOM/notes"
 case "$* " in
 *"$FAILS "*) exit 100 ;;
 *download-only*) ;;
+*" source wayland "*) mkdir wayland-1 && : >wayland-1/meson.build ;;
 *" install "*) for it; do [ -e "$ROOM/whole/$it" ] || : >"$ROOM/whole/$it"; done ;;
 esac
 """
@@ -148,7 +149,8 @@ if [ -e "$ROOM/whole/$it" ]; then printf 'ii '; else printf 'iU '; fi
                 os.chmod(f"{room}/bin/{name}", 0o755)
             for name in whole:
                 open(f"{room}/whole/{name}", "w", encoding="utf-8").close()
-            env = {"PATH": f"{room}/bin:/usr/bin:/bin", "ROOM": room, "FAILS": fails}
+            env = {"PATH": f"{room}/bin:/usr/bin:/bin", "ROOM": room, "FAILS": fails,
+                   "WAYWIRE_SOURCES": f"{room}/sources"}
             command = [f"{TOP}/tools/dev/install-packages", *words]
             how = {"capture_output": True, "text": True, "timeout": LONG, "check": False}
             ran = subprocess.run(command, env=env, **how)
@@ -160,10 +162,17 @@ if [ -e "$ROOM/whole/$it" ]; then printf 'ii '; else printf 'iU '; fi
         status, last, notes = self.installed()
         self.assertEqual((status, last, notes[0]), (0, [], "dpkg --configure -a"))
         self.assertIn(" update", notes[1])
-        self.assertEqual(sum(it.endswith(" update") for it in notes), 1)
-        for fetched, unpacked in zip(notes[2::2], notes[3::2]):
+        self.assertEqual(sum(it.endswith(" update") for it in notes), 2)
+        for fetched, unpacked in zip(notes[2:-2:2], notes[3:-2:2]):
             self.assertEqual(fetched.replace(" --download-only", ""), unpacked)
         self.assertIn(" install gcc g++ ", notes[3])
+        # The source comes by lists of packages that are not the system's.
+        for it, how in zip(notes[-2:], (" update", " source wayland")):
+            self.assertRegex(it, rf" -o Dir::State::Lists=\S*/lists .*{how}$")
+
+    def test_a_source_that_cannot_be_fetched(self):
+        status, last, notes = self.installed(fails="source wayland")
+        self.assertEqual((status, last), (1, ["not installed: wayland's source "]))
 
     def test_nothing_is_begun_too_late(self):
         status, last, notes = self.installed("0", whole=("gcc", "weston"))
@@ -174,7 +183,7 @@ if [ -e "$ROOM/whole/$it" ]; then printf 'ii '; else printf 'iU '; fi
     def test_a_group_that_fails(self):
         status, last, notes = self.installed(fails="zenity", whole=("foot",))
         self.assertEqual((status, last), (1, ["not installed: zenity wlr-randr "]))
-        self.assertTrue(notes[-1].endswith(" install groff-base nodejs"), notes[-1])
+        self.assertTrue(any(it.endswith(" install groff-base nodejs") for it in notes), notes)
 
     def test_what_is_there(self):
         """A package by halves is none, nor is its program."""

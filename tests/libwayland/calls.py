@@ -1,0 +1,126 @@
+"""Programs of ours in C over the library under test, and over the system's beside it."""
+
+import re
+
+from checks import Failed
+from libwayland.libraries import SYSTEM, checked_by_valgrind, compiled
+
+# The library prints each message, and does all else as before.
+DEBUG = {"WAYLAND_DEBUG": "1"}
+LEAKS = ("--leak-check=full", "--errors-for-leak-kinds=definite")
+# A session that is cut, or whose compositor dies, ends as libwayland's does.
+EXACT = ("cut", "dies")
+# The library has found a fault: it has not gone on to the end of the session.
+WITH_FAULT = re.compile(r"\berror (?!0|EPIPE)E")
+
+
+def each_signature_reaches_its_listener(library):
+    """Requests and events of each kind of signature, in their bytes and in what a listener gets."""
+    path = compiled("signatures")
+    wanted = SYSTEM.succeeds([path])
+    if library.succeeds([path]) != wanted:
+        raise Failed("it has other signatures than the system's library")
+    library.succeeds([*checked_by_valgrind(*LEAKS), path])
+
+
+def malformed_interfaces_end_in_an_error(library):
+    """Each runs in a process of its own, also under valgrind."""
+    path = compiled("malformed")
+    for words, env in (([path], {}), ([path], DEBUG), ([*checked_by_valgrind(), path], {})):
+        ran = library.run(words, **env)
+        if ran.returncode:
+            wrong = re.findall("^WRONG: .*", ran.stdout, re.M)
+            raise Failed("\n".join([*wrong, ran.stdout[-60:], ran.stderr[-600:]]))
+
+
+def threads(library, rounds, rounds_of_valgrind):
+    path = compiled("threads")
+    library.succeeds([path, rounds])
+    for words in (checked_by_valgrind(*LEAKS), checked_by_valgrind("--tool=helgrind")):
+        library.succeeds([*words, path, rounds_of_valgrind])
+
+
+def eight_threads_with_queues_of_their_own(library):
+    threads(library, "300", "15")
+
+
+def eight_threads_whose_compositor_dies(library):
+    """Each thread ends with an error, wherever that finds it."""
+    path = compiled("threads")
+    for requests in range(5, 400, 7):
+        library.succeeds([path, "1000000", str(requests)])
+    for requests in ("50", "71"):
+        library.succeeds([*checked_by_valgrind("--tool=helgrind"), path, "1000000", requests])
+
+
+def eight_threads_for_long(library):
+    threads(library, "10000", "300")
+
+
+def compare(name, library, is_wrong):
+    """Runs a program that prints a line for each thing that it tries. A line that is another over the
+    system's library may be wrong."""
+    path = compiled(name)
+    theirs, ours = (it.succeeds([path]).splitlines() for it in (SYSTEM, library))
+    wrong = [it for it in ours if "CRASHED" in it or "DESCRIPTORS" in it]
+    if len(ours) != len(theirs):
+        wrong.append(f"{len(ours)} lines, not {len(theirs)}")
+    with_debug = library.succeeds([path], **DEBUG).splitlines()
+    wrong += [f"with WAYLAND_DEBUG: {it}" for it, without in zip(with_debug, ours) if it != without]
+    wrong += [f"{our}\n    libwayland: {their}" for our, their in zip(ours, theirs)
+              if our != their and our not in wrong and is_wrong(our, their)]
+    if wrong:
+        raise Failed(f"{len(wrong)} of {len(theirs)}:\n" + "\n".join(wrong[:12]))
+
+
+def a_session_cut_at_each_byte_ends_as_libwayland_ends_it(library):
+    """Its errno, the error of the display, and the events that come before; with a byte that was
+    changed it does, or ends with a fault where libwayland goes on. No descriptor is left open,
+    whatever ends the session, and none is closed twice."""
+    compare("cuts", library, lambda ours, _: ours.split()[0] in EXACT or not WITH_FAULT.search(ours))
+
+
+def requests_and_events_at_their_limits(library):
+    """The errors of libwayland for requests that are too long or have wrong arguments, and for a
+    compositor that reads nothing; events that libwayland refuses are refused."""
+    def is_wrong(ours, theirs):
+        if ours.split()[0].endswith("_event"):
+            return not WITH_FAULT.search(ours)
+        return error_of(ours) != error_of(theirs)
+    compare("limits", library, is_wrong)
+
+
+def error_of(line):
+    return re.search(r"\berror (\w+)", line)[1]
+
+
+def a_session_cut_or_changed_has_no_error_of_memory(library):
+    library.succeeds([*checked_by_valgrind(), compiled("cuts"), "5"])
+    library.succeeds([*checked_by_valgrind(), compiled("limits")])
+
+
+def a_session_cut_or_changed_at_each_byte_has_no_error_of_memory(library):
+    library.succeeds([*checked_by_valgrind(), compiled("cuts"), "1"])
+
+
+def each_allocation_refused_in_turn(library):
+    """No program is ended but by an error of the display, and no descriptor stays open."""
+    library.succeeds([compiled("memory")])
+
+
+TESTS = (each_signature_reaches_its_listener, malformed_interfaces_end_in_an_error,
+         eight_threads_with_queues_of_their_own, eight_threads_whose_compositor_dies,
+         a_session_cut_at_each_byte_ends_as_libwayland_ends_it,
+         requests_and_events_at_their_limits, a_session_cut_or_changed_has_no_error_of_memory,
+         each_allocation_refused_in_turn)
+LONG_TESTS = (eight_threads_for_long, a_session_cut_or_changed_at_each_byte_has_no_error_of_memory)
+
+
+def cases(library, is_whole):
+    """The tests, over a library."""
+    def over(test):
+        def run():
+            test(library)
+        run.__name__ = test.__name__
+        return run
+    return [over(it) for it in (*TESTS, *(LONG_TESTS if is_whole else ()))]

@@ -1,0 +1,130 @@
+/* What a client ends with when its compositor's words are cut at each byte, when it dies there, and
+ * when each byte is another. Prints a line for each.
+ *
+ *     cuts [STEP]
+ *
+ * Each is a process of its own, so that one that crashes is a line, too. With STEP all are in this
+ * process, as valgrind needs it, and only one byte of so many is tried. The session ends with an
+ * error of the compositor if it is cut, or if a byte of the error is changed. */
+#define _GNU_SOURCE
+#define COUNT_CLOSES
+#include "session.h"
+#include <sys/wait.h>
+
+/* How a byte is changed, beside what ends the session there. */
+static const char *const ways[] = { "cut", "dies", "more", "ones", "zero", "sign" };
+enum { CUT, DIES, MORE, ONES, ZERO, SIGN, WAYS };
+
+static void quiet(const char *format, va_list list)
+{
+	(void)format, (void)list;
+}
+
+static const char *name_of(int error)
+{
+	return error ? strerrorname_np(error) : "0";
+}
+
+static unsigned char changed(unsigned char byte, int way)
+{
+	switch (way) {
+	case MORE: return (unsigned char)(byte + 1);
+	case ONES: return 0xff;
+	case ZERO: return 0;
+	default: return byte ^ 0x80;
+	}
+}
+
+/* Dispatches until an error. A client whose compositor dies also sends. */
+static int dispatched(struct wl_display *display, int way)
+{
+	int status, turns = 0;
+	do {
+		if (way == DIES) {
+			struct wl_callback *callback = wl_display_sync(display);
+			if (callback)
+				wl_callback_destroy(callback);
+		}
+		errno = 0;
+		status = wl_display_dispatch(display);
+	} while (status >= 0 && ++turns < 50);
+	return status;
+}
+
+static void play(int way, size_t place)
+{
+	static struct wire wire;
+	static struct session session;
+	int before = count_open(), sockets[2];
+	closed_twice = 0;
+	clear_wire(&wire);
+	write_session(&wire);
+	if (way < MORE || place >= wire.length)
+		put_error(&wire);
+	size_t length = way < MORE ? place : wire.length;
+	if (way >= MORE)
+		wire.bytes[place] = changed(wire.bytes[place], way);
+	make_pair(sockets);
+	open_session(&session, sockets[0]);
+	MUST(session.display);
+	send_part(&wire, length, sockets[1]);
+	clear_wire(&wire);
+	if (way == DIES)
+		close(sockets[1]);
+	else
+		shutdown(sockets[1], SHUT_WR);
+	int status = dispatched(session.display, way), error = errno;
+	const struct wl_interface *interface = NULL;
+	uint32_t id = 0, code = wl_display_get_protocol_error(session.display, &interface, &id);
+	printf("%s %zu: %d %s, error %s, protocol error %u of %s@%u, ", ways[way], place, status,
+		name_of(error), name_of(wl_display_get_error(session.display)), code,
+		interface ? interface->name : "-", id);
+	printf("events %u, sum %u, with the descriptor of another %u", session.events, session.sum,
+		session.another);
+	close_session(&session);
+	if (way != DIES)
+		close(sockets[1]);
+	int left = count_open() - before;
+	if (left || closed_twice || session.not_open)
+		printf(", DESCRIPTORS: %d left open, %d closed twice, %d not open", left, closed_twice,
+			session.not_open);
+	printf("\n");
+	fflush(stdout);
+}
+
+static void play_apart(int way, size_t place)
+{
+	pid_t child = fork();
+	int status;
+	MUST(child >= 0);
+	if (!child) {
+		alarm(HANGS);
+		play(way, place);
+		_exit(0);
+	}
+	MUST(waitpid(child, &status, 0) == child);
+	if (WIFSIGNALED(status) || WEXITSTATUS(status)) {
+		printf("%s %zu: CRASHED by signal %d, status %d\n", ways[way], place, WTERMSIG(status),
+			WEXITSTATUS(status));
+		fflush(stdout);
+	}
+}
+
+int main(int argc, char **argv)
+{
+	static struct wire whole;
+	size_t step = argc > 1 ? (size_t)atoi(argv[1]) : 0;
+	wl_log_set_handler_client(quiet);
+	write_session(&whole);
+	put_error(&whole);
+	size_t length = whole.length;
+	clear_wire(&whole);
+	for (int way = 0; way < WAYS; way++)
+		for (size_t place = 0; place < length + (way < MORE); place += step ? step : 1) {
+			if (step)
+				play(way, place);
+			else
+				play_apart(way, place);
+		}
+	return 0;
+}

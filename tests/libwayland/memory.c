@@ -1,0 +1,129 @@
+/* A session in which each allocation fails in turn, alone or with all behind it. Prints a line for
+ * each at which a process was ended by a signal or left a descriptor open, and how many there
+ * are. */
+#define _GNU_SOURCE
+#define COUNT_CLOSES
+#include "session.h"
+#include <sys/wait.h>
+
+extern void *__libc_malloc(size_t), *__libc_calloc(size_t, size_t), *__libc_realloc(void *, size_t);
+
+/* How many allocations succeed yet; below 0, all. */
+static long left = -1;
+static int for_ever, failed;
+
+static int fails(void)
+{
+	if (left < 0)
+		return 0;
+	if (left > 0) {
+		left--;
+		return 0;
+	}
+	failed = 1;
+	if (!for_ever)
+		left = -1;
+	errno = ENOMEM;
+	return 1;
+}
+
+/* The library's allocations come here, too. */
+void *malloc(size_t size)
+{
+	return fails() ? NULL : __libc_malloc(size);
+}
+
+void *calloc(size_t count, size_t size)
+{
+	return fails() ? NULL : __libc_calloc(count, size);
+}
+
+void *realloc(void *block, size_t size)
+{
+	return fails() ? NULL : __libc_realloc(block, size);
+}
+
+static void quiet(const char *format, va_list list)
+{
+	(void)format, (void)list;
+}
+
+/* How a process ends. */
+enum { LAWFUL, WITH_ERROR, UNNOTICED, OPEN };
+
+/* Whether all came that the compositor said. */
+static int is_whole(const struct session *session)
+{
+	return session->child && session->events == 11 && session->sum == 2039;
+}
+
+static int play(long successes)
+{
+	static struct wire wire;
+	static struct session session;
+	int before = count_open(), sockets[2], error = 0, status = 0;
+	make_pair(sockets);
+	write_session(&wire);
+	left = successes;
+	open_session(&session, sockets[0]);
+	if (session.display) {
+		send_wire(&wire, sockets[1]);
+		for (int turn = 0; turn < 5 && session.events < 11 && status >= 0; turn++) {
+			if (!wl_display_dispatch_pending(session.display))
+				shutdown(sockets[1], SHUT_WR);
+			status = wl_display_dispatch(session.display);
+		}
+		error = wl_display_get_error(session.display);
+	}
+	/* The library closes the socket even if connecting fails. */
+	clear_wire(&wire);
+	close_session(&session);
+	left = -1;
+	close(sockets[1]);
+	if (count_open() != before || closed_twice || session.not_open)
+		return OPEN;
+	if (!failed)
+		return LAWFUL;
+	return error || status < 0 || !is_whole(&session) ? WITH_ERROR : UNNOTICED;
+}
+
+/* Plays until nothing fails. Returns how many went wrong. */
+static int play_all(void)
+{
+	int wrong = 0, ended[4] = { 0 };
+	for (long successes = 0;; successes++) {
+		int status;
+		pid_t child = fork();
+		MUST(child >= 0);
+		if (!child) {
+			alarm(HANGS);
+			_exit(play(successes));
+		}
+		MUST(waitpid(child, &status, 0) == child);
+		if (WIFSIGNALED(status) || WEXITSTATUS(status) > UNNOTICED) {
+			wrong++;
+			printf("allocation %ld: signal %d, status %d%s\n", successes, WTERMSIG(status),
+				WEXITSTATUS(status), WIFEXITED(status) && WEXITSTATUS(status) == OPEN
+				? ": a descriptor is open, or was closed twice" : "");
+			fflush(stdout);
+			MUST(successes < 20000);
+			continue;
+		}
+		ended[WEXITSTATUS(status)]++;
+		if (WEXITSTATUS(status) == LAWFUL)
+			break;
+	}
+	printf("%s: %d allocations, %d with an error, %d unnoticed, %d wrong\n",
+		for_ever ? "from one on" : "one alone", ended[WITH_ERROR] + ended[UNNOTICED] + wrong,
+		ended[WITH_ERROR], ended[UNNOTICED], wrong);
+	return wrong;
+}
+
+int main(void)
+{
+	wl_log_set_handler_client(quiet);
+	int wrong = play_all();
+	for_ever = 1;
+	wrong += play_all();
+	return wrong != 0;
+}

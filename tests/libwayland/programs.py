@@ -1,0 +1,306 @@
+"""Programs of the distribution in pairs, over the system's library and over the one under test: each
+is shown, is closed and ends as over the other, and makes the same kinds of requests.
+
+A kind of request is its interface and its name, in what WAYLAND_DEBUG has the library say. Which a
+program makes hangs a little on when it is closed. So what differs is run again, and waited for
+longer, until one run over each library agree."""
+
+import collections
+import glob
+import os
+import re
+import shlex
+import signal
+import subprocess
+import time
+
+from checks import COMES_UP, TOP, Failed, Skipped, has_come, is_installed, need, run
+from libwayland import desktops
+from libwayland.libraries import OUT, SONAME, SOURCES, SYSTEM, checked_by_valgrind
+
+AT_SWAY = """
+wayland-info
+weston-flower
+weston-terminal
+weston-smoke
+weston-eventdemo
+weston-subsurfaces
+weston-presentation-shm
+weston-simple-egl
+foot -e sh -c 'ls /; sleep 100'
+zenity --info --text hello
+zenity --entry --text hello
+gtk3-demo
+gtk3-widget-factory
+gtk4-demo
+gtk4-widget-factory
+qterminal
+qt6ct
+featherpad
+mpv --vo=wlshm --no-config --length=2 av://lavfi:testsrc
+glmark2-wayland -b build:duration=1
+grim ROOM/shot.png
+wtype hello
+swaybg -c '#336699'
+swaynag -m hello
+alacritty -e sleep 100
+kitty sh -c 'sleep 100'
+imv-wayland ROOM/shot.png
+waybar
+wlr-randr
+wev
+fuzzel --dmenu
+wofi --dmenu
+slurp -d
+kanshi -c /dev/null
+wdisplays
+wl-paste
+wl-paste --watch cat
+swayidle timeout 100 true
+wlsunset -l 10 -L 10
+wf-recorder -f ROOM/film.mp4
+gedit
+gnome-calculator
+kate
+konsole
+mousepad
+evince
+bemenu-run
+sh -c '(echo 50; sleep 100) | wob'
+gnome-text-editor
+tilix
+l3afpad
+sdl
+weston --backend=wayland-backend.so --socket=nested --use-pixman
+wl-copy -f x
+swaylock -c 000000
+"""
+AT_WESTON = """
+wayland-info
+weston-simple-shm
+weston-simple-damage
+weston-flower
+weston-terminal
+weston-smoke
+weston-eventdemo
+weston-subsurfaces
+weston-simple-egl
+weston-presentation-shm
+weston-fullscreen
+weston-scaler
+zenity --info --text hello
+gtk3-demo
+gtk4-demo
+qterminal
+qt6ct
+featherpad
+foot -e sh -c 'sleep 100'
+mpv --vo=wlshm --no-config --length=1 av://lavfi:testsrc
+glmark2-wayland -b build:duration=1
+alacritty -e sleep 100
+kate
+gedit
+sdl
+"""
+# What is run under valgrind at sway, too.
+CHECKED = """
+wayland-info
+wlr-randr
+wl-paste
+wl-paste --watch cat
+foot -e sh -c 'sleep 100'
+slurp -d
+weston-flower
+zenity --info --text hello
+wl-copy -f x
+"""
+REQUEST = re.compile(r"-> (?:\w+\.)?(\w+)[@#]\d+\.(\w+)\(")
+DRAWN = re.compile(r"-> wl_surface[@#]\d+\.commit\(")
+# For how long a program makes no new kind of request until it is closed, in seconds, in the first
+# pair of runs and in later ones.
+QUIET = (1.2, 2, 4, 8)
+# How long a program may run that goes on making new kinds.
+MOST = 60
+# How long a program has to end whose window is closed, which may ask whether it should, or that is
+# told to end.
+CLOSES, ENDS = 4, 20
+
+Ran = collections.namedtuple("Ran", "shown closed status kinds")
+
+
+def sdl():
+    """Compiles the program of ours that uses SDL."""
+    need("pkg-config", "cc")
+    found = subprocess.run(["pkg-config", "--cflags", "--libs", "sdl2"], capture_output=True, check=False)
+    if found.returncode:
+        raise Skipped("libsdl2-dev is not installed")
+    path = f"{OUT}/sdl"
+    run(["cc", "-O1", "-Wall", "-Wextra", "-Werror", f"{SOURCES}/sdl.c", "-o", path,
+         *found.stdout.decode().split()])
+    return path
+
+
+def found_in(folders, name):
+    """A program that a package keeps off the path."""
+    return next((f"{it}/{name}" for it in folders if os.path.exists(f"{it}/{name}")), name)
+
+
+def words_of(line, room):
+    """The words of a program, which is installed."""
+    words = [it.replace("ROOM", room) for it in shlex.split(line)]
+    if words[0] == "sdl":
+        return [sdl()]
+    if words[0] == "sh":
+        need(words[2].split()[-1])
+    elif not is_installed(words[0]):
+        words[0] = found_in(("/usr/libexec/imv", "/usr/lib/imv", "/usr/libexec"), words[0])
+        need(words[0])
+    return words
+
+
+class Running:
+    """A program at a desktop, with all that its library says of its messages."""
+
+    def __init__(self, desktop, words, library):
+        self.desktop, self.library = desktop, library
+        self.log = f"{desktop.room}/debug.log"
+        with open(self.log, "wb") as file:
+            self.process = desktop.start(words, library, stderr=file, env={"WAYLAND_DEBUG": "1"})
+        self.has_loaded = False
+
+    def has_ended(self):
+        return self.process.poll() is not None
+
+    def said(self):
+        with open(self.log, encoding="utf-8", errors="replace") as file:
+            return file.read()
+
+    def kinds(self):
+        return {f"{interface}.{name}" for interface, name in REQUEST.findall(self.said())}
+
+    def looks_at_library(self):
+        """Notes whether a process of the program has loaded the library."""
+        if not self.has_loaded:
+            self.has_loaded = any(map(self.library.is_loaded_by, desktops.members(self.process)))
+
+    def settles(self, quiet):
+        """Waits until it has ended, or has made requests and no new kind of them for a while."""
+        kinds, since, began = set(), time.monotonic(), time.monotonic()
+        while not self.has_ended():
+            time.sleep(0.1)
+            self.looks_at_library()
+            now, more = time.monotonic(), self.kinds()
+            if more != kinds:
+                kinds, since = more, now
+            if (kinds and now - since > quiet) or now - began > (MOST if kinds else COMES_UP):
+                break
+
+    def closes(self):
+        """Ends the program as its user would, and says how it was ended."""
+        if self.has_ended():
+            return "by itself"
+        has_windows = isinstance(self.desktop, desktops.Sway) and self.desktop.close(self.process)
+        if has_windows and has_come(self.has_ended, CLOSES):
+            return "by its window"
+        desktops.signal_group(self.process, signal.SIGTERM)
+        if has_come(self.has_ended, ENDS):
+            return "by SIGTERM"
+        return "by force"
+
+
+def played(desktop, words, library, quiet):
+    """Runs a program, and says how that went."""
+    if isinstance(desktop, desktops.Sway) and not desktop.offers_text():
+        raise Skipped("wl-copy has not come up")
+    running = Running(desktop, words, library)
+    try:
+        running.settles(quiet)
+        is_shown = bool(DRAWN.search(running.said()))
+        how = running.closes()
+        status = running.process.poll()
+    finally:
+        desktops.end_group(running.process)
+        if words[0] == "wtype" and desktop.is_there():
+            desktop.renew_keyboard()
+    if not desktop.is_there():
+        raise Failed(f"{desktop.name} has ended, with status {desktop.process.returncode}")
+    if not running.kinds():
+        why = f"{words[0]} has made no request over {library.name}: {running.said()[-300:]!r}"
+        raise Skipped(why) if library is SYSTEM else Failed(why)
+    if not running.has_loaded and not library.is_linked_by(words[0]):
+        raise Failed(f"{words[0]} has not loaded {library.name}")
+    return Ran(is_shown, how, status, frozenset(running.kinds()))
+
+
+def difference(theirs, ours):
+    """What differs between two runs, in words."""
+    said = [f"{name}: {getattr(ours, name)}, over the system's library {getattr(theirs, name)}"
+            for name in ("shown", "closed", "status") if getattr(ours, name) != getattr(theirs, name)]
+    for which, more in (("lacking", theirs.kinds - ours.kinds), ("more", ours.kinds - theirs.kinds)):
+        if more:
+            said.append(f"{which}: {' '.join(sorted(more))}")
+    return "; ".join(said)
+
+
+def runs_alike(desktop, line, library):
+    """Runs a program over both libraries, until a run over each agree."""
+    words = words_of(line, desktop.room)
+    theirs, ours = [], []
+    for quiet in QUIET:
+        theirs.append(played(desktop, words, SYSTEM, quiet))
+        ours.append(played(desktop, words, library, quiet))
+        if set(theirs) & set(ours):
+            return
+    # The system's library may not agree with itself: then the program is no measure.
+    nearest = min((difference(their, our) for their in theirs for our in ours), key=len)
+    raise Failed(f"{nearest} (in {len(QUIET)} pairs of runs)")
+
+
+def has_no_error_of_memory(desktop, line, library):
+    """Valgrind finds no error in which the library has a part. What a program leaves is its own."""
+    words, log = words_of(line, desktop.room), f"{desktop.room}/valgrind.log"
+    checked = checked_by_valgrind("--leak-check=no", "--num-callers=30", f"--log-file={log}")
+    if not desktop.offers_text():
+        raise Skipped("wl-copy has not come up")
+    running = Running(desktop, [*checked, *words], library)
+    try:
+        running.settles(QUIET[1])
+        running.closes()
+    finally:
+        desktops.end_group(running.process)
+    if not running.kinds():
+        raise Failed(f"{words[0]} has made no request: {running.said()[-300:]!r}")
+    with open(log, encoding="utf-8", errors="replace") as file:
+        wrong = [it for it in re.split(r"\n==\d+== \n", file.read()) if is_of_library(it)]
+    if wrong:
+        raise Failed(f"{len(wrong)} errors of memory, first:\n{wrong[0]}")
+
+
+def is_of_library(error):
+    """Whether an error that valgrind tells has a call of the library in it, by its name or by that of a
+    source."""
+    sources = "|".join(map(os.path.basename, glob.glob(f"{TOP}/c/libwayland/*.c")))
+    return bool(re.search(rf"{re.escape(SONAME)}|\((?:{sources or 'none'}):\d+\)", error))
+
+
+def checked_case(kept, line, library):
+    def test():
+        has_no_error_of_memory(kept(), line, library)
+    test.__name__ = f"{line} under valgrind"
+    return test
+
+
+def checked_cases(kept, library):
+    return [checked_case(kept, it, library) for it in CHECKED.strip().splitlines()]
+
+
+def case(kept, where, line, library):
+    """A program at a kept desktop, as a test."""
+    def test():
+        runs_alike(kept(), line, library)
+    test.__name__ = f"{line} at {where}"
+    return test
+
+
+def cases(kept, where, lines, library):
+    return [case(kept, where, it, library) for it in lines.strip().splitlines()]
