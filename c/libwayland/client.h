@@ -21,6 +21,7 @@
 /* The arguments of a message, by its signature. */
 struct signature {
 	size_t count;
+	bool has_new; /* whether one is a new object */
 	char letters[WAYWIRE_MAX_ARGS];
 	bool nullable[WAYWIRE_MAX_ARGS];
 };
@@ -126,8 +127,12 @@ void fail_display(struct wl_display *display, int error);
 /* Wakes the threads that wait for another to read. */
 void wake_readers(struct wl_display *display);
 
-/* Sends what waits. Returns how many bytes went, or -1 with errno. */
+/* Sends what waits. Returns 0, or -1 with errno. The lock is taken. */
 int flush_display(struct wl_display *display);
+
+/* What wl_display_flush does, but for counting the bytes, which takes its time. Returns 0, or -1 with
+ * errno. */
+int flush_uncounted(struct wl_display *display);
 
 /* Closes the descriptors of a report. */
 void close_descriptors(const waywire_report *report);

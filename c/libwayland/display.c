@@ -155,25 +155,38 @@ EXPORT int wl_display_get_fd(struct wl_display *display)
 
 int flush_display(struct wl_display *display)
 {
-	waywire_end *end = display->client.end;
-	size_t waits = waywire_end_goes(end, PTRDIFF_MAX, PTRDIFF_MAX).bytes;
-	return waywire_socket_flush(display->fd, end) ? -1 : (int)waits;
+	return waywire_socket_flush(display->fd, display->client.end);
 }
 
-/* A compositor that has gone may have said why: that can still be read. */
-EXPORT int wl_display_flush(struct wl_display *display)
+/* Sends what waits, unless the connection has ended, with the lock taken. A compositor that has gone
+ * may have said why: that can still be read. */
+static int flush_unless_ended(struct wl_display *display)
 {
-	int sent = -1;
-	pthread_mutex_lock(&display->mutex);
 	if (display->last_error) {
 		errno = display->last_error;
-	} else {
-		sent = flush_display(display);
-		if (sent < 0 && errno != EAGAIN && errno != EPIPE)
-			fail_display(display, errno);
+		return -1;
 	}
+	int result = flush_display(display);
+	if (result && errno != EAGAIN && errno != EPIPE)
+		fail_display(display, errno);
+	return result;
+}
+
+int flush_uncounted(struct wl_display *display)
+{
+	pthread_mutex_lock(&display->mutex);
+	int result = flush_unless_ended(display);
 	pthread_mutex_unlock(&display->mutex);
-	return sent;
+	return result;
+}
+
+EXPORT int wl_display_flush(struct wl_display *display)
+{
+	pthread_mutex_lock(&display->mutex);
+	size_t waits = waywire_end_goes(display->client.end, PTRDIFF_MAX, PTRDIFF_MAX).bytes;
+	int result = flush_unless_ended(display);
+	pthread_mutex_unlock(&display->mutex);
+	return result ? -1 : (int)waits;
 }
 
 /* The outbox has its size from the beginning. */

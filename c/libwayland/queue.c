@@ -157,7 +157,7 @@ static int wait_until(const struct wl_display *display, short events, int64_t en
  * has gone: it may have said why. */
 static int send_until(struct wl_display *display, int64_t end)
 {
-	while (wl_display_flush(display) < 0) {
+	while (flush_uncounted(display)) {
 		if (errno == EPIPE)
 			return 1;
 		if (errno != EAGAIN)

@@ -103,6 +103,8 @@ static bool refuse_status(const struct request *request, waywire_status status)
 /* Finds the argument that is a new object. False if there is none. */
 static bool find_new(struct request *request)
 {
+	if (!request->signature.has_new)
+		return false;
 	for (size_t place = 0; place < request->signature.count; place++)
 		if (request->signature.letters[place] == 'n') {
 			request->new_place = place;
@@ -372,39 +374,51 @@ EXPORT struct wl_proxy *wl_proxy_marshal_array_constructor_versioned(struct wl_p
 	return wl_proxy_marshal_array_flags(proxy, opcode, interface, version, 0, args);
 }
 
-/* Begins a request whose arguments follow `last`. */
-#define WITH_ARGUMENTS(request, args, last) \
-	struct request request; \
-	union wl_argument args[WAYWIRE_MAX_ARGS]; \
-	va_list given; \
-	begin_request(&request, proxy, opcode); \
-	va_start(given, last); \
-	read_arguments(&request.signature, args, given); \
-	va_end(given)
+/* Makes a request whose arguments are listed. */
+static struct wl_proxy *make_listed(struct wl_proxy *proxy, uint32_t opcode,
+	const struct wl_interface *interface, uint32_t version, uint32_t flags, va_list given)
+{
+	struct request request;
+	union wl_argument args[WAYWIRE_MAX_ARGS];
+	begin_request(&request, proxy, opcode);
+	read_arguments(&request.signature, args, given);
+	return make_request(&request, interface, version, flags, args);
+}
 
 EXPORT struct wl_proxy *wl_proxy_marshal_flags(struct wl_proxy *proxy, uint32_t opcode,
 	const struct wl_interface *interface, uint32_t version, uint32_t flags, ...)
 {
-	WITH_ARGUMENTS(request, args, flags);
-	return make_request(&request, interface, version, flags, args);
+	va_list given;
+	va_start(given, flags);
+	struct wl_proxy *made = make_listed(proxy, opcode, interface, version, flags, given);
+	va_end(given);
+	return made;
 }
 
 EXPORT void wl_proxy_marshal(struct wl_proxy *proxy, uint32_t opcode, ...)
 {
-	WITH_ARGUMENTS(request, args, opcode);
-	make_request(&request, NULL, 0, 0, args);
+	va_list given;
+	va_start(given, opcode);
+	make_listed(proxy, opcode, NULL, 0, 0, given);
+	va_end(given);
 }
 
 EXPORT struct wl_proxy *wl_proxy_marshal_constructor(struct wl_proxy *proxy, uint32_t opcode,
 	const struct wl_interface *interface, ...)
 {
-	WITH_ARGUMENTS(request, args, interface);
-	return make_request(&request, interface, proxy->version, 0, args);
+	va_list given;
+	va_start(given, interface);
+	struct wl_proxy *made = make_listed(proxy, opcode, interface, proxy->version, 0, given);
+	va_end(given);
+	return made;
 }
 
 EXPORT struct wl_proxy *wl_proxy_marshal_constructor_versioned(struct wl_proxy *proxy,
 	uint32_t opcode, const struct wl_interface *interface, uint32_t version, ...)
 {
-	WITH_ARGUMENTS(request, args, version);
-	return make_request(&request, interface, version, 0, args);
+	va_list given;
+	va_start(given, version);
+	struct wl_proxy *made = make_listed(proxy, opcode, interface, version, 0, given);
+	va_end(given);
+	return made;
 }

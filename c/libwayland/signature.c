@@ -9,13 +9,14 @@
 /* What a character is: none of the letters, if it is not in the table below. */
 enum letter_class {
 	PLAIN = 1,
-	WITH_NULL = 2 /* a `?` may precede it */
+	WITH_NULL = 2, /* a `?` may precede it */
+	NEW = 4
 };
 
 /* Each request and each event asks, so it is a table. */
 static const uint8_t classes[UCHAR_MAX + 1] = {
 	['i'] = PLAIN, ['u'] = PLAIN, ['f'] = PLAIN, ['h'] = PLAIN,
-	['s'] = WITH_NULL, ['o'] = WITH_NULL, ['n'] = WITH_NULL, ['a'] = WITH_NULL,
+	['s'] = WITH_NULL, ['o'] = WITH_NULL, ['n'] = WITH_NULL | NEW, ['a'] = WITH_NULL,
 };
 
 static bool is_digit(char it)
@@ -38,6 +39,7 @@ static const char *behind_number(const char *text)
 bool read_signature(struct signature *signature, const char *text)
 {
 	size_t count = 0;
+	unsigned found = 0;
 	text = behind_number(text);
 	if (!text)
 		return false;
@@ -45,12 +47,14 @@ bool read_signature(struct signature *signature, const char *text)
 		bool nullable = *text == '?';
 		text += nullable;
 		uint8_t class = classes[(unsigned char)*text];
-		if (!class || (nullable && class != WITH_NULL) || count == WAYWIRE_MAX_ARGS)
+		if (!class || (nullable && !(class & WITH_NULL)) || count == WAYWIRE_MAX_ARGS)
 			return false;
+		found |= class;
 		signature->letters[count] = *text;
 		signature->nullable[count] = nullable;
 		count++;
 	}
 	signature->count = count;
+	signature->has_new = found & NEW;
 	return true;
 }
