@@ -19,7 +19,9 @@ ENV = {"GDK_BACKEND": "wayland", "QT_QPA_PLATFORM": "wayland", "SDL_VIDEODRIVER"
        "LIBGL_ALWAYS_SOFTWARE": "1", "GSETTINGS_BACKEND": "memory", "GIO_USE_VFS": "local"}
 UNSET = ("DISPLAY", "DBUS_SESSION_BUS_ADDRESS", "WAYLAND_SOCKET", "WAYLAND_DEBUG", "SWAYSOCK")
 # What a compositor is here, and what these tests say to it.
-NEEDED = {"sway": ("sway", "swaymsg", "wtype", "wl-copy", "wl-paste"), "weston": ("weston",)}
+NEEDED = {"sway": ("sway", "swaymsg", "wtype", "wl-copy", "wl-paste"), "weston": ("weston",),
+          "kwin": ("kwin_wayland", "dbus-daemon", "gdbus", "wl-copy", "wl-paste"),
+          "mutter": ("mutter", "dbus-daemon")}
 # How long a keyboard stays, in milliseconds.
 STAYS = "4000000"
 KEYS = "abcdefghijklmnopqrstuvwxyz"
@@ -27,6 +29,9 @@ KEYS = "abcdefghijklmnopqrstuvwxyz"
 
 class Desktop:
     """A compositor at which programs run. `room` is a folder for what they write."""
+
+    # Whether programs without a window can copy and paste. If so, there is a text in the clipboard.
+    has_clipboard = False
 
     def __init__(self, name, room, process, display, env):
         self.name, self.room, self.process, self.display, self.env = name, room, process, display, env
@@ -59,6 +64,11 @@ class Desktop:
             self.start_beside(["wl-copy", "--foreground", COPIED.decode()])
         return has_come(has_text)
 
+    def close(self, _process):
+        """Asks the windows of a program to close, if the compositor has a way to ask. Whether there
+        are any."""
+        return False
+
     def is_there(self):
         return self.process.poll() is None
 
@@ -71,6 +81,7 @@ class Desktop:
 class Sway(Desktop):
     """Sway, which says what windows there are, and closes them."""
 
+    has_clipboard = True
     keyboard = None
 
     def keyboards(self):

@@ -199,7 +199,7 @@ class Running:
         """Ends the program as its user would, and says how it was ended."""
         if self.has_ended():
             return "by itself"
-        has_windows = isinstance(self.desktop, desktops.Sway) and self.desktop.close(self.process)
+        has_windows = self.desktop.close(self.process)
         if has_windows and has_come(self.has_ended, CLOSES):
             return "by its window"
         desktops.signal_group(self.process, signal.SIGTERM)
@@ -210,7 +210,7 @@ class Running:
 
 def played(desktop, words, library, quiet):
     """Runs a program, and says how that went."""
-    if isinstance(desktop, desktops.Sway) and not desktop.offers_text():
+    if desktop.has_clipboard and not desktop.offers_text():
         raise Skipped("wl-copy has not come up")
     running = Running(desktop, words, library)
     try:
