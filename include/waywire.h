@@ -126,8 +126,8 @@ typedef enum waywire_status {
 	/* Why no tables are read from a text. */
 	WAYWIRE_BAD_LINE = 71,       /* a line has none of the forms of such a text */
 	WAYWIRE_BAD_TABLE = 72,      /* a line breaks a rule of tables */
-	WAYWIRE_FIRST_SERVER_OBJECT = 73 /* waywire_client_more_tables: the text has the first event by which
-	                              * the server makes an object */
+	WAYWIRE_FIRST_SERVER_OBJECT = 73 /* waywire_client_more_tables: the text has an event by which the
+	                              * server makes an object, and the client's tables have none */
 } waywire_status;
 
 /* Whether a status says that a message which came was at fault. */
@@ -679,17 +679,18 @@ waywire_status waywire_client_bind(waywire_client client, waywire_object registr
 /* Binds a global that need not have been announced: the server judges the bind. Nothing that was announced is asked
  * or changed, so a global that the client did not remember, or that was withdrawn, can be bound. The message has
  * this version. At this end the object has the version that the tables have now, so none of their messages is too
- * new for it here; the server refuses what is too new for its object. Statuses as those of waywire_client_bind,
- * but WAYWIRE_BAD_BIND only if the tables have no such interface, or the version is 0 or above theirs.
- * What is proved of two ends together does not cover this call, since their versions of the object may differ. */
+ * new for it here; the server refuses what is too new for its object. An object that it makes has its version, too.
+ * Statuses as those of waywire_client_bind, but WAYWIRE_BAD_BIND only if the tables have no such interface, or the
+ * version is 0 or above theirs. What is proved of two ends together does not cover this call: the server may find
+ * the bind or a later request at fault, and the versions that the two ends have of the object may differ. */
 waywire_status waywire_client_bind_unannounced(waywire_client client, waywire_object registry, uint32_t name,
 	const char *interface, uint32_t version, waywire_object *bound);
 
 /* Reads a text over the client's own tables, as waywire_tables_read does and with its statuses, and gives the
  * client the tables that come out. Interfaces keep their places and messages their opcodes, so objects and globals
  * stay what they are. A global that was announced before its interface was in the tables stays forgotten:
- * waywire_client_bind_unannounced binds it. WAYWIRE_FIRST_SERVER_OBJECT if the text has the first event by which the
- * server makes an object (`N`): a client that is made over tables without one has no room for such objects.
+ * waywire_client_bind_unannounced binds it. WAYWIRE_FIRST_SERVER_OBJECT if the text has an event by which the server
+ * makes an object (`N`), and the client's tables have none: such a client has no room for those objects.
  * Reports end, as with any call that may change an end. The tables that the client had are freed when nothing else
  * uses them, and the names that they gave are gone then.
  * What is proved of two ends together is about ends whose tables stay. */

@@ -61,6 +61,20 @@ static void free_event(struct event *event)
 	free(event);
 }
 
+/* Makes null the arguments whose proxies the program has destroyed since they were read. */
+static void drop_destroyed(struct event *event)
+{
+	for (size_t place = 0; place < event->signature.count; place++) {
+		if (!is_object(event, place))
+			continue;
+		struct wl_proxy *proxy = (struct wl_proxy *)event->args[place].o;
+		if (!proxy || !proxy->is_destroyed)
+			continue;
+		release_proxy(proxy);
+		event->args[place].o = NULL;
+	}
+}
+
 /* Destroys the proxy that an event has made, which the program will never see. */
 static void destroy_made(const struct event *event)
 {
@@ -74,6 +88,7 @@ void empty_queue(struct wl_event_queue *queue)
 	while (!wl_list_empty(&queue->events)) {
 		struct event *event = wl_container_of(queue->events.next, event, link);
 		wl_list_remove(&event->link);
+		drop_destroyed(event); /* another event may have shown the program what this one made */
 		destroy_made(event);
 		free_event(event);
 	}
@@ -284,12 +299,26 @@ static struct event *copy_message(struct wl_proxy *proxy, const waywire_report *
 
 /* ---- what reports say */
 
+/* Whether libwayland still knows the object of a report as a zombie: one that the client made, of an
+ * interface that has an event with a descriptor. Any other it prints as unknown. */
+static bool is_zombie(const waywire_report *report)
+{
+	const struct wl_proxy *proxy = report->user;
+	if (!proxy || report->target.id >= FIRST_SERVER_ID)
+		return false;
+	const struct wl_interface *interface = proxy->object.interface;
+	for (int opcode = 0; opcode < interface->event_count; opcode++)
+		if (strchr(interface->events[opcode].signature, 'h'))
+			return true;
+	return false;
+}
+
 /* Drops a message for an object whose proxy the program has destroyed. */
 static void discard(const waywire_report *report, size_t length)
 {
 	if (is_debugging())
-		print_discarded(report->target.id < FIRST_SERVER_ID, report->target.id,
-			report->opcode, report->token_count, length);
+		print_discarded(is_zombie(report), report->target.id, report->opcode,
+			report->token_count, length);
 	close_descriptors(report);
 }
 
@@ -389,20 +418,6 @@ static void print_event(const struct event *event, bool is_discarded)
 		false, is_discarded };
 	if (is_debugging())
 		print_message(&printed);
-}
-
-/* Makes null the arguments whose proxies the program has destroyed since they were read. */
-static void drop_destroyed(struct event *event)
-{
-	for (size_t place = 0; place < event->signature.count; place++) {
-		if (!is_object(event, place))
-			continue;
-		struct wl_proxy *proxy = (struct wl_proxy *)event->args[place].o;
-		if (!proxy || !proxy->is_destroyed)
-			continue;
-		release_proxy(proxy);
-		event->args[place].o = NULL;
-	}
 }
 
 /* The errno of a wl_display.error about an object of this interface. */

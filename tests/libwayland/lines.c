@@ -181,6 +181,18 @@ static void discard(struct wl_display *display, struct wl_proxy *proxy, uint32_t
 	printf("dispatched: %d\n", wl_display_dispatch_pending(display));
 }
 
+/* An event for a destroyed object of an interface without descriptors. */
+static void discard_callback(struct wl_display *display)
+{
+	struct wl_callback *callback = wl_display_sync(display);
+	MUST(callback);
+	uint32_t id = wl_proxy_get_id((struct wl_proxy *)callback);
+	wl_callback_destroy(callback);
+	send_word(id, 0, 5);
+	send_word(1, 1, id);
+	printf("dispatched: %d\n", wl_display_dispatch(display));
+}
+
 static void end_with_an_error(struct wl_display *display, uint32_t id)
 {
 	const struct wl_interface *interface;
@@ -223,6 +235,7 @@ int main(void)
 	wl_proxy_marshal_flags(made, 1, NULL, 3, 0, 1, 2);
 	discard(display, proxy, 0xff000001u);
 	printf("dispatched: %d\n", wl_display_dispatch_pending(display));
+	discard_callback(display);
 	end_with_an_error(display, 0xff000000u);
 	wl_proxy_destroy(made);
 	wl_registry_destroy(registry);
