@@ -14,7 +14,7 @@ static void print_to_stderr(const char *format, va_list args)
 }
 
 static wl_log_func_t handler = print_to_stderr;
-static bool debugging;
+bool debugging_clients;
 
 EXPORT void wl_log_set_handler_client(wl_log_func_t new_handler)
 {
@@ -35,13 +35,8 @@ void read_debug(void)
 {
 	const char *wanted = getenv("WAYLAND_DEBUG");
 	/* It is written once, so threads that connect later do not disturb those that read it. */
-	if (wanted && !debugging && (strstr(wanted, "client") || strstr(wanted, "1")))
-		debugging = true;
-}
-
-bool is_debugging(void)
-{
-	return debugging;
+	if (wanted && !debugging_clients && (strstr(wanted, "client") || strstr(wanted, "1")))
+		debugging_clients = true;
 }
 
 /* The time in microseconds, of which libwayland prints 32 bits. */

@@ -13,8 +13,12 @@ void log_line(const char *format, ...) __attribute__((format(printf, 1, 2)));
 void read_debug(void);
 
 /* Whether the messages of clients are printed: once a display was connected while WAYLAND_DEBUG had
- * `1` or `client` in it. */
-bool is_debugging(void);
+ * `1` or `client` in it. Each request and each event asks, so it is no call. */
+extern bool debugging_clients;
+static inline bool is_debugging(void)
+{
+	return debugging_clients;
+}
 
 /* Prints the line of a message to stderr, word for word as libwayland 1.21 does.
  *

@@ -6,17 +6,19 @@
 /* A number in front of a signature has at most so many digits. */
 #define MOST_DIGITS 10
 
-/* What a character is: none of the letters, if it is not in the table below. */
+/* What a character is: no part of a signature, if it is not in the table below. */
 enum letter_class {
 	PLAIN = 1,
 	WITH_NULL = 2, /* a `?` may precede it */
-	NEW = 4
+	NEW = 4,
+	QUESTION = 8 /* the `?` */
 };
 
 /* Each request and each event asks, so it is a table. */
 static const uint8_t classes[UCHAR_MAX + 1] = {
 	['i'] = PLAIN, ['u'] = PLAIN, ['f'] = PLAIN, ['h'] = PLAIN,
 	['s'] = WITH_NULL, ['o'] = WITH_NULL, ['n'] = WITH_NULL | NEW, ['a'] = WITH_NULL,
+	['?'] = QUESTION,
 };
 
 static bool is_digit(char it)
@@ -44,10 +46,11 @@ bool read_signature(struct signature *signature, const char *text)
 	if (!text)
 		return false;
 	for (; *text; text++) {
-		bool nullable = *text == '?';
-		text += nullable;
 		uint8_t class = classes[(unsigned char)*text];
-		if (!class || (nullable && !(class & WITH_NULL)) || count == WAYWIRE_MAX_ARGS)
+		bool nullable = class == QUESTION;
+		if (nullable)
+			class = classes[(unsigned char)*++text] & (WITH_NULL | NEW);
+		if (!class || count == WAYWIRE_MAX_ARGS)
 			return false;
 		found |= class;
 		signature->letters[count] = *text;
