@@ -18,6 +18,7 @@ static struct wl_proxy *thing;
 static int peer;
 static struct wire wire;
 static unsigned events;
+static int destroys_seen; /* whether what an event shows is destroyed at once */
 
 static void quiet(const char *format, va_list list)
 {
@@ -27,8 +28,10 @@ static void quiet(const char *format, va_list list)
 static int count_event(const void *data, void *proxy, uint32_t opcode,
 	const struct wl_message *message, union wl_argument *args)
 {
-	(void)data, (void)proxy, (void)opcode, (void)message, (void)args;
+	(void)data, (void)proxy, (void)message;
 	events++;
+	if (destroys_seen && opcode == THING_POINTS)
+		wl_proxy_destroy((struct wl_proxy *)args[1].o);
 	return 0;
 }
 
@@ -191,6 +194,37 @@ static void many_event(size_t count)
 		put_message(&wire, wl_proxy_get_id((struct wl_proxy *)registry), 1, 1, 1);
 }
 
+/* Reads what the compositor sends into the queue of `thing`. */
+static void read_wire(void)
+{
+	struct wl_event_queue *empty = wl_display_create_queue(display);
+	send_wire(&wire, peer);
+	clear_wire(&wire);
+	MUST(empty && !wl_display_prepare_read_queue(display, empty));
+	MUST(!wl_display_read_events(display));
+	wl_event_queue_destroy(empty);
+}
+
+/* An object is made by an event that waits in one queue, and destroyed as an event of another queue
+ * shows it. Then the first queue is destroyed. */
+static void seen_in_two_queues_event(size_t number)
+{
+	struct wl_event_queue *first = wl_display_create_queue(display);
+	struct wl_event_queue *second = wl_display_create_queue(display);
+	MUST(first && second && !number);
+	destroys_seen = 1;
+	wl_proxy_set_queue(thing, first);
+	put_message(&wire, wl_proxy_get_id(thing), THING_MADE, 1, FIRST_SERVER_ID);
+	read_wire();
+	wl_proxy_set_queue(thing, second);
+	put_message(&wire, wl_proxy_get_id(thing), THING_POINTS, 2, 0, FIRST_SERVER_ID);
+	read_wire();
+	MUST(wl_display_dispatch_queue_pending(display, second) == 1);
+	wl_event_queue_destroy(first);
+	wl_proxy_set_queue(thing, NULL);
+	wl_event_queue_destroy(second);
+}
+
 static void delete_event(size_t id)
 {
 	put_message(&wire, 1, 1, 1, (uint32_t)id);
@@ -219,7 +253,8 @@ static const struct {
 	CASE(null_text_event, 0), CASE(new_object_event, 0), CASE(new_object_event, 77),
 	CASE(new_object_event, FIRST_SERVER_ID + 1), CASE(new_object_event, FIRST_SERVER_ID),
 	CASE(new_object_event, 0xffffffff), CASE(no_descriptor_event, 0),
-	CASE(many_event, 1000), CASE(delete_event, 0), CASE(delete_event, 1), CASE(delete_event, 77),
+	CASE(many_event, 1000), CASE(seen_in_two_queues_event, 0), CASE(delete_event, 0),
+	CASE(delete_event, 1), CASE(delete_event, 77),
 	CASE(delete_event, FIRST_SERVER_ID), CASE(target_event, 0), CASE(target_event, 77),
 };
 #define CASES (sizeof cases / sizeof cases[0])
