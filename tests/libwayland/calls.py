@@ -1,5 +1,6 @@
 """Programs of ours in C over the library under test, and over the system's beside it."""
 
+import difflib
 import re
 
 from checks import Failed
@@ -103,6 +104,17 @@ def a_session_cut_or_changed_at_each_byte_has_no_error_of_memory(library):
     library.succeeds([*checked_by_valgrind(), compiled("cuts"), "1"])
 
 
+def lines_of_wayland_debug_are_those_of_libwayland(library):
+    """Word for word, but for their times."""
+    path = compiled("lines", "-D_GNU_SOURCE")
+    theirs, ours = (
+        re.sub(r"(?m)^\[ *[0-9]+\.[0-9]{3}\] ", "[time] ",
+               it.succeeds(["sh", "-c", '"$0" </dev/null 2>&1', path], WAYLAND_DEBUG="client"))
+        for it in (SYSTEM, library))
+    if ours != theirs or theirs.count("[time]") <= 30:
+        raise Failed("".join(difflib.unified_diff(theirs.splitlines(True), ours.splitlines(True))))
+
+
 def each_allocation_refused_in_turn(library):
     """No program is ended but by an error of the display, and no descriptor stays open."""
     library.succeeds([compiled("memory")])
@@ -112,7 +124,7 @@ TESTS = (each_signature_reaches_its_listener, malformed_interfaces_end_in_an_err
          eight_threads_with_queues_of_their_own, eight_threads_whose_compositor_dies,
          a_session_cut_at_each_byte_ends_as_libwayland_ends_it,
          requests_and_events_at_their_limits, a_session_cut_or_changed_has_no_error_of_memory,
-         each_allocation_refused_in_turn)
+         lines_of_wayland_debug_are_those_of_libwayland, each_allocation_refused_in_turn)
 LONG_TESTS = (eight_threads_for_long, a_session_cut_or_changed_at_each_byte_has_no_error_of_memory)
 
 

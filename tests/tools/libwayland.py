@@ -1,5 +1,5 @@
 """What c/libwayland has beside its proxies and displays: the types and the interfaces that programs are compiled
-against, lists and arrays, the lines of WAYLAND_DEBUG, and `waywire-run`. Only the lines need a library that is built.
+against, lists and arrays, and `waywire-run`. None of it needs the library that `make` builds.
 """
 
 import ctypes.util
@@ -145,26 +145,6 @@ class Lists(unittest.TestCase):
             env = {**os.environ, "LD_LIBRARY_PATH": part_of_library(room)}
             self.assertEqual(run([tried], env=env), run([tried]))
             run([tried, "overflow"], env=env)
-
-
-class Lines(unittest.TestCase):
-    """What WAYLAND_DEBUG prints, beside what it prints over the system's library."""
-
-    def test_lines(self):
-        need_headers()
-        built = f"{TOP}/out/c/wayland"
-        if not os.path.exists(f"{built}/{SONAME}"):
-            raise Skipped("the library is not built (make)")
-        said = []
-        with tempfile.TemporaryDirectory() as room:
-            tried = compiled(room, "lines", "-D_GNU_SOURCE", "-lwayland-client")
-            for folder in ("", built):
-                env = {**os.environ, "WAYLAND_DEBUG": "client", "LD_LIBRARY_PATH": folder}
-                lines = run(["sh", "-c", '"$1" </dev/null 2>&1', "sh", tried], env=env)
-                said.append(re.sub(r"(?m)^\[ *[0-9]+\.[0-9]{3}\] ", "[time] ", lines))
-        self.maxDiff = None
-        self.assertEqual(*said)
-        self.assertGreater(said[0].count("[time]"), 30)
 
 
 class Run(unittest.TestCase):
