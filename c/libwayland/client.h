@@ -130,8 +130,8 @@ void wake_readers(struct wl_display *display);
 /* Sends what waits. Returns 0, or -1 with errno. The lock is taken. */
 int flush_display(struct wl_display *display);
 
-/* What wl_display_flush does, but for counting the bytes, which takes its time. Returns 0, or -1 with
- * errno. */
+/* Sends what waits, as wl_display_flush does, but counts no bytes, which takes time. Returns 0, or
+ * -1 with errno. Takes the lock. */
 int flush_uncounted(struct wl_display *display);
 
 /* Closes the descriptors of a report. */

@@ -158,7 +158,7 @@ int flush_display(struct wl_display *display)
 	return waywire_socket_flush(display->fd, display->client.end);
 }
 
-/* Sends what waits, unless the connection has ended, with the lock taken. A compositor that has gone
+/* Sends what waits, unless the connection has ended. The lock is taken. A compositor that has gone
  * may have said why: that can still be read. */
 static int flush_unless_ended(struct wl_display *display)
 {

@@ -24,8 +24,8 @@
 
 /* ---- making and dropping them */
 
-/* An event with so many bytes behind its arguments; null with errno. Its message is one that was
- * read by `read_signature`. */
+/* Makes an event with room for `room` bytes behind its arguments. Null with errno. `signature` is
+ * that of its message. */
 static struct event *new_event(struct wl_proxy *proxy, const struct signature *signature,
 	uint32_t opcode, size_t room)
 {
@@ -299,8 +299,8 @@ static struct event *copy_message(struct wl_proxy *proxy, const waywire_report *
 
 /* ---- what reports say */
 
-/* Whether libwayland still knows the object of a report as a zombie: one that the client made, of an
- * interface that has an event with a descriptor. Any other it prints as unknown. */
+/* Whether libwayland still knows the object of a report as a zombie: the client made it, and its
+ * interface has an event with a descriptor. Any other object is printed as unknown. */
 static bool is_zombie(const waywire_report *report)
 {
 	const struct wl_proxy *proxy = report->user;

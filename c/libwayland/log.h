@@ -39,7 +39,8 @@ void print_message(const struct printed_message *printed);
  *
  *     [1234567.890] discarded [zombie]@3.[event 1](0 fd, 12 byte)
  *
- * `is_known` says whether libwayland would know the id as a zombie; if not the line has [unknown]. */
+ * `is_known` says whether libwayland would know the id as a zombie. If not, the line has
+ * [unknown]. */
 void print_discarded(bool is_known, uint32_t id, uint32_t opcode, size_t descriptors,
 	size_t bytes);
 

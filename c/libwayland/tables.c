@@ -1,9 +1,9 @@
-/* The tables of a client, which grow by the wl_interface structs that the program hands in. See
+/* The tables of a client, which grow with the wl_interface structs that the program hands in. See
  * client.h.
  *
- * Before the program makes its first object of an interface, the interface and all those that its
- * messages name are written as a text of tables, as far as the tables lack them, and the client
- * reads that. So the tables have every interface before an event can be of it.
+ * Before the program makes its first object with an interface, this file writes a table text: the
+ * interface and all interfaces that its messages name, unless the tables have them already. The
+ * client reads the text. So the tables have an interface before an event can come for it.
  *
  * A struct does not say which messages destroy an object, so nothing is marked `D`. A delete_id
  * then ends a live object, and the server may reuse the id of a live object of its own. No message
@@ -29,7 +29,7 @@
 
 /* ---- what a message has, whether a struct or the tables say it */
 
-/* An argument: its letter in a text of tables, `N` where an event makes an object. */
+/* An argument: its letter in a table text. The letter is `N` if an event makes an object. */
 struct shown_argument {
 	char letter;
 	const char *interface; /* null for any */
@@ -41,7 +41,7 @@ struct shown_message {
 	struct shown_argument args[WAYWIRE_MAX_ARGS];
 };
 
-/* The name of an interface as a text of tables can have it. */
+/* Whether a table text can have this name for an interface. */
 static bool is_name(const char *name)
 {
 	size_t length = name ? strspn(name, "abcdefghijklmnopqrstuvwxyz0123456789_") : 0;
