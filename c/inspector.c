@@ -8,6 +8,15 @@ uint32_t waywire_c_inspector_pass(struct handle *, uint32_t sender, const void *
 void waywire_c_inspector_lines(const struct handle *, const void **lines, size_t *length);
 uint32_t waywire_c_inspector_verdict(struct handle *, const void **line, size_t *length, bool *broken);
 
+void waywire_c_inspector_verdict_parts(const struct handle *, waywire_judgement *);
+uint64_t waywire_c_inspector_judged(const struct handle *);
+uint32_t waywire_c_inspector_follow(struct handle *, uint32_t sender, const void *bytes, size_t length);
+uint32_t waywire_c_inspector_ahead(const struct handle *, uint32_t sender, waywire_followed *);
+uint32_t waywire_c_inspector_go_past(struct handle *, uint32_t sender);
+void waywire_c_inspector_object(const struct handle *, uint32_t id, waywire_known *);
+size_t waywire_c_inspector_id_count(const struct handle *, bool of_server);
+uint32_t waywire_c_inspector_announced(const struct handle *, uint32_t name, uint16_t interface);
+
 /* What an export tells of a piece beside its bytes. */
 struct told_piece {
 	uint32_t sender;
@@ -93,6 +102,70 @@ waywire_status waywire_inspector_verdict(waywire_inspector *inspector, const cha
 	if (broken)
 		*broken = is_broken;
 	return WAYWIRE_OK;
+}
+
+waywire_status waywire_inspector_judgement(const waywire_inspector *inspector,
+	waywire_judgement *judgement)
+{
+	if (!inspector || !judgement)
+		return WAYWIRE_NULL;
+	waywire_c_inspector_verdict_parts(&inspector->handle, judgement);
+	return WAYWIRE_OK;
+}
+
+uint64_t waywire_inspector_judged(const waywire_inspector *inspector)
+{
+	return inspector ? waywire_c_inspector_judged(&inspector->handle) : 0;
+}
+
+/* ---- the messages that it follows */
+
+waywire_status waywire_inspector_follow(waywire_inspector *inspector, waywire_sender sender,
+	const void *bytes, size_t length)
+{
+	if (!inspector)
+		return WAYWIRE_NULL;
+	waywire_status status = slice(&bytes, length, 1);
+	if (status)
+		return status;
+	return waywire_c_inspector_follow(&inspector->handle, sender, bytes, length);
+}
+
+waywire_status waywire_inspector_ahead(const waywire_inspector *inspector, waywire_sender sender,
+	waywire_followed *message)
+{
+	if (!inspector || !message)
+		return WAYWIRE_NULL;
+	return waywire_c_inspector_ahead(&inspector->handle, sender, message);
+}
+
+waywire_status waywire_inspector_go_past(waywire_inspector *inspector, waywire_sender sender)
+{
+	if (!inspector)
+		return WAYWIRE_NULL;
+	return waywire_c_inspector_go_past(&inspector->handle, sender);
+}
+
+waywire_status waywire_inspector_object(const waywire_inspector *inspector, uint32_t id,
+	waywire_known *known)
+{
+	if (!inspector || !known)
+		return WAYWIRE_NULL;
+	waywire_c_inspector_object(&inspector->handle, id, known);
+	return WAYWIRE_OK;
+}
+
+size_t waywire_inspector_id_count(const waywire_inspector *inspector, waywire_sender maker)
+{
+	if (!inspector)
+		return 0;
+	return waywire_c_inspector_id_count(&inspector->handle, maker == WAYWIRE_FROM_SERVER);
+}
+
+uint32_t waywire_inspector_announced(const waywire_inspector *inspector, uint32_t name,
+	uint16_t interface)
+{
+	return inspector ? waywire_c_inspector_announced(&inspector->handle, name, interface) : 0;
 }
 
 /* ---- a recording */

@@ -35,7 +35,7 @@
  * the ends and inspectors made with them, which keep them as long as they need them. The calls of this header
  * use `malloc`, `realloc` and `free`, and nothing else of the system. After `new` an end allocates only when it
  * opens an object (`send`, `bind`, `next`), in `set_user`, `more_tables` and `add_global`; an inspector
- * allocates in `pass` and `verdict`. A client's `next` does so only at an event that makes an object whose id
+ * allocates in `pass`, `verdict`, `follow` and `go_past`. A client's `next` does so only at an event that makes an object whose id
  * the server has never used before, and so never if the tables have no such event. If an allocation fails,
  * nothing is lost.
  *
@@ -780,6 +780,100 @@ const char *waywire_inspector_lines(const waywire_inspector *inspector, size_t *
  * message breaks a rule, which the line then names. WAYWIRE_NO_MEMORY: what was valid before is gone. */
 waywire_status waywire_inspector_verdict(waywire_inspector *inspector, const char **line,
 	size_t *length, bool *broken);
+
+/* The parts of a verdict. Of a session without a broken message `fault` is WAYWIRE_OK, and the counts are those of
+ * the line; of any other, `fault` and what is behind it tell which message breaks which rule. */
+typedef struct waywire_judgement {
+	size_t requests, events;               /* that were judged */
+	size_t left_to_server, left_to_client; /* bytes of no message that was judged */
+	size_t index;      /* the number of the broken message among those of its sender, from 1 */
+	size_t offset;     /* where it begins in the bytes of its sender */
+	size_t place;      /* the argument at fault, counted from 0 */
+	uint32_t fault;    /* the rule: one of WAYWIRE_FAULT_.. */
+	uint32_t spelling; /* of WAYWIRE_FAULT_BAD_ARGUMENT: how it is malformed, as in a report */
+	uint32_t sender;   /* a waywire_sender */
+} waywire_judgement;
+
+/* Writes the verdict on all pieces so far, in parts. It allocates nothing. */
+waywire_status waywire_inspector_judgement(const waywire_inspector *inspector,
+	waywire_judgement *judgement);
+
+/* How many messages were judged: the first so many of those that passed in both directions. All of them are
+ * lawful. 0 for a null inspector. */
+uint64_t waywire_inspector_judged(const waywire_inspector *inspector);
+
+/* ---- the messages that an inspector follows
+ *
+ * Beside its judging an inspector follows the messages one by one, judged or not: also those behind a message that
+ * breaks a rule, and those of interfaces that the tables lack. Nothing is guessed of these: an id whose object may
+ * be another since a message that could not be read has none that is known. For each piece call `pass` and `follow`,
+ * and then `ahead` and `go_past` until no message is in front:
+ *
+ *     waywire_inspector_follow(inspector, sender, bytes, length);
+ *     while (!waywire_inspector_ahead(inspector, sender, &message)) {
+ *         show(&message);
+ *         waywire_inspector_go_past(inspector, sender);
+ *     }
+ *
+ * So the numbers of the messages are those of the pieces' order, and a message with a number of at most
+ * waywire_inspector_judged was judged. */
+
+/* What is known of an id. */
+typedef struct waywire_known {
+	uint64_t birth;     /* the number of the message that made the object; 0 of wl_display */
+	uint32_t version;
+	uint16_t interface; /* its place in the tables; WAYWIRE_ANY_INTERFACE if nothing is known of the id */
+	bool is_known;
+	bool is_ending;     /* it was destroyed, and its id is not free yet */
+} waywire_known;
+
+/* A message. */
+typedef struct waywire_followed {
+	uint64_t number;           /* among the messages of both senders, from 1 */
+	size_t index;              /* among those of its sender, from 1 */
+	size_t offset;             /* where it begins in the bytes of its sender */
+	const unsigned char *bytes; /* valid until the inspector's next `follow` */
+	size_t length;             /* its bytes; if no message has its size, all that came */
+	size_t descriptor_count;   /* of a message that was read */
+	waywire_known object;      /* that it is for, as it is known before the message */
+	uint32_t target;           /* the id of that object */
+	uint16_t opcode;
+	uint16_t size;             /* as its header says */
+	uint32_t made;             /* the id of the object that it makes; 0 if it makes none */
+	uint32_t made_version;
+	uint32_t destroyed;        /* the id of the object that it destroys, or may have; 0 if there is none */
+	uint32_t deleted;          /* the id of a wl_display.delete_id; 0 of any other */
+	uint16_t made_interface;
+	bool is_read; /* its object is known, the tables have it, and it names no object that is not known */
+} waywire_followed;
+
+/* Takes the bytes of a piece, behind those of the same sender that are not gone past. WAYWIRE_BAD_VALUE if `sender`
+ * is no waywire_sender; WAYWIRE_NO_MEMORY. */
+waywire_status waywire_inspector_follow(waywire_inspector *inspector, waywire_sender sender,
+	const void *bytes, size_t length);
+
+/* Writes the message in front of a sender's bytes, as soon as it is whole, or as its header's size is none that a
+ * message may have. WAYWIRE_NOT_FOUND if none is there, and WAYWIRE_BAD_VALUE as above; with these nothing is
+ * written. It allocates nothing, and changes nothing. */
+waywire_status waywire_inspector_ahead(const waywire_inspector *inspector, waywire_sender sender,
+	waywire_followed *message);
+
+/* Goes past that message, if one is there: what it makes, destroys and frees is known from then on. Behind one of a
+ * bad size no more messages of its sender are found. WAYWIRE_BAD_VALUE; WAYWIRE_NO_MEMORY. */
+waywire_status waywire_inspector_go_past(waywire_inspector *inspector, waywire_sender sender);
+
+/* Writes what is known of an id, behind the messages that were gone past. */
+waywire_status waywire_inspector_object(const waywire_inspector *inspector, uint32_t id,
+	waywire_known *known);
+
+/* How many ids there are to ask for: of the client's range those below this number, of the server's range so many
+ * from 0xff000000 on. No other id is known. 0 for a null inspector. */
+size_t waywire_inspector_id_count(const waywire_inspector *inspector, waywire_sender maker);
+
+/* The newest version in which a global of this name was announced with this interface, 0 if none was;
+ * WAYWIRE_ANY_INTERFACE stands for every interface that the tables lack. 0 for a null inspector. */
+uint32_t waywire_inspector_announced(const waywire_inspector *inspector, uint32_t name,
+	uint16_t interface);
 
 /* ---- a recording */
 

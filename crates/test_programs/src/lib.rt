@@ -16,6 +16,8 @@ mod failure;
 #[cfg(test)]
 mod filling;
 #[cfg(test)]
+mod following;
+#[cfg(test)]
 mod inspecting;
 #[cfg(test)]
 mod inspector_cuts;

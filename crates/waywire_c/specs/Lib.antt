@@ -10,3 +10,4 @@ pub mod Sizes
 pub mod Messages
 pub mod Decoding
 pub mod Recordings
+pub mod Followed

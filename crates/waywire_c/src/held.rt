@@ -1,6 +1,6 @@
 //! What a handle leads to. Each is a type of its own, so that a handle's proofs name it in a word.
 use std::io::{Read, Write};
-use wl_check::Inspector;
+use wl_check::{Follower, Inspector};
 use wl_client::Client;
 use wl_connection::{Core, End};
 use wl_message::{Fed, FillError, FlushError, Taken};
@@ -21,10 +21,12 @@ pub enum HeldEnd {
     Server(Server<'static, SlotTable>),
 }
 
-/// An inspector, and the line of the verdict that was asked for last.
+/// An inspector, what follows the messages beside it, and the line of the verdict that was asked for
+/// last.
 #[derive(Drop)]
 pub struct HeldInspector {
     pub inspector: Inspector<'static>,
+    pub follower: Follower<'static>,
     pub line: Vec<u8>,
 }
 

@@ -47,7 +47,7 @@ pub extern "C" fn waywire_c_inspector_free(inspector: InspectorHandle) {
 }
 
 /// Which way the pieces of a sender go. 0 is the client, and 1 the server.
-fn direction_of(sender: u32) -> Option<Direction>
+pub fn direction_of(sender: u32) -> Option<Direction>
     ensures { result ≡ direction_of sender }
 {
     match sender {

@@ -10,6 +10,7 @@ mod client;
 mod decoding;
 mod end;
 mod end_handle;
+mod followed;
 mod held;
 mod inspector;
 mod inspector_handle;

@@ -10,6 +10,7 @@ ghost use Rattle.wl_client.specs.State.{new_state as new_client};
 ghost use Rattle.wl_server.specs.State.{new_state as new_server};
 ghost use Rattle.waywire_c.specs.declared.held.HeldEnd.TheVariants.{Client as MadeClient};
 ghost use Rattle.waywire_c.specs.declared.held.HeldEnd.TheVariants.{Server as MadeServer};
+ghost use Rattle.wl_check.specs.Following.{IsNewFollower};
 ghost use Rattle.wl_check.specs.Inspected.{printed, HasPassed};
 ghost use Rattle.waywire_c.specs.Inspecting.{IsTried};
 ghost use Rattle.waywire_c.specs.Sizes.{AreAllowed, IsNewBy};
@@ -19,7 +20,7 @@ use crate::held::{HeldEnd, HeldInspector, HeldTables};
 use crate::statuses::{BAD_SIZES, NO_MEMORY};
 use crate::values::CSizes;
 use std::alloc::{AllocError, Global};
-use wl_check::Inspector;
+use wl_check::{Follower, Inspector};
 use wl_client::Client;
 use wl_connection::texts_extend;
 use wl_message::{Limit, Sizes};
@@ -150,12 +151,16 @@ pub fn inspector(
     ensures passed { IfOk result (λ made.
         HasPassed limit.bytes tables.now [] made.value.inspector) }
     ensures lines { IfOk result (λ made. printed made.value.inspector ≡ []) }
+    ensures follower { IfOk result (λ made. IsNewFollower tables.now limit.bytes
+        made.value.follower) }
 {
     let inspector = Inspector::new(alloc, tables, limit)?;
+    let follower = Follower::new(alloc, tables, limit)?;
     boxed(
         alloc,
         HeldInspector {
             inspector,
+            follower,
             line: Vec::new(alloc),
         },
     )
@@ -170,6 +175,7 @@ pub fn inspector_by(
 ) -> Result<Box<HeldInspector>, u32>
     ensures passed { IfOk result (λ made. HasPassed limit tables.now [] made.value.inspector) }
     ensures lines { IfOk result (λ made. printed made.value.inspector ≡ []) }
+    ensures follower { IfOk result (λ made. IsNewFollower tables.now limit made.value.follower) }
     ensures limit { making_outcome result ≢ 63 ↔ IsLimit limit }
     ensures tried { making_outcome result ≢ 63 → IsTried (making_outcome result) }
 {

@@ -6,6 +6,8 @@ pub mod JudgedByPlaces
 pub mod Examined
 pub mod WithinStream
 pub mod Lines
+pub mod JudgedCount
+pub mod BytesBehind
 pub mod KnownAtPlace
 pub mod FreshIds
 pub mod LastBytes

@@ -29,17 +29,17 @@ first_last x call xs e = ap (λ (y : Judged). lasting (y ∷ xs)) e
 on : (x : Judged) (xs : List Judged) (k : ℕ) → ArePassed (x ∷ xs) (suc k) → lasting (x ∷ xs) ≡ suc (lasting xs)
 on x xs k a = let p = a 0 (omega arith) in first_last x p.call xs (first_call x xs p) ∙ rw p.goes_on refl
 
-lasting_all : (ms : List Judged) → ArePassed ms (length ms) → lasting ms ≡ length ms
+pub lasting_all : (ms : List Judged) → ArePassed ms (length ms) → lasting ms ≡ length ms
 lasting_all [] a = refl
 lasting_all (x ∷ xs) a = on x xs (length xs) a ∙ ap suc (lasting_all xs (behind x xs (length xs) a))
 
-lasting_end : (ms : List Judged) (k : ℕ) (call : Call) → slice_get ms k ≡ Some (Ok call) → ends_session (Ok call) ≡ true
+pub lasting_end : (ms : List Judged) (k : ℕ) (call : Call) → slice_get ms k ≡ Some (Ok call) → ends_session (Ok call) ≡ true
     → ArePassed ms k → lasting ms ≡ suc k
 lasting_end [] k call e ends a = absurd (cc)
 lasting_end (x ∷ xs) zero call e ends a = let is : x ≡ Ok call = cc in first_last x call xs is ∙ rw ends refl
 lasting_end (x ∷ xs) (suc k) call e ends a = on x xs k a ∙ ap suc (lasting_end xs k call e ends (behind x xs k a))
 
-lasting_broken : (ms : List Judged) (k : ℕ) (fault : Fault) → slice_get ms k ≡ Some (Err fault) → ArePassed ms k
+pub lasting_broken : (ms : List Judged) (k : ℕ) (fault : Fault) → slice_get ms k ≡ Some (Err fault) → ArePassed ms k
     → lasting ms ≡ k
 lasting_broken [] k fault e a = absurd (cc)
 lasting_broken (x ∷ xs) zero fault e a = let is : x ≡ Err fault = cc in ap (λ (y : Judged). lasting (y ∷ xs)) is

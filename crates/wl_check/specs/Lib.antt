@@ -12,3 +12,5 @@ pub mod Samples
 pub mod Printed
 pub mod Passing
 pub mod Inspected
+pub mod FollowedBytes
+pub mod Following

@@ -5,7 +5,7 @@ use wl_wire::Iface;
 
 /// A global, as an event advertises it.
 #[derive(Clone, Copy, Debug)]
-pub(crate) struct AdvertisedGlobal {
+pub struct AdvertisedGlobal {
     pub name: u32,
     pub iface: Iface,
     pub version: u32,
@@ -13,7 +13,7 @@ pub(crate) struct AdvertisedGlobal {
 
 /// What a message does to what is known of a session.
 #[derive(Clone, Copy, Debug)]
-pub(crate) struct MessageChanges {
+pub struct MessageChanges {
     pub direction: Direction,
     /// The object that it makes.
     pub made: Option<NewObject>,

@@ -1,8 +1,9 @@
 //! A recording's messages, cut off the bytes of their directions.
-ghost use Rattle.std.specs.Prelude.{◌≡◌, ◌≤◌, ◌<◌, ◌+◌, ◌^◌, ◌++◌, ◌∷◌, ◌⊎◌, ℕ, List, [], drop};
+ghost use Rattle.std.specs.Prelude.{◌≡◌, ◌≤◌, ◌<◌, ◌+◌, ◌^◌, ◌++◌, ◌∷◌, ◌⊎◌, ℕ, true, List, [], drop};
 ghost use Rattle.std.specs.Prelude.{length, take, IfErr, IfNone, IfOk, IfSome, MatchOption, OnErr};
 ghost use Rattle.std.specs.Prelude.{OnOk};
-ghost use Rattle.wl_message.specs.Cut.{front};
+ghost use Rattle.wl_message.specs.Cut.{front, is_size};
+ghost use Rattle.wl_wire.specs.Word.{header_at};
 ghost use Rattle.wl_recording.specs.declared.recording.RecordingError.TheVariants.{BadLine, Memory};
 ghost use Rattle.wl_recording.specs.Piece.{IsAppended, Piece};
 ghost use Rattle.wl_recording.specs.Text.{IsFirstBad, IsReadUpTo, TextRecords};
@@ -66,7 +67,11 @@ pub(crate) struct LentPiece<'a> {
 /// The size of the message in front of these bytes. None where its header, or the rest of a message
 /// whose size is good, is still to come.
 pub(crate) fn size_in_front(bytes: &[u8], limit: Limit) -> Option<u16>
-    ensures { result ≡ size_of (front limit.bytes bytes.now) }
+    ensures front { result ≡ size_of (front limit.bytes bytes.now) }
+    ensures header { IfSome result (λ size. 8 ≤ length bytes.now) }
+    ensures size { IfSome result (λ size. size ≡ (header_at bytes.now).size) }
+    ensures whole { IfSome result (λ size. is_size limit.bytes size ≡ true
+        → size ≤ length bytes.now) }
 {
     if bytes.len() < 8 {
         return None;
@@ -120,7 +125,7 @@ pub(crate) fn append_next<A: Allocator>(
 
 impl<A: Allocator> WaitingBytes<A> {
     /// None.
-    fn new(alloc: A) -> Self
+    pub(crate) fn new(alloc: A) -> Self
         ensures { result ≡ [] }
     {
         WaitingBytes {

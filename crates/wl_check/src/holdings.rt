@@ -173,7 +173,7 @@ impl<A: Allocator> Holdings<A> {
     }
 
     /// How many slots there are in the range of an id.
-    fn slots_in(&self, id: u32) -> usize
+    pub(crate) fn slots_in(&self, id: u32) -> usize
         ensures { result ≡ slots_in self.now id }
     {
         if id >= FIRST_SERVER_ID {

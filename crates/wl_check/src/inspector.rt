@@ -93,13 +93,23 @@ impl<'t, A: Allocator + Clone> Inspector<'t, A> {
 
 impl<'t, A: Allocator> Inspector<'t, A> {
     ghost use Rattle.wl_check.specs.Inspected.{printed, HasPassed};
-    ghost use Rattle.wl_check.specs.Session.{session_of, IsVerdictOf};
+    ghost use Rattle.wl_check.specs.Session.{messages, session_of, IsVerdictOf};
+    ghost use Rattle.wl_check.specs.Trace.{lasting};
 
     /// The lines that the last `pass` printed, each ended by a line feed.
     pub fn lines(&self) -> &[u8]
         ensures { result.now ≡ printed self.now }
     {
         self.lines.as_slice()
+    }
+
+    /// How many messages were judged, all of them lawful: the first so many of both directions.
+    pub fn judged_count(&self) -> u64
+        ensures { (limit : ℕ) (tables : List Interface) (ps : List Piece)
+            → HasPassed limit tables ps self.now
+            → result ≡ lasting (messages tables (session_of limit ps)) }
+    {
+        self.scanner.state.count
     }
 
     /// The verdict on the session of the pieces so far.

@@ -209,7 +209,7 @@ fn first_number(values: &Values<'_>) -> Option<u32>
 }
 
 /// Whether this is wl_registry.global.
-fn is_global(side: Side, iface: Iface, opcode: u16) -> bool
+pub(crate) fn is_global(side: Side, iface: Iface, opcode: u16) -> bool
     ensures { result ≡ is_global side iface opcode }
 {
     side == Side::Event && iface == REGISTRY && opcode == GLOBAL
@@ -239,7 +239,7 @@ fn advertised(tables: &Tables, values: &Values<'_>) -> Option<AdvertisedGlobal>
 }
 
 /// What a message that was read does.
-fn changes_of(
+pub(crate) fn changes_of(
     tables: &Tables,
     direction: Direction,
     side: Side,

@@ -7,6 +7,8 @@
 
 mod changes;
 mod checking;
+mod followed_bytes;
+mod following;
 mod frames;
 mod holdings;
 mod inspector;
@@ -21,7 +23,9 @@ mod session_state;
 mod tracing;
 mod verdict;
 
+pub use changes::{AdvertisedGlobal, MessageChanges};
 pub use checking::{check, check_text};
+pub use following::{Followed, Follower, NO_INTERFACE};
 pub use inspector::Inspector;
 pub use tracing::{trace, trace_text};
 pub use verdict::Verdict;

@@ -15,7 +15,7 @@ returns-in_default-clause-judged g c s h =
     let b = c.args.bytes.now in
     let p = c.messages.place in
     let none : None ≡ size_of (front c.args.rules.now.limit.bytes (drop p b)) =
-    sym c.in_default.is ∙ c.size_in_front.ensures
+    sym c.in_default.is ∙ c.size_in_front.ensures.front
     ∙ ap (λ (r : List ℕ). size_of (front c.args.rules.now.limit.bytes r)) (rest_is b p c.messages.invariant.within) in
     all_judged c.args.rules.now.limit.bytes c.args.rules.now.tables.now s c.messages.self c.args.direction
     c.args.tokens (drop p b)
@@ -27,7 +27,7 @@ judge_next-requires-clause-comes g c =
     let p = c.messages.place in
     let is = rest_is b p c.messages.invariant.within in
     let some : Some c.in-Some.size ≡ size_of (front c.args.rules.now.limit.bytes (drop p b)) =
-    sym c.in-Some.is ∙ c.size_in_front.ensures ∙ ap (λ (r : List ℕ). size_of (front c.args.rules.now.limit.bytes r))
+    sym c.in-Some.is ∙ c.size_in_front.ensures.front ∙ ap (λ (r : List ℕ). size_of (front c.args.rules.now.limit.bytes r))
     is in
     ∥∥₁_map c.requires.follows (λ x. (
       x.0,
@@ -45,7 +45,7 @@ returns-then-not-is_open-clause-judged g c s h =
     let p = c.messages.place in
     let is = rest_is b p c.messages.invariant.within in
     let some : Some c.in-Some.size ≡ size_of (front c.args.rules.now.limit.bytes (drop p b)) =
-    sym c.in-Some.is ∙ c.size_in_front.ensures ∙ ap (λ (r : List ℕ). size_of (front c.args.rules.now.limit.bytes r))
+    sym c.in-Some.is ∙ c.size_in_front.ensures.front ∙ ap (λ (r : List ℕ). size_of (front c.args.rules.now.limit.bytes r))
     is in
     let comes = subst (λ (r : List ℕ). Comes c.args.rules.now.limit.bytes c.args.rules.now.tables.now s c.messages.self
     (frame_of c.args.direction c.tally.result.end c.in-Some.size c.args.tokens) r) (sym is)
@@ -62,7 +62,7 @@ returns-then-not-is_open-clause-lines g c s h =
     let p = c.messages.place in
     let is = rest_is b p c.messages.invariant.within in
     let some : Some c.in-Some.size ≡ size_of (front c.args.rules.now.limit.bytes (drop p b)) =
-    sym c.in-Some.is ∙ c.size_in_front.ensures ∙ ap (λ (r : List ℕ). size_of (front c.args.rules.now.limit.bytes r))
+    sym c.in-Some.is ∙ c.size_in_front.ensures.front ∙ ap (λ (r : List ℕ). size_of (front c.args.rules.now.limit.bytes r))
     is in
     let comes = subst (λ (r : List ℕ). Comes c.args.rules.now.limit.bytes c.args.rules.now.tables.now s c.messages.self
     (frame_of c.args.direction c.tally.result.end c.in-Some.size c.args.tokens) r) (sym is)
@@ -83,7 +83,7 @@ messages-smaller g c =
     let p = c.messages.place in
     let is = rest_is b p c.messages.invariant.within in
     let some : Some c.in-Some.size ≡ size_of (front c.args.rules.now.limit.bytes (drop p b)) =
-    sym c.in-Some.is ∙ c.size_in_front.ensures ∙ ap (λ (r : List ℕ). size_of (front c.args.rules.now.limit.bytes r))
+    sym c.in-Some.is ∙ c.size_in_front.ensures.front ∙ ap (λ (r : List ℕ). size_of (front c.args.rules.now.limit.bytes r))
     is in
     let on = c.in_ok-judge_next.ensures.on (sym c.is_open.ensures ∙ c.if-not-is_open.false) in
     let big = size_least c.args.rules.now.limit.bytes c.in-Some.size on.size in
@@ -99,7 +99,7 @@ messages-preserved g c =
     let p = c.messages.place in
     let is = rest_is b p c.messages.invariant.within in
     let some : Some c.in-Some.size ≡ size_of (front c.args.rules.now.limit.bytes (drop p b)) =
-    sym c.in-Some.is ∙ c.size_in_front.ensures ∙ ap (λ (r : List ℕ). size_of (front c.args.rules.now.limit.bytes r))
+    sym c.in-Some.is ∙ c.size_in_front.ensures.front ∙ ap (λ (r : List ℕ). size_of (front c.args.rules.now.limit.bytes r))
     is in
     let going = sym c.is_open.ensures ∙ c.if-not-is_open.false in
     let on = c.in_ok-judge_next.ensures.on going in

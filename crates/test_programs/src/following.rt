@@ -1,0 +1,116 @@
+//! A follower goes past each message of a session, and where memory runs out it is as it was.
+use crate::recordings::{DEVICES, MADE, SURFACE};
+use std::alloc::AllocError;
+use std::test::Fail;
+use test_allocator::RefusingAllocator;
+use wl_check::Follower;
+use wl_message::Limit;
+use wl_recording::{Direction, Passed, Recording};
+use wl_sigs::Tables;
+
+/// More than any of these calls asks for, and than any of these pieces completes.
+const MOST: u32 = 1000;
+
+type Refusable<'t> = Follower<'t, RefusingAllocator>;
+
+/// Feeds a piece, whose allocations are refused one by one until it is granted all.
+fn feeds(memory: &RefusingAllocator, follower: &mut Refusable<'_>, piece: &Passed) -> bool {
+    for number in 0..MOST {
+        memory.refuse_nth(u64::from(number));
+        let is_fed = follower
+            .feed(piece.direction, piece.bytes.as_slice())
+            .is_ok();
+        if is_fed {
+            let is_granted = !memory.has_refused();
+            memory.refuse_none();
+            return is_granted;
+        }
+    }
+    false
+}
+
+/// The number of the message in front, if it could be read; 0 where there is none.
+fn number_ahead(follower: &Refusable<'_>, direction: Direction) -> u64 {
+    match follower.ahead(direction) {
+        Some(message) if message.is_read => message.number,
+        _ => 0,
+    }
+}
+
+/// Goes past the message in front likewise. Whether each refusal leaves it there.
+fn goes_past(
+    memory: &RefusingAllocator,
+    follower: &mut Refusable<'_>,
+    direction: Direction,
+) -> bool {
+    let before = number_ahead(follower, direction);
+    for number in 0..MOST {
+        memory.refuse_nth(u64::from(number));
+        if follower.go_past(direction).is_ok() {
+            let is_granted = !memory.has_refused();
+            memory.refuse_none();
+            return is_granted;
+        }
+        if number_ahead(follower, direction) != before {
+            return false;
+        }
+    }
+    false
+}
+
+/// Goes past the messages that a piece completes, from this number on, and returns the next; 0 where
+/// something is wrong.
+fn follows_piece(
+    memory: &RefusingAllocator,
+    follower: &mut Refusable<'_>,
+    piece: &Passed,
+    first: u64,
+) -> u64 {
+    let mut next = first;
+    if !feeds(memory, follower, piece) {
+        return 0;
+    }
+    for _ in 0..MOST {
+        let ahead = number_ahead(follower, piece.direction);
+        if ahead == 0 {
+            return next;
+        }
+        if ahead != next || !goes_past(memory, follower, piece.direction) {
+            return 0;
+        }
+        next = next.saturating_add(1);
+    }
+    0
+}
+
+/// How many messages of a session a follower reads and goes past, all of which it can read; None
+/// where something is wrong.
+fn follows(
+    rt: &HostRuntime,
+    memory: &RefusingAllocator,
+    tables: &Tables,
+    text: &[u8],
+) -> Result<Option<u64>, AllocError> {
+    let Ok(recording) = Recording::parse(rt.alloc(), text) else {
+        return Ok(None);
+    };
+    memory.refuse_none();
+    let mut follower = Follower::new(memory.clone()?, tables, Limit::USUAL)?;
+    let mut next = 1;
+    for piece in recording.pieces() {
+        next = follows_piece(memory, &mut follower, piece, next);
+    }
+    Ok(next.checked_sub(1))
+}
+
+/// The last message of `MADE` breaks a rule, and is read all the same.
+#[test]
+fn follows_sessions_to_their_end(rt: HostRuntime) -> Result<(), Fail> {
+    let tables = Tables::core(rt.alloc())?
+        .read_more(DEVICES)
+        .expect(&rt, "the text is read");
+    let memory = RefusingAllocator::new(rt.alloc())?;
+    assert!(rt; follows(&rt, &memory, &tables, SURFACE)? == Some(11));
+    assert!(rt; follows(&rt, &memory, &tables, MADE)? == Some(14));
+    Ok(())
+}
