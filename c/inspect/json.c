@@ -61,7 +61,7 @@ static void put_parts(struct text *text, const struct object *object)
 {
 	text_add(text, "\"interface\":");
 	put_name(text, object->name, object->name_length);
-	text_format(text, ",\"id\":%" PRIu32 ",\"birth\":%" PRIu32, object->id, object->birth);
+	text_format(text, ",\"id\":%" PRIu32 ",\"birth\":%" PRIu64, object->id, object->birth);
 }
 
 static void put_objects(struct text *text, const char *key, const struct object *object)

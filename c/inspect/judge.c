@@ -25,18 +25,16 @@ static void lose(struct judging *judging, waywire_status status)
 void judge_begin(struct judging *judging, const struct options *options, const waywire_tables *tables,
 	unsigned number)
 {
-	*judging = (struct judging){ .shown = { .options = options, .number = number } };
-	waywire_status status = waywire_inspector_new(tables, options->limit, &judging->inspector);
-	if (!follower_new(&judging->follower, tables, options->limit) && !status)
-		status = WAYWIRE_NO_MEMORY;
+	*judging = (struct judging){ .shown = { .options = options, .number = number },
+		.follower = { .tables = tables, .limit = options->limit } };
+	waywire_status status = waywire_inspector_new(tables, options->limit, &judging->follower.inspector);
 	if (status)
 		lose(judging, status);
 }
 
 void judge_free(struct judging *judging)
 {
-	waywire_inspector_free(judging->inspector);
-	follower_free(&judging->follower);
+	waywire_inspector_free(judging->follower.inspector);
 	stats_free(&judging->stats);
 	text_free(&judging->reason);
 	text_free(&judging->verdict);
@@ -44,8 +42,8 @@ void judge_free(struct judging *judging)
 
 /* ---- a message */
 
-/* Prints a message by its line, and makes its changes. */
-static void print_and_follow(struct judging *judging, struct message *message, const struct text *line,
+/* Prints a message by its line. */
+static void print_by_line(struct judging *judging, struct message *message, const struct text *line,
 	const struct beside *beside)
 {
 	struct beside printed = *beside;
@@ -56,64 +54,38 @@ static void print_and_follow(struct judging *judging, struct message *message, c
 		stats_note(&judging->stats, message);
 	name_arguments(message);
 	print_message(&judging->shown, message, line, &printed);
-	if (!follow_message(&judging->follower, message))
-		lose(judging, WAYWIRE_NO_MEMORY);
 }
 
-/* Prints the messages that the last piece completed by the library's lines. */
-static void print_judged(struct judging *judging, int from, const char *lines, size_t length)
+/* Prints a message by the front of the library's lines, and takes that off them. */
+static void print_judged(struct judging *judging, struct message *message, const char **lines, size_t *length)
 {
 	static const struct beside none;
-	bool is_bad_size;
-	while (length && has_message(&judging->follower, from, &is_bad_size) && judging->standing == JUDGED) {
-		const char *end = memchr(lines, '\n', length);
-		size_t its = end ? (size_t)(end - lines) : length;
-		struct message message;
-		struct text line = { NULL, 0, 0 };
-		read_message(&judging->follower, from, &message);
-		message.is_judged = true;
-		text_put_line(&line, lines, its);
-		print_and_follow(judging, &message, &line, &none);
-		text_free(&line);
-		lines += its + (end != NULL);
-		length -= its + (end != NULL);
-	}
+	const char *end = *length ? memchr(*lines, '\n', *length) : NULL;
+	size_t its = end ? (size_t)(end - *lines) : *length;
+	struct text line = { NULL, 0, 0 };
+	message->is_judged = true;
+	text_put_line(&line, *lines, its);
+	print_by_line(judging, message, &line, &none);
+	text_free(&line);
+	*lines += its + (end != NULL);
+	*length -= its + (end != NULL);
 }
 
-/* ---- behind what is not in the tables */
+/* ---- behind what is not judged */
 
-/* Whether a message may have made objects, ended them, or brought descriptors, for all the tables say. */
-static bool is_unknown(const struct message *message)
-{
-	return message->status || message->target.state == UNKNOWN;
-}
-
-static void print_unjudged_message(struct judging *judging, struct message *message, const char *note)
+static void print_unjudged(struct judging *judging, struct message *message, const char *note)
 {
 	struct beside beside = { .note = note, .is_marked = !note };
 	struct text line = { NULL, 0, 0 };
-	put_message(&line, message);
-	if (is_unknown(message))
-		judging->follower.streams[message->from].is_unnumbered = true;
-	print_and_follow(judging, message, &line, &beside);
-	text_free(&line);
-}
-
-/* Prints the whole messages of a direction, unjudged. */
-static void print_unjudged(struct judging *judging, int from)
-{
-	bool is_bad_size = false;
-	while (judging->standing == UNJUDGED && !judging->has_error && !judging->is_lost[from]
-		&& has_message(&judging->follower, from, &is_bad_size) && !is_bad_size) {
-		struct message message;
-		read_message(&judging->follower, from, &message);
-		print_unjudged_message(judging, &message, NULL);
-	}
-	if (!is_bad_size || judging->is_lost[from])
+	int from = message->from;
+	if (message->is_bad_size) {
+		notice("client %u: its %s have no sizes from here, and are not printed any more", judging->shown.number,
+			from == CLIENT ? "requests" : "events");
 		return;
-	notice("client %u: its %s have no sizes from here, and are not printed any more", judging->shown.number,
-		from == CLIENT ? "requests" : "events");
-	judging->is_lost[from] = true;
+	}
+	put_message(&line, message);
+	print_by_line(judging, message, &line, &beside);
+	text_free(&line);
 }
 
 /* Why a bind breaks no rule: nothing but that the tables lack its interface or its version. */
@@ -123,10 +95,9 @@ static bool is_beyond_tables(const struct judging *judging, const struct message
 	if (!is_bind(message))
 		return false;
 	const waywire_arg *bound = &message->args[1].value;
-	if (!bound->u || !is_announced(&judging->follower, message->args[0].value.u, bound->bytes, bound->length,
-			bound->u))
+	if (!bound->u || announced_version(&judging->follower, message) < bound->u)
 		return false;
-	bool is_known = !waywire_tables_version(judging->follower.tables, message->args[1].object.interface, &known);
+	bool is_known = !waywire_tables_version(judging->follower.tables, message->bound, &known);
 	if (is_known && bound->u <= known)
 		return false;
 	if (is_known)
@@ -146,29 +117,11 @@ static void leave_unjudged(struct judging *judging, struct message *message)
 	judging->unjudged_from = message->index;
 	text_add(&note, "not judged from here: ");
 	text_put(&note, judging->reason.bytes, judging->reason.length);
-	print_unjudged_message(judging, message, note.bytes ? note.bytes : "not judged from here");
+	print_unjudged(judging, message, note.bytes ? note.bytes : "not judged from here");
 	text_free(&note);
-	print_unjudged(judging, message->from);
 }
 
 /* ---- a message that breaks a rule */
-
-/* Which rule the line of a verdict names. */
-static struct fault fault_of(const char *line, size_t length)
-{
-	struct fault fault = { 0, 0, 0 };
-	char copy[128];
-	snprintf(copy, sizeof copy, "%.*s", (int)length, line);
-	const char *number = strstr(copy, ": F"), *place = strstr(copy, "argument ");
-	if (number)
-		fault.number = (unsigned)strtoul(number + 3, NULL, 10);
-	if (place)
-		fault.place = strtoul(place + 9, NULL, 10);
-	const char *spelling = place ? strstr(place, "(A") : NULL;
-	if (spelling)
-		fault.spelling = (uint32_t)strtoul(spelling + 2, NULL, 10);
-	return fault;
-}
 
 /* Puts the bytes of a message that cannot be taken apart. */
 static void put_bytes(struct text *line, const struct message *message)
@@ -179,98 +132,82 @@ static void put_bytes(struct text *line, const struct message *message)
 	text_add(line, length < message->length ? ".." : "");
 }
 
-static void print_broken_message(struct judging *judging, struct message *message, const struct fault *fault)
+static void print_broken_message(struct judging *judging, struct message *message,
+	const waywire_judgement *judgement)
 {
 	struct text line = { NULL, 0, 0 }, words = { NULL, 0, 0 };
+	struct fault fault = { judgement->fault - WAYWIRE_FAULT_BAD_SIZE + 1, judgement->place, judgement->spelling };
 	put_message(&line, message);
 	if (message->status)
 		put_bytes(&line, message);
-	text_format(&words, "F%u: ", fault->number);
-	put_fault(&words, &judging->follower, message, fault);
+	text_format(&words, "F%u: ", fault.number);
+	put_fault(&words, &judging->follower, message, &fault);
 	name_arguments(message);
-	struct breaking breaking = { message, &line, &words, &judging->verdict, *fault };
+	struct breaking breaking = { message, &line, &words, &judging->verdict, fault };
 	print_broken(&judging->shown, &breaking);
 	text_free(&line);
 	text_free(&words);
 }
 
-/* The library says that the message in front of a direction breaks a rule. */
-static void meet_fault(struct judging *judging, int from, const char *verdict, size_t length)
+/* The library says that this message breaks a rule. */
+static void meet_fault(struct judging *judging, struct message *message, const waywire_judgement *judgement)
 {
-	struct fault fault = fault_of(verdict, length);
-	struct message message;
-	bool is_bad_size;
-	read_message(&judging->follower, from, &message);
-	if (fault.number == 9 && is_beyond_tables(judging, &message, &judging->reason)) {
-		leave_unjudged(judging, &message);
+	const char *verdict;
+	size_t length;
+	if (judgement->fault == WAYWIRE_FAULT_BAD_BIND && is_beyond_tables(judging, message, &judging->reason)) {
+		leave_unjudged(judging, message);
 		return;
 	}
 	judging->standing = BROKEN;
-	text_put(&judging->verdict, verdict, length);
-	print_broken_message(judging, &message, &fault);
-	if (has_message(&judging->follower, from, &is_bad_size) && !is_bad_size)
-		skip_message(&judging->follower, &message);
-	else
-		judging->is_lost[from] = true;
-}
-
-/* Behind a broken message: prints a wl_display.error, and nothing else. */
-static void look_for_error(struct judging *judging, int from)
-{
-	static const struct beside beside = { .is_red = true };
-	struct stream *stream = &judging->follower.streams[from];
-	bool is_bad_size = false;
-	while (from == COMPOSITOR && !judging->has_error && !judging->is_lost[from]
-		&& has_message(&judging->follower, from, &is_bad_size) && !is_bad_size) {
-		struct message message;
-		struct text line = { NULL, 0, 0 };
-		read_message(&judging->follower, from, &message);
-		if (is_error(&message)) {
-			put_message(&line, &message);
-			print_and_follow(judging, &message, &line, &beside);
-			text_free(&line);
-		} else
-			skip_message(&judging->follower, &message);
+	waywire_status status = waywire_inspector_verdict(judging->follower.inspector, &verdict, &length, NULL);
+	if (status) {
+		lose(judging, status);
+		return;
 	}
-	judging->is_lost[from] |= is_bad_size;
-	if (from == CLIENT || judging->is_lost[from])
-		stream->from = stream->to;
+	text_put(&judging->verdict, verdict, length - 1);
+	print_broken_message(judging, message, judgement);
 }
 
 /* ---- a piece */
 
-static void judge(struct judging *judging, int from, const unsigned char *bytes, size_t length,
-	size_t descriptor_count)
+/* Prints the messages that a piece completes, the judged ones by the library's lines. */
+static void print_messages(struct judging *judging, int from)
 {
-	const char *lines;
-	size_t lines_length;
-	bool is_broken = false;
-	waywire_status status = waywire_inspector_pass(judging->inspector, (waywire_sender)from, bytes, length,
-		descriptor_count);
-	if (!status) {
-		lines = waywire_inspector_lines(judging->inspector, &lines_length);
-		print_judged(judging, from, lines, lines_length);
-		status = waywire_inspector_verdict(judging->inspector, &lines, &lines_length, &is_broken);
+	waywire_inspector *inspector = judging->follower.inspector;
+	waywire_judgement judgement;
+	size_t length;
+	const char *lines = waywire_inspector_lines(inspector, &length);
+	uint64_t judged = waywire_inspector_judged(inspector);
+	struct message message;
+	waywire_inspector_judgement(inspector, &judgement);
+	while (judging->standing != LOST && !judging->has_error && read_message(&judging->follower, from, &message)) {
+		if (message.number <= judged)
+			print_judged(judging, &message, &lines, &length);
+		else if (judging->standing == JUDGED)
+			meet_fault(judging, &message, &judgement);
+		else
+			print_unjudged(judging, &message, NULL);
+		if (!follow_message(&judging->follower, &message))
+			lose(judging, WAYWIRE_NO_MEMORY);
 	}
-	if (status)
-		lose(judging, status);
-	else if (is_broken && judging->standing == JUDGED)
-		meet_fault(judging, from, lines, lines_length - 1);
 }
 
 void judge_piece(struct judging *judging, int from, const unsigned char *bytes, size_t length,
 	size_t descriptor_count, double seconds)
 {
-	if (judging->standing == LOST || judging->has_error)
+	waywire_inspector *inspector = judging->follower.inspector;
+	waywire_sender sender = (waywire_sender)from;
+	if (judging->standing == LOST)
 		return;
-	if (!follow_piece(&judging->follower, from, bytes, length, seconds)) {
-		lose(judging, WAYWIRE_NO_MEMORY);
-	} else if (judging->standing == JUDGED) {
-		judge(judging, from, bytes, length, descriptor_count);
-	} else if (judging->standing == UNJUDGED) {
-		print_unjudged(judging, from);
-	} else
-		look_for_error(judging, from);
+	waywire_status status = waywire_inspector_pass(inspector, sender, bytes, length, descriptor_count);
+	if (!status && !judging->has_error)
+		status = waywire_inspector_follow(inspector, sender, bytes, length);
+	judging->follower.piece_count++;
+	judging->follower.seconds = seconds;
+	if (status)
+		lose(judging, status);
+	else
+		print_messages(judging, from);
 }
 
 /* ---- the end */
@@ -281,7 +218,7 @@ static bool put_lawful(struct judging *judging, struct text *words)
 	static const char lawful[] = "lawful";
 	const char *line;
 	size_t length, begins = sizeof lawful - 1;
-	waywire_status status = waywire_inspector_verdict(judging->inspector, &line, &length, NULL);
+	waywire_status status = waywire_inspector_verdict(judging->follower.inspector, &line, &length, NULL);
 	if (status) {
 		lose(judging, status);
 		return false;
@@ -328,7 +265,7 @@ void judge_end(struct judging *judging, double seconds)
 	text_free(&words);
 	if (!judging->shown.options->stats || judging->shown.options->json)
 		return;
-	stats_put(&words, &judging->stats, &judging->follower.objects);
+	stats_put(&words, &judging->stats, &judging->follower);
 	print(words.bytes, words.length);
 	text_free(&words);
 }

@@ -6,19 +6,18 @@
 
 enum standing {
 	JUDGED,   /* the library's inspector judges it */
-	UNJUDGED, /* what is not in the tables was bound: followed and printed, not judged */
-	BROKEN,   /* a message broke a rule: nothing but wl_display.error is looked for */
+	UNJUDGED, /* what is not in the tables was bound: printed, not judged */
+	BROKEN,   /* a message broke a rule: those behind it are printed, not judged */
 	LOST      /* memory ran out */
 };
 
 struct judging {
 	struct shown shown;
 	enum standing standing;
-	bool has_error;               /* wl_display.error has come: nothing behind it is looked at */
+	bool has_error;               /* wl_display.error has come: nothing behind it is printed */
 	bool is_cut;                  /* a recording could not be read to its end */
 	bool is_lost[2];              /* a direction cannot be cut into messages any more */
 	struct follower follower;
-	waywire_inspector *inspector;
 	struct text reason;           /* where it is not judged: what is not in the tables */
 	struct text verdict;          /* where it is broken */
 	uint64_t unjudged_from;       /* the number of that request, among requests */

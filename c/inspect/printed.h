@@ -69,7 +69,7 @@ struct stats {
 void stats_note(struct stats *stats, const struct message *message);
 
 /* Puts the counts, and what was left open. */
-void stats_put(struct text *text, const struct stats *stats, const struct objects *objects);
+void stats_put(struct text *text, const struct stats *stats, const struct follower *follower);
 
 void stats_free(struct stats *stats);
 

@@ -90,23 +90,24 @@ static void put_counted(struct text *text, const struct counted *it)
 	text_add(text, "\n");
 }
 
-/* Counts the live objects of a range by their interfaces. */
-static void count_open(struct stats *open, const struct range *range)
+/* Counts the live objects that one side made by their interfaces. */
+static void count_open(struct stats *open, const struct follower *follower, waywire_sender maker)
 {
-	for (size_t each = 0; each < range->used; each++) {
-		const struct object *object = &range->objects[each];
-		struct message as_if = { .target = *object };
-		struct counted *counted = object->state == LIVE ? counted_at(open, &as_if) : NULL;
+	uint32_t first = maker == WAYWIRE_FROM_SERVER ? FIRST_SERVER_ID : 0;
+	size_t count = waywire_inspector_id_count(follower->inspector, maker);
+	for (size_t each = 0; each < count; each++) {
+		struct message as_if = { .target = object_of(follower, first + (uint32_t)each) };
+		struct counted *counted = as_if.target.state == LIVE ? counted_at(open, &as_if) : NULL;
 		if (counted)
 			counted->count++;
 	}
 }
 
-static void put_open(struct text *text, const struct objects *objects)
+static void put_open(struct text *text, const struct follower *follower)
 {
 	struct stats open = { 0 };
-	count_open(&open, &objects->ranges[CLIENT]);
-	count_open(&open, &objects->ranges[COMPOSITOR]);
+	count_open(&open, follower, WAYWIRE_FROM_CLIENT);
+	count_open(&open, follower, WAYWIRE_FROM_SERVER);
 	if (open.count)
 		qsort(open.counted, open.count, sizeof *open.counted, most_first);
 	text_add(text, "objects left open\n");
@@ -119,7 +120,7 @@ static void put_open(struct text *text, const struct objects *objects)
 	stats_free(&open);
 }
 
-void stats_put(struct text *text, const struct stats *stats, const struct objects *objects)
+void stats_put(struct text *text, const struct stats *stats, const struct follower *follower)
 {
 	if (stats->count)
 		qsort(stats->counted, stats->count, sizeof *stats->counted, most_first);
@@ -131,7 +132,7 @@ void stats_put(struct text *text, const struct stats *stats, const struct object
 		text_format(text, ", %.3f ms on average, %.3f ms at most",
 			1e3 * stats->all_trips / (double)stats->trips_done, 1e3 * stats->longest_trip);
 	text_add(text, "\n");
-	put_open(text, objects);
+	put_open(text, follower);
 }
 
 void stats_free(struct stats *stats)

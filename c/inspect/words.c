@@ -14,19 +14,15 @@ static const char *kind_of(const struct message *message)
 /* Puts which object an id means, and what became of it. */
 static void put_known(struct text *text, const struct object *object)
 {
-	if (!object->birth) {
-		text_format(text, "no object has had the id %" PRIu32, object->id);
+	if (object->state == UNKNOWN) {
+		text_format(text, "no object has the id %" PRIu32, object->id);
 		return;
 	}
 	put_object(text, object);
 	if (object->state == ENDING)
-		text_format(text, " was destroyed by message %" PRIu64, object->ended);
-	else if (object->state == UNKNOWN && object->ended)
-		text_format(text, " was destroyed by message %" PRIu64 ", and its id is free", object->ended);
-	else if (object->state == UNKNOWN)
-		text_add(text, " has ended, and its id is free");
-	else if (object->made)
-		text_format(text, " was made by message %" PRIu64, object->made);
+		text_add(text, " was destroyed");
+	else if (object->birth)
+		text_format(text, " was made by message %" PRIu64, object->birth);
 	else
 		text_add(text, " is there from the start");
 }
@@ -81,7 +77,7 @@ static void put_bad_new_id(struct text *text, const struct follower *follower, c
 	size_t place)
 {
 	uint32_t id = object_at(message, place).id;
-	struct object old = object_of(&follower->objects, id);
+	struct object old = object_of(follower, id);
 	put_place(text, place);
 	if (!id)
 		text_add(text, "a new id is not 0");
@@ -94,22 +90,8 @@ static void put_bad_new_id(struct text *text, const struct follower *follower, c
 	} else if (message->from == COMPOSITOR)
 		text_format(text, "%" PRIu32 " is neither a free id nor the next one of the compositor's", id);
 	else
-		text_format(text, "%" PRIu32 " is neither a free id nor the next one, %" PRIu32, id,
-			next_id(&follower->objects));
-}
-
-/* The newest version with which an interface was announced under a name; 0 where it was not. */
-static uint32_t announced_version(const struct follower *follower, uint32_t name, const char *interface,
-	size_t length)
-{
-	uint32_t version = 0;
-	for (size_t each = 0; each < follower->global_count; each++) {
-		const struct global *it = &follower->globals[each];
-		if (it->name == name && it->length == length && !memcmp(it->interface, interface, length)
-			&& it->version > version)
-			version = it->version;
-	}
-	return version;
+		text_format(text, "%" PRIu32 " is neither a free id nor the next one, %zu", id,
+			waywire_inspector_id_count(follower->inspector, WAYWIRE_FROM_CLIENT));
 }
 
 static void put_bad_bind(struct text *text, const struct follower *follower, const struct message *message)
@@ -118,7 +100,7 @@ static void put_bad_bind(struct text *text, const struct follower *follower, con
 		return;
 	uint32_t name = message->args[0].value.u;
 	const waywire_arg *bound = &message->args[1].value;
-	uint32_t version = announced_version(follower, name, bound->bytes, bound->length);
+	uint32_t version = announced_version(follower, message);
 	if (!version) {
 		text_format(text, "no global %" PRIu32 " was announced that is a ", name);
 		text_put_quoted(text, bound->bytes, bound->length);
