@@ -169,6 +169,11 @@ class Browser:
         self.ask("Page.navigate", url=f"file://{os.path.abspath(path)}{ending}")
         self.wait_for("typeof window.app === 'object' && !document.getElementById('status')")
 
+    def size(self, width, height):
+        """Gives the next page another size; below 500 it is that of a telephone."""
+        self.ask("Emulation.setDeviceMetricsOverride", width=width, height=height, deviceScaleFactor=1,
+                 mobile=width < 500)
+
     def press(self, *keys):
         """Presses keys, one after the other."""
         for key in keys:

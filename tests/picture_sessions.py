@@ -49,6 +49,13 @@ class Lines:
             "judged": True, **parts})
         self.offset[direction] += size
 
+    def ended(self, verdict="lawful"):
+        """All lines, with the verdict."""
+        counts = {it: sum(line.get("direction") == it for line in self.lines) for it in ("request", "event")}
+        return [*self.lines, {
+            "type": "verdict", "client": 1, "verdict": verdict, "words": "words", "messages": self.number,
+            "requests": counts["request"], "events": counts["event"]}]
+
 
 def quoted(text):
     plain = (chr(it) if 0x20 <= it <= 0x7E and it not in b'"\\' else f"\\x{it:02x}" for it in text.encode())
@@ -82,10 +89,7 @@ def small(title="a title", name="client", error=None):
                   f"wl_surface@4, 3, {quoted(error)}")
         lines.lines.append({"type": "error", "client": 1, "number": lines.number, "object": surface, "code": 3,
                             "text": error})
-    counts = {it: sum(line.get("direction") == it for line in lines.lines) for it in ("request", "event")}
-    lines.lines.append({"type": "verdict", "client": 1, "verdict": "error" if error else "lawful", "words": "words",
-                        "messages": lines.number, "requests": counts["request"], "events": counts["event"]})
-    return lines.lines
+    return lines.ended("error" if error else "lawful")
 
 
 def words(*numbers):

@@ -3,20 +3,20 @@
 
 // The height of a wait is its length; the longest of the row has 26 pixels.
 function drawBars(drawing, row, base) {
-    const { pen, right, app: { view, colours } } = drawing, end = view.end();
+    const { pen, app: { view, colours } } = drawing, { left, right } = view, end = view.end();
     const lengthOf = (it) => (it.to < 0 ? -1 : view.at(it.to) - view.at(it.from));
     row.most ??= {};
     row.most[view.isTime] ??= row.waits.reduce((most, it) => Math.max(most, lengthOf(it)), 1e-9);
     const most = row.most[view.isTime];
     const narrow = new Float32Array(Math.ceil(view.width) + 2);
-    const { places } = view, { waits } = row, scale = (right - GUTTER) / (view.to - view.from);
+    const { places } = view, { waits } = row, scale = view.inner / (view.to - view.from);
     let covered = -Infinity;
     for (let place = 0; place < waits.length; place++) {
         const it = waits[place], from = places[it.from], to = it.to < 0 ? end : places[it.to];
         if (from > view.to) {
             break;
         }
-        const before = covered, x = GUTTER + (from - view.from) * scale, wide = (to - from) * scale;
+        const before = covered, x = left + (from - view.from) * scale, wide = (to - from) * scale;
         covered = Math.max(covered, to);
         if (to < view.from) {
             continue;
@@ -54,7 +54,7 @@ function drawColumns(pen, colours, narrow, base) {
 }
 
 function drawBar(drawing, wait, { x, wide, base, high }, isAlone) {
-    const { pen, right: end, app: { colours, view } } = drawing;
+    const { pen, app: { colours, view } } = drawing;
     if (wait.to < 0) {
         pen.fillStyle = hatched(pen, colours.faint);
         pen.fillRect(x, base - high, wide, high);
@@ -67,12 +67,12 @@ function drawBar(drawing, wait, { x, wide, base, high }, isAlone) {
     pen.globalAlpha = 1;
     pen.fillStyle = isAmber ? colours["amber-top"] : colours.top;
     pen.fillRect(x, base - high, Math.max(1.5, wide), isAmber ? 1.5 : 1);
-    const [left, right] = [Math.max(x, GUTTER), Math.min(x + wide, end)];
+    const [left, right] = [Math.max(x, view.left), Math.min(x + wide, view.right)];
     if (isAlone && right - left > 46 && view.isTime && high > 13) {
         const middle = (left + right) / 2;
         const text = duration(wait.took);
         if (isAmber || high > 20) {
-            write(pen, text, middle, base - 6, isAmber ? colours.dark : colours.text, `10.5px ${FONT}`, "center");
+            writeWhole(drawing, text, middle, base - 6, isAmber ? colours.dark : colours.text, `10.5px ${FONT}`, "center");
         }
     }
 }

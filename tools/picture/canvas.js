@@ -76,7 +76,7 @@ function hatched(pen, colour) {
 
 // How many messages there are in each column of pixels, requests and events apart.
 function columnsOf(session, view, isShown, whole) {
-    const wide = Math.max(1, Math.ceil(view.width - GUTTER - EDGE) + 1);
+    const wide = Math.max(1, Math.ceil(view.inner) + 1);
     const counts = [new Uint32Array(wide), new Uint32Array(wide)];
     for (let i = 0; i < session.count; i++) {
         if (!isShown || isShown[i]) {
@@ -95,13 +95,15 @@ function drawOverview(app, canvas) {
         app.overviewKey = key;
         app.overviewCounts = columnsOf(session, view, app.isShown, view.end());
     }
-    write(pen, "→ requests", 14, 20, colours.request, `11px ${FONT}`);
-    write(pen, "← events", 14, 35, colours.event, `11px ${FONT}`);
-    const inner = view.width - GUTTER - EDGE;
+    if (!view.isNarrow) {
+        write(pen, "→ requests", 14, 20, colours.request, `11px ${FONT}`);
+        write(pen, "← events", 14, 35, colours.event, `11px ${FONT}`);
+    }
+    const { left, inner } = view;
     const isWhole = view.from <= 0 && view.to >= view.end();
     if (!isWhole) {
         pen.fillStyle = colours.row;
-        const [a, b] = [view.from, view.to].map((it) => GUTTER + it / view.end() * inner);
+        const [a, b] = [view.from, view.to].map((it) => left + it / view.end() * inner);
         pen.fillRect(a, 0, Math.max(2, b - a), height);
         pen.strokeStyle = colours.blue;
         pen.strokeRect(a + 0.5, 0.5, Math.max(1, b - a - 1), height - 1);
@@ -113,14 +115,14 @@ function drawOverview(app, canvas) {
         counts.forEach((count, x) => {
             if (count) {
                 const high = most > 1 ? 6 + 13 * Math.sqrt((count - 1) / (most - 1)) : 19;
-                pen.fillRect(GUTTER + x, direction === REQUEST ? 23 - high : 24, 1.4, high);
+                pen.fillRect(left + x, direction === REQUEST ? 23 - high : 24, 1.4, high);
             }
         });
     });
     for (const [message, colour] of [[app.selected, colours.text], [session.bad, colours.bad]]) {
         if (message >= 0) {
             pen.fillStyle = colour;
-            pen.fillRect(GUTTER + view.at(message) / view.end() * inner - 0.5, 0, 1.5, height);
+            pen.fillRect(left + view.at(message) / view.end() * inner - 0.5, 0, 1.5, height);
         }
     }
     if (app.overviewDrag) {
@@ -138,28 +140,44 @@ function stepFor(view, most) {
     return [1, 2, 5, 10].map((it) => it * ten).find((it) => it >= raw);
 }
 
-function drawAxis(app, canvas) {
-    const { session, view, colours } = app, height = 34;
-    const pen = fitted(canvas, view.width, height);
-    write(pen, view.isTime ? "time" : session.isTimed ? "message" : "message (no times recorded)", 14, 13,
-        colours.soft, `10.5px ${FONT}`);
-    const step = stepFor(view, 6);
+// The widest that a number of the axis may be, with what parts it from the next.
+const MARK = 84;
+const mostMarks = (view) => Math.max(2, Math.min(6, Math.floor(view.inner / MARK)));
+
+function markOf(view, at, step) {
+    const digits = step >= 1000 ? 0 : step >= 100 ? 1 : step >= 10 ? 2 : 3;
+    if (!view.isTime) {
+        return `${view.isNarrow ? "message " : ""}${counted(Math.round(at))}`;
+    }
+    return step >= 1e6 ? `${at / 1e6} s` : `${(at / 1000).toFixed(digits)} ms`;
+}
+
+function drawMarks(app, pen, height) {
+    const { session, view, colours } = app, font = `10.5px ${FONT}`, step = stepFor(view, mostMarks(view));
+    if (!view.isNarrow) {
+        write(pen, view.isTime ? "time" : session.isTimed ? "message" : "message (no times recorded)", 14, 13,
+            colours.soft, font);
+    }
     for (let at = Math.ceil(view.from / step) * step; at <= view.to; at += step) {
-        const x = Math.round(view.x(at)) + 0.5;
+        const x = Math.round(view.x(at)) + 0.5, text = markOf(view, at, step);
         pen.fillStyle = colours.line;
         pen.fillRect(x, 0, 1, height);
-        const digits = step >= 1000 ? 0 : step >= 100 ? 1 : step >= 10 ? 2 : 3;
-        const text = !view.isTime ? counted(Math.round(at)) : step >= 1e6 ? `${at / 1e6} s`
-            : `${(at / 1000).toFixed(digits)} ms`;
-        if (x < view.width - 30) {
-            write(pen, text, x + 3, 13, colours.soft, `10.5px ${FONT}`);
+        pen.font = font;
+        if (x + 3 + pen.measureText(text).width < view.width) {
+            write(pen, text, x + 3, 13, colours.soft, font);
         }
     }
+}
+
+function drawAxis(app, canvas) {
+    const { view, colours } = app, height = 34;
+    const pen = fitted(canvas, view.width, height);
+    drawMarks(app, pen, height);
     drawMilestones(app, pen);
     // Which part of the session the list shows.
     const [first, last] = app.listed();
     if (first >= 0) {
-        const [a, b] = [first, last].map((it) => Math.min(view.width - EDGE, Math.max(GUTTER, view.xOf(it))));
+        const [a, b] = [first, last].map((it) => Math.min(view.right, Math.max(view.left, view.xOf(it))));
         pen.fillStyle = colours.faint;
         pen.fillRect(a, height - 2, Math.max(2, b - a), 2);
     }

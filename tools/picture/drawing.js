@@ -10,7 +10,9 @@ class Drawing {
     draw(top, height) {
         const { app } = this, { view, layout, colours } = app;
         const pen = this.pen = fitted(this.canvas, view.width, height);
-        this.right = view.width - EDGE;
+        this.height = height;
+        this.right = view.right;
+        this.left = view.left;
         pen.fillStyle = colours.ground;
         pen.fillRect(0, 0, view.width, height);
         this.seen = [view.first(view.from), view.first(view.to + 1e-9)];
@@ -23,7 +25,7 @@ class Drawing {
             }
             if (row === selected) {
                 pen.fillStyle = colours.row;
-                pen.fillRect(GUTTER, y, view.width - GUTTER, row.height);
+                pen.fillRect(view.left, y + row.above, view.width - view.left, row.height - row.above);
             }
             this[row.kind](row, y);
         }
@@ -32,7 +34,7 @@ class Drawing {
 
     drawGrid(height) {
         const { view, colours } = this.app;
-        const step = stepFor(view, 6);
+        const step = stepFor(view, mostMarks(view));
         this.pen.fillStyle = colours.line;
         for (let at = Math.ceil(view.from / step) * step; at <= view.to; at += step) {
             this.pen.fillRect(Math.round(view.x(at)) + 0.5, 0, 1, height);
@@ -40,14 +42,7 @@ class Drawing {
     }
 
     heading(row, y) {
-        const { pen } = this, { colours, view } = this.app;
-        pen.fillStyle = colours.ground;
-        pen.fillRect(0, y, view.width, row.height - 2);
-        const font = `600 11px ${FONT}`;
-        write(pen, row.label, 14, y + 17, colours[`${row.group}-text`] ?? colours.soft, font);
-        const wide = pen.measureText(row.label).width;
-        pen.fillStyle = colours.line;
-        pen.fillRect(14 + wide + 10, y + 13, view.width, 1);
+        drawHeading(this, row, y);
     }
 
     inside(y, height, draw) {
@@ -55,33 +50,17 @@ class Drawing {
     }
 
     wait(row, y) {
-        const { pen } = this, { colours, view } = this.app;
-        write(pen, row.label, 22, y + 16, colours.text, `11.5px ${FONT}`);
-        write(pen, row.below, 22, y + 29, colours.soft, `10px ${FONT}`);
-        if (row.right) {
-            write(pen, cutTo(pen, row.right, `11px ${MONO}`, 105), GUTTER - 12, y + 16, colours.soft, `11px ${MONO}`,
-                "right");
-        }
+        const { pen } = this, { colours } = this.app, base = y + row.height - 6;
+        drawWaitLabel(this, row, y);
         pen.fillStyle = colours.line;
-        pen.fillRect(GUTTER, y + row.height - 6, this.right - GUTTER, 1);
-        this.inside(y, row.height, () => drawBars(this, row, y + row.height - 6));
-    }
-
-    label(row, y) {
-        const { pen } = this, { colours } = this.app;
-        if (row.label) {
-            const font = `11px ${MONO}`;
-            const room = GUTTER - 22 - (row.count > 1 ? 22 + 6 * counted(row.count).length : 12);
-            write(pen, cutTo(pen, row.label, font, room), 22, y + 14, colours.text, font);
-            if (row.count > 1) {
-                write(pen, counted(row.count), GUTTER - 12, y + 14, colours.soft, `11px ${MONO}`, "right");
-            }
-        }
+        pen.fillRect(this.left, base, this.right - this.left, 1);
+        this.inside(y, row.height, () => drawBars(this, row, base));
     }
 
     life(row, y) {
-        this.label(row, y);
-        this.inside(y - 3, row.height + 4, () => this.objects(row, y));
+        drawLabel(this, row, y);
+        y += row.above;
+        this.inside(y - 3, row.height - row.above + 4, () => this.objects(row, y));
         const { session, view, colours } = this.app, last = row.objects.at(-1);
         if (session.isOpen(last) && row.group !== "globals" && last.interface !== "wl_seat" && view.to >= view.end()) {
             // Never destroyed.
@@ -95,7 +74,7 @@ class Drawing {
 
     // The objects of a row. Of those that are narrower than a pixel, one in a column is drawn.
     objects(row, y) {
-        const { view } = this.app, narrow = 1.5 * (view.to - view.from) / (view.width - GUTTER - EDGE);
+        const { view } = this.app, narrow = 1.5 * (view.to - view.from) / view.inner;
         let covered = -Infinity;
         for (const it of row.objects) {
             const begin = it.made < 0 ? 0 : view.at(it.made);
@@ -113,7 +92,7 @@ class Drawing {
 
     object(row, it, y, begin, end) {
         const { pen } = this, { session, view, colours } = this.app;
-        const x = Math.max(view.x(begin), GUTTER - 9), to = Math.min(view.x(end), this.right + 9);
+        const x = Math.max(view.x(begin), this.left - 9), to = Math.min(view.x(end), this.right + 9);
         const solid = it.destroyed >= 0 ? Math.max(x, Math.min(to, view.xOf(it.destroyed))) : to;
         pen.fillStyle = colours[`${row.group}-fill`];
         if (solid - x < 6) {
@@ -135,11 +114,9 @@ class Drawing {
         const [first, last] = this.seen;
         this.ticks(it.messages, first, last, (i) => (session.direction[i] === REQUEST ? y : y + 15), 5);
         this.ticks(it.naming, first, last, () => y + 9, 2, colours[`${row.group}-text`]);
-        if (to - x > 20) {
-            pen.font = `10px ${MONO}`;
-            if (pen.measureText(it.at).width < to - x) {
-                write(pen, it.at, Math.max(x, GUTTER) + 4, y + 13.5, colours[`${row.group}-text`], `10px ${MONO}`);
-            }
+        const text = Math.max(x, this.left) + 4, room = Math.min(to, this.right) - text;
+        if (room > 12 && widthOf(pen, it.at, LABEL.id) <= room) {
+            writeWhole(this, it.at, text, y + 13.5, colours[`${row.group}-text`], LABEL.id);
         }
     }
 
@@ -152,7 +129,7 @@ class Drawing {
         pen.globalAlpha = 0.16;
         for (const hold of it.holds) {
             const begin = view.xOf(hold.from), end = hold.to < 0 ? this.right : view.xOf(hold.to);
-            if (end < GUTTER || begin > this.right) {
+            if (end < this.left || begin > this.right) {
                 continue;
             }
             if (begin <= to + 0.5) {
@@ -196,13 +173,12 @@ class Drawing {
 
     // How many live, where there are too many for a row each.
     fold(row, y) {
-        this.label(row, y);
+        drawLabel(this, row, y);
         const { pen } = this, { colours, view } = this.app, base = y + row.height - 6;
-        write(pen, `most ${counted(row.most)} at once`, 22, y + 27, colours.soft, `10px ${FONT}`);
         this.inside(y, row.height, () => {
             pen.fillStyle = colours[`${row.group}-text`];
             pen.globalAlpha = 0.5;
-            let x = GUTTER, most = 0, live = 0;
+            let x = this.left, most = 0, live = 0;
             const upTo = (to) => {
                 if (to > x && live > 0) {
                     const high = 26 * live / row.most;
@@ -227,6 +203,6 @@ class Drawing {
             pen.globalAlpha = 1;
         });
         pen.fillStyle = colours.line;
-        pen.fillRect(GUTTER, base, this.right - GUTTER, 1);
+        pen.fillRect(this.left, base, this.right - this.left, 1);
     }
 }

@@ -74,7 +74,7 @@ function onDrag(place, began, moved, ended) {
 function addPointer(app) {
     const { overview, axis, picture } = app.places;
     const begun = {};
-    const wholeAt = (x) => (x - GUTTER) / (app.view.width - GUTTER - EDGE) * app.view.end();
+    const wholeAt = (x) => (x - app.view.left) / app.view.inner * app.view.end();
     const dragged = (name, atOf) => [
         () => {},
         (down, event) => {
@@ -99,7 +99,7 @@ function addPointer(app) {
         picture.focus?.();
         return down.pointerType !== "touch";
     }, (down, event) => {
-        const by = (begun.to - begun.from) * (down.offsetX - event.offsetX) / (app.view.width - GUTTER - EDGE);
+        const by = (begun.to - begun.from) * (down.offsetX - event.offsetX) / app.view.inner;
         app.places.scroller.scrollTop = begun.top + down.clientY - event.clientY;
         const least = Math.max(-begun.from, Math.min(by, app.view.end() - begun.to));
         app.show(begun.from + least, begun.to + least);
@@ -113,7 +113,7 @@ function addPointer(app) {
             if (event.ctrlKey) {
                 event.preventDefault();
                 app.zoom(event.deltaY > 0 ? 1.25 : 0.8, place === overview ? wholeAt(event.offsetX)
-                    : app.view.atX(Math.max(GUTTER, event.offsetX)));
+                    : app.view.atX(Math.max(app.view.left, event.offsetX)));
             } else if (event.shiftKey || Math.abs(event.deltaX) > Math.abs(event.deltaY)) {
                 event.preventDefault();
                 app.move((event.deltaX || event.deltaY) / 1000);

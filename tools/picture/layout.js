@@ -1,8 +1,11 @@
 "use strict";
 // Where everything is: the part of the session that is seen, and the rows of the picture.
 
-const GUTTER = 236, EDGE = 14;
-const HEIGHT = { heading: 26, wait: 36, life: 20, fold: 36 };
+// The width of the names beside the bars, in a wide picture and in others; and that of the right edge. In a narrow
+// picture the names are above their bars.
+const GUTTERS = { wide: 270, middle: 236, narrow: 12 }, EDGE = 14;
+const WIDE = 1200, NARROW = 600;
+const HEIGHT = { heading: 26, wait: 36, life: 20, fold: 36, above: 17 };
 const MOST_ROWS = 8;
 const OWN_ROWS = 4;
 
@@ -79,8 +82,25 @@ class View {
         this.to += least;
     }
 
+    get isNarrow() {
+        return this.width < NARROW;
+    }
+
+    // Where the picture begins, beside the names of its rows.
+    get left() {
+        return this.isNarrow ? GUTTERS.narrow : this.width < WIDE ? GUTTERS.middle : GUTTERS.wide;
+    }
+
+    get right() {
+        return this.width - EDGE;
+    }
+
+    get inner() {
+        return this.right - this.left;
+    }
+
     x(at) {
-        return GUTTER + (at - this.from) / (this.to - this.from) * (this.width - GUTTER - EDGE);
+        return this.left + (at - this.from) / (this.to - this.from) * this.inner;
     }
 
     xOf(message) {
@@ -88,7 +108,7 @@ class View {
     }
 
     atX(x) {
-        return this.from + (x - GUTTER) / (this.width - GUTTER - EDGE) * (this.to - this.from);
+        return this.from + (x - this.left) / this.inner * (this.to - this.from);
     }
 
     // The first message at this place or behind it.
@@ -124,7 +144,8 @@ function firstFrom(list, message) {
     return low;
 }
 
-const shortName = (object) => object.name.replace(/^(wl|wp|xdg|z?wlr|zwp|zxdg|ext|org_kde|org_kde_kwin)_/, "");
+const shortInterface = (name) => name.replace(/^(wl|wp|xdg|z?wlr|zwp|zxdg|ext|org_kde_kwin|org_kde)_/, "");
+const shortName = (object) => shortInterface(object.interface) + object.at;
 
 // The rows of the waits: the busiest objects of a kind have rows of their own.
 function waitRows(session) {
@@ -214,9 +235,9 @@ function lifeRows(session, unfolded) {
     return rows;
 }
 
-// All rows with their places, and for each object its row.
+// All rows with their places, and for each object its row. Where the picture is narrow, a row has its name above it.
 class Layout {
-    constructor(session, unfolded) {
+    constructor(session, unfolded, isNarrow) {
         const waits = waitRows(session);
         this.rows = waits.length ? [{ kind: "heading", label: "Waits", group: "", height: HEIGHT.heading }] : [];
         this.rows.push(...waits, ...lifeRows(session, unfolded));
@@ -224,6 +245,8 @@ class Layout {
         let y = 0;
         for (const row of this.rows) {
             row.y = y;
+            row.above = isNarrow && row.kind !== "heading" && row.label ? HEIGHT.above : 0;
+            row.height += row.above;
             y += row.height;
             row.objects?.forEach((it) => this.rowOf.set(it, row));
         }

@@ -10,6 +10,22 @@ function element(name, className = "", text = "") {
     return made;
 }
 
+// Lets long words go on in the next line behind a sign, and not in the middle of a name. A string of the wire has no
+// zero byte.
+function addBreaks(place) {
+    const texts = document.createTreeWalker(place, NodeFilter.SHOW_TEXT), found = [];
+    while (texts.nextNode()) {
+        found.push(texts.currentNode);
+    }
+    const marked = (word) => word.replace(/(?<=[_./,;:@=])(?=[A-Za-z])/g, "\0");
+    for (const text of found.filter((it) => it.parentNode.className !== "type")) {
+        const parts = text.data.replace(/\S{20,}/g, marked).split("\0");
+        if (parts.length > 1) {
+            text.replaceWith(...parts.flatMap((it, at) => (at ? [document.createElement("wbr"), it] : [it])));
+        }
+    }
+}
+
 class List {
     constructor(app, place) {
         this.app = app;
@@ -66,7 +82,8 @@ class List {
         const at = firstFrom(this.rows, message) * LINE, { scrollTop, clientHeight } = this.place;
         if (at < scrollTop || at + LINE > scrollTop + clientHeight) {
             const isNear = Math.abs(at - scrollTop) < clientHeight + 3 * LINE;
-            this.place.scrollTop = !isNear ? at - clientHeight / 2 : at < scrollTop ? at : at + LINE - clientHeight;
+            const middle = at - Math.floor(clientHeight / 2 / LINE) * LINE;
+            this.place.scrollTop = !isNear ? middle : at < scrollTop ? at : at + LINE - clientHeight;
         }
         this.draw();
     }

@@ -13,12 +13,16 @@ class App {
             scroller: place("scroller"), tall: place("tall") };
         this.filterField = place("filter");
         this.view = new View(session);
-        this.layout = new Layout(session, this.unfolded);
         this.colours = readColours();
         this.drawing = new Drawing(this, this.places.picture);
         this.list = new List(this, place("list"));
         this.panel = new Panel(this, place("panel"));
         this.isDue = false;
+        this.layOut();
+    }
+
+    layOut() {
+        this.layout = new Layout(this.session, this.unfolded, this.view.isNarrow);
     }
 
     start() {
@@ -41,7 +45,11 @@ class App {
     }
 
     resize() {
+        const { isNarrow } = this.view;
         this.view.width = this.places.scroller.clientWidth;
+        if (this.view.isNarrow !== isNarrow) {
+            this.layOut();
+        }
         this.draw();
         this.list.draw();
     }
@@ -207,7 +215,7 @@ class App {
         if (name) {
             const isFolded = this.layout.rows.some((it) => it.kind === "fold" && it.interface === name);
             this.unfolded.set(name, !isFolded);
-            this.layout = new Layout(this.session, this.unfolded);
+            this.layOut();
             this.drawSoon();
         }
     }
@@ -218,7 +226,7 @@ class App {
         if (!row || row.kind === "heading") {
             return;
         }
-        if (x < GUTTER) {
+        if (x < this.view.left || y < row.y + row.above) {
             if (row.interface) {
                 this.fold(row.interface);
             }

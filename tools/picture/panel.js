@@ -32,6 +32,7 @@ class Panel {
 
     draw() {
         this.body.replaceChildren(...this[this.tab]().flat(4).filter((it) => it !== null && it !== ""));
+        addBreaks(this.body);
     }
 
     // A link to a message; or to what a filter finds.

@@ -5,14 +5,14 @@
 function clipped(pen, view, y, height, draw) {
     pen.save();
     pen.beginPath();
-    pen.rect(GUTTER, y, view.width - EDGE - GUTTER, height);
+    pen.rect(view.left, y, view.inner, height);
     pen.clip();
     draw();
     pen.restore();
 }
 
 function drawDot(pen, at, view, colours, colour) {
-    if (at && at.x >= GUTTER - 1 && at.x <= view.width - EDGE + 1) {
+    if (at && at.x >= view.left - 1 && at.x <= view.right + 1) {
         pen.fillStyle = colour;
         pen.strokeStyle = colours.ground;
         pen.lineWidth = 1.5;
@@ -47,7 +47,7 @@ function drawSelection(app, pen, top, height) {
     const { session, view, colours, layout, selected } = app;
     const place = (message) => {
         const row = layout.rowOf.get(session.objects[session.object[message]]);
-        return row && { x: view.xOf(message), y: row.y - top + (row.kind === "fold" ? 24 : 10) };
+        return row && { x: view.xOf(message), y: row.y + row.above - top + (row.kind === "fold" ? 24 : 10) };
     };
     const mark = (message, colour, wide) => {
         if (view.isSeen(message)) {
