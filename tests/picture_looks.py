@@ -10,6 +10,25 @@ LONG = "a session with a long name, of an application whose windows came late"
 NAMES = ("org_kde_kwin_server_decoration_palette_manager", "zwp_input_method_keyboard_grab_v2",
          "ext_data_control_source_v1")
 
+# How many pixels of the picture have the colour of a warning.
+AMBER = """(() => {
+    app.draw();
+    const { width, height } = app.places.picture, pen = app.places.picture.getContext('2d');
+    const { data } = pen.getImageData(0, 0, width, height);
+    const colours = ['amber', 'amber-top'].map((it) => parseInt(app.colours[it].slice(1), 16));
+    let count = 0;
+    for (let at = 0; at < data.length; at += 4) {
+        count += colours.includes(data[at] << 16 | data[at + 1] << 8 | data[at + 2]);
+    }
+    return count;
+})()"""
+# The colours of the picture that are near that of a warning, and say something else.
+LIKE_AMBER = """Object.entries(app.colours).filter(([name, colour]) => {
+    const parts = [1, 3, 5].map((it) => parseInt(colour.slice(it, it + 2), 16));
+    const most = Math.max(...parts), least = Math.min(...parts), [red, green, blue] = parts;
+    const hue = most > red ? 999 : 60 * (green - blue) / (most - least);
+    return !name.startsWith('amber') && (most - least) / most > 0.3 && hue > 15 && hue < 65;
+}).map(([name]) => name)"""
 # What is wider than its place, or beyond the edge of the page.
 PARTS = ["html", "body", "header", "#about", ".pill", ".counts", "h1", "#told", "#list", "#panel"]
 TOO_WIDE = f"""{PARTS}""" + """.filter((name) => {

@@ -92,6 +92,53 @@ def small(title="a title", name="client", error=None):
     return lines.ended("error" if error else "lawful")
 
 
+def given(interface, number):
+    return {"kind": "object", "name": None, **named(interface, number), "state": "live"}
+
+
+def number_of(value):
+    return {"kind": "uint", "name": None, "value": value}
+
+
+def held_buffers(spans):
+    """A surface that shows a buffer for each span of time, from its commit to its release."""
+    lines, surface, moments = Lines("client"), named("wl_surface", 4), []
+    for buffer, (begin, end) in enumerate(spans, 7):
+        shown = [given("wl_buffer", buffer), number_of(0), number_of(0)]
+        moments += [(begin, "request", surface, "attach", 1, shown, f"wl_buffer@{buffer}, 0, 0"),
+                    (begin, "request", surface, "commit", 6, [], ""),
+                    (end, "event", named("wl_buffer", buffer), "release", 0, [], "")]
+    for moment, *parts in sorted(moments, key=lambda it: it[0]):
+        lines.add(*parts, time=moment)
+    return lines.ended()
+
+
+FIRST_OF_SERVER = 0xFF000000
+
+
+def offer(lines, device, number, types):
+    """The compositor makes an offer, and makes it the selection."""
+    made = number + FIRST_OF_SERVER
+    lines.add("event", device, "data_offer", 0, [new("wl_data_offer", made)], f"new id wl_data_offer@{made}")
+    for it in types:
+        lines.add("event", named("wl_data_offer", made), "offer", 0, [string(it)], quoted(it))
+    lines.add("event", device, "selection", 5, [given("wl_data_offer", made)], f"wl_data_offer@{made}")
+
+
+def left_objects():
+    """A client that destroys no region, and one of four offers."""
+    lines, device = Lines("client"), named("wl_data_device", 6)
+    for at in range(10, 30):
+        lines.add("request", named("wl_compositor", 5), "create_region", 1, [new("wl_region", at)],
+                  f"new id wl_region@{at}")
+        lines.add("request", named("wl_region", at), "add", 1, [], "")
+    for at in range(4):
+        offer(lines, device, at, ())
+    first = named("wl_data_offer", FIRST_OF_SERVER)
+    lines.add("request", first, "destroy", 2, [], "", destroyed=[first])
+    return lines.ended()
+
+
 def words(*numbers):
     return struct.pack(f"<{len(numbers)}I", *numbers)
 

@@ -2,7 +2,9 @@
 // What the filter's words mean: all have to fit a message.
 
 const IS = {
-    slow: (session) => (i) => session.slow.has(i),
+    late: (session) => (i) => session.slow.has(i),
+    // Its name before.
+    slow: (session) => IS.late(session),
     fd: (session) => (i) => session.signatures[session.signature[i]].kinds.some(([kind]) => kind === "fd"),
     bad: (session) => (i) => i === session.bad || i === session.raw.error?.place,
     zombie: (session) => (i) => (session.state[i] & 3) === 1 && session.direction[i] === EVENT,

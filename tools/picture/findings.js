@@ -48,19 +48,22 @@ function wayToBroken(session) {
     return way;
 }
 
+const ANSWERS = {
+    sync: "answers to wl_display.sync", configure: "answers to configure", frame: "frame callbacks",
+    presented: "presentation feedbacks", held: "buffer releases", ping: "answers to ping",
+};
+
 function lateFindings(session) {
     const found = [];
-    for (const { key, name } of WAITS) {
+    for (const { key } of WAITS) {
         const own = session.waits.filter((it) => it.key === key && it.to >= 0 && !it.isGone);
-        // A buffer is held rightly until the next one is there.
-        const late = own.filter((it) => it.isSlow && (key !== "held"
-            || (it.next >= 0 && isSlow(session.time[it.to] - session.time[it.next], session.usual[key]))));
-        if (late.length && own.length >= 3) {
+        const late = own.filter((it) => it.isSlow);
+        if (late.length) {
             const worst = late.reduce((a, b) => (b.took > a.took ? b : a));
             found.push({
-                level: "look", message: worst.from, words: `${name}: ${late.length} of ${counted(own.length)} took `
-                    + `more than twice as long as most. The longest ${duration(worst.took)} (${worst.object.name}), `
-                    + `where ${duration(session.usual[key])} is usual`,
+                level: "look", message: worst.from, words: `${counted(late.length)} of ${counted(own.length)} `
+                    + `${ANSWERS[key]} came late. The longest took ${duration(worst.took)} (${worst.object.name}). `
+                    + `The median is ${duration(session.usual[key])}.`,
             });
         }
     }
@@ -81,8 +84,9 @@ function pauseFindings(session) {
             const length = ([done, commit]) => time[commit] - time[done];
             const worst = pauses.reduce((a, b) => (length(b) > length(a) ? b : a));
             found.push({
-                level: "look", message: worst[0], words: `${surface.name}: ${several(pauses.length, "pause")} of over `
-                    + `${duration(limit)} between a done and the next commit; the longest ${duration(length(worst))}`,
+                level: "look", message: worst[0], words: `The client paused ${several(pauses.length, "time")} in `
+                    + `drawing ${surface.name}. A pause is more than ${duration(limit)} from a frame callback to the `
+                    + `next commit. The longest took ${duration(length(worst))}.`,
             });
         }
     }
@@ -116,11 +120,12 @@ function leftFindings(session) {
             ? left.length >= 3 && made.some((it) => it.destroyed >= 0)
             : left.length >= 16 && left.length * 2 >= made.length && isSpread(session, left)
                 && made.some((it) => it.destroyed >= 0 || it.messages.length > 0);
+        const all = several(made.length, `${name} object`);
         if (isPile && name !== "wl_registry" && !made.every(isMadeByBind.bind(null, session))) {
             found.push({
                 level: "look", message: left[0].made, filter: `is:left ${name}`,
-                words: `${counted(left.length)} of ${counted(made.length)} ${name}`
-                    + `${isServers ? ", made by the compositor," : ""} were never destroyed`,
+                words: `${isServers ? `The compositor made ${all}. ` : ""}The client never destroyed `
+                    + `${counted(left.length)} of ${isServers ? "them" : all}.`,
             });
         }
     }
@@ -143,8 +148,8 @@ function endFindings(session) {
     }
     if (error) {
         const about = session.objects[error.object]?.name ?? "an object that is not known";
-        found.push({ level: "bad", message: error.place,
-            words: `The compositor ended the session with error ${error.code} for ${about}: “${error.text}”` });
+        found.push({ level: "bad", message: error.place, words: `The compositor ended the session with error `
+            + `${error.code} for ${about}. It says: “${error.text}”` });
     }
     for (const [message, words] of notes) {
         found.push({ level: "note", message, words: `Message ${counted(message + 1)}: ${words}` });
@@ -171,7 +176,7 @@ function addFindings(session) {
     if (late) {
         found.push({ level: "note", message: first, filter: "is:zombie",
             words: `${several(late, "event")} came for ${late === 1 ? "an object" : "objects"} `
-                + "that the client had destroyed" });
+                + "that the client had destroyed." });
     }
     session.findings = found;
 }

@@ -137,7 +137,7 @@ class List {
         if (!wait || !session.isTimed) {
             return element("span", "took");
         }
-        return element("span", "took", `${wait.isSlow ? "slow, " : ""}${duration(wait.took)}`);
+        return element("span", "took", `${wait.isSlow ? "late, " : ""}${duration(wait.took)}`);
     }
 }
 

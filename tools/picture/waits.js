@@ -16,6 +16,12 @@ function isSlow(took, usual) {
     return took > SLOW.times * usual && took > usual + SLOW.more && took > SLOW.over;
 }
 
+// Whether an answer came late. A buffer is held rightly until the next one is there.
+function isLate(session, wait, usual) {
+    const from = wait.key === "held" ? wait.next : wait.from;
+    return from >= 0 && isSlow(wait.took, usual) && isSlow(session.time[wait.to] - session.time[from], usual);
+}
+
 function median(numbers) {
     const sorted = Float64Array.from(numbers).sort();
     return sorted.length ? sorted[sorted.length >> 1] : 0;
@@ -206,7 +212,7 @@ function addWaits(session) {
         for (const { key } of WAITS) {
             const own = session.waits.filter((it) => it.key === key && it.to >= 0 && !it.isGone);
             const usual = session.usual[key] = median(own.map((it) => it.took));
-            for (const wait of own.filter((it) => isSlow(it.took, usual))) {
+            for (const wait of own.filter((it) => isLate(session, it, usual))) {
                 wait.isSlow = true;
                 session.slow.add(wait.from).add(wait.to);
             }
