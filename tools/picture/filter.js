@@ -20,11 +20,25 @@ const IS = {
     },
 };
 
-// The objects that `@10` or `@10b` names: all with the id, or the one with these letters.
-function objectsAt(session, word) {
-    const isWhole = /\d$/.test(word);
-    const fits = (it) => it.at === word || (isWhole && it.at.replace(/[a-z]+$/, "") === word);
-    return session.objects.filter(fits);
+// An object as the page or WAYLAND_DEBUG shows it: `@10`, `@10b`, `wl_surface@10`, `surface@10`, `wl_surface#10`; one
+// that the compositor made is `@s3` or `@4278190083`.
+const NAMED = /^([a-z0-9_]*)@(\d+)([a-z]*)$/;
+const asPrinted = (word) => word.replace(/[@#](s?)(\d+)/g, (_, isServers, digits) =>
+    `@${isServers ? FIRST_OF_COMPOSITOR + Number(digits) : digits}`);
+
+// The objects that are named so: all with the id, or the one with these letters.
+function objectsAt(session, [, name, id, letters]) {
+    const isNamed = (it) => [it.interface, shortInterface(it.interface)].some((own) => own.toLowerCase() === name);
+    return session.objects.filter((it) => it.id === Number(id) && (!letters || birthLetters(it.birth) === letters)
+        && (!name || isNamed(it)));
+}
+
+// A line in small letters, with the letters of births, as the list shows it.
+function lineWithLetters(session, message) {
+    const [object, name] = session.parts(message), letters = (it) => (it ? birthLetters(it.birth) : "");
+    const rest = printedParts(session, message).map((it) => it.text + letters(it.object)).join("");
+    return `${object}${letters(session.objects[session.object[message]])}${object && name ? "." : ""}${name}${rest}`
+        .toLowerCase();
 }
 
 // A word as a test of a message, by its number.
@@ -39,9 +53,9 @@ function testOf(session, word) {
     if (is && Object.hasOwn(IS, is[1])) {
         return IS[is[1]](session);
     }
-    const named = /^([a-z0-9_]*)(@s?\d+[a-z]*)$/.exec(word);
+    const printed = asPrinted(word), named = NAMED.exec(printed);
     if (named) {
-        const own = objectsAt(session, named[2]).filter((it) => !named[1] || it.interface === named[1]);
+        const own = objectsAt(session, named);
         const fits = new Uint8Array(session.count);
         for (const it of own) {
             it.messages.forEach((i) => { fits[i] = 1; });
@@ -52,8 +66,9 @@ function testOf(session, word) {
         }
         return (i) => fits[i] === 1;
     }
-    const lines = session.searched();
-    return (i) => lines[i].includes(word);
+    const lines = session.searched(), isOfObject = /@\d/.test(printed);
+    return (i) => lines[i].includes(word)
+        || (isOfObject && (lines[i].includes(printed) || lineWithLetters(session, i).includes(printed)));
 }
 
 // For each message whether it fits; null where there are no words, and all do.
