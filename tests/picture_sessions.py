@@ -139,6 +139,47 @@ def left_objects():
     return lines.ended()
 
 
+def selections(*answers):
+    """A client copies, and pastes what another has copied; it loses the keyboard focus. The answers are what shows
+    that the compositor has taken its source: an offer, or that it asks for the content."""
+    lines, device, source = Lines("editor"), named("wl_data_device", 6), named("wl_data_source", 7)
+    primary, types = named("zwp_primary_selection_device_v1", 8), ["text/plain", "TEXT", "STRING", "a/b", "c/d"]
+    descriptor = {"kind": "fd", "name": None, "number": 1}
+    for it in types:
+        lines.add("request", source, "offer", 0, [string(it)], quoted(it))
+    lines.add("request", device, "set_selection", 1, [given("wl_data_source", 7), number_of(1)], "wl_data_source@7, 1")
+    # Sent before the compositor had read the request.
+    lines.add("event", device, "selection", 5, [{"kind": "object", "name": None, "id": 0}], "nil")
+    if "offered" in answers:
+        offer(lines, device, 0, types)
+    if "asked" in answers:
+        lines.add("event", source, "send", 1, [string("TEXT"), descriptor], '"TEXT", fd 1')
+    lines.add("event", source, "cancelled", 2, [], "")
+    lines.add("event", primary, "selection", 1, [{"kind": "object", "name": None, "id": 0}], "nil")
+    offer(lines, device, 1, ["text/html"])
+    pasted = named("wl_data_offer", FIRST_OF_SERVER + 1)
+    for _ in range(2):
+        lines.add("request", pasted, "receive", 1, [string("text/html"), descriptor], '"text/html", fd 1')
+    lines.add("event", named("wl_keyboard", 9), "leave", 2, [number_of(2), given("wl_surface", 4)], "2, wl_surface@4")
+    return lines.ended()
+
+
+def controlled():
+    """A client with a data control makes a source the primary selection. Another has the clipboard, and a window of the
+    client loses the keyboard focus."""
+    lines, device = Lines("manager"), named("ext_data_control_device_v1", 6)
+    source, made = named("ext_data_control_source_v1", 7), FIRST_OF_SERVER
+    lines.add("request", source, "offer", 0, [string("a/b")], quoted("a/b"))
+    lines.add("request", device, "set_primary_selection", 2, [given(source["interface"], 7)],
+              "ext_data_control_source_v1@7")
+    lines.add("event", device, "data_offer", 0, [new("ext_data_control_offer_v1", made)],
+              f"new id ext_data_control_offer_v1@{made}")
+    lines.add("event", device, "selection", 1, [given("ext_data_control_offer_v1", made)],
+              f"ext_data_control_offer_v1@{made}")
+    lines.add("event", named("wl_keyboard", 9), "leave", 2, [number_of(2), given("wl_surface", 4)], "2, wl_surface@4")
+    return lines.ended()
+
+
 def words(*numbers):
     return struct.pack(f"<{len(numbers)}I", *numbers)
 

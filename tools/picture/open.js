@@ -9,6 +9,7 @@ async function openPage() {
         session.milestones = milestones(session);
         session.objects.forEach((it) => { it.group = purposeOf(session, it); });
         addFindings(session);
+        addSelections(session);
         window.app = new App(session);
         window.app.start();
         status.remove();

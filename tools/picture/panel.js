@@ -81,7 +81,7 @@ class Panel {
         const list = element("ul");
         list.append(...items);
         return [element("h2", "", "Worth a look"), list, session.bad >= 0 ? this.wayThere() : [], this.remarks(),
-            this.wayToWindow(), this.about(raw)];
+            selectionParts(this), this.wayToWindow(), this.about(raw)];
     }
 
     wayThere() {
