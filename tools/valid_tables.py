@@ -1,5 +1,6 @@
 """The interfaces of Wayland protocol files as valid tables: what a text of tables may have of them."""
 
+from dataclasses import replace
 from typing import NamedTuple
 
 import protocol
@@ -29,6 +30,17 @@ class LeftOut(NamedTuple):
     def __str__(self):
         what = self.interface.name if self.message is None else f"{self.side} {self.message}"
         return f"{what}: left out, {self.why}"
+
+
+class Undestroying(NamedTuple):
+    """An event that the file has as a destructor, and the text as a plain event; and the rule why."""
+
+    interface: Interface
+    message: Message
+    rule: int
+
+    def __str__(self):
+        return f"event {self.message}: kept without D, which breaks V{self.rule}"
 
 
 def kind_of(side, argument):
@@ -73,12 +85,15 @@ def interfaces_of(path, is_checked=True):
 
 
 class Mending:
-    """The interfaces that are left, and what was left out of them so that they break no rule."""
+    """The interfaces that are left, and what was left out of them so that they break no rule. `others` stand
+    before them, whose text is another: they may be named."""
 
-    def __init__(self, interfaces, is_whole):
-        self.interfaces = interfaces
+    def __init__(self, interfaces, is_whole, others=()):
+        self.others = others
+        self.interfaces = [*others, *interfaces]
         self.is_whole = is_whole
         self.left_out = []
+        self.undestroying = []
         self.core = table_text.core_tables()
         self.notes = []
 
@@ -94,6 +109,23 @@ class Mending:
             self.left_out.append(LeftOut(interface, side, message, why))
             why = f"it stands behind {first.name}"
         del messages[opcode:]
+
+    def ended_by_event(self, interface, side, opcode, rule):
+        """The interfaces of the files whose destroying events are why a message breaks V7 or V11."""
+        if rule not in (7, 11):
+            return []
+        if side == "event" and rule == 7:
+            return [interface]
+        names = {it.interface for it in getattr(interface, side)[opcode].kinds}
+        own = [it for it in self.interfaces if not any(it is one for one in self.others)]
+        return [it for it in own if it.name in names and it.is_ended_by_event()]
+
+    def keep_without_destroying(self, interface, rule):
+        """Makes plain events of those that destroy: their objects end by the delete_id behind them."""
+        for opcode, message in enumerate(interface.event):
+            if message.destroys:
+                self.undestroying.append(Undestroying(interface, message, rule))
+                interface.event[opcode] = replace(message, destroys=False)
 
     def lower(self, interface):
         """Lowers the version until no message of it was left out."""
@@ -148,23 +180,36 @@ class Mending:
             elif interface.name == "wl_fixes":
                 self.remove(interface, "its destroy_registry destroys an argument")
         while (found := self.first_break()) is not None:
-            interface, side, opcode, rule = found
-            if side is None:
-                self.remove(interface, f"it breaks V{rule}")
-            else:
-                self.cut(interface, side, opcode, f"it breaks V{rule}")
-                if self.is_whole:
-                    self.lower(interface)
+            self.mend_one(*found)
+
+    def mend_one(self, interface, side, opcode, rule):
+        """Mends what breaks a rule: an interface, where `side` is None, or a message of it."""
+        why = f"it breaks V{rule}"
+        if side is None:
+            self.remove(interface, why)
+        elif self.is_whole:
+            self.cut(interface, side, opcode, why)
+            self.lower(interface)
+        elif ended := self.ended_by_event(interface, side, opcode, rule):
+            for it in ended:
+                self.keep_without_destroying(it, rule)
+        else:
+            self.cut(interface, side, opcode, why)
 
 
-def lines_of(interfaces, left_out):
-    """The lines of the text, with comments on messages that were left out."""
+    def changes(self):
+        """What was left out or changed."""
+        return [*self.left_out, *self.undestroying]
+
+
+def lines_of(interfaces, changes):
+    """The lines of the text, with comments on messages that were left out or changed."""
     for interface in interfaces:
         head = "extend" if interface.extends else "interface"
         yield f"{head} {interface.name} {interface.version}"
         for side, message in interface.messages():
             yield f"{side} {message}"
-        for it in left_out:
+        for it in changes:
             if it.interface is interface and it.message is not None:
                 yield f"# {it}"
 

@@ -411,11 +411,13 @@ class Written(unittest.TestCase):
 
     def test_all_sorts(self):
         tool = module_of("tests/compare")
-        with mock.patch.object(reference, "Session", Sorts):
-            for _ in tool.cases(600, "1", ("--tables", "--limit")):
-                pass
-        self.assertEqual(Sorts.seen, {
+        wanted = {
             "the next", "below", "past the next", "of an ended one", "of an open one", "of one that none ends",
             "in a request", "by an ended maker", "by one of its own", "its delete_id",
             "> for an open one", "< for an open one", "an event for an ended one",
-        })
+        }
+        with mock.patch.object(reference, "Session", Sorts):
+            for _ in tool.cases(5000, "1", ("--tables", "--limit")):
+                if Sorts.seen == wanted:
+                    break
+        self.assertEqual(Sorts.seen, wanted)

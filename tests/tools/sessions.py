@@ -53,6 +53,12 @@ class Sessions(unittest.TestCase):
         _, verdict = self.judged("gtk_dialog")
         self.assertEqual(verdict, "broken: > message 5 at byte 108: F9 bad bind")
 
+    def test_an_event_that_cannot_destroy(self):
+        """wp_drm_lease_device_v1 has requests, so its `released` is a plain event: the delete_id ends the object."""
+        lines, verdict = self.judged("drm_lease", ("drm-lease",))
+        self.assertEqual(verdict, "lawful: 3 requests, 5 events, 0 and 0 bytes left")
+        self.assertIn("<- wp_drm_lease_device_v1@3.released()", lines)
+
     def test_events_that_destroy(self):
         lines, verdict = self.judged("presentation", ("xdg-shell", "presentation-time"))
         self.assertEqual(verdict, "lawful: 139 requests, 95 events, 0 and 0 bytes left")

@@ -275,17 +275,20 @@ class TablesFromXml(unittest.TestCase):
         self.assertEqual([it for it in printed if it[0] != "#"], ["interface a 1", "event e"])
 
     def test_what_the_server_makes(self):
-        """It is kept, but of an interface with a destroying event; if that is left out, it is kept too."""
+        """Its event is kept. The event that destroys is a plain one then, but with --whole: there what
+        breaks a rule goes."""
         text = """<interface name="a" version="1">
             <event name="made"><arg type="new_id" interface="b"/></event><event name="late"/></interface>
             <interface name="b" version="1">{}<event name="gone" type="destructor"/></interface>"""
-        printed, said = self.made(text.format(""))
-        left_out = ["event made N(b): left out, it breaks V11", "event late: left out, it stands behind made"]
-        self.assertEqual(said, [f"a {it}" for it in left_out])
-        self.assertEqual(printed[:3], ["interface a 1", *(f"# {it}" for it in left_out)])
-        printed, said = self.made(text.format('<request name="r" type="destructor"/>'))
-        self.assertEqual(printed[:3], ["interface a 1", "event made N(b)", "event late"])
-        self.assertEqual(said, ["b event gone D: left out, it breaks V7"])
+        for requests, rule in (("", 11), ('<request name="r" type="destructor"/>', 7)):
+            printed, said = self.made(text.format(requests))
+            self.assertEqual(printed[:3], ["interface a 1", "event made N(b)", "event late"])
+            kept = f"event gone D: kept without D, which breaks V{rule}"
+            self.assertEqual(printed[-2:], ["event gone", f"# {kept}"])
+            self.assertEqual(said, [f"b {kept}"])
+        printed, said = self.made(text.format(""), words=("--whole", "{0}"))
+        self.assertEqual([it for it in printed if it[0] != "#"], ["interface b 1", "event gone D"])
+        self.assertIn("a event made N(b): left out, it breaks V11", said)
 
     def test_entries_that_are_shifted(self):
         for value, wanted in (("1 << 4", 16), ("0x1<<31", 2**31), ("7", 7), ("0x10", 16)):
@@ -348,8 +351,19 @@ class TablesFromXml(unittest.TestCase):
             <arg type="object" interface="a"/></request></interface><interface name="a" version="1"><request name="r"/>
             <event name="gone" type="destructor"/></interface>"""
         printed, said = self.made(text)
-        self.assertIn("request r o(a)", printed)
-        self.assertEqual(said, ["a event gone D: left out, it breaks V7"])
+        kept = "event gone D: kept without D, which breaks V7"
+        self.assertEqual(printed, ["interface b 1", "request r o(a)", "interface a 1", "request r", "event gone", f"# {kept}"])
+        self.assertEqual(said, [f"a {kept}"])
+
+    def test_an_event_of_another_text_destroys(self):
+        """It stays in that text, so a request that names its interface goes."""
+        naming = '<interface name="b" version="1"><request name="r"><arg type="object" interface="a"/></request></interface>'
+        named = '<interface name="a" version="1"><event name="gone" type="destructor"/></interface>'
+        printed, said = self.made(naming, named, words=("{0}", "--with", "{1}"))
+        self.assertEqual(said, ["b request r o(a): left out, it breaks V7"])
+        printed, said = self.made(naming, named)
+        self.assertEqual(printed[:2], ["interface b 1", "request r o(a)"])
+        self.assertEqual(said, ["a event gone D: kept without D, which breaks V7"])
 
     def test_with(self):
         naming = """<interface name="b" version="1"><request name="r">
