@@ -11,6 +11,7 @@ import unittest
 
 from checks import TOOLS, TOP, module_of, read
 import crates
+import protocol_files
 
 
 class Crates(unittest.TestCase):
@@ -76,7 +77,10 @@ class Made(unittest.TestCase):
     def test_first_lines(self):
         made = {**dict.fromkeys(self.CORE, "core-files|stubs-from-xml"), **self.OTHERS}
         texts = glob.glob("examples/tables/*.tables", root_dir=TOP)
-        made.update(dict.fromkeys(texts, "tools/tables-from-xml"))
+        by_hand = {f"examples/tables/{it}.tables" for it in protocol_files.BY_HAND}
+        made.update(dict.fromkeys({*texts} - by_hand, "tools/tables-from-xml"))
+        for name in by_hand:
+            self.assertTrue(read(name).startswith("# Written by hand, "), name)
         for name, tool in made.items():
             self.assertRegex(read(name).split("\n")[0], rf"(?i)\bmade by \S*({tool})", name)
 

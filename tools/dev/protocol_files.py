@@ -66,6 +66,8 @@ TEXTS = {
         "output-power-management": "wlr-output-power-management-unstable-v1.xml",
         "screencopy": "wlr-screencopy-unstable-v1.xml",
         "virtual-pointer": "wlr-virtual-pointer-unstable-v1.xml",
+        "gtk-primary-selection": "../../misc/gtk-primary-selection.xml",
+        "input-method-v2": "../../misc/input-method-unstable-v2.xml",
     },
     "plasma-wayland-protocols": {
         "kde-appmenu": "appmenu.xml",
@@ -104,6 +106,12 @@ NAMED = {
     "layer-shell": ("xdg-shell",),
     "xdg-decoration": ("xdg-shell",),
 }
+# The texts that are written by hand, since none of these packages has the file, and the texts whose
+# interfaces each names.
+BY_HAND = {"cursor-shape": ("tablet",), "gtk-shell": (), "virtual-keyboard": ()}
+# The texts whose interfaces have a newer version in today's wayland-protocols than in the file. The newer
+# versions add values of enums and rules, and no message.
+RAISED = {"linux-dmabuf": 5, "xdg-shell": 7}
 # The files of which no text is made: examples/tables/README.md says why.
 WITHOUT_TEXT = {
     "wayland-protocols": ["unstable/xdg-shell/xdg-shell-unstable-v5.xml"],
@@ -125,6 +133,11 @@ PROTOCOLS = {
     for package, texts in TEXTS.items()
     for name, path in texts.items()
 }
+
+
+def names_of(name):
+    """The texts whose interfaces a text names."""
+    return BY_HAND[name] if name in BY_HAND else PROTOCOLS[name].names
 
 
 def folder(package):
