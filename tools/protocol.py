@@ -1,11 +1,32 @@
-"""Wayland protocol files in the XML form of wayland-scanner, read as data."""
+"""Wayland protocol files in the XML form of wayland-scanner, read as data. What wayland-scanner refuses is
+refused, and so is an element out of its place, which it takes for one of the element before."""
 
+import re
 import xml.etree.ElementTree as ElementTree
 from dataclasses import dataclass, field
 from xml.parsers import expat
 
 TYPES = ("int", "uint", "fixed", "string", "object", "new_id", "array", "fd")
-LARGEST = 4_294_967_295
+NULLABLE = ("string", "object", "new_id", "array")
+# As wayland-scanner reads a number.
+LARGEST = 2_147_483_647
+NUMBER = re.compile(r"[ \t\n\v\f\r]*\+?([0-9]+)", re.ASCII)
+# The names of things, and the ends of names of constants.
+NAME = re.compile("[A-Za-z_][A-Za-z0-9_]*")
+END_OF_NAME = re.compile("[A-Za-z0-9_]+")
+# Where an element may stand; a description may stand anywhere.
+PARENTS = {
+    "protocol": (),
+    "copyright": ("protocol",),
+    "interface": ("protocol",),
+    "request": ("interface",),
+    "event": ("interface",),
+    "enum": ("interface",),
+    "arg": ("request", "event"),
+    "entry": ("enum",),
+}
+# The first line of a text of tables that says something.
+TEXT_OF_TABLES = re.compile(rb"(?:[ \t]*(?:#.*)?\r?\n)*(?:interface|extend) \S+ [0-9]+\s")
 
 
 class BadProtocol(Exception):
@@ -79,15 +100,24 @@ class Protocol:
 
 def number(element, name, usual):
     text = element.get(name, usual)
-    if text is None or not (text.isascii() and text.isdigit()) or int(text) > LARGEST:
+    found = NUMBER.fullmatch(text or "")
+    if not found or int(found[1]) > LARGEST:
         raise BadProtocol(f"{name} of {element.get('name')} is {text}")
-    return int(text)
+    return int(found[1])
 
 
-def name_of(element):
+def since_of(element, version):
+    """The version of the interface from which on it has what an element is."""
+    since = number(element, "since", "1")
+    if since > version:
+        raise BadProtocol(f"since of {element.get('name')} is {since}, and the version is {version}")
+    return since
+
+
+def name_of(element, form=NAME):
     name = element.get("name")
-    if not name or set(name) & set(" ()\n\r"):
-        raise BadProtocol(f"the name {name!r}")
+    if not name or not form.fullmatch(name):
+        raise BadProtocol(f"the name of {element.tag} is {name!r}")
     return name
 
 
@@ -98,22 +128,35 @@ def summary_of(element):
     return " ".join(text.split())
 
 
+def is_true(element, name):
+    """Whether an attribute says so, false where it is not given."""
+    text = element.get(name, "false")
+    if text not in ("true", "false"):
+        raise BadProtocol(f"{name} of {element.get('name')} is {text!r}, not true or false")
+    return text == "true"
+
+
 def argument(element):
-    kind = element.get("type")
+    """An argument. A text has no null mark for an array or a new id: a null array goes as an empty one."""
+    name, kind, interface = name_of(element), element.get("type"), element.get("interface")
     if kind not in TYPES:
-        raise BadProtocol(f"an argument of type {kind}")
-    null = element.get("allow-null", "false") == "true"
-    if null and kind not in ("string", "object"):
-        raise BadProtocol(f"an argument of type {kind} that may be null")
-    return Argument(element.get("name") or "", kind, element.get("interface"), null, summary_of(element),
-                    element.get("enum"))
+        raise BadProtocol(f"argument {name} has the type {kind}")
+    if interface is not None and kind not in ("object", "new_id"):
+        raise BadProtocol(f"argument {name} of type {kind} has an interface")
+    if interface is not None and not NAME.fullmatch(interface):
+        raise BadProtocol(f"argument {name} has the interface {interface!r}")
+    if element.get("allow-null") is not None and kind not in NULLABLE:
+        raise BadProtocol(f"argument {name} of type {kind} has allow-null")
+    null = is_true(element, "allow-null") and kind in ("string", "object")
+    return Argument(name, kind, interface, null, summary_of(element), element.get("enum"))
 
 
-def message(opcode, element):
-    args = [argument(it) for it in element.findall("arg")]
-    destroys = element.get("type") == "destructor"
-    return Message(name_of(element), opcode, args, destroys, number(element, "since", "1"),
-                   summary_of(element), int(element.get(LINE)))
+def message(opcode, element, version):
+    name, destroys = name_of(element), element.get("type") == "destructor"
+    if name == "destroy" and not destroys:
+        raise BadProtocol(f"{element.tag} destroy is no destructor")
+    return Message(name, opcode, [argument(it) for it in element.findall("arg")], destroys,
+                   since_of(element, version), summary_of(element), int(element.get(LINE)))
 
 
 def value_of(element):
@@ -129,21 +172,55 @@ def value_of(element):
     return value << shift
 
 
-def entry(element):
-    return Entry(name_of(element), value_of(element), number(element, "since", "1"), summary_of(element))
+def entry(element, version):
+    name = name_of(element, END_OF_NAME)
+    return Entry(name, value_of(element), since_of(element, version), summary_of(element))
+
+
+def enum(element, version):
+    name, entries = name_of(element, END_OF_NAME), [entry(it, version) for it in element.findall("entry")]
+    if not entries:
+        raise BadProtocol(f"enum {name} has no entry")
+    return Enum(name, entries, summary_of(element), is_true(element, "bitfield"))
 
 
 def interface(element):
+    name, version = name_of(element), number(element, "version", None)
+    if version == 0:
+        raise BadProtocol(f"version of {name} is 0")
     return Interface(
-        name_of(element),
-        number(element, "version", None),
-        [message(*it) for it in enumerate(element.findall("request"))],
-        [message(*it) for it in enumerate(element.findall("event"))],
-        [Enum(name_of(it), [entry(one) for one in it.findall("entry")], summary_of(it),
-              it.get("bitfield") == "true")
-         for it in element.findall("enum")],
+        name,
+        version,
+        [message(*it, version) for it in enumerate(element.findall("request"))],
+        [message(*it, version) for it in enumerate(element.findall("event"))],
+        [enum(it, version) for it in element.findall("enum")],
         summary_of(element),
     )
+
+
+def check_places(root):
+    """Raises `BadProtocol` where an element stands out of its place."""
+    left = [(None, root)]
+    while left:
+        parent, element = left.pop()
+        if element.tag == "description" and element.get("summary") is None:
+            raise BadProtocol(f"line {element.get(LINE)}: a description has no summary")
+        if parent is not None and parent.tag not in PARENTS.get(element.tag, (parent.tag,)):
+            raise BadProtocol(f"line {element.get(LINE)}: {element.tag} stands in {parent.tag}")
+        left += [(element, it) for it in element]
+
+
+def check_enums(interfaces):
+    """Raises `BadProtocol` where an argument that has values of an enum is not of their type."""
+    bitfields = {f"{it.name}.{one.name}" for it in interfaces for one in it.enums if one.bitfield}
+    for interface_ in interfaces:
+        for _, message_ in interface_.messages():
+            for it in (one for one in message_.args if one.enum):
+                if it.type not in ("int", "uint"):
+                    raise BadProtocol(f"argument {it.name} of type {it.type} has an enum")
+                name = it.enum if "." in it.enum else f"{interface_.name}.{it.enum}"
+                if it.type == "int" and name in bitfields:
+                    raise BadProtocol(f"argument {it.name} of type int has the bitfield {it.enum}")
 
 
 # The attribute that an element is given for the number of its line; no attribute of a file has a space.
@@ -164,14 +241,30 @@ def root_of(path):
     return builder.close()
 
 
+def is_text_of_tables(path):
+    with open(path, "rb") as file:
+        return TEXT_OF_TABLES.match(file.read(65536)) is not None
+
+
+def protocol_of(root):
+    """The protocol that the root of a file has."""
+    if root.tag != "protocol":
+        raise BadProtocol(f"no protocol, but {root.tag}")
+    name = name_of(root)
+    check_places(root)
+    said = (root.findtext("copyright") or "").strip().splitlines()
+    interfaces = [interface(it) for it in root.findall("interface")]
+    check_enums(interfaces)
+    return Protocol(name, [it.strip() for it in said], interfaces)
+
+
 def read(path):
     """The protocol of a file. Raises `BadProtocol`."""
     try:
-        root = root_of(path)
-        if root.tag != "protocol":
-            raise BadProtocol(f"no protocol, but {root.tag}")
-        said = (root.findtext("copyright") or "").strip().splitlines()
-        interfaces = [interface(it) for it in root.findall("interface")]
-        return Protocol(root.get("name") or "", [it.strip() for it in said], interfaces)
-    except (OSError, expat.ExpatError, BadProtocol) as error:
+        return protocol_of(root_of(path))
+    except expat.ExpatError as error:
+        if is_text_of_tables(path):
+            raise BadProtocol(f"{path} is a text of tables, not the XML of a protocol") from error
+        raise BadProtocol(f"{path}: {error}") from error
+    except (OSError, BadProtocol) as error:
         raise BadProtocol(f"{path}: {error}") from error

@@ -126,13 +126,13 @@ class Interfaces(unittest.TestCase):
         a_new = "<arg name='x' type='new_id'/>"
         for wanted, *interfaces in (
             ("is there twice", message.format("e", ""), message.format("e", "")),
-            ("none of C", message.format("a-b", "")),
-            ("names b, which is in no file", message.format("e", "<arg type='object' interface='b'/>")),
+            ("the name of event is 'a-b'", message.format("a-b", "")),
+            ("names b, which is in no file", message.format("e", "<arg name='x' type='object' interface='b'/>")),
             ("more than 20", message.format("e", a_new * 7)),
         ):
             with self.assertRaisesRegex(protocol.BadProtocol, wanted):
                 self.text_of(*interfaces)
-        self.text_of(message.format("e", a_new * 6 + "<arg type='int'/>" * 2))
+        self.text_of(message.format("e", a_new * 6 + "<arg name='x' type='int'/>" * 2))
 
 
 class Lists(unittest.TestCase):

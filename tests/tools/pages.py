@@ -6,7 +6,7 @@ import re
 import subprocess
 import unittest
 
-from checks import TOP, module_of, need, read
+from checks import TOP, module_of, need, read, run
 
 
 class Pages(unittest.TestCase):
@@ -164,6 +164,16 @@ class FrontPage(unittest.TestCase):
 
 
 class ManPage(unittest.TestCase):
+    def test_options(self):
+        """The help of a tool for XML says what each option does, and the page has the same options."""
+        for tool in ("tables-from-xml", "stubs-from-xml"):
+            said = run([f"{TOP}/tools/{tool}", "--help"], env={**os.environ, "COLUMNS": "200"})
+            options = re.findall(r"(?m)^  (?:-h, )?(--[a-z-]+)(?: [A-Z]+)? {2,}\S", said)
+            self.assertEqual(sorted(options), sorted({*re.findall(r"--[a-z-]+", said)}), tool)
+            page = read(f"tools/{tool}.1.in").replace("\\-", "-")
+            listed = re.findall(r"(?m)^\.TP\n(.*)", page[page.index(".SH OPTIONS") : page.index(".SH EXIT STATUS")])
+            self.assertEqual(sorted(it for line in listed for it in re.findall(r"--[a-z-]+", line)), sorted(options))
+
     def test_statuses(self):
         """The table of docs/FORMATS.md names each exit status, in order, and when it comes."""
         found = module_of("tools/man-page").statuses()

@@ -255,7 +255,8 @@ class TablesFromXml(unittest.TestCase):
         naming = """<interface name="b" version="2"><request name="r"/>
             <request name="s" since="2"><arg name="x" type="object" interface="a"/></request>
             </interface>"""
-        gone = '<interface name="a" version="1"><request name="r"><arg type="object"/></request></interface>'
+        gone = """<interface name="a" version="1"><request name="r"><arg name="x" type="object"/></request>
+            </interface>"""
         printed, said = self.made(naming + gone, words=("--whole", "{0}"))
         self.assertEqual([it for it in printed if it[0] != "#"], ["interface b 1", "request r"])
         self.assertIn("a: left out, no version of it is whole", said)
@@ -269,7 +270,7 @@ class TablesFromXml(unittest.TestCase):
     def test_a_lowered_version_keeps_places(self):
         """Messages out of the order of their versions: what stands behind one that goes, goes."""
         text = """<interface name="a" version="3"><request name="r" since="3"/><request name="s" since="2"/>
-            <event name="e"/><event name="made" since="3"><arg type="new_id"/></event>
+            <event name="e"/><event name="made" since="3"><arg name="x" type="new_id"/></event>
             </interface>"""
         printed, _ = self.made(text, words=("--whole", "{0}"))
         self.assertEqual([it for it in printed if it[0] != "#"], ["interface a 1", "event e"])
@@ -278,7 +279,7 @@ class TablesFromXml(unittest.TestCase):
         """Its event is kept. The event that destroys is a plain one then, but with --whole: there what
         breaks a rule goes."""
         text = """<interface name="a" version="1">
-            <event name="made"><arg type="new_id" interface="b"/></event><event name="late"/></interface>
+            <event name="made"><arg name="x" type="new_id" interface="b"/></event><event name="late"/></interface>
             <interface name="b" version="1">{}<event name="gone" type="destructor"/></interface>"""
         for requests, rule in (("", 11), ('<request name="r" type="destructor"/>', 7)):
             printed, said = self.made(text.format(requests))
@@ -298,25 +299,27 @@ class TablesFromXml(unittest.TestCase):
 
     def entry(self, value):
         text = f'<entry name="e" value="{value.replace("<", "&lt;")}"/>'
-        return protocol.entry(ElementTree.fromstring(text)).value
+        return protocol.entry(ElementTree.fromstring(text), 1).value
 
     def test_what_core_has(self):
         text = '<interface name="wl_seat" version="1"/><interface name="wl_fixes" version="1"/>'
-        text += '<interface name="b" version="1"><request name="r"><arg type="object" interface="wl_seat"/>'
-        printed, said = self.made(text + "</request></interface>")
+        text += """<interface name="b" version="1"><request name="r">
+            <arg name="x" type="object" interface="wl_seat"/></request></interface>"""
+        printed, said = self.made(text)
         self.assertEqual(printed, ["interface b 1", "request r o(wl_seat)"])
         self.assertEqual(said[0], "wl_seat: left out, the core tables have it")
         self.assertEqual(len(said), 2)
 
     # A newer wl_shm_pool than that of the core, with the messages of the core in front.
     NEWER = """<interface name="wl_shm_pool" version="{}">
-        <request name="create_buffer"><arg type="new_id" interface="wl_buffer"/><arg type="int"/>
-          <arg type="int"/><arg type="int"/><arg type="int"/><arg type="{}"/></request>
+        <request name="create_buffer"><arg name="x" type="new_id" interface="wl_buffer"/><arg name="x" type="int"/>
+          <arg name="x" type="int"/><arg name="x" type="int"/><arg name="x" type="int"/>
+          <arg name="x" type="{}"/></request>
         <request name="destroy" type="destructor"/>
         {}
-        <request name="seal" since="3"><arg type="new_id" interface="seal"/></request>
+        <request name="seal" since="3"><arg name="x" type="new_id" interface="seal"/></request>
         <event name="sealed" since="3"/></interface><interface name="seal" version="1"/>"""
-    RESIZE = '<request name="resize"><arg type="int"/></request>'
+    RESIZE = '<request name="resize"><arg name="x" type="int"/></request>'
 
     def test_what_is_newer_than_core(self):
         printed, said = self.made(self.NEWER.format(3, "uint", self.RESIZE))
@@ -337,10 +340,11 @@ class TablesFromXml(unittest.TestCase):
         self.assertEqual(printed, [f"# {said[0]}"])
 
     def test_what_changes_core(self):
+        older = self.NEWER.replace('since="3"', 'since="2"')
         for text, error in (
             (self.NEWER.format(3, "int", self.RESIZE), "line 2: wl_shm_pool request create_buffer n(wl_buffer)"),
-            (self.NEWER.format(2, "int", self.RESIZE), "line 2: wl_shm_pool request create_buffer n(wl_buffer)"),
-            (self.NEWER.format(3, "uint", ""), "line 6: wl_shm_pool request seal n(seal) @3: the core"),
+            (older.format(2, "int", self.RESIZE), "line 2: wl_shm_pool request create_buffer n(wl_buffer)"),
+            (self.NEWER.format(3, "uint", ""), "line 7: wl_shm_pool request seal n(seal) @3: the core"),
         ):
             printed, said = self.made(text, status=1)
             self.assertEqual((printed, len(said)), ([], 1))
@@ -348,16 +352,21 @@ class TablesFromXml(unittest.TestCase):
 
     def test_an_event_goes_before_a_request(self):
         text = """<interface name="b" version="1"><request name="r">
-            <arg type="object" interface="a"/></request></interface><interface name="a" version="1"><request name="r"/>
+            <arg name="x" type="object" interface="a"/></request></interface>
+            <interface name="a" version="1"><request name="r"/>
             <event name="gone" type="destructor"/></interface>"""
         printed, said = self.made(text)
         kept = "event gone D: kept without D, which breaks V7"
-        self.assertEqual(printed, ["interface b 1", "request r o(a)", "interface a 1", "request r", "event gone", f"# {kept}"])
+        self.assertEqual(
+            printed,
+            ["interface b 1", "request r o(a)", "interface a 1", "request r", "event gone", f"# {kept}"],
+        )
         self.assertEqual(said, [f"a {kept}"])
 
     def test_an_event_of_another_text_destroys(self):
         """It stays in that text, so a request that names its interface goes."""
-        naming = '<interface name="b" version="1"><request name="r"><arg type="object" interface="a"/></request></interface>'
+        naming = """<interface name="b" version="1"><request name="r">
+            <arg name="x" type="object" interface="a"/></request></interface>"""
         named = '<interface name="a" version="1"><event name="gone" type="destructor"/></interface>'
         printed, said = self.made(naming, named, words=("{0}", "--with", "{1}"))
         self.assertEqual(said, ["b request r o(a): left out, it breaks V7"])
@@ -367,7 +376,7 @@ class TablesFromXml(unittest.TestCase):
 
     def test_with(self):
         naming = """<interface name="b" version="1"><request name="r">
-            <arg type="object" interface="a"/></request></interface>"""
+            <arg name="x" type="object" interface="a"/></request></interface>"""
         printed, said = self.made(naming, self.ALL, words=("{0}", "--with", "{1}", "--comment", "x"))
         self.assertEqual(
             printed,
@@ -386,8 +395,8 @@ class TablesFromXml(unittest.TestCase):
             '<interface name="a"/>',
             '<interface name="a" version="x"/>',
             '<interface name="a b" version="1"/>',
-            '<interface name="a" version="1"><event name="e"><arg type="long"/></event></interface>',
-            '<interface name="a" version="1"><event name="e"><arg type="int" allow-null="true"/>'
+            '<interface name="a" version="1"><event name="e"><arg name="x" type="long"/></event></interface>',
+            '<interface name="a" version="1"><event name="e"><arg name="x" type="int" allow-null="true"/>'
             "</event></interface>",
         ):
             printed, said = self.made(text, status=1)
