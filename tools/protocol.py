@@ -242,8 +242,12 @@ def root_of(path):
 
 
 def is_text_of_tables(path):
-    with open(path, "rb") as file:
-        return TEXT_OF_TABLES.match(file.read(65536)) is not None
+    """Whether a file is a text of tables, by its first lines; false where it cannot be read."""
+    try:
+        with open(path, "rb") as file:
+            return TEXT_OF_TABLES.match(file.read(65536)) is not None
+    except OSError:
+        return False
 
 
 def protocol_of(root):

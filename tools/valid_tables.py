@@ -84,6 +84,14 @@ def interfaces_of(path, is_checked=True):
     return found
 
 
+def interfaces_named(path):
+    """The interfaces of a file that others may name: a protocol's XML, or a text of tables."""
+    if not protocol.is_text_of_tables(path):
+        return interfaces_of(path)
+    with open(path, "rb") as file:
+        return table_text.parse_tables(file.read())
+
+
 class Mending:
     """The interfaces that are left, and what was left out of them so that they break no rule. `others` stand
     before them, whose text is another: they may be named."""
@@ -187,14 +195,13 @@ class Mending:
         why = f"it breaks V{rule}"
         if side is None:
             self.remove(interface, why)
-        elif self.is_whole:
-            self.cut(interface, side, opcode, why)
-            self.lower(interface)
         elif ended := self.ended_by_event(interface, side, opcode, rule):
             for it in ended:
                 self.keep_without_destroying(it, rule)
         else:
             self.cut(interface, side, opcode, why)
+            if self.is_whole:
+                self.lower(interface)
 
 
     def changes(self):

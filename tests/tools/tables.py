@@ -276,8 +276,7 @@ class TablesFromXml(unittest.TestCase):
         self.assertEqual([it for it in printed if it[0] != "#"], ["interface a 1", "event e"])
 
     def test_what_the_server_makes(self):
-        """Its event is kept. The event that destroys is a plain one then, but with --whole: there what
-        breaks a rule goes."""
+        """Its event is kept, and the event that destroys is a plain one then."""
         text = """<interface name="a" version="1">
             <event name="made"><arg name="x" type="new_id" interface="b"/></event><event name="late"/></interface>
             <interface name="b" version="1">{}<event name="gone" type="destructor"/></interface>"""
@@ -287,9 +286,7 @@ class TablesFromXml(unittest.TestCase):
             kept = f"event gone D: kept without D, which breaks V{rule}"
             self.assertEqual(printed[-2:], ["event gone", f"# {kept}"])
             self.assertEqual(said, [f"b {kept}"])
-        printed, said = self.made(text.format(""), words=("--whole", "{0}"))
-        self.assertEqual([it for it in printed if it[0] != "#"], ["interface b 1", "event gone D"])
-        self.assertIn("a event made N(b): left out, it breaks V11", said)
+            self.assertEqual(self.made(text.format(requests), words=("--whole", "{0}")), (printed, said))
 
     def test_entries_that_are_shifted(self):
         for value, wanted in (("1 << 4", 16), ("0x1<<31", 2**31), ("7", 7), ("0x10", 16)):
@@ -388,6 +385,25 @@ class TablesFromXml(unittest.TestCase):
         # Of equal names the one that is only named is kept.
         printed, said = self.made(self.ALL, self.ALL, words=("{0}", "--with", "{1}"))
         self.assertEqual((printed, said), ([], ["a: left out, it breaks V1"]))
+
+    def test_with_a_text(self):
+        """A text of tables has interfaces to name, too."""
+        naming = """<interface name="b" version="1"><request name="r">
+            <arg name="x" type="object" interface="xdg_popup"/></request></interface>"""
+        text = f"{TOP}/examples/tables/xdg-shell.tables"
+        printed, said = self.made(naming, words=("{0}", "--with", text))
+        self.assertEqual(printed[1:], ["interface b 1", "request r o(xdg_popup)"])
+        self.assertEqual(said, [])
+        printed, said = self.made(naming, words=("{0}", "--with", f"{TOP}/README.md"), status=1)
+        self.assertIn("README.md: not well-formed", said[0])
+
+    def test_pass_over(self):
+        """A file that is refused is said, and the others are printed."""
+        printed, said = self.made('<interface name="a"/>', '<interface name="b" version="1"/>',
+                                  words=("--pass-over", "{0}", "/no/such/file", "{1}"))
+        self.assertEqual(printed, ["interface b 1"])
+        self.assertRegex(said[0], "passed over: .*/0.xml: version of a is None")
+        self.assertRegex(said[1], "passed over: /no/such/file: ")
 
     def test_no_protocol(self):
         for text in (
