@@ -42,11 +42,6 @@ fill = sed 's|@UP@|$(call from,$(1),$(PREFIX))|; s|@LIBDIR@|$(call from,$(PREFIX
 	s|@INCLUDEDIR@|$(call from,$(PREFIX),$(INCLUDEDIR))|; s|@VERSION@|$(VERSION)|; \
 	s|@SONAME@|$(soname)|; s|@ABI@|$(abi)|'
 
-# The tool finds the texts of tables, the tools for XML and the one that makes pages from its own folder:
-# $(call inspect_with,TABLES,TOOLS,PICTURE,TOOL) makes it so.
-inspect_with = $(CC) $(CFLAGS) -std=c99 -Wall -Wextra -Wpedantic -Iinclude -DWAYWIRE_TABLES='"$(1)"' \
-	-DWAYWIRE_TOOLS='"$(2)"' -DWAYWIRE_PICTURE='"$(3)"' c/inspect/*.c $(archive) -o $(4)
-
 # `waywire-run` finds the folder of its libwayland-client and the inspector from its own folder:
 # $(call run_with,LIBRARIES,INSPECTOR,FILE).
 run_with = sed 's|^libraries=.*|libraries=$(1)|; s|^inspector=.*|inspector=$(2)|; \
@@ -111,9 +106,9 @@ $(shared): $(objects)
 	@ln -sf $(notdir $@) out/c/$(soname)
 	@ln -sf $(soname) out/c/libwaywire.so
 
+# The tool finds what belongs to it when it runs (c/inspect/folders.c), so that `make install` copies it.
 $(inspect): c/inspect/*.c c/inspect/*.h $(archive)
-	$(call inspect_with,$(call from,$(dir $@),examples/tables),$(call from,$(dir $@),tools),$(call \
-		from,$(dir $@),tools)/waywire-picture,$@)
+	$(CC) $(CFLAGS) -std=c99 -Wall -Wextra -Wpedantic -Iinclude c/inspect/*.c $(archive) -o $@
 
 # The libwayland-client, in a folder of its own: no program is to find it unless it is told to. It has
 # the archive within it, and exports the symbols of libwayland alone. Some programs load it by its name
@@ -172,8 +167,7 @@ install: all
 		install -m 755 tools/$$tool $(DESTDIR)$(DATADIR)/waywire/tools && \
 		ln -sf $(call from,$(BINDIR),$(DATADIR)/waywire/tools)/$$tool $(DESTDIR)$(BINDIR)/waywire-$$tool; \
 	done
-	$(call inspect_with,$(call from,$(BINDIR),$(DATADIR)/waywire/tables),$(call \
-		from,$(BINDIR),$(DATADIR)/waywire/tools),waywire-picture,$(DESTDIR)$(BINDIR)/waywire-inspect)
+	install -m 755 $(inspect) $(DESTDIR)$(BINDIR)
 	sed 's|@VERSION@|$(VERSION)|' c/inspect/waywire-inspect.1.in > $(DESTDIR)$(DATADIR)/man/man1/waywire-inspect.1
 	install -d $(DESTDIR)$(DATADIR)/waywire/tools/picture
 	install -m 644 tools/picture/* $(DESTDIR)$(DATADIR)/waywire/tools/picture

@@ -18,10 +18,6 @@
 #define PIECE_BYTES 65536
 /* The kernel passes at most this number of descriptors at once. */
 #define PIECE_DESCRIPTORS 253
-/* Where the tools in Python are, from the folder of the tool itself; the Makefile says it. */
-#ifndef WAYWIRE_TOOLS
-#define WAYWIRE_TOOLS "../share/waywire/tools"
-#endif
 /* The exit status where nothing could be inspected. */
 #define NOTHING_INSPECTED 125
 
@@ -73,7 +69,18 @@ void print_waits_with(const sigset_t *signals);
 /* From now on standard output is waited for a second at most. */
 void print_briefly(void);
 
-/* ---- the tables (tables.c, texts.c) */
+/* ---- where things are (folders.c) */
+
+/* The path of the tool. */
+void find_own(char *path, size_t size);
+
+/* The path of a tool in Python, or of a file beside these. */
+void find_tool(char *path, size_t size, const char *name);
+
+/* The folder of the installed texts of tables. */
+void find_tables(char *folder, size_t size);
+
+/* ---- the tables (tables.c, texts.c, protocols.c) */
 
 /* The tables of the core and of all texts that were read. */
 struct known {
@@ -101,6 +108,29 @@ void read_file(const char *path, struct text *text);
 /* Reads a text; an XML is handed to waywire-tables-from-xml. */
 void source_read(struct source *source);
 
+/* Makes a text one of tables; it belongs to the source then. */
+void source_take(struct source *source, struct text *taken);
+
+/* Makes a text of the XML that the system has installed, as far as it has interfaces, or versions of interfaces, that
+ * neither the core nor these texts have. False where there is none. */
+bool installed_protocols(struct text *made, const struct source *sources, size_t source_count,
+	const waywire_tables *core, bool is_verbose);
+
+/* A name in a text; one of no length stands for none. */
+struct name {
+	const char *bytes;
+	size_t length;
+};
+
+/* What the line at a place declares or extends. */
+struct name source_names(const struct source *source, size_t at);
+
+/* Whether a text declares an interface; an extension does not. */
+bool source_declares(const struct source *source, struct name name);
+
+/* The line behind the one at a place. */
+size_t source_next_line(const struct source *source, size_t at);
+
 /* The paths of the installed texts, in the order of their names, to be freed. */
 char **installed_texts(size_t *count);
 
@@ -118,15 +148,9 @@ void name_arguments(struct message *message);
 
 void names_free(void);
 
-/* The path of the tool. */
-void find_own(char *path, size_t size);
-
-/* The path of a file or folder from that of the tool. */
-void find_beside(char *path, size_t size, const char *from_tool);
-
-/* Runs a program to its end. Its standard output is added to `output`, where that is not null. Returns its exit
- * status, 127 where it cannot be run. */
-int run_to_end(char *const *words, struct text *output);
+/* Runs a program to its end. Its standard output is added to `output`, where that is not null; its standard error
+ * is dropped where it is to be quiet. Returns its exit status, 127 where it cannot be run. */
+int run_to_end(char *const *words, struct text *output, bool is_quiet);
 
 /* ---- a recording (recording.c) */
 

@@ -37,15 +37,15 @@ void names_read(const struct options *options)
 	size_t given = 0;
 	if (!words)
 		fail("out of memory");
-	find_beside(tool, sizeof tool, WAYWIRE_TOOLS "/tables-from-xml");
-	find_beside(core, sizeof core, WAYWIRE_TOOLS "/core.xml");
+	find_tool(tool, sizeof tool, "tables-from-xml");
+	find_tool(core, sizeof core, "core.xml");
 	words[given++] = tool;
 	words[given++] = "--names";
 	words[given++] = core;
 	for (size_t each = 0; each < options->table_count; each++)
 		if (is_xml(options->tables[each]))
 			words[given++] = options->tables[each];
-	if (run_to_end(words, &lines))
+	if (run_to_end(words, &lines, false))
 		notice("%s has failed: arguments have no names", tool);
 	sort_lines();
 	free(words);

@@ -7,11 +7,6 @@
 #include <stdio.h>
 #include <unistd.h>
 
-/* Where the tool that makes pages is, from the folder of the tool itself; the Makefile says it. */
-#ifndef WAYWIRE_PICTURE
-#define WAYWIRE_PICTURE "waywire-picture"
-#endif
-
 static char folder[PATH_MAX];
 static char *recorded; /* in that folder; null where --record names a file */
 
@@ -48,7 +43,7 @@ static void make_page(const struct options *options, const char *tool, unsigned 
 	snprintf(limit, sizeof limit, "%u", (unsigned)options->limit);
 	find_own(own, sizeof own);
 	char *words[] = { (char *)tool, recording, "-o", page, "--limit", limit, "--inspector", own, NULL };
-	int status = recording && page ? run_to_end(words, NULL) : 127;
+	int status = recording && page ? run_to_end(words, NULL, false) : 127;
 	if (status)
 		notice("no page of client %u is made: %s %s", number, tool, status == 127 ? "cannot be run" : "has failed");
 	free(recording);
@@ -80,7 +75,7 @@ void picture_end(const struct options *options, unsigned client_count)
 	char tool[PATH_MAX];
 	if (!options->picture)
 		return;
-	find_beside(tool, sizeof tool, WAYWIRE_PICTURE);
+	find_tool(tool, sizeof tool, "waywire-picture");
 	for (unsigned number = 1; number <= client_count; number++)
 		make_page(options, tool, number);
 	remove_recorded(client_count);

@@ -77,11 +77,9 @@ static void describe(char *said, size_t size, waywire_status status, const struc
 }
 
 /* Reads the texts, joined. An installed text with a fault is left out. */
-static waywire_tables *read_sources(struct sources *sources)
+static waywire_tables *read_sources(const waywire_tables *core, struct sources *sources)
 {
-	waywire_tables *core, *tables;
-	if (waywire_tables_core(&core))
-		fail("out of memory");
+	waywire_tables *tables;
 	for (;;) {
 		char said[PATH_MAX + 64];
 		size_t line = 0;
@@ -98,18 +96,17 @@ static waywire_tables *read_sources(struct sources *sources)
 		else if (!leave_out_another(core, sources, said))
 			fail("%s", said);
 	}
-	waywire_tables_free(core);
 	return tables;
 }
 
 /* Notes a text that was read: its name, and its bytes behind a comment. */
 static void note(struct known *known, const struct source *source)
 {
+	if (!source->bytes || !source->length)
+		return;
 	const char *name = strrchr(source->path, '/') ? strrchr(source->path, '/') + 1 : source->path;
 	const char *end = strrchr(name, '.');
 	size_t length = end && end > name ? (size_t)(end - name) : strlen(name);
-	if (!source->bytes || !source->length)
-		return;
 	text_add(&known->names, " ");
 	for (size_t each = 0; each < length; each++)
 		text_add(&known->names, (unsigned char)name[each] <= ' ' ? "_" : (char[]){ name[each], 0 });
@@ -119,43 +116,71 @@ static void note(struct known *known, const struct source *source)
 	text_put(&known->joined, source->bytes, source->length);
 }
 
-/* Reads the installed texts, but for the interfaces that others declare. */
-static void add_installed(struct sources *sources, char **paths, size_t count, size_t given)
+/* Reads the installed texts. */
+static void add_installed(struct sources *sources, char **paths, size_t count)
 {
 	for (size_t each = 0; each < count; each++) {
-		struct source *source = &sources->of[sources->count++];
+		struct source *source = &sources->of[each];
 		source->path = paths[each];
 		source_read(source);
-		for (size_t other = 0; other < given; other++)
-			source_without(source, &sources->of[count + other]);
 	}
+}
+
+/* Reads what the system's XML has and no text. It stands behind the installed texts. */
+static void add_protocols(struct sources *sources, size_t place, const waywire_tables *core, bool is_verbose)
+{
+	static char name[] = "installed-xml";
+	struct text made = { NULL, 0, 0 };
+	if (installed_protocols(&made, sources->of, sources->count, core, is_verbose))
+		source_take(&sources->of[place], &made);
+	else
+		text_free(&made);
+	sources->of[place].path = name;
+}
+
+/* Takes out of each text the interfaces that one behind it declares, if that is no installed one. */
+static void take_out_what_is_replaced(struct sources *sources, size_t first)
+{
+	for (size_t other = first; other < sources->count; other++)
+		for (size_t each = 0; each < other && sources->of[other].bytes; each++)
+			if (sources->of[each].bytes && !sources->of[each].is_given)
+				source_without(&sources->of[each], &sources->of[other]);
+}
+
+static void free_sources(struct sources *sources, char **paths, size_t count)
+{
+	for (size_t each = 0; each < sources->count; each++)
+		free(sources->of[each].bytes);
+	for (size_t each = 0; each < count; each++)
+		free(paths[each]);
+	free(paths);
+	free(sources->of);
 }
 
 void known_read(struct known *known, const struct options *options)
 {
 	size_t count = 0, given = options->table_count;
 	char **paths = options->no_tables ? NULL : installed_texts(&count);
-	struct sources sources = { calloc(count + given + 1, sizeof *sources.of), 0 };
-	if (!sources.of)
+	struct sources sources = { calloc(count + 1 + given, sizeof *sources.of), count + 1 + given };
+	waywire_tables *core;
+	if (!sources.of || waywire_tables_core(&core))
 		fail("out of memory");
+	add_installed(&sources, paths, count);
 	for (size_t each = 0; each < given; each++) {
-		struct source *source = &sources.of[count + each];
+		struct source *source = &sources.of[count + 1 + each];
 		*source = (struct source){ .path = options->tables[each], .is_given = true };
 		source_read(source);
 	}
-	add_installed(&sources, paths, count, given);
-	sources.count += given;
-	*known = (struct known){ read_sources(&sources), { NULL, 0, 0 }, { NULL, 0, 0 } };
+	if (!options->no_tables)
+		add_protocols(&sources, count, core, options->verbose);
+	take_out_what_is_replaced(&sources, count);
+	*known = (struct known){ read_sources(core, &sources), { NULL, 0, 0 }, { NULL, 0, 0 } };
+	waywire_tables_free(core);
 	text_add(&known->names, "core");
 	text_add(&known->joined, "# The texts of tables that waywire-inspect read, joined.\n");
 	for (size_t each = 0; each < sources.count; each++)
 		note(known, &sources.of[each]);
-	for (size_t each = 0; each < sources.count; each++)
-		free(sources.of[each].bytes);
-	for (size_t each = 0; each < count; each++)
-		free(paths[each]);
-	free(paths);
-	free(sources.of);
+	free_sources(&sources, paths, count);
 }
 
 void known_free(struct known *known)

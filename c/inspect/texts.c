@@ -4,37 +4,17 @@
 
 #include <dirent.h>
 #include <errno.h>
+#include <fcntl.h>
 #include <limits.h>
 #include <spawn.h>
 #include <stdio.h>
 #include <sys/wait.h>
 #include <unistd.h>
 
-/* Where the installed texts are, from the folder of the tool itself; the Makefile says it. */
-#ifndef WAYWIRE_TABLES
-#define WAYWIRE_TABLES "../share/waywire/tables"
-#endif
 /* As much as `waywire` reads of a file. */
 #define LONGEST 16777216
 
 /* ---- other programs */
-
-void find_own(char *path, size_t size)
-{
-	ssize_t length = readlink("/proc/self/exe", path, size - 1);
-	if (length < 0)
-		fail("/proc/self/exe cannot be read: %s", strerror(errno));
-	path[length] = 0;
-}
-
-void find_beside(char *path, size_t size, const char *from_tool)
-{
-	find_own(path, size);
-	char *name = strrchr(path, '/') + 1;
-	size_t left = size - (size_t)(name - path);
-	if ((size_t)snprintf(name, left, "%s", from_tool) >= left)
-		fail("the path of %s is too long", from_tool);
-}
 
 static void read_all(int from, struct text *output)
 {
@@ -58,7 +38,7 @@ static void take_no_signals(posix_spawnattr_t *attributes)
 	posix_spawnattr_setsigmask(attributes, &none);
 }
 
-int run_to_end(char *const *words, struct text *output)
+int run_to_end(char *const *words, struct text *output, bool is_quiet)
 {
 	int ends[2], status = 0;
 	pid_t process;
@@ -71,6 +51,8 @@ int run_to_end(char *const *words, struct text *output)
 	posix_spawn_file_actions_init(&actions);
 	if (output)
 		posix_spawn_file_actions_adddup2(&actions, ends[1], STDOUT_FILENO);
+	if (is_quiet)
+		posix_spawn_file_actions_addopen(&actions, STDERR_FILENO, "/dev/null", O_WRONLY, 0);
 	posix_spawn_file_actions_addclose(&actions, ends[0]);
 	posix_spawn_file_actions_addclose(&actions, ends[1]);
 	int error = posix_spawnp(&process, words[0], &actions, &attributes, words, environ);
@@ -122,12 +104,19 @@ static void convert(const char *path, struct text *text)
 {
 	char tool[PATH_MAX];
 	char *words[] = { tool, (char *)path, NULL };
-	find_beside(tool, sizeof tool, WAYWIRE_TOOLS "/tables-from-xml");
-	int status = run_to_end(words, text);
+	find_tool(tool, sizeof tool, "tables-from-xml");
+	int status = run_to_end(words, text, false);
 	if (status == 127)
 		fail("%s cannot be read: %s cannot be run", path, tool);
 	if (status)
 		fail("%s cannot be read", path);
+}
+
+/* Whether a text is XML, by its first character. */
+static bool has_tags(const struct text *text)
+{
+	size_t at = text->length >= 3 && !memcmp(text->bytes, "\xef\xbb\xbf", 3) ? 3 : 0;
+	return text->length && text->bytes[at + strspn(text->bytes + at, " \t\r\n")] == '<';
 }
 
 void source_read(struct source *source)
@@ -137,6 +126,14 @@ void source_read(struct source *source)
 		convert(source->path, &text);
 	else
 		read_file(source->path, &text);
+	if (has_tags(&text))
+		fail("%s is XML, not a text of tables; the name of a protocol's XML ends with .xml", source->path);
+	source_take(source, &text);
+}
+
+void source_take(struct source *source, struct text *taken)
+{
+	struct text text = *taken;
 	if (text.length && text.bytes[text.length - 1] != '\n')
 		text_add(&text, "\n");
 	source->bytes = text.bytes ? text.bytes : calloc(1, 1);
@@ -150,18 +147,11 @@ void source_read(struct source *source)
 
 /* ---- what a text declares */
 
-/* The line behind the one at a place. */
-static size_t next_line(const struct source *source, size_t at)
+size_t source_next_line(const struct source *source, size_t at)
 {
 	const char *end = memchr(source->bytes + at, '\n', source->length - at);
 	return end ? (size_t)(end - source->bytes) + 1 : source->length;
 }
-
-/* A name in a text; one of no length stands for none. */
-struct name {
-	const char *bytes;
-	size_t length;
-};
 
 /* What a line names behind the word that it begins with. */
 static struct name named_by(const struct source *source, size_t at, const char *word)
@@ -173,9 +163,15 @@ static struct name named_by(const struct source *source, size_t at, const char *
 	return (struct name){ name, end ? (size_t)(end - name) : 0 };
 }
 
-static bool declares(const struct source *source, struct name name)
+struct name source_names(const struct source *source, size_t at)
 {
-	for (size_t at = 0; source->bytes && at < source->length; at = next_line(source, at)) {
+	struct name name = named_by(source, at, "interface ");
+	return name.length ? name : named_by(source, at, "extend ");
+}
+
+bool source_declares(const struct source *source, struct name name)
+{
+	for (size_t at = 0; source->bytes && at < source->length; at = source_next_line(source, at)) {
 		struct name its = named_by(source, at, "interface ");
 		if (its.length == name.length && !memcmp(its.bytes, name.bytes, name.length))
 			return true;
@@ -188,12 +184,10 @@ void source_without(struct source *source, const struct source *other)
 	size_t kept = 0, lines = 0;
 	bool is_out = false;
 	for (size_t at = 0, next; at < source->length; at = next) {
-		next = next_line(source, at);
-		struct name name = named_by(source, at, "interface ");
-		if (!name.length)
-			name = named_by(source, at, "extend ");
+		next = source_next_line(source, at);
+		struct name name = source_names(source, at);
 		if (name.length)
-			is_out = declares(other, name);
+			is_out = source_declares(other, name);
 		if (is_out)
 			continue;
 		memmove(source->bytes + kept, source->bytes + at, next - at);
@@ -220,7 +214,7 @@ char **installed_texts(size_t *count)
 {
 	static char folder[PATH_MAX];
 	struct dirent **found = NULL;
-	find_beside(folder, sizeof folder, WAYWIRE_TABLES);
+	find_tables(folder, sizeof folder);
 	int entries = scandir(folder, &found, is_tables, by_name);
 	if (entries < 0)
 		notice("cannot read %s: %s; the core's interfaces alone are known", folder, strerror(errno));

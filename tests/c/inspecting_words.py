@@ -74,21 +74,21 @@ class Talking(Inspected):
 class Unjudged(Talking):
     """Not judged is not broken."""
 
-    GIVEN = (REGISTRY, (announced(1, "gtk_shell1", 5) + announced(2, "wl_compositor", 6),),
-             bind(1, "gtk_shell1", 5, 3))
+    GIVEN = (REGISTRY, (announced(1, "own_shell1", 5) + announced(2, "wl_compositor", 6),),
+             bind(1, "own_shell1", 5, 3))
 
     def test_a_bind_of_what_no_table_has(self):
         lines = self.lines(*self.GIVEN, message(3, 1, 77), bind(2, "wl_compositor", 6, 4), message(4, 0, 5),
                            (message(3, 0, 1),), message(9, 3, 0))
         self.assertEqual(lines[3:], [
-            '-> wl_registry@2.bind(1, "gtk_shell1", 5, new id gtk_shell1@3)',
-            "not judged from here: gtk_shell1 is not in the tables",
-            "? -> gtk_shell1@3: opcode 1, 12 bytes",
+            '-> wl_registry@2.bind(1, "own_shell1", 5, new id own_shell1@3)',
+            "not judged from here: own_shell1 is not in the tables",
+            "? -> own_shell1@3: opcode 1, 12 bytes",
             '? -> wl_registry@2.bind(2, "wl_compositor", 6, new id wl_compositor@4)',
             "? -> wl_compositor@4.create_surface(new id wl_surface@5)",
-            "? <- gtk_shell1@3: opcode 0, 12 bytes",
+            "? <- own_shell1@3: opcode 0, 12 bytes",
             "? -> unknown@9: opcode 3, 12 bytes",
-            "not judged from request 2 on: gtk_shell1 is not in the tables; lawful until then; "
+            "not judged from request 2 on: own_shell1 is not in the tables; lawful until then; "
             "6 requests, 3 events"])
 
     def test_nothing_is_called_broken(self):
@@ -106,16 +106,16 @@ class Unjudged(Talking):
                                    "which have 6")
 
     def test_what_was_not_announced_is_broken(self):
-        for bound, words in ((bind(1, "gtk_shell1", 6, 3), "the global was announced with version 5"),
-                             (bind(7, "gtk_shell1", 5, 3),
-                              'no global 7 was announced that is a "gtk_shell1"')):
+        for bound, words in ((bind(1, "own_shell1", 6, 3), "the global was announced with version 5"),
+                             (bind(7, "own_shell1", 5, 3),
+                              'no global 7 was announced that is a "own_shell1"')):
             lines = self.lines(*self.GIVEN[:2], bound, status=1)
             self.assertEqual(lines[-2:], [f"F9: {words}", "broken: > message 2 at byte 12: F9 bad bind"])
 
     def test_numbers_of_descriptors(self):
         """They are left out in a direction in which an unknown message has passed."""
         lines = self.lines(*self.GIVEN[:2], (announced(3, "wl_seat", 5),), bind(3, "wl_seat", 5, 3), message(3, 1, 4),
-                           bind(1, "gtk_shell1", 5, 5), sync(6), (message(4, 0, 1, 9),),
+                           bind(1, "own_shell1", 5, 5), sync(6), (message(4, 0, 1, 9),),
                            (message(5, 0),), (message(4, 0, 1, 9),))
         self.assertEqual([it for it in lines if "keymap" in it],
                          ["? <- wl_keyboard@4.keymap(1, fd 1, 9)", "? <- wl_keyboard@4.keymap(1, fd, 9)"])
@@ -123,8 +123,8 @@ class Unjudged(Talking):
     def test_an_error(self):
         lines = self.lines(*self.GIVEN, (error(3, 2, "no"),), status=1)
         self.assertEqual(lines[-2:], [
-            '? <- wl_display@1.error(gtk_shell1@3, 2, "no")',
-            "not judged from request 2 on: gtk_shell1 is not in the tables; lawful until then; "
+            '? <- wl_display@1.error(own_shell1@3, 2, "no")',
+            "not judged from request 2 on: own_shell1 is not in the tables; lawful until then; "
             "2 requests, 3 events; ended by wl_display.error"])
 
 
@@ -322,9 +322,9 @@ class Json(Talking):
     def test_unjudged(self):
         told = self.told(*Unjudged.GIVEN, message(3, 1, 77))
         self.assertEqual([it["judged"] for it in told if it["type"] == "message"], [True] * 3 + [False] * 2)
-        self.assertEqual(told[-3]["note"], "not judged from here: gtk_shell1 is not in the tables")
+        self.assertEqual(told[-3]["note"], "not judged from here: own_shell1 is not in the tables")
         self.assertEqual((told[-2]["object"], told[-2]["message"], told[-2]["arguments"]),
-                         ({"interface": "gtk_shell1", "id": 3, "birth": 1}, None, []))
+                         ({"interface": "own_shell1", "id": 3, "birth": 1}, None, []))
         self.assertEqual(told[-1]["verdict"], "unjudged")
 
 
@@ -367,6 +367,69 @@ class Tables(Talking):
         bad = self.written("bad.xml", "no xml")
         self.assertRegex(self.ran("--tables", bad, "true", status=125)[1],
                          r"waywire-inspect: \S+bad.xml cannot be read\n\Z")
+
+    # A protocol of one interface, in a version.
+    OWN = """<?xml version="1.0"?><protocol name="own"><interface
+        version="{}" name = '{}'><request name="pull"><arg name="how" type="{}"/></request></interface></protocol>"""
+
+    def install(self, name, text):
+        """Installs an XML in place of those of the system."""
+        self.env["XDG_DATA_DIRS"] = f"{self.folder}/data"
+        path = f"{self.folder}/data/wayland-protocols/staging/{name}"
+        os.makedirs(os.path.dirname(path), exist_ok=True)
+        with open(path, "w", encoding="utf-8") as file:
+            file.write(text)
+        return path
+
+    def test_installed_xml(self):
+        """What no table has is read from the XML that the system has installed, and what cannot be read is
+        passed over."""
+        given = (REGISTRY, (announced(1, "own_thing", 1),), bind(1, "own_thing", 1, 3), message(3, 0, 5))
+        own = self.install("own/own-v1.xml", self.OWN.format(1, "own_thing", "int"))
+        bad = self.install("bad.xml", self.OWN.format(1, "bad_thing", "long"))
+        capital = self.install("capital.xml", self.OWN.format(1, "Capital", "int"))
+        older = self.install("older.xml", self.OWN.format(1, "xdg_wm_base", "int"))
+        self.install("notes.txt", self.OWN.format(1, "no_thing", "int"))
+        lines = self.lines(*given, options=["--record", self.recorded])
+        self.assertEqual(lines[-2:], ["-> own_thing@3.pull(5)", "lawful: 3 requests, 1 events, 0 and 0 bytes left"])
+        self.checked(self.recorded, lines, "--tables", f"{self.recorded}.tables")
+        _, said = self.talk(*given, options=["--verbose"])
+        for it in (f"{own} is read: it has what no table has\n",
+                   f"passed over: {bad}: argument how has the type long\n",
+                   f"{capital} is passed over: it has a name that no table can have\n"):
+            self.assertIn(it, said)
+        self.assertNotIn(older, said)
+        self.assertIn("own_thing is not in the tables", self.lines(*given, options=["--no-tables"])[-1])
+
+    def test_installed_xml_that_names_others(self):
+        """Its messages may name interfaces of other XML and of the texts."""
+        self.install("one.xml", """<protocol name="one"><interface name="one_thing" version="1"><request name="use">
+            <arg name="a" type="new_id" interface="two_thing"/><arg name="b" type="object" interface="xdg_toplevel"
+            allow-null="true"/></request></interface></protocol>""")
+        self.install("two.xml", self.OWN.format(1, "two_thing", "int"))
+        lines = self.lines(REGISTRY, (announced(1, "one_thing", 1),), bind(1, "one_thing", 1, 3), message(3, 0, 4, 0),
+                           message(4, 0, 5))
+        self.assertEqual(lines[-3:-1], ["-> one_thing@3.use(new id two_thing@4, nil)", "-> two_thing@4.pull(5)"])
+
+    def test_installed_xml_that_is_newer(self):
+        """A newer version takes the place of the one of a text, but not of one that is given."""
+        newer = self.OWN.format(9, "xdg_wm_base", "int")
+        self.install("newer.xml", newer)
+        self.install("oldest.xml", self.OWN.format(1, "xdg_wm_base", "string"))
+        given = (REGISTRY, (announced(1, "xdg_wm_base", 9),), bind(1, "xdg_wm_base", 9, 3), message(3, 0, 5))
+        self.assertEqual(self.lines(*given)[-2], "-> xdg_wm_base@3.pull(5)")
+        own = self.written("own.tables", "interface xdg_wm_base 1\nrequest own D\n")
+        lines = self.lines(*given, options=["--tables", own])
+        self.assertIn("not judged from here: version 9 of xdg_wm_base is not in the tables, which have 1", lines)
+
+    def test_xml_as_a_text(self):
+        """XML whose name does not say so is called XML, and a text whose name says XML is called a text."""
+        xml = self.written("own.tables", self.OWN.format(1, "own_thing", "int"))
+        said = f"{xml} is XML, not a text of tables; the name of a protocol's XML ends with .xml"
+        self.assertEqual(self.ran("--tables", xml, "true", status=125), ("", f"waywire-inspect: {said}\n"))
+        text = self.written("own.xml", "interface own_thing 1\n")
+        self.assertIn(f"{text} is a text of tables, not the XML of a protocol\n",
+                      self.ran("--tables", text, "true", status=125)[1])
 
     def test_no_tables(self):
         self.assertIn("not judged from here: xdg_wm_base is not in the tables",
