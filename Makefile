@@ -2,7 +2,8 @@
 # `waywire-run` puts before the system's. `make` proves and builds the library where it is not built yet,
 # over what a run has proved in this clone (tools/library-of-c). `make install` installs all three, and
 # the program `waywire` with its manual page where that is built (./waywire --build).
-# `make dist` packs all of that for machines that have no toolchain.
+# `make dist` packs all of that for machines that have no toolchain, and `make deb` for Debian. `make check` runs
+# the short tests of the library for C; tests/check-c has all of them.
 #
 #     make install PREFIX=/usr/local LIBDIR=/usr/local/lib DESTDIR=
 PREFIX ?= /usr/local
@@ -13,6 +14,7 @@ DATADIR ?= $(PREFIX)/share
 DESTDIR ?=
 CC ?= cc
 CFLAGS ?= -O2
+LDFLAGS ?=
 OBJCOPY ?= objcopy
 # The folder of the toolchain: its C part gives the exports their memory.
 KIT ?= $(patsubst %/,%,$(dir $(shell rt doc)))
@@ -102,13 +104,13 @@ $(archive): $(objects)
 	$(AR) rcsD $@ $(objects)
 
 $(shared): $(objects)
-	$(CC) -shared -Wl,-soname,$(soname) -Wl,-z,defs -Wl,--build-id=sha1 $(objects) -o $@
+	$(CC) -shared -Wl,-soname,$(soname) -Wl,-z,defs -Wl,--build-id=sha1 $(LDFLAGS) $(objects) -o $@
 	@ln -sf $(notdir $@) out/c/$(soname)
 	@ln -sf $(soname) out/c/libwaywire.so
 
 # The tool finds what belongs to it when it runs (c/inspect/folders.c), so that `make install` copies it.
 $(inspect): c/inspect/*.c c/inspect/*.h $(archive)
-	$(CC) $(CFLAGS) -std=c99 -Wall -Wextra -Wpedantic -Iinclude c/inspect/*.c $(archive) -o $@
+	$(CC) $(CFLAGS) -std=c99 -Wall -Wextra -Wpedantic -Iinclude c/inspect/*.c $(LDFLAGS) $(archive) -o $@
 
 # The libwayland-client, in a folder of its own: no program is to find it unless it is told to. It has
 # the archive within it, and exports the symbols of libwayland alone. Some programs load it by its name
@@ -131,12 +133,16 @@ out/c/wayland/interfaces.o: out/c/wayland/interfaces.c c/libwayland/wayland-abi.
 
 $(wayland): $(wayland_objects) $(archive)
 	$(CC) -shared -pthread -Wl,-soname,$(notdir $@) -Wl,-z,defs -Wl,--build-id=sha1 \
-		-Wl,--exclude-libs,ALL $(wayland_objects) $(archive) -o $@
+		-Wl,--exclude-libs,ALL $(LDFLAGS) $(wayland_objects) $(archive) -o $@
 	@ln -sf $(notdir $@) $(@D)/libwayland-client.so
 
 $(run): c/libwayland/waywire-run Makefile $(numbered)
 	@mkdir -p out/c
 	$(call run_with,wayland,waywire-inspect,$@)
+
+# The Rust package as it is built against an installed library, and the examples.
+rust = $(shell cd rust/waywire && find Cargo.toml README.md build.rs src examples -type f)
+pages = c/inspect/waywire-inspect.1 c/libwayland/waywire-run.1 tools/waywire-picture.1
 
 install: all
 	install -d $(DESTDIR)$(INCLUDEDIR) $(DESTDIR)$(LIBDIR)/pkgconfig $(DESTDIR)$(LIBDIR)/cmake/waywire \
@@ -149,8 +155,9 @@ install: all
 	install -m 755 $(wayland) $(DESTDIR)$(LIBDIR)/waywire
 	ln -sf $(notdir $(wayland)) $(DESTDIR)$(LIBDIR)/waywire/libwayland-client.so
 	$(call run_with,$(call from,$(BINDIR),$(LIBDIR)/waywire),waywire-inspect,$(DESTDIR)$(BINDIR)/waywire-run)
-	sed 's|@VERSION@|$(VERSION)|' c/libwayland/waywire-run.1.in > $(DESTDIR)$(DATADIR)/man/man1/waywire-run.1
-	chmod 644 $(DESTDIR)$(DATADIR)/man/man1/waywire-run.1
+	for page in $(pages); do \
+		sed 's|@VERSION@|$(VERSION)|' $$page.in > $(DESTDIR)$(DATADIR)/man/man1/$${page##*/} || exit; \
+	done
 	ln -sf $(notdir $(shared)) $(DESTDIR)$(LIBDIR)/$(soname)
 	ln -sf $(soname) $(DESTDIR)$(LIBDIR)/libwaywire.so
 	$(call fill,$(LIBDIR)/pkgconfig) c/waywire.pc.in > $(DESTDIR)$(LIBDIR)/pkgconfig/waywire.pc
@@ -159,22 +166,27 @@ install: all
 	done
 	chmod 644 $(DESTDIR)$(LIBDIR)/pkgconfig/waywire.pc $(DESTDIR)$(LIBDIR)/cmake/waywire/*.cmake
 	install -m 644 examples/tables/*.tables $(DESTDIR)$(DATADIR)/waywire/tables
-	install -m 644 LICENSE docs/FORMATS.md $(DESTDIR)$(DATADIR)/doc/waywire
+	install -m 644 LICENSE docs/FORMATS.md docs/GUIDE.md $(DESTDIR)$(DATADIR)/doc/waywire
+	install -d $(DESTDIR)$(DATADIR)/doc/waywire/examples
+	install -m 644 examples/c/* examples/*.rec $(DESTDIR)$(DATADIR)/doc/waywire/examples
+	for file in $(rust); do \
+		install -D -m 644 rust/waywire/$$file $(DESTDIR)$(DATADIR)/waywire/rust/$$file || exit; \
+	done
 	install -m 644 tools/protocol.py tools/rust_stubs.py tools/table_text.py tools/valid_tables.py \
 		tools/core.tables tools/core.xml \
 		$(DESTDIR)$(DATADIR)/waywire/tools
 	for tool in tables-from-xml stubs-from-xml; do \
 		install -m 755 tools/$$tool $(DESTDIR)$(DATADIR)/waywire/tools && \
-		ln -sf $(call from,$(BINDIR),$(DATADIR)/waywire/tools)/$$tool $(DESTDIR)$(BINDIR)/waywire-$$tool; \
+		ln -sf $(call from,$(BINDIR),$(DATADIR)/waywire/tools)/$$tool $(DESTDIR)$(BINDIR)/waywire-$$tool && \
+		sed 's|@VERSION@|$(VERSION)|' tools/$$tool.1.in > $(DESTDIR)$(DATADIR)/man/man1/waywire-$$tool.1 || exit; \
 	done
+	chmod 644 $(DESTDIR)$(DATADIR)/man/man1/waywire-*.1
 	install -m 755 $(inspect) $(DESTDIR)$(BINDIR)
-	sed 's|@VERSION@|$(VERSION)|' c/inspect/waywire-inspect.1.in > $(DESTDIR)$(DATADIR)/man/man1/waywire-inspect.1
 	install -d $(DESTDIR)$(DATADIR)/waywire/tools/picture
 	install -m 644 tools/picture/* $(DESTDIR)$(DATADIR)/waywire/tools/picture
 	install -m 644 tools/picture_columns.py $(DESTDIR)$(DATADIR)/waywire/tools
 	install -m 755 tools/waywire-picture $(DESTDIR)$(DATADIR)/waywire/tools
 	ln -sf $(call from,$(BINDIR),$(DATADIR)/waywire/tools)/waywire-picture $(DESTDIR)$(BINDIR)
-	sed 's|@VERSION@|$(VERSION)|' tools/waywire-picture.1.in > $(DESTDIR)$(DATADIR)/man/man1/waywire-picture.1
 	if [ -x $(program) ]; then \
 		install -m 755 $(program) $(DESTDIR)$(BINDIR)/waywire && \
 		tools/man-page $(program) > $(DESTDIR)$(DATADIR)/man/man1/waywire.1 && \
@@ -187,14 +199,19 @@ dist: all
 	rm -rf out/dist
 	$(MAKE) -s install DESTDIR=$(CURDIR)/out/dist/$(package) PREFIX= LIBDIR=/lib INCLUDEDIR=/include \
 		BINDIR=/bin DATADIR=/share program=$(program)
-	install -d out/dist/$(package)/share/doc/waywire/examples
-	install -m 644 examples/c/* out/dist/$(package)/share/doc/waywire/examples
 	cd out/dist && find . -type d -exec chmod 755 {} + && tar --sort=name --mtime=@0 --owner=0 --group=0 \
 		--numeric-owner -cf - $(package) | gzip -9n > ../$(package).tar.gz
 	rm -rf out/dist
 	@echo out/$(package).tar.gz
 
-clean:
-	rm -rf out/c out/dist out/*.tar.gz include/waywire-version.h
+# Signed by nobody, and of one package: tools/deb-package says what is in it.
+deb: all
+	tools/deb-package $(VERSION) $(abi) $(program)
 
-.PHONY: all install dist clean
+check: all
+	tests/check-c --short
+
+clean:
+	rm -rf out/c out/dist out/deb out/*.tar.gz out/*.deb include/waywire-version.h
+
+.PHONY: all install dist deb check clean

@@ -20,6 +20,7 @@ sys.dont_write_bytecode = True
 TOP = os.path.dirname(os.path.dirname(os.path.realpath(__file__)))
 TOOLS = f"{TOP}/tools"
 sys.path[1:1] = [TOOLS, f"{TOOLS}/dev"]
+import protocol_files  # noqa: E402
 VALGRIND = ["valgrind", "-q", "--leak-check=full", "--error-exitcode=9"]
 # Compilers of C and C++, those that the headers are held against.
 COMPILERS = (["gcc", "-std=c99", "-x", "c"], ["g++", "-std=c++11", "-x", "c++"],
@@ -133,10 +134,54 @@ def is_listening(path):
     return any(int(it[3], 16) & ACCEPTS for it in sockets_at(path))
 
 
+def wait_until_listening(started, path):
+    """Waits until a server that was started listens at a path."""
+    has_come(lambda: is_listening(path) or started.poll() is not None)
+    if started.poll() is not None:
+        raise Failed(f"{started.args[0]}: {started.stdout.read().decode()[-800:]}")
+    if not is_listening(path):
+        started.kill()
+        raise Failed(f"{started.args[0]}: it does not listen")
+
+
+def start_and_wait(words, path, **kept):
+    """Starts a server, and waits until it listens at a path."""
+    started = subprocess.Popen(words, stdout=subprocess.PIPE, stderr=subprocess.STDOUT, **kept)
+    wait_until_listening(started, path)
+    return started
+
+
+def ended(started, status=0):
+    """The output of a server that ends by itself."""
+    try:
+        output = started.communicate(timeout=LONG)[0].decode()
+    except subprocess.TimeoutExpired:
+        started.kill()
+        raise Failed(f"{started.args[0]}: it does not end") from None
+    if started.returncode != status:
+        raise Failed(f"{started.args[0]}: status {started.returncode}\n{output[-1200:]}")
+    return output
+
+
 def has_client(path, beside=0):
     """Whether a client is connected to a socket that listens at a path, and was accepted, beside so
     many others."""
     return sum(it[5] == CONNECTED for it in sockets_at(path)) > beside
+
+
+def protocols():
+    """The installed protocol files, by the name of the text of tables that is made of each."""
+    found = protocol_files.found()
+    if not found:
+        raise Skipped("wayland-protocols is not installed")
+    return found
+
+
+def need_protocols():
+    """The examples are over xdg-shell and wl_data_device."""
+    for name, package in (("xdg-shell", "wayland-protocols"), ("data-device", "libwayland-dev")):
+        if name not in protocols():
+            raise Skipped(f"{package} is not installed")
 
 
 def module_of(path):

@@ -1,0 +1,302 @@
+"""Tests of what `make` installs and packs: tests/check-c runs them."""
+
+import glob
+import os
+import re
+import shutil
+import subprocess
+import tempfile
+
+from checks import (LONG, TOP, Failed, Skipped, can, ended, need, need_protocols, run,
+                    start_and_wait)
+
+TESTS = os.path.join(TOP, "tests", "c")
+
+
+def installed(program):
+    """An installed library is found by pkg-config and by CMake, and programs are built against it; where
+    `waywire` is built, it has the library's version, and its manual page has no error."""
+    need("make", "pkg-config")
+    with tempfile.TemporaryDirectory() as prefix:
+        libraries = os.path.join(prefix, "lib", "here")
+        built = [f"program={program}"] if program else []
+        run(["make", "-s", "install", f"PREFIX={prefix}", f"LIBDIR={libraries}", *built])
+        env = {**os.environ, "PKG_CONFIG_PATH": os.path.join(libraries, "pkgconfig")}
+        words = run(["pkg-config", "--cflags", "--libs", "waywire"], env=env).split()
+        for name in ("values", "connections"):
+            run(["cc", f"tests/c/{name}.c", "-Itests/c", *words, "-o", f"{prefix}/{name}"])
+            run([f"{prefix}/{name}"], env={**os.environ, "LD_LIBRARY_PATH": libraries})
+        version = run(["pkg-config", "--modversion", "waywire"], env=env).strip()
+        numbers = dict(zip(("MAJOR", "MINOR", "PATCH"), version.split(".")))
+        with open(os.path.join(prefix, "include", "waywire-version.h"), encoding="utf-8") as file:
+            said = file.read()
+        for line in (f'#define WAYWIRE_VERSION "{version}"\n',
+                     *(f"#define WAYWIRE_VERSION_{it} {numbers[it]}\n" for it in numbers)):
+            if line not in said:
+                raise Failed(f"waywire-version.h lacks {line!r}")
+        if can("found by cmake", "cmake"):
+            found_by_cmake(prefix, libraries, version)
+        has_what_the_header_names(prefix)
+        has_its_soname(libraries, version)
+        for tool in ("tables-from-xml", "stubs-from-xml"):
+            run([f"{prefix}/bin/waywire-{tool}", f"{prefix}/share/waywire/tools/core.xml"])
+        if program and os.path.exists(program):
+            if run([program, "--version"]) != f"waywire {version}\n":
+                raise Failed(f"the program has another version than {version}")
+            is_a_manual_page(os.path.join(prefix, "share", "man", "man1", "waywire.1"))
+
+
+def is_a_manual_page(path):
+    """What reads manual pages finds no error."""
+    if can(f"errors of {os.path.basename(path)}", "groff"):
+        said = run(["groff", "-man", "-ww", "-z", path], with_error=True)
+        if said:
+            raise Failed(f"groff: {said}")
+
+
+def has_what_the_header_names(prefix):
+    """Each folder, page, header and tool that waywire.h names is installed, and the licence."""
+    with open(os.path.join(prefix, "include", "waywire.h"), encoding="utf-8") as file:
+        text = file.read()
+    named = re.findall(r"share/[\w/]*\w", text)
+    named += [f"share/doc/waywire/{it}" for it in ("LICENSE", *re.findall(r"\b[A-Z]+\.md", text))]
+    named += [f"include/{it}" for it in re.findall(r"waywire-\w+\.h", text)]
+    named += [f"bin/{it}" for it in re.findall(r"waywire-[a-z-]*from-xml", text)]
+    named += ["share/doc/waywire/GUIDE.md", "share/doc/waywire/examples/client.c", "share/waywire/rust/src/lib.rs",
+              "share/doc/waywire/examples/surface.rec"]
+    missing = [it for it in named if not os.path.exists(os.path.join(prefix, it))]
+    if missing or len(named) < 5:
+        raise Failed(f"waywire.h names {named}, of which {missing} are not installed")
+
+
+def has_its_soname(libraries, version):
+    """The shared object's name has the part of the version that says what is compatible."""
+    need("readelf")
+    numbers = version.split(".")
+    soname = "libwaywire.so." + ".".join(numbers[:2] if numbers[0] == "0" else numbers[:1])
+    if f"[{soname}]" not in run(["readelf", "-d", os.path.join(libraries, soname)]):
+        raise Failed(f"the soname is not {soname}")
+
+
+CMAKE = """cmake_minimum_required(VERSION 3.13)
+project(user C)
+find_package(waywire {version} REQUIRED)
+foreach(kind waywire static)
+  add_executable(with_${{kind}} {root}/tests/c/values.c)
+  target_include_directories(with_${{kind}} PRIVATE {root}/tests/c)
+  target_link_libraries(with_${{kind}} PRIVATE waywire::${{kind}})
+endforeach()
+"""
+
+
+def found_by_cmake(prefix, libraries, version):
+    """CMake finds both libraries of an installed tree."""
+    user = os.path.join(prefix, "user")
+    os.mkdir(user)
+    with open(os.path.join(user, "CMakeLists.txt"), "w", encoding="utf-8") as file:
+        file.write(CMAKE.format(version=version, root=TOP))
+    run(["cmake", "-S", user, "-B", user, f"-Dwaywire_DIR={libraries}/cmake/waywire"])
+    run(["cmake", "--build", user])
+    for kind in ("waywire", "static"):
+        run([os.path.join(user, f"with_{kind}")])
+
+
+def installing_compiles_nothing(_program):
+    """`make install` compiles and links nothing that `make` built; the linker is given LDFLAGS."""
+    need("make")
+    words = ["make", "-n", "install", "PREFIX=/somewhere", "DATADIR=/data", "LIBDIR=/libraries", "CC=compiler",
+             "LD=linker", "AR=archiver"]
+    if found := re.findall(r"(?m)^(?:compiler|linker|archiver) .*", run(words)):
+        raise Failed(f"make install runs {found[0]}")
+    said = run(["make", "-n", "-B", "CC=compiler", "LDFLAGS=--given", "out/c/waywire-inspect",
+                "out/c/wayland/libwayland-client.so.0", f"out/c/libwaywire.so.{version_of_the_library()}"])
+    linked = [it for it in re.sub(r"\\\n", "", said).splitlines() if it.startswith("compiler ") and " -c " not in it]
+    if len(linked) != 3 or not all(" --given " in it for it in linked):
+        raise Failed(f"not each of these is linked with LDFLAGS: {linked}")
+
+
+def version_of_the_library():
+    with open(os.path.join(TOP, "include", "waywire-version.h"), encoding="utf-8") as file:
+        return re.search('"(.*)"', file.read())[1]
+
+
+# Asked of a Debian with the package: a program is built against it, and the tools run.
+AT_DEBIAN = """set -e
+cc /tests/c/values.c -I/tests/c $(pkg-config --cflags --libs waywire) -o /tmp/values
+/tmp/values
+waywire-inspect --version
+waywire-tables-from-xml /usr/share/waywire/tools/core.xml >/dev/null
+waywire-run true
+"""
+
+
+def debian_package(program):
+    """The package of Debian has its fields, is the same each time, and serves where it is unpacked."""
+    need("make", "dpkg-deb", "pkg-config")
+    built = [f"program={program}"] if program else []
+    made = []
+    for _ in range(2):
+        path = os.path.join(TOP, run(["make", "-s", "deb", *built]).split()[-1])
+        with open(path, "rb") as file:
+            made.append(file.read())
+    if made[0] != made[1]:
+        raise Failed("made twice, the package has other bytes")
+    has_its_fields(path)
+    with tempfile.TemporaryDirectory() as root:
+        run(["dpkg-deb", "-x", path, root])
+        serves_unpacked(root)
+
+
+def has_its_fields(path):
+    machine = run(["dpkg", "--print-architecture"]).strip()
+    fields = {it: run(["dpkg-deb", "-f", path, it]).strip()
+              for it in ("Package", "Version", "Architecture", "Maintainer", "Depends", "Description")}
+    wanted = {"Package": "waywire", "Version": version_of_the_library(), "Architecture": machine}
+    if any(fields[it] != wanted[it] for it in wanted) or not all(fields.values()):
+        raise Failed(f"its fields are {fields}")
+    if not re.fullmatch(r"libc6 \(>= 2\.\d+(\.\d+)?\), python3", fields["Depends"]):
+        raise Failed(f"it depends on {fields['Depends']}")
+    owners = {it.split()[1] for it in run(["dpkg-deb", "-c", path]).splitlines()}
+    if owners != {"root/root"}:
+        raise Failed(f"its files are of {owners}")
+
+
+def serves_unpacked(root):
+    """A program is built against the library in a folder, and the tools run there."""
+    usr = os.path.join(root, "usr")
+    config = glob.glob(f"{usr}/lib/**/pkgconfig", recursive=True)[0]
+    env = {**os.environ, "PKG_CONFIG_PATH": config, "LD_LIBRARY_PATH": os.path.dirname(config)}
+    words = run(["pkg-config", "--cflags", "--libs", "waywire"], env=env).split()
+    if f"-I{usr}/include" not in [os.path.normpath(it) for it in words]:
+        raise Failed(f"pkg-config says {words}")
+    run(["cc", "tests/c/values.c", "-Itests/c", *words, "-o", f"{root}/values"])
+    run([f"{root}/values"], env=env)
+    if run([f"{usr}/bin/waywire-inspect", "--version"]) != f"waywire-inspect {version_of_the_library()}\n":
+        raise Failed("the inspector has another version")
+    knows_installed_tables(f"{usr}/bin/waywire-inspect", root)
+    for tool in ("tables-from-xml", "stubs-from-xml"):
+        run([f"{usr}/bin/waywire-{tool}", f"{usr}/share/waywire/tools/core.xml"])
+    run([f"{usr}/bin/waywire-run", "true"])
+    for name in ("share/doc/waywire/copyright", "share/doc/waywire/GUIDE.md", "share/waywire/rust/Cargo.toml",
+                 "share/doc/waywire/examples/client.c", "share/man/man1/waywire-stubs-from-xml.1.gz"):
+        if not os.path.exists(os.path.join(usr, name)):
+            raise Failed(f"{name} is not in the package")
+
+
+def debian_package_at_a_clean_debian(program):
+    """The package is installed into a new Debian: a program is built against it there, and the tools run."""
+    need("make", "dpkg-deb", "debootstrap")
+    if os.geteuid():
+        raise Skipped("only root can make a Debian")
+    path = os.path.join(TOP, run(["make", "-s", "deb", *([f"program={program}"] if program else [])]).split()[-1])
+    with tempfile.TemporaryDirectory() as root:
+        try:
+            run(["debootstrap", "--variant=minbase", "--include=gcc,libc6-dev,pkg-config,python3",
+                 suite(), root])
+        except (Failed, subprocess.TimeoutExpired) as why:
+            raise Skipped(f"debootstrap has not made one: {str(why)[-300:]}") from None
+        shutil.copytree(TESTS, os.path.join(root, "tests", "c"))
+        shutil.copy(path, os.path.join(root, "waywire.deb"))
+        run(["chroot", root, "dpkg", "-i", "/waywire.deb"])
+        said = run(["chroot", root, "sh", "-c", AT_DEBIAN])
+        if f"waywire-inspect {version_of_the_library()}\n" not in said:
+            raise Failed(f"it says {said!r}")
+        run(["chroot", root, "dpkg", "--purge", "waywire"])
+        if left := glob.glob(f"{root}/usr/**/*waywire*", recursive=True):
+            raise Failed(f"a purge leaves {left}")
+
+
+def suite():
+    """The name of this Debian, stable where it is none."""
+    with open("/etc/os-release", encoding="utf-8") as file:
+        found = re.search(r"(?m)^VERSION_CODENAME=(\w+)$", file.read())
+    return found[1] if found else "stable"
+
+
+def without_toolchain(top):
+    """The environment of a machine without the toolchain, on which the package was unpacked at `top`."""
+    path = os.pathsep.join(it for it in os.environ["PATH"].split(os.pathsep)
+                           if not os.path.exists(os.path.join(it, "rt")))
+    return {**os.environ, "PATH": path, "PKG_CONFIG_PATH": os.path.join(top, "lib", "pkgconfig"),
+            "LD_LIBRARY_PATH": os.path.join(top, "lib")}
+
+
+def made_package(program):
+    """Makes the package twice, and returns its path."""
+    made = []
+    for _ in range(2):
+        archive = os.path.join(TOP, run(["make", "-s", "dist", f"program={program}"]).split()[-1])
+        with open(archive, "rb") as file:
+            made.append(file.read())
+    if made[0] != made[1]:
+        raise Failed("made twice, the package has other bytes")
+    return archive
+
+
+def package(program):
+    """The package is the same each time, and serves where no toolchain is: a program is built against its
+    library, its program and its tools run, and the examples are built and run where xdg-shell is."""
+    need("make", "pkg-config", "tar")
+    if not program or not os.path.exists(program):
+        raise Skipped("the program is not built")
+    archive = made_package(program)
+    with tempfile.TemporaryDirectory() as folder:
+        run(["tar", "-xzf", archive, "-C", folder])
+        top = os.path.join(folder, *os.listdir(folder))
+        env = without_toolchain(top)
+        words = run(["pkg-config", "--cflags", "--libs", "waywire"], env=env).split()
+        run(["cc", "tests/c/values.c", "-Itests/c", *words, "-o", f"{folder}/values"], env=env)
+        run([f"{folder}/values"], env=env)
+        run([f"{top}/bin/waywire", "demo"], env=env)
+        for tool in ("tables-from-xml", "stubs-from-xml"):
+            run([f"{top}/bin/waywire-{tool}", f"{top}/share/waywire/tools/core.xml"], env=env)
+        run([f"{top}/bin/waywire-run", "true"], env=env)
+        need_protocols()
+        packed_examples(os.path.join(top, "share", "doc", "waywire", "examples"), env)
+
+
+def packed_examples(folder, env):
+    """The examples of a package are built, and the client draws at the server."""
+    run(["make", "-s", "-C", folder], env=env)
+    socket = os.path.join(folder, "wayland-test")
+    server = start_and_wait([os.path.join(folder, "server"), socket], socket, env=env)
+    try:
+        run([os.path.join(folder, "client")], env={**env, "WAYLAND_DISPLAY": socket})
+        ended(server)
+    finally:
+        server.kill()
+
+
+def inspector_is_installed(_program):
+    """An installed tool has the library's version, finds the tables, and its manual page has no error."""
+    need("make")
+    with tempfile.TemporaryDirectory() as prefix:
+        data = os.path.join(prefix, "data", "here")
+        run(["make", "-s", "install", f"PREFIX={prefix}", f"DATADIR={data}", "program=none"])
+        tool = os.path.join(prefix, "bin", "waywire-inspect")
+        with open(os.path.join(TOP, "include", "waywire-version.h"), encoding="utf-8") as file:
+            version = re.search('"(.*)"', file.read())[1]
+        if run([tool, "--version"]) != f"waywire-inspect {version}\n":
+            raise Failed(f"it has another version than {version}")
+        env = {**os.environ, "XDG_RUNTIME_DIR": prefix, "WAYLAND_DISPLAY": "none", "XDG_DATA_DIRS": prefix}
+        words = [tool, "--verbose", "true"]
+        said = subprocess.run(words, env=env, capture_output=True, timeout=LONG)
+        if said.returncode != 125 or said.stderr.count(b"\n") != 1 or b"no compositor" not in said.stderr:
+            raise Failed(f"status {said.returncode}: {said.stderr.decode()}")
+        for name in ("inspect", "picture", "run", "tables-from-xml", "stubs-from-xml"):
+            is_a_manual_page(os.path.join(data, "man", "man1", f"waywire-{name}.1"))
+        knows_installed_tables(tool, prefix)
+        run([os.path.join(prefix, "bin", "waywire-picture"), "examples/surface.rec", "-o", f"{prefix}/page.html"])
+
+
+def knows_installed_tables(tool, folder):
+    """The tool reads the installed texts, makes a text of XML, and makes a page, without a word on standard error."""
+    recording = os.path.join(folder, "session.rec")
+    shutil.copy(os.path.join(TOP, "examples", "drm_lease.rec"), recording)
+    said = run([tool, "--read", recording], with_error=True)
+    if not said.endswith("\nlawful: 3 requests, 5 events, 0 and 0 bytes left\n"):
+        raise Failed(f"it says {said!r}")
+    xml = os.path.join(folder, "own.xml")
+    with open(xml, "w", encoding="utf-8") as file:
+        file.write('<protocol name="p"><interface name="own" version="1"/></protocol>')
+    run([tool, "--read", recording, "--tables", xml, "--only", "own"])
