@@ -60,6 +60,7 @@ struct message {
 	struct object made, destroyed, freed; /* with id 0 where there is none */
 	size_t descriptor_count;
 	uint64_t first_descriptor; /* the number of its first; 0 where that is not known */
+	uint64_t answers;          /* the number of the message that it answers; 0 where there is none */
 	bool is_judged;
 };
 

@@ -183,11 +183,12 @@ void recording_begin(struct recording *recording, const struct options *options,
 	const struct client *client);
 
 /* Adds a piece, with its time. Where the file does not take it, or would be longer than a recording may be, that
- * is said, and the recording ends before it. */
+ * is said, and the recording ends before it: in the second case with a line that says so. */
 void recording_add(struct recording *recording, int from, const unsigned char *bytes, size_t length,
 	size_t descriptor_count, double seconds);
 
-void recording_end(struct recording *recording);
+/* Ends it with the time at which the session ended. */
+void recording_end(struct recording *recording, double seconds);
 
 /* The file of --record for a client, to be freed; null where memory runs out. */
 char *numbered(const char *path, unsigned number);

@@ -56,6 +56,15 @@ static void put_bytes(struct text *text, const char *key, const void *bytes, siz
 	text_add(text, "\"");
 }
 
+/* Puts a time with six decimals, or null where it is not known. */
+static void put_seconds(struct text *text, const char *key, double seconds)
+{
+	if (seconds >= 0)
+		text_format(text, ",\"%s\":%.6f", key, seconds);
+	else
+		text_format(text, ",\"%s\":null", key);
+}
+
 /* Puts the three parts that name an object, without braces. */
 static void put_parts(struct text *text, const struct object *object)
 {
@@ -178,10 +187,7 @@ static void put_message_parts(struct text *text, const struct shown *shown, cons
 	const struct text *line)
 {
 	text_format(text, "\"type\":\"message\",\"client\":%u,\"number\":%" PRIu64, shown->number, message->number);
-	if (message->seconds >= 0)
-		text_format(text, ",\"time\":%.6f", message->seconds);
-	else
-		text_add(text, ",\"time\":null");
+	put_seconds(text, "time", message->seconds);
 	text_format(text, ",\"direction\":\"%s\",\"index\":%" PRIu64 ",\"piece\":%" PRIu64 ",\"offset\":%" PRIu64
 		",\"size\":%zu,\"object\":{", message->from == CLIENT ? "request" : "event", message->index,
 		message->piece, message->offset, message->size);
@@ -193,6 +199,8 @@ static void put_message_parts(struct text *text, const struct shown *shown, cons
 	put_objects(text, "made", &message->made);
 	put_objects(text, "destroyed", &message->destroyed);
 	put_objects(text, "freed", &message->freed);
+	if (message->answers)
+		text_format(text, ",\"answers\":%" PRIu64, message->answers);
 	text_add(text, ",\"text\":");
 	put_name(text, line->bytes, line->length);
 }
@@ -251,6 +259,30 @@ void json_broken(const struct shown *shown, const struct breaking *breaking)
 	print_line(&line);
 }
 
+/* A time as it is printed, so that what is computed of it is the same when a recording is read. */
+static double rounded(double seconds)
+{
+	return (double)(int64_t)(seconds * 1e6 + 0.5) / 1e6;
+}
+
+void json_unanswered(const struct shown *shown, const struct question *question, double until)
+{
+	const struct question_kind *kind = question->kind;
+	const struct object target = { .id = question->id, .birth = question->birth, .name = kind->interface,
+		.name_length = kind->interface_length };
+	double asked = question->seconds, waits = rounded(until) - rounded(asked);
+	struct text line = { NULL, 0, 0 };
+	text_format(&line, "{\"type\":\"unanswered\",\"client\":%u,\"number\":%" PRIu64, shown->number,
+		question->number);
+	put_seconds(&line, "time", asked);
+	text_format(&line, ",\"direction\":\"%s\",\"object\":{", kind->from == CLIENT ? "request" : "event");
+	put_parts(&line, &target);
+	text_add(&line, "},\"message\":");
+	put_name(&line, kind->message, kind->message_length);
+	put_seconds(&line, "waiting", asked < 0 || until < 0 ? -1 : waits > 0 ? waits : 0);
+	print_line(&line);
+}
+
 void json_verdict(const struct shown *shown, const struct ending *ending)
 {
 	struct text line = { NULL, 0, 0 };
@@ -259,6 +291,8 @@ void json_verdict(const struct shown *shown, const struct ending *ending)
 	put_name(&line, ending->words->bytes, ending->words->length);
 	text_format(&line, ",\"messages\":%" PRIu64 ",\"requests\":%" PRIu64 ",\"events\":%" PRIu64,
 		ending->requests + ending->events, ending->requests, ending->events);
+	put_seconds(&line, "ended", ending->was_cut || ending->is_unknown ? -1 : ending->seconds);
+	put_seconds(&line, "cut", ending->was_cut ? ending->seconds : -1);
 	print_line(&line);
 }
 

@@ -36,11 +36,19 @@ void judge_free(struct judging *judging)
 {
 	waywire_inspector_free(judging->follower.inspector);
 	stats_free(&judging->stats);
+	questions_free(&judging->questions);
 	text_free(&judging->reason);
 	text_free(&judging->verdict);
 }
 
 /* ---- a message */
+
+/* Whether all messages of both directions are looked at. */
+static bool sees_all(const struct judging *judging)
+{
+	return !has_failed(judging) && judging->standing != LOST && !judging->is_lost[CLIENT]
+		&& !judging->is_lost[COMPOSITOR];
+}
 
 /* Prints a message by its line. */
 static void print_by_line(struct judging *judging, struct message *message, const struct text *line,
@@ -52,6 +60,8 @@ static void print_by_line(struct judging *judging, struct message *message, cons
 	judging->counts[message->from]++;
 	if (judging->shown.options->stats)
 		stats_note(&judging->stats, message);
+	if (sees_all(judging))
+		message->answers = questions_note(&judging->questions, judging->follower.tables, message);
 	name_arguments(message);
 	print_message(&judging->shown, message, line, &printed);
 }
@@ -79,6 +89,7 @@ static void print_unjudged(struct judging *judging, struct message *message, con
 	struct text line = { NULL, 0, 0 };
 	int from = message->from;
 	if (message->is_bad_size) {
+		judging->is_lost[from] = true;
 		notice("client %u: its %s have no sizes from here, and are not printed any more", judging->shown.number,
 			from == CLIENT ? "requests" : "events");
 		return;
@@ -244,9 +255,10 @@ static void put_unjudged(const struct judging *judging, struct text *words)
 
 void judge_end(struct judging *judging, double seconds)
 {
+	double until = sees_all(judging) ? seconds : judging->questions.seconds;
 	struct text words = { NULL, 0, 0 };
 	struct ending ending = { "unjudged", &words, seconds, judging->counts[CLIENT], judging->counts[COMPOSITOR],
-		judging->has_error, judging->standing == BROKEN };
+		judging->has_error, judging->standing == BROKEN, judging->was_cut, judging->has_no_end };
 	if (judging->standing == JUDGED && put_lawful(judging, &words))
 		ending.verdict = judging->has_error ? "error" : "lawful";
 	if (judging->standing == JUDGED && judging->is_cut) {
@@ -261,11 +273,13 @@ void judge_end(struct judging *judging, double seconds)
 	}
 	if (judging->standing == LOST)
 		text_add(&words, "unjudged: out of memory");
+	if (judging->standing != LOST)
+		print_unanswered(&judging->shown, &judging->questions, until);
 	print_verdict(&judging->shown, &ending);
 	text_free(&words);
 	if (!judging->shown.options->stats || judging->shown.options->json)
 		return;
-	stats_put(&words, &judging->stats, &judging->follower);
+	stats_put(&words, &judging->stats, &judging->follower, &judging->questions, until);
 	print(words.bytes, words.length);
 	text_free(&words);
 }

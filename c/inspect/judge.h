@@ -16,6 +16,8 @@ struct judging {
 	enum standing standing;
 	bool has_error;               /* wl_display.error has come: nothing behind it is printed */
 	bool is_cut;                  /* a recording could not be read to its end */
+	bool was_cut;                 /* a recording had no room for the session's end */
+	bool has_no_end;              /* a recording does not say when its session ended */
 	bool is_lost[2];              /* a direction cannot be cut into messages any more */
 	struct follower follower;
 	struct text reason;           /* where it is not judged: what is not in the tables */
@@ -23,6 +25,7 @@ struct judging {
 	uint64_t unjudged_from;       /* the number of that request, among requests */
 	uint64_t counts[2];           /* of messages that were printed */
 	struct stats stats;
+	struct questions questions;
 };
 
 /* Begins with a client. Where memory runs out it is lost, which is said. */

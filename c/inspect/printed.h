@@ -3,8 +3,7 @@
 #ifndef INSPECT_SHOW_H
 #define INSPECT_SHOW_H
 
-#include "follow.h"
-#include "text.h"
+#include "questions.h"
 
 struct options;
 
@@ -58,18 +57,16 @@ struct counted {
 
 struct stats {
 	struct counted *counted;
-	size_t count;
-	struct trip *trips; /* that are under way */
-	size_t trip_count;
-	uint64_t trips_done;
-	double all_trips, longest_trip; /* in seconds */
+	size_t count, room;
+	struct keyed places; /* of the counts, by their names */
 };
 
 /* Counts a message. Where memory runs out it is left out. */
 void stats_note(struct stats *stats, const struct message *message);
 
-/* Puts the counts, and what was left open. */
-void stats_put(struct text *text, const struct stats *stats, const struct follower *follower);
+/* Puts the counts, what was not answered until then, and what was left open. */
+void stats_put(struct text *text, const struct stats *stats, const struct follower *follower,
+	const struct questions *questions, double until);
 
 void stats_free(struct stats *stats);
 
@@ -113,8 +110,14 @@ struct ending {
 	uint64_t requests, events;
 	bool is_red;
 	bool is_said;        /* in words, already */
+	bool was_cut;        /* the session went on when its recording had no room left */
+	bool is_unknown;     /* a recording does not say when its session ended */
 };
 void print_verdict(const struct shown *shown, const struct ending *ending);
+
+/* Prints what was asked and not answered until a time, in seconds: in words what has waited for a second or longer
+ * (unanswered.c). */
+void print_unanswered(const struct shown *shown, const struct questions *questions, double until);
 
 /* JSON (json.c): each prints one line. */
 struct head {
@@ -128,6 +131,7 @@ void json_client(unsigned number, const char *name, long process);
 void json_message(const struct shown *shown, const struct message *message, const struct text *line,
 	const struct beside *beside);
 void json_broken(const struct shown *shown, const struct breaking *breaking);
+void json_unanswered(const struct shown *shown, const struct question *question, double until);
 void json_verdict(const struct shown *shown, const struct ending *ending);
 void json_bad_line(size_t line, const char *words);
 

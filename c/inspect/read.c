@@ -5,6 +5,9 @@
 #include <stdio.h>
 #include <unistd.h>
 
+/* No session takes so many seconds. */
+#define LONGEST_SESSION 1e9
+
 /* The length of a path without a number behind a point, as further clients' recordings have one. */
 static size_t without_number(const char *path)
 {
@@ -38,18 +41,39 @@ struct comments {
 	struct client client;
 	char started[32]; /* empty where it is not said */
 	double seconds;   /* of the next piece; -1 where it is not said */
-	bool is_timed;
+	double latest;    /* the latest time that is said; -1 where there is none */
+	bool is_timed, has_end, was_cut;
 };
+
+/* Reads a number of seconds that is all of some words. */
+static bool read_seconds(const char *words, double *seconds)
+{
+	return words[strspn(words, " 0123456789.")] == 0 && sscanf(words, "%lf", seconds) == 1
+		&& *seconds < LONGEST_SESSION;
+}
+
+static void note_time(struct comments *comments, double seconds)
+{
+	if (seconds > comments->latest)
+		comments->latest = seconds;
+}
 
 /* Notes a comment, from behind its `#`. */
 static void note_comment(struct comments *comments, const char *comment, size_t length)
 {
-	char words[128], end;
+	char words[128];
 	double seconds;
 	snprintf(words, sizeof words, "%.*s", (int)(length < sizeof words ? length : sizeof words - 1), comment);
-	if (sscanf(words, " %lf %c", &seconds, &end) == 1 && seconds >= 0) {
+	if (read_seconds(words, &seconds)) {
 		comments->seconds = seconds;
 		comments->is_timed = true;
+		note_time(comments, seconds);
+	} else if (!strncmp(words, " ended ", 7) && read_seconds(words + 7, &seconds)) {
+		note_time(comments, seconds);
+		comments->has_end = true;
+	} else if (!strncmp(words, " cut ", 5) && read_seconds(words + 5, &seconds)) {
+		note_time(comments, seconds);
+		comments->was_cut = true;
 	} else if (!strncmp(words, " started ", 9))
 		snprintf(comments->started, sizeof comments->started, "%.31s", words + 9);
 	else if (!strncmp(words, " client ", 8)) {
@@ -131,7 +155,7 @@ static waywire_status pass_pieces(struct reading *reading, struct judging *judgi
 
 int read_recording(const struct options *options, const struct known *known)
 {
-	struct reading reading = { .comments = { .seconds = -1 } };
+	struct reading reading = { .comments = { .seconds = -1, .latest = -1 } };
 	struct judging judging;
 	read_file(options->read, &reading.text);
 	reading.bytes = malloc(reading.text.length + 1);
@@ -142,11 +166,17 @@ int read_recording(const struct options *options, const struct known *known)
 	judge_begin(&judging, options, known->tables, 1);
 	status = pass_pieces(&reading, &judging, status);
 	bool is_whole = status == WAYWIRE_NOT_FOUND;
-	if (!is_whole)
+	if (is_whole)
+		note_comments(&reading.comments, reading.text.bytes + reading.from, reading.text.length - reading.from);
+	else
 		notice_end(options, &reading, status);
 	judging.is_cut = !is_whole;
-	judge_end(&judging, reading.comments.seconds);
+	judging.was_cut = reading.comments.was_cut;
+	judging.has_no_end = !reading.comments.has_end;
+	judge_end(&judging, reading.comments.latest);
 	print_now();
+	if (judging.was_cut)
+		notice("the recording was cut there: with the next piece it would have been too long");
 	int result = is_whole ? has_failed(&judging) : NOTHING_INSPECTED;
 	judge_free(&judging);
 	text_free(&reading.text);

@@ -14,6 +14,8 @@
 /* The most that a piece has beside its digits: a line with its time; an arrow, two spaces, `+`, 3 digits, a line
  * feed. */
 #define BESIDE_DIGITS 64
+/* Room is left for the line that says when the session ended, or that the recording was cut. */
+#define LAST_LINE 64
 
 /* ---- the client */
 
@@ -117,13 +119,21 @@ static bool is_regular(int file)
 
 /* ---- the recording */
 
+static void close_file(struct recording *recording)
+{
+	if (recording->file >= 0)
+		close(recording->file);
+	free(recording->path);
+	*recording = (struct recording){ -1, NULL, 0 };
+}
+
 /* The file takes nothing more. */
 static void give_up(struct recording *recording)
 {
 	notice("cannot write %s: %s; the recording ends there", recording->path, strerror(errno));
 	if (ftruncate(recording->file, recording->length))
 		errno = 0; /* a device has no length */
-	recording_end(recording);
+	close_file(recording);
 }
 
 /* Writes what readers skip: whose session it is, when it began, and by which tables it was read. */
@@ -157,7 +167,7 @@ void recording_begin(struct recording *recording, const struct options *options,
 	recording->file = open(recording->path, O_WRONLY | O_CREAT | O_TRUNC | O_CLOEXEC, 0666);
 	if (recording->file < 0) {
 		notice("cannot write %s: %s", recording->path, strerror(errno));
-		recording_end(recording);
+		close_file(recording);
 		return;
 	}
 	if (client->number == 1 && is_regular(recording->file))
@@ -183,6 +193,29 @@ static size_t lines_of(char *text, int from, const unsigned char *bytes, size_t 
 	return (size_t)(at - text);
 }
 
+/* Writes the last line: what happened, and when. Closes the file where it does not take that, and returns false. */
+static bool write_last(struct recording *recording, const char *what, double seconds)
+{
+	char line[LAST_LINE];
+	int length = snprintf(line, sizeof line, "# %s %.6f\n", what, seconds);
+	bool is_written = write_whole(recording->file, line, (size_t)length);
+	if (is_written)
+		recording->length += length;
+	else
+		give_up(recording);
+	return is_written;
+}
+
+/* The recording ends before what it has no room for. */
+static void cut(struct recording *recording, double seconds)
+{
+	if (!write_last(recording, "cut", seconds))
+		return;
+	notice("%s has %jd bytes, and %d is the most that is read; the recording ends there", recording->path,
+		(intmax_t)recording->length, LONGEST);
+	close_file(recording);
+}
+
 void recording_add(struct recording *recording, int from, const unsigned char *bytes, size_t length,
 	size_t descriptor_count, double seconds)
 {
@@ -190,20 +223,16 @@ void recording_add(struct recording *recording, int from, const unsigned char *b
 	if (recording->file < 0)
 		return;
 	size_t written = lines_of(text, from, bytes, length, descriptor_count, seconds);
-	if (recording->length + (off_t)written > LONGEST) {
-		notice("%s has %jd bytes, and %d is the most that is read; the recording ends there", recording->path,
-			(intmax_t)recording->length, LONGEST);
-		recording_end(recording);
-	} else if (write_whole(recording->file, text, written))
+	if (recording->length + (off_t)written > LONGEST - LAST_LINE)
+		cut(recording, seconds);
+	else if (write_whole(recording->file, text, written))
 		recording->length += (off_t)written;
 	else
 		give_up(recording);
 }
 
-void recording_end(struct recording *recording)
+void recording_end(struct recording *recording, double seconds)
 {
-	if (recording->file >= 0)
-		close(recording->file);
-	free(recording->path);
-	*recording = (struct recording){ -1, NULL, 0 };
+	if (recording->file >= 0 && write_last(recording, "ended", seconds))
+		close_file(recording);
 }

@@ -144,13 +144,14 @@ struct session *session_new(struct shared *shared, int client, int compositor)
 
 void session_end(struct session *session, struct shared *shared)
 {
+	double seconds = seconds_since(shared) - session->connected;
 	for (int from = CLIENT; from <= COMPOSITOR; from++) {
 		way_close_descriptors(&session->ways[from]);
 		close(session->sockets[from]);
 	}
-	recording_end(&session->recording);
+	recording_end(&session->recording, seconds);
 	number_lines(session, shared);
-	judge_end(&session->judging, seconds_since(shared) - session->connected);
+	judge_end(&session->judging, seconds);
 	print_now();
 	judge_free(&session->judging);
 	free(session);

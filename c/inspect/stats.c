@@ -4,58 +4,49 @@
 
 #include <inttypes.h>
 
-/* A sync that is not answered yet. */
-struct trip {
-	uint32_t id;
-	double start;
-};
+/* So many lines are listed of what was not answered. */
+#define MOST_UNANSWERED 32
 
-static bool same(const char *one, size_t length, const char *other, size_t other_length)
+static bool is_of(const struct counted *counted, const struct message *message)
 {
-	return length == other_length && (!one == !other) && (!one || !memcmp(one, other, length));
+	return counted->from == message->from && counted->interface == message->target.name
+		&& counted->message == message->name;
 }
 
-/* The place of the counts of a message; null where memory runs out. */
+/* A key for the names of a message, each of which is in one place of the memory. */
+static uint64_t key_of(const struct message *message)
+{
+	return (uint64_t)(uintptr_t)message->target.name * 31 + (uint64_t)(uintptr_t)message->name * 2
+		+ (uint64_t)message->from;
+}
+
+static bool make_room(struct stats *stats)
+{
+	if (stats->count < stats->room)
+		return true;
+	size_t room = stats->room ? 2 * stats->room : 32;
+	struct counted *counted = realloc(stats->counted, room * sizeof *counted);
+	if (!counted)
+		return false;
+	stats->counted = counted;
+	stats->room = room;
+	return true;
+}
+
+/* The place of the counts of a message; null where memory runs out. Other names of the same key have the next one. */
 static struct counted *counted_at(struct stats *stats, const struct message *message)
 {
 	const struct object *target = &message->target;
-	for (size_t each = 0; each < stats->count; each++) {
-		struct counted *it = &stats->counted[each];
-		if (it->from == message->from
-			&& same(it->interface, it->interface_length, target->name, target->name_length)
-			&& same(it->message, it->message_length, message->name, message->name_length))
-			return it;
-	}
-	struct counted *counted = realloc(stats->counted, (stats->count + 1) * sizeof *counted);
-	if (!counted)
+	uint64_t key = key_of(message);
+	/* A place is kept as its number and 1. */
+	for (uintptr_t place; (place = (uintptr_t)keyed_find(&stats->places, key)); key++)
+		if (is_of(&stats->counted[place - 1], message))
+			return &stats->counted[place - 1];
+	if (!make_room(stats) || !keyed_put(&stats->places, key, (void *)(uintptr_t)(stats->count + 1)))
 		return NULL;
-	stats->counted = counted;
-	counted[stats->count] = (struct counted){ target->name, message->name, target->name_length,
+	stats->counted[stats->count] = (struct counted){ target->name, message->name, target->name_length,
 		message->name_length, message->from, 0, 0, 0 };
-	return &counted[stats->count++];
-}
-
-static void begin_trip(struct stats *stats, const struct message *message)
-{
-	struct trip *trips = realloc(stats->trips, (stats->trip_count + 1) * sizeof *trips);
-	if (!trips)
-		return;
-	stats->trips = trips;
-	trips[stats->trip_count++] = (struct trip){ message->made.id, message->seconds };
-}
-
-static void end_trip(struct stats *stats, const struct message *message)
-{
-	for (size_t each = 0; each < stats->trip_count; each++) {
-		if (stats->trips[each].id != message->target.id)
-			continue;
-		double seconds = message->seconds - stats->trips[each].start;
-		stats->trips[each] = stats->trips[--stats->trip_count];
-		stats->trips_done++;
-		stats->all_trips += seconds;
-		stats->longest_trip = seconds > stats->longest_trip ? seconds : stats->longest_trip;
-		return;
-	}
+	return &stats->counted[stats->count++];
 }
 
 void stats_note(struct stats *stats, const struct message *message)
@@ -66,10 +57,6 @@ void stats_note(struct stats *stats, const struct message *message)
 	counted->count++;
 	counted->bytes += message->size;
 	counted->descriptors += message->descriptor_count;
-	if (is_message(message, "wl_display", CLIENT, 0) && message->made.id)
-		begin_trip(stats, message);
-	if (is_message(message, "wl_callback", COMPOSITOR, 0))
-		end_trip(stats, message);
 }
 
 static int most_first(const void *one, const void *other)
@@ -120,24 +107,42 @@ static void put_open(struct text *text, const struct follower *follower)
 	stats_free(&open);
 }
 
-void stats_put(struct text *text, const struct stats *stats, const struct follower *follower)
+static void put_trips(struct text *text, const struct question_kind *syncs)
+{
+	uint64_t count = syncs ? syncs->answered : 0;
+	text_format(text, "%" PRIu64 " round trips", count);
+	if (count && syncs->first >= 0)
+		text_format(text, ", %.3f ms on average, %.3f ms at most", 1e3 * syncs->all_waits / (double)count,
+			1e3 * syncs->longest);
+	text_add(text, "\n");
+}
+
+static void put_unanswered(struct text *text, const struct questions *questions, double until)
+{
+	struct text lines = { NULL, 0, 0 };
+	unanswered_put(&lines, questions, until, 0, MOST_UNANSWERED);
+	if (lines.length)
+		text_add(text, "asked and not answered\n");
+	text_put(text, lines.bytes, lines.length);
+	text_free(&lines);
+}
+
+void stats_put(struct text *text, const struct stats *stats, const struct follower *follower,
+	const struct questions *questions, double until)
 {
 	if (stats->count)
 		qsort(stats->counted, stats->count, sizeof *stats->counted, most_first);
 	text_add(text, "  messages      bytes descriptors\n");
 	for (size_t each = 0; each < stats->count; each++)
 		put_counted(text, &stats->counted[each]);
-	text_format(text, "%" PRIu64 " round trips", stats->trips_done);
-	if (stats->trips_done)
-		text_format(text, ", %.3f ms on average, %.3f ms at most",
-			1e3 * stats->all_trips / (double)stats->trips_done, 1e3 * stats->longest_trip);
-	text_add(text, "\n");
+	put_trips(text, questions_syncs(questions));
+	put_unanswered(text, questions, until);
 	put_open(text, follower);
 }
 
 void stats_free(struct stats *stats)
 {
 	free(stats->counted);
-	free(stats->trips);
+	keyed_free(&stats->places);
 	*stats = (struct stats){ 0 };
 }

@@ -5,7 +5,9 @@
 
 The environment is that of tests/c/inspecting.py."""
 import os
+import signal
 import sys
+import time
 
 sys.dont_write_bytecode = True
 sys.path.insert(0, os.path.dirname(os.path.realpath(__file__)))
@@ -33,6 +35,18 @@ class Weston(real_clients.RealClients):
     def test_gtk(self):
         self.env["GDK_BACKEND"] = "wayland"
         self.inspected("zenity", "--info", "--text=waywire")
+
+    def test_the_compositor_hangs(self):
+        """The frame that does not come is told, and for how long it was waited for."""
+        paths = self.start_at_files("--record", self.recorded, "weston-simple-shm")
+        self.addCleanup(self.weston.send_signal, signal.SIGCONT)
+        self.weston.send_signal(signal.SIGSTOP)
+        time.sleep(3)
+        self.finish(signal.SIGINT, None)
+        lines = self.read(paths[0]).splitlines()
+        self.assertRegex(lines[-2], r"\Awl_surface@\d+\.frame: 1 not answered, waiting \d+\.\d s\Z")
+        again, _ = self.ran("--read", self.recorded)
+        self.assertEqual(again.splitlines()[-2:], lines[-2:])
 
     def test_the_compositor_is_killed(self):
         paths = self.start_at_files("weston-simple-shm")

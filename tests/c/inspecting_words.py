@@ -59,6 +59,7 @@ class Talking(Inspected):
         self.tool.send_signal(signal.SIGTERM)
         out, err = self.tool.communicate(timeout=LONG)
         self.assertEqual(self.tool.returncode, status, (out, err))
+        out = self.at_once(out)
         return (out if numbered else self.of_one(out)).splitlines(), err
 
     def lines(self, *said, **how):
@@ -255,9 +256,11 @@ class Printing(Talking):
     def test_stats(self):
         lines = self.lines(sync(2), (done(2),), sync(2), message(1, 1, 3), options=["--stats"])
         at = lines.index(LAWFUL.format(3, 2))
-        self.assertEqual([it.split() for it in lines[at + 1:-5]][:2],
+        self.assertEqual([it.split() for it in lines[at + 1:-7]][:2],
                          [["messages", "bytes", "descriptors"], ["2", "24", "0", "->", "wl_display.sync"]])
-        self.assertRegex(lines[-5], r"\A1 round trips, \d+\.\d{3} ms on average, \d+\.\d{3} ms at most\Z")
+        self.assertRegex(lines[-7], r"\A1 round trips, \d+\.\d{3} ms on average, \d+\.\d{3} ms at most\Z")
+        self.assertEqual(lines[-6], "asked and not answered")
+        self.assertRegex(lines[-5], r"\Awl_display@1\.sync: 1 not answered, waiting \d+\.\d+ s\Z")
         self.assertEqual(lines[-4], "objects left open")
         self.assertEqual(sorted(it.split() for it in lines[-3:]),
                          [["1", "wl_callback"], ["1", "wl_display"], ["1", "wl_registry"]])
@@ -273,8 +276,9 @@ class Json(Talking):
         self.assertEqual((head["tables"][0], "xdg-shell" in head["tables"]), ("core", True))
         self.assertRegex(head["started"], r"\A\d{4}-\d\d-\d\dT\d\d:\d\d:\d\dZ\Z")
         self.assertEqual((its_client["type"], its_client["client"], its_client["pid"]), ("client", 1, os.getpid()))
-        self.assertEqual(verdict, {"type": "verdict", "client": 1, "verdict": "lawful",
-                                   "words": LAWFUL.format(3, 3), "messages": 6, "requests": 3, "events": 3})
+        self.assertGreaterEqual(verdict.pop("ended"), messages[-1]["time"])
+        self.assertEqual(verdict, {"type": "verdict", "client": 1, "verdict": "lawful", "words": LAWFUL.format(3, 3),
+                                   "messages": 6, "requests": 3, "events": 3, "cut": None})
         self.assertEqual([it["number"] for it in messages], [1, 2, 3, 4, 5, 6])
         self.assertEqual([it["piece"] for it in messages], [1, 2, 3, 4, 5, 5])
         bound = messages[2]
@@ -313,8 +317,8 @@ class Json(Talking):
                                   "size": 8, "bytes": "0900000000000800",
                                   "object": {"interface": None, "id": 9, "birth": 0}, "message": None})
         self.assertEqual([it["type"] for it in told], ["head", "client", "message", "broken", "message", "error",
-                                                       "verdict"])
-        self.assertEqual(told[-2], {"type": "error", "client": 1, "number": 3, "object":
+                                                       "unanswered", "verdict"])
+        self.assertEqual(told[-3], {"type": "error", "client": 1, "number": 3, "object":
                                     {"interface": "wl_display", "id": 1, "birth": 1}, "code": 0, "text": "no"})
         self.assertEqual((told[-1]["verdict"], told[-1]["words"]),
                          ("broken", "broken: > message 2 at byte 12: F2 unknown object"))
@@ -457,8 +461,8 @@ class Recording(Talking):
         self.assertEqual(lines[0], f"# client {name} {os.getpid()}")
         self.assertRegex(lines[1], r"\A# started \d{4}-\d\d-\d\dT\d\d:\d\d:\d\dZ\Z")
         self.assertTrue(lines[2].startswith("# tables core "), lines[2])
-        times = [float(it.removeprefix("# ")) for it in lines[3::2]]
-        self.assertEqual((len(times), 0 <= times[0] <= times[1] < LONG), (2, True))
+        times = [float(it.removeprefix("# ")) for it in (*lines[3:7:2], lines[7].removeprefix("# ended "))]
+        self.assertEqual((len(lines), 0 <= times[0] <= times[1] <= times[2] < LONG), (8, True))
         self.assertEqual([it[0] for it in lines[4::2]], [">", "<"])
 
     def test_it_is_not_emptied_before_a_client_comes(self):
@@ -553,8 +557,8 @@ class Reading(Talking):
         self.assertEqual((said, error), (SYNC.format(2), "waywire-inspect: line 3: bad line\n"))
         said, _ = self.ran("--read", self.recorded, "--json", status=125)
         told = [json.loads(it) for it in said.splitlines()]
-        self.assertEqual([it["type"] for it in told], ["head", "client", "message", "bad_line", "verdict"])
-        self.assertEqual((told[3], told[4]["verdict"]),
+        self.assertEqual([it["type"] for it in told], ["head", "client", "message", "bad_line", "unanswered", "verdict"])
+        self.assertEqual((told[3], told[5]["verdict"]),
                          ({"type": "bad_line", "line": 3, "words": "line 3: bad line"}, "cut"))
         self.assertEqual(self.ran("--read", "none", status=125)[1],
                          "waywire-inspect: cannot read none: No such file or directory\n")
