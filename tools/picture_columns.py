@@ -63,7 +63,7 @@ class Columns:
         self.head, self.who = {}, {}
         self.verdict = self.broken = self.error = None
         self.signatures, self.strings = Numbered(), Numbered()
-        self.objects, self.about = {}, []
+        self.objects, self.about, self.ranks = {}, [], {}
         names = ("time", "piece", "signature", "object", "size", "offset", "state")
         self.rows = {it: array("q") for it in names}
         self.values, self.rest, self.bytes = [], [], []
@@ -119,11 +119,16 @@ class Columns:
         """The number of an object; -1 stands for none."""
         if not found or not found.get("id"):
             return -1
-        key = (found["id"], found.get("birth", 0))
+        identity, interface = found["id"], found.get("interface")
+        key = (identity, found.get("birth", 0), interface is None)
         number = self.objects.get(key)
         if number is None:
             number = self.objects[key] = len(self.about)
-            self.about.append([found.get("interface"), *key, version or 0])
+            # Which of the objects with this id it is, from 1; 0 of what is not known.
+            rank = 0
+            if interface is not None:
+                rank = self.ranks[identity] = self.ranks.get(identity, 0) + 1
+            self.about.append([interface, identity, rank, version or 0])
         elif version:
             self.about[number][3] = version
         return number

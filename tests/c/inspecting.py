@@ -35,7 +35,7 @@ GRACE = 2
 SYNC = "-> wl_display@1.sync(new id wl_callback@{})\n"
 # What is printed of a message for an object that never was, behind a sync.
 BROKEN = """-> unknown@9: opcode 0, 8 bytes, bytes 0900000000000800
-F2: no object has had the id 9
+F2: no object has the id 9
 broken: > message 2 at byte 12: F2 unknown object
 """
 # What is said of a question that has waited for a second or longer.

@@ -84,10 +84,10 @@ class Unjudged(Talking):
         self.assertEqual(lines[3:], [
             '-> wl_registry@2.bind(1, "own_shell1", 5, new id own_shell1@3)',
             "not judged from here: own_shell1 is not in the tables",
-            "? -> own_shell1@3: opcode 1, 12 bytes",
+            "? -> unknown@3: opcode 1, 12 bytes",
             '? -> wl_registry@2.bind(2, "wl_compositor", 6, new id wl_compositor@4)',
             "? -> wl_compositor@4.create_surface(new id wl_surface@5)",
-            "? <- own_shell1@3: opcode 0, 12 bytes",
+            "? <- unknown@3: opcode 0, 12 bytes",
             "? -> unknown@9: opcode 3, 12 bytes",
             "not judged from request 2 on: own_shell1 is not in the tables; lawful until then; "
             "6 requests, 3 events"])
@@ -124,7 +124,7 @@ class Unjudged(Talking):
     def test_an_error(self):
         lines = self.lines(*self.GIVEN, (error(3, 2, "no"),), status=1)
         self.assertEqual(lines[-2:], [
-            '? <- wl_display@1.error(own_shell1@3, 2, "no")',
+            '? <- wl_display@1.error(unknown@3, 2, "no")',
             "not judged from request 2 on: own_shell1 is not in the tables; lawful until then; "
             "2 requests, 3 events; ended by wl_display.error"])
 
@@ -145,7 +145,7 @@ class Broken(Talking):
         for data, line, words in (
             (struct.pack("<IHH", 4, 0, 6), "-> wl_surface@4: opcode 0, 6 bytes, bytes 0400000000000600",
              "F1: its header says a size of 6 bytes, which must be at least 8, a multiple of 4, and at most 4096"),
-            (message(5, 0), "-> unknown@5: opcode 0, 8 bytes, bytes 0500000000000800", "F2: no object has had the id 5"),
+            (message(5, 0), "-> unknown@5: opcode 0, 8 bytes, bytes 0500000000000800", "F2: no object has the id 5"),
             (message(4, 99), "-> wl_surface@4: opcode 99, 8 bytes, bytes 0400000063000800",
              "F3: wl_surface@4 has no request with the opcode 99"),
             (message(4, 1, 3, 0, 0), "-> wl_surface@4.attach(wl_compositor@3, 0, 0)",
@@ -166,12 +166,12 @@ class Broken(Talking):
     def test_what_was_destroyed(self):
         """A message for an object that is gone says which message destroyed it; so does an id used too early."""
         gone = (*self.SURFACE, message(4, 0))
-        self.assertEqual(self.broken(*gone, message(4, 6))[1], "F2: wl_surface@4 was destroyed by message 5")
+        self.assertEqual(self.broken(*gone, message(4, 6))[1], "F2: wl_surface@4 was destroyed")
         self.assertEqual(self.broken(*gone, message(3, 0, 4))[1],
-                         "F6: argument 0: wl_surface@4 was destroyed by message 5, and no delete_id has made "
+                         "F6: argument 0: wl_surface@4 was destroyed, and no delete_id has made "
                          "its id free")
         self.assertEqual(self.broken(*gone, (message(1, 1, 4),), message(4, 6))[1],
-                         "F2: wl_surface@4 was destroyed by message 5, and its id is free")
+                         "F2: no object has the id 4")
 
     def test_an_error_ends_a_session(self):
         for options in ((), ("--only", "wl_output")):
@@ -290,8 +290,8 @@ class Json(Talking):
                           "bytes": bind(1, "wl_seat", 5, 3).hex()})
         self.assertEqual(bound["arguments"], [
             {"kind": "uint", "name": "name", "value": 1},
-            {"kind": "new", "name": "id", "interface": "wl_seat", "id": 3, "birth": 1, "version": 5}])
-        callback = {"interface": "wl_callback", "id": 4, "birth": 1}
+            {"kind": "new", "name": "id", "interface": "wl_seat", "id": 3, "birth": 3, "version": 5}])
+        callback = {"interface": "wl_callback", "id": 4, "birth": 4}
         self.assertEqual([messages[3]["made"], messages[4]["destroyed"], messages[5]["freed"]], [[callback]] * 3)
 
     def test_kinds_of_arguments(self):
@@ -307,19 +307,19 @@ class Json(Talking):
 
     def test_births(self):
         told = self.told(sync(2), (done(2),), sync(2), (done(2),))
-        self.assertEqual([it["made"][0]["birth"] for it in told if it.get("made")], [1, 2])
+        self.assertEqual([it["made"][0]["birth"] for it in told if it.get("made")], [1, 4])
 
     def test_broken(self):
         told = self.told(sync(2), message(9, 0), (error(1, 0, "no"),), status=1)
         broken = next(it for it in told if it["type"] == "broken")
         self.assertEqual(broken, {"type": "broken", "client": 1, "number": 2, "fault": "F2",
-                                  "words": "F2: no object has had the id 9", "direction": "request", "offset": 12,
+                                  "words": "F2: no object has the id 9", "direction": "request", "offset": 12,
                                   "size": 8, "bytes": "0900000000000800",
                                   "object": {"interface": None, "id": 9, "birth": 0}, "message": None})
         self.assertEqual([it["type"] for it in told], ["head", "client", "message", "broken", "message", "error",
                                                        "unanswered", "verdict"])
         self.assertEqual(told[-3], {"type": "error", "client": 1, "number": 3, "object":
-                                    {"interface": "wl_display", "id": 1, "birth": 1}, "code": 0, "text": "no"})
+                                    {"interface": "wl_display", "id": 1, "birth": 0}, "code": 0, "text": "no"})
         self.assertEqual((told[-1]["verdict"], told[-1]["words"]),
                          ("broken", "broken: > message 2 at byte 12: F2 unknown object"))
 
@@ -328,7 +328,7 @@ class Json(Talking):
         self.assertEqual([it["judged"] for it in told if it["type"] == "message"], [True] * 3 + [False] * 2)
         self.assertEqual(told[-3]["note"], "not judged from here: own_shell1 is not in the tables")
         self.assertEqual((told[-2]["object"], told[-2]["message"], told[-2]["arguments"]),
-                         ({"interface": "own_shell1", "id": 3, "birth": 1}, None, []))
+                         ({"interface": None, "id": 3, "birth": 0}, None, []))
         self.assertEqual(told[-1]["verdict"], "unjudged")
 
 
