@@ -14,6 +14,8 @@ MOST_MESSAGES = 200_000
 MOST_TEXT = 32 * 2**20
 # Of a message no more bytes are kept.
 MOST_BYTES = 256
+# A time has fewer seconds.
+MOST_SECONDS = 10**9
 STATES = {"live": 0, "ending": 1, "unknown": 2}
 
 
@@ -54,6 +56,12 @@ def readable(text):
     parts = (it if not it.isascii() and it.isprintable() else shown(it.encode())[1:-1] for it in text)
     return f'"{"".join(parts)}"'
 
+
+def microseconds(seconds):
+    """A time in whole microseconds; 0 where there is none. Raises `ValueError`."""
+    if seconds is not None and not 0 <= seconds < MOST_SECONDS:
+        raise ValueError("a time")
+    return round((seconds or 0) * 1_000_000)
 
 class Columns:
     """What a page says of the session of one client."""
@@ -164,7 +172,7 @@ class Columns:
         rows["object"].append(self.object(about))
         self.values.extend([self.value(it) for it in arguments])
         # The places of messages in a picture never go back.
-        time = max(self.last_time, round((found["time"] or 0) * 1_000_000))
+        time = max(self.last_time, microseconds(found["time"]))
         rows["time"].append(time - self.last_time)
         piece = found["piece"] or self.last_piece
         rows["piece"].append(piece - self.last_piece)

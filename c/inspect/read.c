@@ -45,11 +45,22 @@ struct comments {
 	bool is_timed, has_end, was_cut;
 };
 
-/* Reads a number of seconds that is all of some words. */
+/* The seconds that some words name: a decimal number without a sign or an exponent, below 10^9. -1 where they name
+ * none. */
+static double seconds_of(const char *words)
+{
+	const char *from = words + strspn(words, " \t");
+	size_t whole = strspn(from, "0123456789"), length = whole;
+	if (from[length] == '.')
+		length += 1 + strspn(from + length + 1, "0123456789");
+	bool is_number = whole && whole <= 9 && length < 40 && from[length - 1] != '.';
+	return is_number && !from[length + strspn(from + length, " \t")] ? strtod(from, NULL) : -1;
+}
+
 static bool read_seconds(const char *words, double *seconds)
 {
-	return words[strspn(words, " 0123456789.")] == 0 && sscanf(words, "%lf", seconds) == 1
-		&& *seconds < LONGEST_SESSION;
+	*seconds = seconds_of(words);
+	return *seconds >= 0;
 }
 
 static void note_time(struct comments *comments, double seconds)

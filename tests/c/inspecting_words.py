@@ -9,11 +9,12 @@ import json
 import os
 import signal
 import struct
+import subprocess
 import sys
 
 sys.dont_write_bytecode = True
 sys.path.insert(0, os.path.dirname(os.path.realpath(__file__)))
-from inspecting import (LONG, ROOT, STAYING, SYNC, Inspected, client, done, main,  # noqa: E402
+from inspecting import (INSPECT, LONG, ROOT, STAYING, SYNC, Inspected, client, done, main,  # noqa: E402
                         message, sync)
 
 REGISTRY = message(1, 1, 2)
@@ -562,6 +563,26 @@ class Reading(Talking):
                          ({"type": "bad_line", "line": 3, "words": "line 3: bad line"}, "cut"))
         self.assertEqual(self.ran("--read", "none", status=125)[1],
                          "waywire-inspect: cannot read none: No such file or directory\n")
+
+    def test_words_that_are_no_time(self):
+        """A time is a decimal number below a thousand million."""
+        for word, is_time in (("inf", 0), ("nan", 0), ("-1", 0), ("1e308", 0), ("1e3", 0), ("0x10", 0), ("0x1p3", 0), ("+1", 0),
+                              ("1000000000", 0), ("9" * 400, 0), ("0." + "1" * 400, 0), (".5", 0), ("1.", 0), ("1.5 s", 0),
+                              ("999999999.999999", 1), ("0", 1), ("1.25 ", 1), ("\t2", 1)):
+            with open(self.recorded, "w", encoding="ascii") as file:
+                file.write(f"# {word}\n> {sync(2).hex()}\n")
+            for page in (False, True):
+                with self.subTest(word, page=page):
+                    if page:
+                        made = [sys.executable, f"{ROOT}/tools/waywire-picture", self.recorded, "-o", f"{self.folder}/a.html",
+                                "--inspector", INSPECT[-1]]
+                        ran = subprocess.run(made, capture_output=True, text=True, timeout=LONG, check=False)
+                        self.assertEqual((ran.returncode, ran.stderr), (0, ""))
+                        continue
+                    said, _ = self.ran("--read", self.recorded, "--json")
+                    told = [json.loads(it, parse_constant=self.fail) for it in said.splitlines()]
+                    self.assertEqual((told[0]["timed"], told[2]["time"]),
+                                     (True, round(float(word), 6)) if is_time else (False, None))
 
 
 class Forking(Inspected):
