@@ -6,7 +6,6 @@
 #include <unistd.h>
 
 /* No session takes so many seconds. */
-#define LONGEST_SESSION 1e9
 
 /* The length of a path without a number behind a point, as further clients' recordings have one. */
 static size_t without_number(const char *path)

@@ -7,6 +7,7 @@ The environment is that of tests/c/inspecting.py."""
 import glob
 import json
 import os
+import re
 import signal
 import struct
 import subprocess
@@ -489,6 +490,26 @@ class Recording(Talking):
         self.assertEqual((size <= 16777216, size > 16777216 - 140000), (True, True))
         with open(self.recorded, "rb") as file:
             self.assertEqual(file.read()[-1:], b"\n")
+
+
+class BehindAnError(Talking):
+    """The bytes that are left behind wl_display.error are those that the program counts."""
+
+    LEFT = "lawful up to wl_display.error: 1 requests, 1 events, {} and {} bytes left"
+
+    def test_pieces(self):
+        said = (sync(2), (error(1, 0, "no") + b"1234",), sync(3), (done(2),), b"half")
+        lines = self.lines(*said, status=1, options=["--record", self.recorded])
+        self.assertEqual(lines[-1], self.LEFT.format(16, 28))
+        again, _ = self.ran("--read", self.recorded, status=1)
+        self.assertEqual(again.splitlines(), lines)
+
+    def test_the_example(self):
+        """Of tests/runs/check_error.run, which has what `waywire check` prints."""
+        said, _ = self.ran("--read", f"{ROOT}/examples/error.rec", status=1)
+        with open(f"{ROOT}/tests/runs/check_error.run", encoding="utf-8") as file:
+            wanted = re.search(r"^  lawful: (.*)$", file.read(), re.M)[1]
+        self.assertEqual(said.splitlines()[-1], f"lawful up to wl_display.error: {wanted}")
 
 
 class Reading(Talking):
