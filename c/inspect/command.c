@@ -54,8 +54,9 @@ void take_signals(sigset_t *before)
 
 /* ---- the command */
 
-int start_command(char **command, const char *display, const sigset_t *before, pid_t *process)
+int start_command(char **command, const char *display, bool is_aside, const sigset_t *before, pid_t *process)
 {
+	posix_spawn_file_actions_t actions;
 	posix_spawnattr_t attributes;
 	sigset_t usual;
 	sigemptyset(&usual);
@@ -68,7 +69,11 @@ int start_command(char **command, const char *display, const sigset_t *before, p
 	posix_spawnattr_setflags(&attributes, POSIX_SPAWN_SETSIGDEF | POSIX_SPAWN_SETSIGMASK);
 	posix_spawnattr_setsigdefault(&attributes, &usual);
 	posix_spawnattr_setsigmask(&attributes, before);
-	int error = posix_spawnp(process, command[0], NULL, &attributes, command, environ);
+	posix_spawn_file_actions_init(&actions);
+	if (is_aside)
+		posix_spawn_file_actions_adddup2(&actions, STDERR_FILENO, STDOUT_FILENO);
+	int error = posix_spawnp(process, command[0], &actions, &attributes, command, environ);
+	posix_spawn_file_actions_destroy(&actions);
 	posix_spawnattr_destroy(&attributes);
 	return error;
 }

@@ -304,8 +304,9 @@ extern volatile sig_atomic_t stopped_by, was_typed, child_ended;
 /* Blocks the signals that are waited for, and sets what they do. `before` gets those that were blocked. */
 void take_signals(sigset_t *before);
 
-/* Starts the command with the tool's socket as its WAYLAND_DISPLAY. Returns what posix_spawnp does. */
-int start_command(char **command, const char *display, const sigset_t *before, pid_t *process);
+/* Starts the command with the tool's socket as its WAYLAND_DISPLAY; what it prints goes aside to standard error where
+ * that is asked for. Returns what posix_spawnp does. */
+int start_command(char **command, const char *display, bool is_aside, const sigset_t *before, pid_t *process);
 
 /* How the command and what it started are doing. */
 struct children {

@@ -257,12 +257,14 @@ static void print_head(const struct run *run)
 static bool begin_clients(struct run *run, const char *display)
 {
 	char **command = run->shared.options->command;
+	/* Standard output has nothing but JSON then. */
+	bool is_aside = run->shared.options->json && !run->shared.options->output;
 	print_head(run);
 	if (!command) {
-		print_name(display, run->shared.options->json && !run->shared.options->output);
+		print_name(display, is_aside);
 		return true;
 	}
-	int error = start_command(command, display, &run->shared.while_waiting, &run->shared.command);
+	int error = start_command(command, display, is_aside, &run->shared.while_waiting, &run->shared.command);
 	if (error)
 		notice("%s: %s", command[0], strerror(error));
 	run->children = (struct children){ run->shared.command, !error, false, 0, 0 };

@@ -333,6 +333,21 @@ class Json(Talking):
                          ({"interface": None, "id": 3, "birth": 0}, None, []))
         self.assertEqual(told[-1]["verdict"], "unjudged")
 
+    def test_what_a_command_prints(self):
+        """It goes to standard error, unless JSON goes to a file."""
+        words = client(sync(2), 24, 0)
+        words[2] = "print('of the command', flush=True)\n" + words[2]
+        self.answering(done(2))
+        said, error = self.ran("--json", *words)
+        self.assertEqual([json.loads(it)["type"] for it in said.splitlines()],
+                         ["head", "client", "message", "message", "message", "verdict"])
+        self.assertEqual(error, "of the command\n")
+        path = f"{self.folder}/printed"
+        self.answering(done(2))
+        self.assertEqual(self.ran("--json", "--output", path, *words), ("of the command\n", ""))
+        with open(path, encoding="utf-8") as file:
+            self.assertEqual(len([json.loads(it) for it in file]), 6)
+
 
 class Tables(Talking):
     """Which tables are read."""
