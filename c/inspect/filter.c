@@ -2,60 +2,113 @@
 #define _GNU_SOURCE
 #include "inspect.h"
 
-#include <limits.h>
+/* In place of a sender: messages of both, and besides those that make or name such an object. */
+enum { ANY_SENDER = COMPOSITOR + 1, ANY_PART };
 
-/* The opcode of a sender's message of an interface, by its name; -1 where there is none. */
-static int opcode_of(const waywire_tables *tables, uint16_t interface, waywire_sender sender, const char *name,
-	size_t length)
+/* A part of a text, without a NUL. */
+struct part {
+	const char *bytes;
+	size_t length;
+};
+
+static bool is_pattern(struct part part)
 {
-	waywire_message message;
-	const char *its;
-	size_t its_length;
-	for (int opcode = 0; opcode <= UINT16_MAX; opcode++) {
-		if (waywire_tables_message(tables, interface, sender, (uint16_t)opcode, &message, &its, &its_length))
-			break;
-		if (its_length == length && !memcmp(its, name, length))
-			return opcode;
-	}
-	return -1;
+	return memchr(part.bytes, '*', part.length) || memchr(part.bytes, '?', part.length);
 }
 
-/* What a name of `length` bytes means. */
-static struct asked asked_of(const waywire_tables *tables, const char *option, const char *name, size_t length)
+/* Whether a name is of a pattern, in which `*` stands for any characters and `?` for one. */
+static bool matches(struct part pattern, struct part name)
 {
-	char copy[NAME_MAX];
-	struct asked asked = { WAYWIRE_ANY_INTERFACE, { -1, -1 }, false };
-	const char *point = memchr(name, '.', length);
-	size_t interface = point ? (size_t)(point - name) : length;
-	if (interface >= sizeof copy)
-		fail("--%s: a name is too long", option);
-	memcpy(copy, name, interface);
-	copy[interface] = 0;
-	if (waywire_tables_interface(tables, copy, &asked.interface))
-		fail("--%s %s: no tables have that interface", option, copy);
-	asked.is_message = point;
-	if (!point)
-		return asked;
+	size_t at = 0, star = pattern.length, again = 0;
+	for (size_t each = 0; each < name.length;) {
+		if (at < pattern.length && pattern.bytes[at] == '*') {
+			star = at++;
+			again = each;
+		} else if (at < pattern.length && (pattern.bytes[at] == '?' || pattern.bytes[at] == name.bytes[each])) {
+			at++;
+			each++;
+		} else if (star < pattern.length) {
+			at = star + 1; /* the star stands for one character more */
+			each = ++again;
+		} else
+			return false;
+	}
+	while (at < pattern.length && pattern.bytes[at] == '*')
+		at++;
+	return at == pattern.length;
+}
+
+static void add(struct filter *filter, const struct asked *asked)
+{
+	struct asked *more = realloc(filter->asked, (filter->count + 1) * sizeof *more);
+	if (!more)
+		fail("out of memory");
+	filter->asked = more;
+	more[filter->count++] = *asked;
+}
+
+/* Adds the messages of an interface whose names match. */
+static void add_messages(struct filter *filter, const waywire_tables *tables, uint16_t interface, struct part wanted)
+{
+	waywire_message message;
+	struct part name;
 	for (int from = CLIENT; from <= COMPOSITOR; from++)
-		asked.opcodes[from] = opcode_of(tables, asked.interface, (waywire_sender)from, point + 1,
-			length - interface - 1);
-	if (asked.opcodes[CLIENT] < 0 && asked.opcodes[COMPOSITOR] < 0)
-		fail("--%s %.*s: %s has no such message", option, (int)length, name, copy);
-	return asked;
+		for (int opcode = 0; opcode <= UINT16_MAX; opcode++) {
+			if (waywire_tables_message(tables, interface, (waywire_sender)from, (uint16_t)opcode, &message,
+					&name.bytes, &name.length))
+				break;
+			struct asked asked = { interface, from, opcode };
+			if (matches(wanted, name))
+				add(filter, &asked);
+		}
+}
+
+/* Adds what a name means. Returns how many interfaces have it; those that have a message of it are added. */
+static size_t add_named(struct filter *filter, const waywire_tables *tables, struct part interface,
+	const struct part *message)
+{
+	size_t count = 0;
+	struct part name;
+	for (uint16_t place = 0; !waywire_tables_name(tables, place, &name.bytes, &name.length); place++) {
+		struct asked all = { place, message ? ANY_SENDER : ANY_PART, 0 };
+		if (!matches(interface, name))
+			continue;
+		count++;
+		if (!message || (message->length == 1 && *message->bytes == '*'))
+			add(filter, &all);
+		else
+			add_messages(filter, tables, place, *message);
+		if (!is_pattern(interface))
+			break; /* of equal names the first counts */
+	}
+	return count;
+}
+
+/* Adds a name, which ends the tool where the tables have nothing of it. */
+static void add_name(struct filter *filter, const waywire_tables *tables, const char *option, struct part name)
+{
+	const char *point = memchr(name.bytes, '.', name.length);
+	size_t before = filter->count, length = point ? (size_t)(point - name.bytes) : name.length;
+	struct part interface = { name.bytes, length };
+	struct part message = { point ? point + 1 : NULL, point ? name.length - length - 1 : 0 };
+	size_t found = add_named(filter, tables, interface, point ? &message : NULL);
+	if (!found)
+		fail("--%s %.*s: no tables have %s", option, (int)length, name.bytes,
+			is_pattern(interface) ? "such an interface" : "that interface");
+	if (filter->count == before && is_pattern(interface))
+		fail("--%s %.*s: no such interface has such a message", option, (int)name.length, name.bytes);
+	if (filter->count == before)
+		fail("--%s %.*s: %.*s has no such message", option, (int)name.length, name.bytes, (int)length, name.bytes);
 }
 
 void filter_read(struct filter *filter, const waywire_tables *tables, const char *option, const char *names)
 {
 	for (;;) {
-		size_t length = strcspn(names, ",");
-		struct asked *asked = realloc(filter->asked, (filter->count + 1) * sizeof *asked);
-		if (!asked)
-			fail("out of memory");
-		filter->asked = asked;
-		filter->asked[filter->count++] = asked_of(tables, option, names, length);
-		if (!names[length])
+		struct part name = { names, strcspn(names, ",") };
+		add_name(filter, tables, option, name);
+		if (!names[name.length])
 			return;
-		names += length + 1;
+		names += name.length + 1;
 	}
 }
 
@@ -63,13 +116,13 @@ void filter_read(struct filter *filter, const waywire_tables *tables, const char
 static bool is_for(const struct asked *asked, const struct message *message)
 {
 	return message->target.interface == asked->interface
-		&& (!asked->is_message || asked->opcodes[message->from] == message->opcode);
+		&& (asked->from >= ANY_SENDER || (asked->from == message->from && asked->opcode == message->opcode));
 }
 
-/* Whether a message makes or names an object of an interface that is asked for. */
+/* Whether a message makes or names an object of an interface that is asked for by that alone. */
 static bool names(const struct asked *asked, const struct message *message)
 {
-	if (asked->is_message)
+	if (asked->from != ANY_PART)
 		return false;
 	for (size_t place = 0; place < message->arg_count; place++)
 		if (message->args[place].object.name && message->args[place].object.interface == asked->interface)

@@ -9,11 +9,10 @@ struct options;
 
 /* ---- which messages (filter.c) */
 
-/* An interface, or one of its messages by the opcodes of its request and its event of that name. */
+/* An interface, or one of its messages. */
 struct asked {
 	uint16_t interface;
-	int opcodes[2]; /* -1 where there is none */
-	bool is_message;
+	int from, opcode; /* which sender's; filter.c has what stands for more than one message */
 };
 
 struct filter {

@@ -268,6 +268,43 @@ class Printing(Talking):
                          [["1", "wl_callback"], ["1", "wl_display"], ["1", "wl_registry"]])
 
 
+class Globs(Talking):
+    """Patterns of --only and --except."""
+
+    def shown(self, *options):
+        said = (*Printing.TITLED, message(5, 6), (raw(7, 0, struct.pack("<iiI", 1, 2, 0)) + message(6, 0, 3),),
+                message(6, 4, 3), sync(8))
+        return [re.sub(r"^.. (\w+)@\d+\.(\w+).*", r"\1.\2", it) for it in self.lines(*said, options=options)[:-1]]
+
+    def test_patterns(self):
+        made = ["wl_compositor.create_surface", "xdg_wm_base.get_xdg_surface", "xdg_surface.get_toplevel"]
+        configures = ["xdg_toplevel.configure", "xdg_surface.configure"]
+        for options, wanted in (
+            (["--only", "xdg_*"], ["wl_registry.bind", *made[1:], *configures, "xdg_surface.ack_configure"]),
+            (["--only", "*.configure"], configures),
+            (["--only", "xdg_?urface.*"], [made[2], configures[1], "xdg_surface.ack_configure"]),
+            (["--only", "*_surface.*ack*,wl_surface.com?it"], ["wl_surface.commit", "xdg_surface.ack_configure"]),
+            (["--except", "xdg_*,wl_*"], []),
+            (["--except", "xdg_*.*,wl_*.*"], []),
+            (["--except", "*.*e*"], ["wl_registry.bind"] * 2 + ["wl_surface.commit", "wl_display.sync"]),
+            (["--only", "*", "--except", "xdg_*,wl_registry"],
+             ["wl_display.get_registry", made[0], "wl_surface.commit", "wl_display.sync"]),
+        ):
+            with self.subTest(options):
+                shown = self.shown(*options)
+                self.assertEqual(sorted(it for it in shown if it != "wl_registry.global"), sorted(wanted))
+
+    def test_what_matches_nothing(self):
+        for option, word, said in (
+            ("--only", "own_*", "no tables have such an interface"), ("--except", "*x*z?q", "no tables have such an interface"),
+            ("--only", "wl_*.draw*", "no such interface has such a message"),
+            ("--only", "wl_surface.d?aw", "wl_surface has no such message"),
+        ):
+            name = word if "message" in said else word.split(".")[0]
+            self.assertEqual(self.ran(option, word, "true", status=125),
+                             ("", f"waywire-inspect: {option} {name}: {said}\n"))
+
+
 class Json(Talking):
     """--json: a line for each message."""
 
