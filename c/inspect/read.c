@@ -5,8 +5,6 @@
 #include <stdio.h>
 #include <unistd.h>
 
-/* No session takes so many seconds. */
-
 /* The length of a path without a number behind a point, as further clients' recordings have one. */
 static size_t without_number(const char *path)
 {

@@ -183,8 +183,10 @@ class Broken(Talking):
 
     def test_an_error_behind_a_broken_message(self):
         lines = self.lines(sync(2), message(9, 0), sync(3), (done(2) + error(1, 0, "bad id"),), sync(4), status=1)
-        self.assertEqual(lines[-2:], ["broken: > message 2 at byte 12: F2 unknown object",
-                                      '<- wl_display@1.error(wl_display@1, 0, "bad id")'])
+        self.assertEqual(lines[-5:], [
+            "broken: > message 2 at byte 12: F2 unknown object", "? -> wl_display@1.sync(new id wl_callback@3)",
+            "? <- wl_callback@2.done(0)", "? <- wl_display@1.delete_id(2)",
+            '? <- wl_display@1.error(wl_display@1, 0, "bad id")'])
 
     def test_an_error_is_red(self):
         lines = self.lines(sync(2), (error(1, 0, "no"),), options=["--color=always"], status=1)

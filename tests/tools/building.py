@@ -183,7 +183,7 @@ if [ -e "$ROOM/whole/$it" ]; then printf 'ii '; else printf 'iU '; fi
     def test_a_group_that_fails(self):
         status, last, notes = self.installed(fails="zenity", whole=("foot",))
         self.assertEqual((status, last), (1, ["not installed: zenity wlr-randr "]))
-        self.assertTrue(any(it.endswith(" install groff-base nodejs") for it in notes), notes)
+        self.assertTrue(any(it.endswith(" install groff-base nodejs debootstrap") for it in notes), notes)
 
     def test_what_is_there(self):
         """A package by halves is none, nor is its program."""
