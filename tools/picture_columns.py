@@ -5,6 +5,7 @@ A message is a row of numbers: its signature, its object and its arguments' valu
 apart: bytes are kept as digits, and the end of a line as it was printed."""
 
 import base64
+import collections
 import json
 import zlib
 from array import array
