@@ -113,6 +113,20 @@ def held_buffers(spans):
     return lines.ended()
 
 
+def pings(moments, answered, end):
+    """A client that is asked at these moments, by serials from 1 on. It answers some after a millisecond, and sends its
+    last request at the end."""
+    lines, base, messages = Lines("client"), named("xdg_wm_base", 5), []
+    for serial, moment in enumerate(moments, 1):
+        messages.append((moment, "event", base, "ping", 0, [number_of(serial)], str(serial)))
+        if serial in answered:
+            messages.append((moment + 0.001, "request", base, "pong", 3, [number_of(serial)], str(serial)))
+    for moment, *parts in messages:
+        lines.add(*parts, time=moment)
+    lines.add("request", named("wl_surface", 4), "commit", 6, [], "", time=end)
+    return lines.ended()
+
+
 FIRST_OF_SERVER = 0xFF000000
 
 
@@ -241,3 +255,28 @@ def long_page(folder, inspector):
     checks.run(["/usr/bin/env", "python3", "-c", MEASURE, report, *command])
     with open(report, encoding="ascii") as file:
         return made, int(file.read()) / 1024
+
+
+def hang_recording(last="# ended 3.940000\n"):
+    """A window that draws for a second, and gets no frame any more; and a copy of the screen that is not made."""
+    names = (("wl_compositor", 6), ("wl_output", 4), ("xdg_wm_base", 5), ("wl_shm", 1),
+             ("zwlr_screencopy_manager_v1", 3))
+    yield piece(0, ">", [message(1, 1, words(2))])
+    yield piece(0, "<", [message(2, 0, words(at) + text(name) + words(version))
+                         for at, (name, version) in enumerate(names, 1)])
+    yield piece(0, ">", [*(message(2, 0, words(at) + text(name) + words(version, at + 2))
+                           for at, (name, version) in enumerate(names, 1)),
+                         message(3, 0, words(8)), message(6, 0, words(9, 4096))], 1)
+    yield piece(0, ">", [message(9, 0, words(10, 0, 32, 32, 128, 0))])
+    grab = [message(7, 0, words(11, 0, 4)), message(11, 0, words(10))]
+    yield piece(0.1, ">", grab)
+    yield piece(0.104, "<", [message(11, 2, words(0, 0, 0))])
+    yield piece(0.105, ">", [message(11, 1)])
+    yield piece(0.106, "<", [message(1, 1, words(11))])
+    for turn in range(52):
+        yield piece(0.107 + turn * 0.016, ">", [message(8, 3, words(11)), message(8, 6)])
+        yield piece(0.110 + turn * 0.016, "<", [message(11, 0, words(turn)), message(1, 1, words(11))])
+    yield piece(0.94, ">", [message(8, 3, words(11)), message(8, 6)])
+    yield piece(0.95, ">", [message(7, 0, words(12, 0, 4)), message(12, 0, words(10))])
+    yield piece(1.44, "<", [message(5, 0, words(1))])
+    yield last

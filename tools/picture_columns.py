@@ -5,6 +5,7 @@ A message is a row of numbers: its signature, its object and its arguments' valu
 apart: bytes are kept as digits, and the end of a line as it was printed."""
 
 import base64
+import bisect
 import collections
 import json
 import zlib
@@ -77,13 +78,16 @@ class Columns:
         self.rows = {it: array("q") for it in names}
         self.values, self.rest, self.bytes = [], [], []
         self.made, self.destroyed, self.freed = [], [], []
+        # The number of each message, and pairs of an answer's place and its question's.
+        self.numbers, self.answers, self.unanswered = array("q"), [], []
         self.text_size, self.left_out, self.cut_at, self.notes = 0, 0, 0, []
         self.last_time, self.last_piece, self.next_offset = 0, 0, {}
 
     def read(self, lines):
         """Takes lines in. Raises `NoSession`."""
         # A kind that is not known here tells what a page does not show.
-        does = {it: getattr(self, f"take_{it}") for it in ("message", "broken", "error", "verdict", "client")}
+        does = {it: getattr(self, f"take_{it}") for it in (
+            "message", "broken", "error", "unanswered", "verdict", "client")}
         decode = json.JSONDecoder().decode
         for line in lines:
             try:
@@ -109,7 +113,17 @@ class Columns:
         self.who = found
 
     def take_verdict(self, found):
-        self.verdict = {it: found.get(it) for it in ("verdict", "words", "messages", "requests", "events")}
+        self.verdict = {it: found.get(it) for it in (
+            "verdict", "words", "messages", "requests", "events", "ended", "cut")}
+
+    def take_unanswered(self, found):
+        if (place := self.place_of(found["number"])) >= 0:
+            self.unanswered.append(place)
+
+    def place_of(self, number):
+        """The row of the message with a number; -1 where it has none."""
+        place = bisect.bisect_left(self.numbers, number)
+        return place if place < len(self.numbers) and self.numbers[place] == number else -1
 
     def take_error(self, found):
         """A wl_display.error; its message came just before."""
@@ -182,6 +196,9 @@ class Columns:
         rows["offset"].append(found["offset"] - self.next_offset.get(direction, 0))
         self.next_offset[direction] = found["offset"] + found["size"]
         rows["state"].append(STATES[found["state"]] + 4 * (found.get("judged") is False))
+        self.numbers.append(found["number"])
+        if (question := self.place_of(found.get("answers", 0))) >= 0:
+            self.answers += (place, question)
         if found.get("note"):
             self.notes.append((place, found["note"]))
         for what, kept in (("made", self.made), ("destroyed", self.destroyed), ("freed", self.freed)):
@@ -221,6 +238,7 @@ class Columns:
             "objects": dict(zip(("interface", "id", "birth", "version"), about)),
             "rest": "\n".join(self.rest), "bytes": "\n".join(self.bytes), "values": self.values,
             "made": self.made, "destroyed": self.destroyed, "freed": self.freed,
+            "answers": self.answers, "unanswered": self.unanswered,
             **{name: row.tolist() for name, row in self.rows.items()},
         }
         deflate, out = zlib.compressobj(7), []

@@ -55,9 +55,14 @@ function drawColumns(pen, colours, narrow, base) {
 
 function drawBar(drawing, wait, { x, wide, base, high }, isAlone) {
     const { pen, app: { colours, view } } = drawing;
+    const [left, right] = [Math.max(x, view.left), Math.min(x + wide, view.right)];
     if (wait.to < 0) {
         pen.fillStyle = hatched(pen, colours.faint);
         pen.fillRect(x, base - high, wide, high);
+        if (isAlone && right - left > 110 && view.isTime && wait.key !== "held") {
+            writeWhole(drawing, `no answer, ${duration(wait.took)}`, (left + right) / 2, base - 4, colours.text,
+                `10.5px ${FONT}`, "center");
+        }
         return;
     }
     const isAmber = wait.isSlow && !wait.isGone;
@@ -67,7 +72,6 @@ function drawBar(drawing, wait, { x, wide, base, high }, isAlone) {
     pen.globalAlpha = 1;
     pen.fillStyle = isAmber ? colours["amber-top"] : colours.top;
     pen.fillRect(x, base - high, Math.max(1.5, wide), isAmber ? 1.5 : 1);
-    const [left, right] = [Math.max(x, view.left), Math.min(x + wide, view.right)];
     if (isAlone && right - left > 46 && view.isTime && high > 13) {
         const middle = (left + right) / 2;
         const text = duration(wait.took);

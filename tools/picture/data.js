@@ -66,7 +66,13 @@ class Session {
         this.placeAll();
         this.fillObjects();
         const last = Math.max(0, this.count - 1);
-        this.span = this.count ? Math.max(this.time[last], 1) : 1;
+        // The session's end, where the page has all of it and the recording says when that was.
+        const { ended, cut } = raw.verdict ?? {};
+        const end = this.isTimed && !raw.left_out ? Math.round((ended ?? cut ?? 0) * 1e6) : 0;
+        this.span = Math.max(this.count ? this.time[last] : 0, end, 1);
+        // Behind what broke a rule, and behind an error, no answer is looked for.
+        const lastLooked = raw.broken ?? raw.error;
+        this.looked = lastLooked ? this.time[lastLooked.place] ?? this.span : this.span;
     }
 
     // Where the values of each message begin, its direction, its place in its stream, and its number in it.
@@ -187,6 +193,11 @@ function duration(time) {
 
 const counted = (number) => number.toLocaleString("en-US");
 const several = (number, word) => `${counted(number)} ${word}${number === 1 ? "" : "s"}`;
+
+function median(numbers) {
+    const sorted = Float64Array.from(numbers).sort();
+    return sorted.length ? sorted[sorted.length >> 1] : 0;
+}
 
 // The parts of a list that have the same key, in the order in which the keys came.
 function grouped(list, keyOf) {

@@ -55,15 +55,16 @@ const ANSWERS = {
 
 function lateFindings(session) {
     const found = [];
-    for (const { key } of WAITS) {
+    for (const { key, name } of WAITS) {
         const own = session.waits.filter((it) => it.key === key && it.to >= 0 && !it.isGone);
         const late = own.filter((it) => it.isSlow);
         if (late.length) {
             const worst = late.reduce((a, b) => (b.took > a.took ? b : a));
+            const isUsual = own.length >= LEAST_USUAL;
             found.push({
                 level: "look", message: worst.from, words: `${counted(late.length)} of ${counted(own.length)} `
-                    + `${ANSWERS[key]} came late. The longest took ${duration(worst.took)} (${worst.object.name}). `
-                    + `The median is ${duration(session.usual[key])}.`,
+                    + `${ANSWERS[key] ?? `answers to ${name}`} came late. The longest took ${duration(worst.took)} `
+                    + `(${worst.object.name}).${isUsual ? ` The median is ${duration(session.usual[key])}.` : ""}`,
             });
         }
     }
@@ -93,19 +94,48 @@ function pauseFindings(session) {
     return found.slice(0, 4);
 }
 
-// Questions without an answer, where the session went on: at least a second, and with messages of the one asked.
+// Questions without an answer that were asked at least a second before the end, or many messages.
 function unansweredFindings(session) {
-    const found = [], { span, time, count } = session;
-    for (const { key, label } of WAITS.filter((it) => ["sync", "ping", "configure"].includes(it.key))) {
-        const left = session.waits.filter((it) => it.key === key && it.to < 0 && it.object.destroyed < 0
-            && (session.isTimed ? span - time[it.from] > 1e6 : count - it.from > 200));
-        if (left.length) {
-            found.push({ level: "look", message: left[0].from,
-                words: `${label}: ${several(left.length, "question")} had no answer. The first is for `
-                    + `${left[0].object.name}` });
+    const found = [], { looked, time, count } = session;
+    const isLong = (it) => (session.isTimed ? looked - time[it.from] >= SECOND : count - it.from > 200);
+    const isAnswered = (it) => it.to >= 0 && (!it.isGone || session.nameOf(it.to) === "discarded");
+    for (const { key, name } of WAITS.filter((it) => it.key !== "held")) {
+        const own = session.waits.filter((it) => it.key === key), left = own.filter((it) => it.to < 0 && isLong(it));
+        const isMute = own.length > 1 && isLong(own[0]) && !own.some(isAnswered);
+        if (left.length || isMute) {
+            const [first] = left.length ? left : own;
+            found.push({ level: "look", message: first.from,
+                words: unansweredWords(session, { key, name, own, left, first, isMute }) });
         }
     }
     return found;
+}
+
+function unansweredWords(session, { key, name, own, left, first, isMute }) {
+    const waited = session.isTimed && first.to < 0 ? duration(first.took) : "";
+    const about = `${first.object.name}.${session.nameOf(first.asked)}`;
+    const sinceFirst = waited && ` The first has waited for ${waited}.`;
+    if (isMute) {
+        return `${name} was sent ${several(own.length, "time")} and never answered.${sinceFirst}`;
+    }
+    if (key === "frame" && left.length === 1 && waited) {
+        return `No frame came for ${waited}. ${about} was not answered.`;
+    }
+    return left.length === 1 ? `${about} was not answered${waited && ` for ${waited}`}.`
+        : `${name} was not answered ${several(left.length, "time")}.${sinceFirst}`;
+}
+
+// What is said where nothing is worth a look: only what is so.
+function nothingFound(session) {
+    const left = session.waits.filter((it) => it.to < 0 && it.key !== "held");
+    if (!left.length) {
+        return `${session.isTimed ? "Nothing was late, nothing" : "Nothing"} piled up, and nothing was left `
+            + "without an answer.";
+    }
+    const longest = left.reduce((most, it) => Math.max(most, it.took), 0);
+    const after = session.isTimed ? `, after ${duration(longest)}${left.length > 1 ? " at most" : ""}` : "";
+    return `Nothing ${session.isTimed ? "was late, and nothing " : ""}piled up. `
+        + `${several(left.length, "question")} had no answer yet at the end${after}.`;
 }
 
 // What piles up: objects that could be destroyed, were not, and were made all through the session.

@@ -178,7 +178,8 @@ function belowOf(session, waits) {
             parts.push(`most ${duration(times.reduce((a, b) => Math.max(a, b), 0))}`);
         }
     }
-    return parts.join(", ");
+    const open = waits.filter((it) => it.to < 0 && it.key !== "held").length;
+    return [...parts, ...(open ? [`${counted(open)} open`] : [])].join(", ");
 }
 
 const beginOf = (object) => Math.max(0, object.made);

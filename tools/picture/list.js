@@ -124,7 +124,7 @@ class List {
         return line;
     }
 
-    // What stands at the end of a line: the rule that broke, or how long the answer took.
+    // What stands at the end of a line: the rule that broke, how long the answer took, or that there is none.
     behind(message) {
         const { session } = this.app;
         if (message === session.bad) {
@@ -133,11 +133,13 @@ class List {
         if (message === session.raw.error?.place) {
             return element("span", "took", `error ${session.raw.error.code}`);
         }
-        const wait = session.waitsOf.get(message)?.find((it) => it.to === message && !it.isGone);
-        if (!wait || !session.isTimed) {
+        const waits = session.waitsOf.get(message) ?? [], wait = waits.find((it) => it.to === message && !it.isGone);
+        const open = waits.find((it) => it.to < 0 && it.asked === message && it.key !== "held");
+        if (!(wait || open) || !session.isTimed) {
             return element("span", "took");
         }
-        return element("span", "took", `${wait.isSlow ? "late, " : ""}${duration(wait.took)}`);
+        return element("span", "took", wait ? `${wait.isSlow ? "late, " : ""}${duration(wait.took)}`
+            : `no answer, ${duration(open.took)}`);
     }
 }
 

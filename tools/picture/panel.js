@@ -75,8 +75,7 @@ class Panel {
             return made;
         });
         if (!items.length) {
-            items.push(element("li", "note plain", session.isTimed ? "Nothing was late, nothing piled up, and "
-                + "nothing was left without an answer." : "Nothing piled up, and nothing was left without an answer."));
+            items.push(element("li", "note plain", nothingFound(session)));
         }
         const list = element("ul");
         list.append(...items);
@@ -97,9 +96,15 @@ class Panel {
     }
 
     remarks() {
-        const { session } = this.app, { left_out: leftOut, cut_at: end, others } = session.raw, said = [];
+        const { session } = this.app, { left_out: leftOut, cut_at: end, others, verdict } = session.raw, said = [];
         if (!session.isTimed) {
             said.push("This recording has no times: what was late is not known, and the picture is in order of messages.");
+        }
+        if (session.isTimed && verdict && verdict.ended === null && !leftOut) {
+            said.push(verdict.cut === null
+                ? "This recording does not say when its session ended: the page ends with the last message."
+                : `The recording was cut after ${duration(verdict.cut * 1e6)}, where it would have been longer than `
+                    + "16 MiB. The session went on.");
         }
         if (leftOut) {
             said.push(`The page ends before the recording does: ${several(leftOut, "message")} behind `
@@ -209,7 +214,7 @@ class Panel {
         }
         const from = wait.from === message ? "" : [" from ", this.toMessage(wait.from), " on"];
         if (wait.to < 0) {
-            return this.row(name, "has no answer", from);
+            return this.row(name, "has no answer", from, session.isTimed ? `, after ${duration(wait.took)}` : "");
         }
         return wait.isGone ? this.row(name, "ended with ", this.toMessage(wait.to), ", without an answer")
             : this.row(name, "answered by ", this.toMessage(wait.to), took, from);

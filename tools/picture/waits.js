@@ -11,20 +11,21 @@ const WAITS = [
 ];
 const ACKED = new Set(["xdg_surface", "zxdg_surface_v6", "zwlr_layer_surface_v1", "ext_session_lock_surface_v1"]);
 const SLOW = { times: 2, more: 8000, over: 20000 };
+// Of fewer than these it is not known what is usual.
+const LEAST_USUAL = 3;
+// What is answered at once, or at least when the next frame is shown.
+const PROMPT = new Set(["sync", "configure", "frame", "presented", "ping"]), SECOND = 1e6;
 
 function isSlow(took, usual) {
     return took > SLOW.times * usual && took > usual + SLOW.more && took > SLOW.over;
 }
 
-// Whether an answer came late. A buffer is held rightly until the next one is there.
+// Whether an answer came late: it took longer than is usual for its kind, or a second. A buffer is held rightly until
+// the next one is there.
 function isLate(session, wait, usual) {
     const from = wait.key === "held" ? wait.next : wait.from;
-    return from >= 0 && isSlow(wait.took, usual) && isSlow(session.time[wait.to] - session.time[from], usual);
-}
-
-function median(numbers) {
-    const sorted = Float64Array.from(numbers).sort();
-    return sorted.length ? sorted[sorted.length >> 1] : 0;
+    const isLong = (took) => isSlow(took, usual) || (PROMPT.has(wait.key) && took >= SECOND);
+    return from >= 0 && isLong(wait.took) && isLong(session.time[wait.to] - session.time[from]);
 }
 
 // Reads a session once, in the order of its messages.
@@ -160,6 +161,37 @@ class Waiting {
         }
     }
 
+    // Frames that no commit takes into effect.
+    uncommitted() {
+        for (const [number, { frames, feedback }] of this.surfaces) {
+            const surface = this.session.objects[number];
+            for (const [key, list] of surface.destroyed < 0 ? [["frame", frames], ["presented", feedback]] : []) {
+                list.forEach(({ asked }) => this.open(key, surface, asked));
+            }
+        }
+    }
+
+    // Questions of all other kinds, as the inspector says them.
+    others() {
+        const { session, session: { raw: { answers = [], unanswered = [] } } } = this;
+        const known = new Set(this.waits.map((it) => it.asked));
+        const ask = (from, answer = -1) => {
+            const about = session.objects[session.object[from]], key = `${about?.interface}.${session.nameOf(from)}`;
+            if (!about || known.has(from)) {
+                return;
+            }
+            if (!WAITS.some((it) => it.key === key)) {
+                WAITS.push({ key, label: `${session.nameOf(from)} → answer`, name: key });
+            }
+            this.close(this.open(key, about, from), answer);
+        };
+        for (let k = 0; k < answers.length; k += 2) {
+            ask(answers[k + 1], answers[k]);
+        }
+        unanswered.forEach((it) => ask(it));
+        this.waits.sort((a, b) => a.from - b.from);
+    }
+
     read() {
         const { session } = this;
         for (let i = 0; i < session.count; i++) {
@@ -177,6 +209,9 @@ class Waiting {
         for (const [buffer, wait] of this.holds) {
             this.close(wait, session.objects[buffer].destroyed, true);
         }
+        this.waits.filter((it) => it.object.destroyed >= 0).forEach((it) => this.close(it, it.object.destroyed, true));
+        this.uncommitted();
+        this.others();
         return this.waits.filter((it) => !it.object.isCursor);
     }
 }
@@ -197,7 +232,8 @@ function addWaits(session) {
         session.waitsOf.get(message).push(wait);
     };
     for (const wait of session.waits) {
-        wait.took = wait.to < 0 ? -1 : session.time[wait.to] - session.time[wait.from];
+        // How long the answer took; of one that has not come, how long it was waited for.
+        wait.took = (wait.to < 0 ? session.looked : session.time[wait.to]) - session.time[wait.from];
         new Set([wait.asked, wait.from]).forEach((it) => add(it, wait));
         if (wait.to >= 0 && !wait.isGone) {
             // Of the answers to one commit the frame's is the first.
@@ -208,15 +244,18 @@ function addWaits(session) {
             add(wait.to, wait);
         }
     }
-    if (session.isTimed) {
-        for (const { key } of WAITS) {
-            const own = session.waits.filter((it) => it.key === key && it.to >= 0 && !it.isGone);
-            const usual = session.usual[key] = median(own.map((it) => it.took));
-            for (const wait of own.filter((it) => isLate(session, it, usual))) {
-                wait.isSlow = true;
-                session.slow.add(wait.from).add(wait.to);
-            }
-        }
+    for (const { key } of session.isTimed ? WAITS : []) {
+        markLate(session, key);
+    }
+}
+
+// Marks the answers of a kind that came late.
+function markLate(session, key) {
+    const own = session.waits.filter((it) => it.key === key && it.to >= 0 && !it.isGone);
+    const usual = session.usual[key] = median(own.map((it) => it.took));
+    for (const wait of own.filter((it) => isLate(session, it, usual))) {
+        wait.isSlow = true;
+        session.slow.add(wait.from).add(wait.to);
     }
 }
 
