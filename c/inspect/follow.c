@@ -16,8 +16,9 @@ static void name_interface(const struct follower *follower, struct object *objec
 
 static struct object object_as(const struct follower *follower, uint32_t id, const waywire_known *known)
 {
-	struct object object = { .id = id, .version = known->version, .birth = known->birth,
-		.interface = known->interface };
+	uint64_t before = follower->before.count;
+	struct object object = { .id = id, .version = known->version, .interface = known->interface,
+		.birth = known->birth > before ? known->birth - before : 0 };
 	object.state = !known->is_known ? UNKNOWN : known->is_ending ? ENDING : LIVE;
 	name_interface(follower, &object);
 	return object;
@@ -136,8 +137,10 @@ bool read_message(const struct follower *follower, int from, struct message *mes
 	waywire_followed followed;
 	if (waywire_inspector_ahead(follower->inspector, (waywire_sender)from, &followed))
 		return false;
-	*message = (struct message){ .from = from, .number = followed.number, .index = followed.index,
-		.offset = followed.offset, .piece = follower->piece_count, .seconds = follower->seconds,
+	const struct given *before = &follower->before;
+	*message = (struct message){ .from = from, .number = followed.number - before->count,
+		.index = followed.index - before->counts[from], .offset = followed.offset - before->bytes[from],
+		.piece = follower->piece_count, .seconds = follower->seconds,
 		.size = followed.size, .bytes = followed.bytes, .length = followed.length,
 		.opcode = followed.opcode, .bound = WAYWIRE_ANY_INTERFACE };
 	message->is_bad_size = message->size < 8 || message->size % 4 || message->size > follower->limit;
@@ -152,6 +155,7 @@ bool read_message(const struct follower *follower, int from, struct message *mes
 bool follow_message(struct follower *follower, const struct message *message)
 {
 	follower->descriptors[message->from] += message->descriptor_count;
+	follower->behind[message->from] = message->offset + message->length;
 	if (message->status)
 		follower->is_unnumbered[message->from] = true;
 	return !waywire_inspector_go_past(follower->inspector, (waywire_sender)message->from);

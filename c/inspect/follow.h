@@ -64,6 +64,12 @@ struct message {
 	bool is_judged;
 };
 
+/* What the library's inspector was given before the first message of the session (reopen.c). */
+struct given {
+	uint64_t count, counts[2]; /* of messages, and of those of each direction */
+	uint64_t bytes[2];
+};
+
 /* What is counted beside the library's inspector. */
 struct follower {
 	const waywire_tables *tables;
@@ -73,6 +79,8 @@ struct follower {
 	double seconds;           /* of the last piece */
 	uint64_t descriptors[2];  /* that the messages of each direction took */
 	bool is_unnumbered[2];    /* an unknown message may have taken some */
+	uint64_t behind[2];       /* where the last message of each direction ends */
+	struct given before;
 };
 
 /* What is known of an id. */

@@ -30,6 +30,7 @@ struct options {
 	bool no_tables; /* the installed ones are not read */
 	uint32_t limit;
 	const char *record;  /* null where nothing is recorded */
+	bool record_last;    /* the last part of a long session too */
 	const char *read;    /* the recording that is read; null where there is none */
 	const char *output;  /* null where it is standard output */
 	const char *picture; /* null where none is made */
@@ -154,18 +155,24 @@ int run_to_end(char *const *words, struct text *output, bool is_quiet);
 
 /* ---- a recording (recording.c) */
 
-/* A file in the form of docs/FORMATS.md, Recordings; `file` is -1 where there is none. */
-struct recording {
-	int file;
-	char *path;
-	off_t length;
-};
-
 /* Whose session is recorded. */
 struct client {
 	unsigned number;
 	pid_t process; /* 0 where it is not known */
 	char name[64]; /* of its program; empty where it is not known */
+};
+
+/* A file in the form of docs/FORMATS.md, Recordings; `file` is -1 where there is none. */
+struct recording {
+	int file;
+	char *path;
+	off_t length;
+	unsigned parts; /* that were begun of what the first file has no room for */
+	struct text fronts[2]; /* of --record-last: what the last pieces have behind whole messages */
+	uint64_t passed[2];    /* how many bytes of each direction */
+	const struct options *options;
+	const struct known *known;
+	struct client client;
 };
 
 /* The process at a socket, and its name. */
@@ -182,16 +189,58 @@ bool can_write(const char *path);
 void recording_begin(struct recording *recording, const struct options *options, const struct known *known,
 	const struct client *client);
 
+/* A piece that is recorded. */
+struct recorded {
+	int from;
+	const unsigned char *bytes;
+	size_t length, descriptor_count;
+	double seconds;
+};
+
 /* Adds a piece, with its time. Where the file does not take it, or would be longer than a recording may be, that
- * is said, and the recording ends before it: in the second case with a line that says so. */
-void recording_add(struct recording *recording, int from, const unsigned char *bytes, size_t length,
-	size_t descriptor_count, double seconds);
+ * is said, and the recording ends before it: in the second case with a line that says so. With --record-last it goes
+ * on in a second file; `follower` is what the session has come to, null where it is not followed any more. */
+void recording_add(struct recording *recording, const struct follower *follower, const struct recorded *piece);
 
 /* Ends it with the time at which the session ended. */
 void recording_end(struct recording *recording, double seconds);
 
 /* The file of --record for a client, to be freed; null where memory runs out. */
 char *numbered(const char *path, unsigned number);
+
+/* ---- a recording that begins in the middle (part.c) */
+
+/* Puts the comments at its head: its time, the objects that there are, and the fronts of messages that are not
+ * whole, of each direction. */
+void part_put(struct text *text, const struct follower *follower, const struct text fronts[2], double seconds);
+
+/* Takes these comments from a text. What follows is not judged, which is said. */
+void part_read(struct judging *judging, const char *text, size_t length, double seconds);
+
+/* ---- objects from before a recording (reopen.c) */
+
+/* The library's inspector is given messages that make them. */
+struct reopening {
+	struct follower *follower;
+	uint32_t registry, maker; /* the ids by which the messages make them */
+};
+
+struct reopened {
+	uint32_t id, version;
+	const char *name; /* its interface's */
+	bool is_ending;
+};
+
+/* No more ids than these are used of either range. */
+#define MOST_IDS 1048575
+
+/* Begins, before any message: so many ids of each range may be used from then on. */
+void reopen_begin(struct reopening *reopening, struct follower *follower, size_t client_ids, size_t server_ids);
+
+/* Makes an object known, unless the tables have no message that makes or ends it. */
+void reopen_object(struct reopening *reopening, const struct reopened *object);
+
+void reopen_end(struct reopening *reopening);
 
 /* ---- a recording that is read (read.c) */
 

@@ -318,6 +318,7 @@ void json_head(const struct head *head)
 		name += length + (name[length] == ' ');
 	}
 	text_format(&line, "],\"timed\":%s", head->is_timed ? "true" : "false");
+	put_seconds(&line, "from", head->from);
 	print_line(&line);
 }
 

@@ -50,6 +50,11 @@ static bool sees_all(const struct judging *judging)
 		&& !judging->is_lost[COMPOSITOR];
 }
 
+const struct follower *followed(const struct judging *judging)
+{
+	return sees_all(judging) ? &judging->follower : NULL;
+}
+
 /* Prints a message by its line. */
 static void print_by_line(struct judging *judging, struct message *message, const struct text *line,
 	const struct beside *beside)
@@ -210,7 +215,8 @@ void judge_piece(struct judging *judging, int from, const unsigned char *bytes, 
 	waywire_sender sender = (waywire_sender)from;
 	if (judging->standing == LOST)
 		return;
-	waywire_status status = waywire_inspector_pass(inspector, sender, bytes, length, descriptor_count);
+	waywire_status status = judging->is_part ? WAYWIRE_OK
+		: waywire_inspector_pass(inspector, sender, bytes, length, descriptor_count);
 	if (!status && !judging->has_error)
 		status = waywire_inspector_follow(inspector, sender, bytes, length);
 	judging->follower.piece_count++;
@@ -245,10 +251,13 @@ static bool put_lawful(struct judging *judging, struct text *words)
 
 static void put_unjudged(const struct judging *judging, struct text *words)
 {
-	text_format(words, "not judged from request %" PRIu64 " on: ", judging->unjudged_from);
+	if (judging->unjudged_from)
+		text_format(words, "not judged from request %" PRIu64 " on: ", judging->unjudged_from);
+	else
+		text_add(words, "not judged: ");
 	text_put(words, judging->reason.bytes, judging->reason.length);
-	text_format(words, "; lawful until then; %" PRIu64 " requests, %" PRIu64 " events",
-		judging->counts[CLIENT], judging->counts[COMPOSITOR]);
+	text_format(words, "%s; %" PRIu64 " requests, %" PRIu64 " events",
+		judging->unjudged_from ? "; lawful until then" : "", judging->counts[CLIENT], judging->counts[COMPOSITOR]);
 	if (judging->has_error)
 		text_add(words, "; ended by wl_display.error");
 }

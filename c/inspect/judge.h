@@ -18,6 +18,7 @@ struct judging {
 	bool is_cut;                  /* a recording could not be read to its end */
 	bool was_cut;                 /* a recording had no room for the session's end */
 	bool has_no_end;              /* a recording does not say when its session ended */
+	bool is_part;                 /* a recording begins in the middle of its session */
 	bool is_lost[2];              /* a direction cannot be cut into messages any more */
 	struct follower follower;
 	struct text reason;           /* where it is not judged: what is not in the tables */
@@ -40,6 +41,9 @@ void judge_piece(struct judging *judging, int from, const unsigned char *bytes, 
 void judge_end(struct judging *judging, double seconds);
 
 void judge_free(struct judging *judging);
+
+/* What the messages so far have come to; null where they are not all looked at. */
+const struct follower *followed(const struct judging *judging);
 
 /* Whether a message broke a rule, or wl_display.error came. */
 bool has_failed(const struct judging *judging);

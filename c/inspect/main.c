@@ -26,6 +26,8 @@ static const char help[] =
 	"  --limit N              The most bytes of a message [default: 4096]\n"
 	"  --record FILE          Writes what passes to FILE, of further clients to FILE.2, ..,\n"
 	"                         and the tables to FILE.tables\n"
+	"  --record-last          Where FILE is full, keeps the last part of the session too,\n"
+	"                         in FILE.last\n"
 	"  --read FILE            Prints and judges a recording, by FILE.tables if it is there\n"
 	"  --output FILE          Prints to FILE\n"
 	"  --picture FILE.html    Makes a page of the session at its end\n"
@@ -47,14 +49,15 @@ static const char help[] =
 	"What is done:\n"
 	"  --stop-when-broken     Closes a client's connection where a message breaks a rule\n";
 
-enum { TABLES = 1, NO_TABLES, LIMIT, RECORD, READ, OUTPUT, PICTURE, ONLY, EXCEPT, TIME, JSON, STATS, COLOUR, STOP,
-	VERBOSE, HELP, VERSION };
+enum { TABLES = 1, NO_TABLES, LIMIT, RECORD, RECORD_LAST, READ, OUTPUT, PICTURE, ONLY, EXCEPT, TIME, JSON, STATS,
+	COLOUR, STOP, VERBOSE, HELP, VERSION };
 
 static const struct option known_options[] = {
 	{ "tables", required_argument, NULL, TABLES },
 	{ "no-tables", no_argument, NULL, NO_TABLES },
 	{ "limit", required_argument, NULL, LIMIT },
 	{ "record", required_argument, NULL, RECORD },
+	{ "record-last", no_argument, NULL, RECORD_LAST },
 	{ "read", required_argument, NULL, READ },
 	{ "output", required_argument, NULL, OUTPUT },
 	{ "picture", required_argument, NULL, PICTURE },
@@ -120,6 +123,7 @@ static void take_option(struct options *options, struct later *later, int option
 	case NO_TABLES: options->no_tables = true; break;
 	case LIMIT: options->limit = limit_of(word); break;
 	case RECORD: options->record = word; break;
+	case RECORD_LAST: options->record_last = true; break;
 	case READ: options->read = word; break;
 	case OUTPUT: options->output = word; break;
 	case PICTURE: options->picture = word; break;
@@ -162,6 +166,8 @@ static void check_options(const struct options *options)
 {
 	if (options->read && (options->command || options->record || options->picture))
 		fail("--read stands without COMMAND, --record and --picture");
+	if (options->record_last && !options->record)
+		fail("--record-last stands with --record");
 	if (options->output && options->record && !strcmp(options->output, options->record))
 		fail("--output and --record name the same file");
 }

@@ -124,6 +124,7 @@ struct head {
 	char **command;
 	const char *tables;  /* names with spaces between */
 	bool is_timed;
+	double from;         /* where it begins in the middle of its session, in seconds; -1 where it does not */
 };
 void json_head(const struct head *head);
 void json_client(unsigned number, const char *name, long process);

@@ -5,10 +5,13 @@
 #include <stdio.h>
 #include <unistd.h>
 
-/* The length of a path without a number behind a point, as further clients' recordings have one. */
+/* The length of a path without `.last`, and without a number behind a point, which those of further clients have. */
 static size_t without_number(const char *path)
 {
+	static const char last[] = ".last";
 	size_t length = strlen(path), digits = 0;
+	if (length >= sizeof last && !strcmp(path + length - (sizeof last - 1), last))
+		length -= sizeof last - 1;
 	while (digits < length && path[length - digits - 1] >= '0' && path[length - digits - 1] <= '9')
 		digits++;
 	return digits && digits < length && path[length - digits - 1] == '.' ? length - digits - 1 : length;
@@ -39,6 +42,7 @@ struct comments {
 	char started[32]; /* empty where it is not said */
 	double seconds;   /* of the next piece; -1 where it is not said */
 	double latest;    /* the latest time that is said; -1 where there is none */
+	double from;      /* where it begins, in the middle of its session; -1 where it does not */
 	bool is_timed, has_end, was_cut;
 };
 
@@ -79,6 +83,8 @@ static void note_comment(struct comments *comments, const char *comment, size_t 
 	} else if (!strncmp(words, " ended ", 7) && read_seconds(words + 7, &seconds)) {
 		note_time(comments, seconds);
 		comments->has_end = true;
+	} else if (!strncmp(words, " from ", 6) && read_seconds(words + 6, &seconds)) {
+		comments->from = seconds;
 	} else if (!strncmp(words, " cut ", 5) && read_seconds(words + 5, &seconds)) {
 		note_time(comments, seconds);
 		comments->was_cut = true;
@@ -134,7 +140,7 @@ static waywire_status next_piece(struct reading *reading)
 static void print_head(const struct options *options, const struct known *known, const struct comments *comments)
 {
 	struct head head = { options->read, *comments->started ? comments->started : NULL, NULL, known->names.bytes,
-		comments->is_timed };
+		comments->is_timed, comments->from };
 	if (!options->json)
 		return;
 	json_head(&head);
@@ -163,7 +169,7 @@ static waywire_status pass_pieces(struct reading *reading, struct judging *judgi
 
 int read_recording(const struct options *options, const struct known *known)
 {
-	struct reading reading = { .comments = { .seconds = -1, .latest = -1 } };
+	struct reading reading = { .comments = { .seconds = -1, .latest = -1, .from = -1 } };
 	struct judging judging;
 	read_file(options->read, &reading.text);
 	reading.bytes = malloc(reading.text.length + 1);
@@ -172,6 +178,8 @@ int read_recording(const struct options *options, const struct known *known)
 	waywire_status status = next_piece(&reading);
 	print_head(options, known, &reading.comments);
 	judge_begin(&judging, options, known->tables, 1);
+	if (reading.comments.from >= 0 && !status)
+		part_read(&judging, reading.text.bytes, reading.piece.begin, reading.comments.from);
 	status = pass_pieces(&reading, &judging, status);
 	bool is_whole = status == WAYWIRE_NOT_FOUND;
 	if (is_whole)

@@ -16,6 +16,8 @@
 #define BESIDE_DIGITS 64
 /* Room is left for the line that says when the session ended, or that the recording was cut. */
 #define LAST_LINE 64
+/* Two parts of --record-last are one recording. */
+#define LONGEST_PART (LONGEST / 2)
 
 /* ---- the client */
 
@@ -124,7 +126,8 @@ static void close_file(struct recording *recording)
 	if (recording->file >= 0)
 		close(recording->file);
 	free(recording->path);
-	*recording = (struct recording){ -1, NULL, 0 };
+	recording->file = -1;
+	recording->path = NULL;
 }
 
 /* The file takes nothing more. */
@@ -136,16 +139,21 @@ static void give_up(struct recording *recording)
 	close_file(recording);
 }
 
-/* Writes what readers skip: whose session it is, when it began, and by which tables it was read. */
-static void write_head(struct recording *recording, const struct known *known, const struct client *client)
+/* Writes what readers skip: whose session it is, when it was begun, and by which tables it was read. In a part that
+ * begins later also what came before. */
+static void write_head(struct recording *recording, const struct follower *follower, double seconds)
 {
+	const struct client *client = &recording->client;
+	const struct text *names = &recording->known->names;
 	struct text head = { NULL, 0, 0 };
 	char moment[32];
 	write_moment(moment, sizeof moment);
 	text_format(&head, "# client %s %ld\n# started %s\n# tables ", *client->name ? client->name : "unknown",
 		(long)client->process, moment);
-	text_put(&head, known->names.bytes, known->names.length);
+	text_put(&head, names->bytes, names->length);
 	text_add(&head, "\n");
+	if (follower)
+		part_put(&head, follower, recording->fronts, seconds);
 	if (write_whole(recording->file, head.bytes, head.length))
 		recording->length = (off_t)head.length;
 	else
@@ -153,42 +161,66 @@ static void write_head(struct recording *recording, const struct known *known, c
 	text_free(&head);
 }
 
+/* Opens a file in place of the one before. False where that fails, which is said. */
+static bool open_file(struct recording *recording, char *path)
+{
+	close_file(recording);
+	recording->path = path;
+	recording->file = path ? open(path, O_WRONLY | O_CREAT | O_TRUNC | O_CLOEXEC, 0666) : -1;
+	if (recording->file < 0) {
+		notice("cannot write %s: %s", path ? path : "a recording", strerror(errno));
+		close_file(recording);
+	}
+	return recording->file >= 0;
+}
+
+/* The file of a client's recording with a word behind it; null where memory runs out. */
+static char *with_word(const struct recording *recording, const char *word)
+{
+	char *path = numbered(recording->options->record, recording->client.number), *made = NULL;
+	if (path && asprintf(&made, "%s.%s", path, word) < 0)
+		made = NULL;
+	free(path);
+	return made;
+}
+
+/* Removes a file of a session before. */
+static void remove_old(const struct recording *recording, const char *word)
+{
+	char *path = with_word(recording, word);
+	if (path)
+		unlink(path);
+	free(path);
+}
+
 void recording_begin(struct recording *recording, const struct options *options, const struct known *known,
 	const struct client *client)
 {
-	*recording = (struct recording){ -1, NULL, 0 };
-	if (!options->record)
+	*recording = (struct recording){ .file = -1, .options = options, .known = known, .client = *client };
+	if (!options->record || !open_file(recording, numbered(options->record, client->number)))
 		return;
-	recording->path = numbered(options->record, client->number);
-	if (!recording->path) {
-		notice("client %u is not recorded: out of memory", client->number);
-		return;
-	}
-	recording->file = open(recording->path, O_WRONLY | O_CREAT | O_TRUNC | O_CLOEXEC, 0666);
-	if (recording->file < 0) {
-		notice("cannot write %s: %s", recording->path, strerror(errno));
-		close_file(recording);
-		return;
-	}
 	if (client->number == 1 && is_regular(recording->file))
 		write_tables(options, known);
-	write_head(recording, known, client);
+	if (options->record_last) {
+		remove_old(recording, "last");
+		remove_old(recording, "before");
+	}
+	write_head(recording, NULL, 0);
 }
 
 /* Writes the lines of a piece, and returns their length. */
-static size_t lines_of(char *text, int from, const unsigned char *bytes, size_t length, size_t descriptor_count,
-	double seconds)
+static size_t lines_of(char *text, const struct recorded *piece)
 {
 	static const char digits[] = "0123456789abcdef";
-	char *at = text + sprintf(text, "# %.6f\n", seconds);
-	*at++ = from == CLIENT ? '>' : '<';
+	char *at = text + sprintf(text, "# %.6f\n", piece->seconds);
+	*at++ = piece->from == CLIENT ? '>' : '<';
 	*at++ = ' ';
-	for (size_t each = 0; each < length; each++) {
-		*at++ = digits[bytes[each] >> 4];
-		*at++ = digits[bytes[each] & 15];
+	for (size_t each = 0; each < piece->length; each++) {
+		*at++ = digits[piece->bytes[each] >> 4];
+		*at++ = digits[piece->bytes[each] & 15];
 	}
-	if (descriptor_count)
-		at += sprintf(at, " +%zu", descriptor_count);
+	if (piece->descriptor_count)
+		at += sprintf(at, " +%zu", piece->descriptor_count);
 	*at++ = '\n';
 	return (size_t)(at - text);
 }
@@ -206,6 +238,8 @@ static bool write_last(struct recording *recording, const char *what, double sec
 	return is_written;
 }
 
+/* ---- where it is full */
+
 /* The recording ends before what it has no room for. */
 static void cut(struct recording *recording, double seconds)
 {
@@ -216,16 +250,92 @@ static void cut(struct recording *recording, double seconds)
 	close_file(recording);
 }
 
-void recording_add(struct recording *recording, int from, const unsigned char *bytes, size_t length,
-	size_t descriptor_count, double seconds)
+/* Gives the part that is full another name, in place of the part before it. */
+static void put_aside(const struct recording *recording)
+{
+	char *part = with_word(recording, "last"), *before = with_word(recording, "before");
+	if (!part || !before || rename(part, before))
+		notice("cannot keep the part before the last: %s", strerror(errno));
+	free(part);
+	free(before);
+}
+
+/* Goes on in the file of the last part. */
+static void begin_part(struct recording *recording, const struct follower *follower, double seconds)
+{
+	if (recording->parts++)
+		put_aside(recording);
+	else
+		cut(recording, seconds);
+	if (!open_file(recording, with_word(recording, "last")))
+		return;
+	if (recording->parts == 1)
+		notice("the last part of client %u goes to %s", recording->client.number, recording->path);
+	write_head(recording, follower, seconds);
+}
+
+/* Adds a file to the end of another. False with errno set. */
+static bool append_file(const char *path, const char *added)
+{
+	static char bytes[PIECE_BYTES];
+	int to = open(path, O_WRONLY | O_APPEND | O_CLOEXEC), from = open(added, O_RDONLY | O_CLOEXEC);
+	ssize_t came = to < 0 || from < 0 ? -1 : 1;
+	while (came > 0 && (came = read(from, bytes, sizeof bytes)) > 0)
+		if (!write_whole(to, bytes, (size_t)came))
+			came = -1;
+	int error = errno;
+	if (to >= 0)
+		close(to);
+	if (from >= 0)
+		close(from);
+	errno = error;
+	return !came;
+}
+
+/* Puts the part before the last in front of the last. */
+static void join_parts(const struct recording *recording)
+{
+	char *part = with_word(recording, "last"), *before = with_word(recording, "before");
+	if (!part || !before || !append_file(before, part) || rename(before, part))
+		notice("the part before the last is kept by itself: %s", strerror(errno));
+	free(part);
+	free(before);
+}
+
+/* Takes from the fronts what is of whole messages by now. False where there is less than that. */
+static bool trim_fronts(struct recording *recording, const struct follower *follower)
+{
+	for (int from = CLIENT; from <= COMPOSITOR; from++) {
+		struct text *front = &recording->fronts[from];
+		uint64_t left = recording->passed[from] - follower->behind[from];
+		if (left > front->length)
+			return false;
+		if (left < front->length)
+			memmove(front->bytes, front->bytes + (front->length - left), left);
+		front->length = left;
+	}
+	return true;
+}
+
+void recording_add(struct recording *recording, const struct follower *follower, const struct recorded *piece)
 {
 	static char text[2 * PIECE_BYTES + BESIDE_DIGITS];
 	if (recording->file < 0)
 		return;
-	size_t written = lines_of(text, from, bytes, length, descriptor_count, seconds);
-	if (recording->length + (off_t)written > LONGEST - LAST_LINE)
-		cut(recording, seconds);
-	else if (write_whole(recording->file, text, written))
+	size_t written = lines_of(text, piece);
+	off_t most = (recording->parts ? LONGEST_PART : LONGEST) - LAST_LINE;
+	bool can_go_on = recording->options->record_last && follower && trim_fronts(recording, follower);
+	if (recording->length + (off_t)written > most && can_go_on)
+		begin_part(recording, follower, piece->seconds);
+	else if (recording->length + (off_t)written > most)
+		cut(recording, piece->seconds);
+	if (can_go_on) {
+		text_put(&recording->fronts[piece->from], piece->bytes, piece->length);
+		recording->passed[piece->from] += piece->length;
+	}
+	if (recording->file < 0)
+		return;
+	if (write_whole(recording->file, text, written))
 		recording->length += (off_t)written;
 	else
 		give_up(recording);
@@ -233,6 +343,10 @@ void recording_add(struct recording *recording, int from, const unsigned char *b
 
 void recording_end(struct recording *recording, double seconds)
 {
-	if (recording->file >= 0 && write_last(recording, "ended", seconds))
-		close_file(recording);
+	bool is_whole = recording->file >= 0 && write_last(recording, "ended", seconds);
+	close_file(recording);
+	text_free(&recording->fronts[CLIENT]);
+	text_free(&recording->fronts[COMPOSITOR]);
+	if (is_whole && recording->parts > 1)
+		join_parts(recording);
 }

@@ -248,7 +248,7 @@ static void print_head(const struct run *run)
 	char moment[32];
 	write_moment(moment, sizeof moment);
 	const struct options *options = run->shared.options;
-	struct head head = { options->record, moment, options->command, run->shared.known->names.bytes, true };
+	struct head head = { options->record, moment, options->command, run->shared.known->names.bytes, true, -1 };
 	if (options->json)
 		json_head(&head);
 }

@@ -58,7 +58,8 @@ static void pass_piece(struct session *session, struct shared *shared, int from)
 	length = way->to;
 	descriptor_count = way->descriptor_count;
 	way_write(way);
-	recording_add(&session->recording, from, way->bytes, length, descriptor_count, seconds);
+	recording_add(&session->recording, followed(&session->judging),
+		&(struct recorded){ from, way->bytes, length, descriptor_count, seconds });
 	number_lines(session, shared);
 	judge_piece(&session->judging, from, way->bytes, length, descriptor_count, seconds);
 	print_now();

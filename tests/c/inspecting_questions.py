@@ -13,7 +13,7 @@ import sys
 sys.dont_write_bytecode = True
 sys.path.insert(0, os.path.dirname(os.path.realpath(__file__)))
 from inspecting import INSPECT, Inspected, done, main, message, sync  # noqa: E402
-from inspecting_words import LAWFUL, REGISTRY, Talking, announced, bind, error, raw  # noqa: E402
+from inspecting_words import LAWFUL, REGISTRY, Talking, announced, bind, error, raw, text  # noqa: E402
 import checks  # noqa: E402
 
 # A client that has bound these, from wl_compositor@3 on, and has made wl_surface@10 and wl_pointer@11.
@@ -201,7 +201,7 @@ class Ending(Talking):
 
     def test_it_is_cut(self):
         """The last line says where; the rest is not in it, and that is said when it is read."""
-        self.start("--no-tables", "--record", self.recorded)
+        self.start("--no-tables", "--record", self.recorded, "--output", "/dev/null")
         client, compositor = self.client()
         part = sync(2) * 5000
         for _ in range(150):
@@ -216,6 +216,115 @@ class Ending(Talking):
                                "too long\n")
         verdict = json.loads(said.splitlines()[-1])
         self.assertEqual((verdict["ended"], verdict["cut"]), (None, float(cut[1])))
+
+
+class LastPart(Talking):
+    """--record-last: what a full recording has no room for."""
+
+    GIVEN = (REGISTRY, (announced(1, "wl_compositor", 6) + announced(2, "wl_shell", 1),),
+             bind(1, "wl_compositor", 6, 3), bind(2, "wl_shell", 1, 4), message(3, 0, 5), message(4, 0, 6, 5), sync(7))
+
+    def record(self, most):
+        """Passes titles in pieces that end within one, so many bytes, to be recorded. Returns how many."""
+        self.start("--record", self.recorded, "--record-last", "--output", "/dev/null")
+        client, compositor = self.client()
+        for it in self.GIVEN:
+            self.passes(*((compositor, client, *it) if isinstance(it, tuple) else (client, compositor, it)))
+        stream, count = b"", 0
+        while count * 4012 < most:
+            while len(stream) < 61_003:
+                stream += raw(6, 8, text(f"{count:08d}{'x' * 3987}"))
+                count += 1
+            self.passes(client, compositor, stream[:61_003])
+            stream = stream[61_003:]
+        self.passes(client, compositor, stream)
+        _, said = self.finish()
+        self.assertIn(f"the last part of client 1 goes to {self.recorded}.last\n", said)
+        return count
+
+    def read_part(self, count):
+        """Its messages are the last, one behind the other, by the objects that there were."""
+        part = f"{self.recorded}.last"
+        said, told = self.ran("--read", part)
+        first, *titles, verdict = said.splitlines()
+        numbers = [int(it[len("? -> wl_shell_surface@6.set_title(\""):][:8]) for it in titles]
+        self.assertEqual(numbers, list(range(count - len(numbers), count)))
+        self.assertRegex(first, r"\Anot judged: the recording begins \d+\.\d{6} s after its session\Z")
+        self.assertEqual((verdict, told), ("not judged: the recording begins in the middle of its session; "
+                                           f"{len(numbers)} requests, 0 events", ""))
+        return len(numbers)
+
+    def test_one_part(self):
+        """It begins where the recording ends."""
+        count = self.record(9_000_000)
+        self.assertTrue(self.read_part(count))
+        self.assertEqual(sorted(os.listdir(self.folder)), ["a.rec", "a.rec.last", "a.rec.tables", "display"])
+        said, _ = self.ran("--read", self.recorded)
+        self.assertEqual(len([it for it in said.splitlines() if "set_title" in it])
+                         + self.read_part(count), count)
+        head = json.loads(self.ran("--read", f"{self.recorded}.last", "--json")[0].splitlines()[0])
+        with open(f"{self.recorded}.last", encoding="ascii") as file:
+            lines = file.read().splitlines()
+        self.assertEqual(f"# from {head['from']:.6f}", lines[3])
+        self.assertEqual(lines[4:10], [
+            "# ids 8 0", "# object 2 1 wl_registry", "# object 3 6 wl_compositor", "# object 4 1 wl_shell",
+            "# object 5 6 wl_surface", "# object 6 1 wl_shell_surface"])
+        self.assertTrue(lines[-1].startswith("# ended "), lines[-1])
+
+    def test_many_parts(self):
+        """The last two are one recording, of no more bytes than one may have."""
+        count = self.record(22_000_000)
+        self.assertGreater(self.read_part(count), 1000)
+        self.assertEqual(sorted(os.listdir(self.folder)), ["a.rec", "a.rec.last", "a.rec.tables", "display"])
+        size = os.path.getsize(f"{self.recorded}.last")
+        self.assertTrue(8388608 < size <= 16777216, size)
+
+    def test_what_is_said_at_its_head(self):
+        """Comments that are none of its own, and objects that cannot be."""
+        with open(self.recorded, "w", encoding="ascii") as file:
+            file.write("# from 3.5\n# object 3 6 wl_compositor\n# object 4 1 own_thing\n# ending 5 1 wl_callback\n"
+                       "# object 0 1 wl_surface\n# object 1 1 wl_surface\n# object 4278190079 1 wl_surface\n# object\n"
+                       "# object x 1 wl_surface\n# pending > 0300\n# pending\n# pending < zz\n"
+                       f"# 4.0\n> 00000000\n# 4.5\n> 0c0007000000{message(4, 2, 1).hex()}\n")
+        self.assertEqual(self.ran("--read", self.recorded, "--time")[0].splitlines(), [
+            "   3.500000 not judged: the recording begins 3.500000 s after its session",
+            "   4.500000 ? -> wl_compositor@3.create_surface(new id wl_surface@7)",
+            "   4.500000 ? -> unknown@4: opcode 2, 12 bytes",
+            "   4.500000 not judged: the recording begins in the middle of its session; 2 requests, 0 events"])
+
+    def test_objects_of_both_ends(self):
+        """Those of the compositor are known too, and which are ending; messages are numbered from the part's first."""
+        offer = 0xFF000000
+        with open(self.recorded, "w", encoding="ascii") as file:
+            file.write("# from 3.5\n# ids 40 3\n# object 3 3 wl_data_device_manager\n# object 4 3 wl_data_device\n"
+                       f"# ending 5 1 wl_callback\n# ending 6 6 wl_surface\n# object {offer + 1} 3 wl_data_offer\n"
+                       f"# ending {offer + 2} 3 wl_data_offer\n"
+                       f"# 4.0\n> {(message(3, 0, 39) + message(offer + 1, 2)).hex()}\n"
+                       f"< {(message(offer + 2, 0, 2, 0x61) + message(5, 0, 1) + message(1, 1, 6)).hex()}\n"
+                       f"< {message(4, 0, offer + 2).hex()}\n")
+        said = [json.loads(it) for it in self.ran("--read", self.recorded, "--json")[0].splitlines()]
+        told = [it for it in said if it["type"] == "message"]
+        self.assertEqual([it["text"] for it in told], [
+            "-> wl_data_device_manager@3.create_data_source(new id wl_data_source@39)",
+            f"-> wl_data_offer@{offer + 1}.destroy()", f'<- wl_data_offer@{offer + 2}.offer("a")',
+            "<- wl_callback@5.done(1)", "<- wl_display@1.delete_id(6)",
+            f"<- wl_data_device@4.data_offer(new id wl_data_offer@{offer + 2})"])
+        self.assertEqual([(it["number"], it["index"], it["offset"]) for it in told],
+                         [(1, 1, 0), (2, 2, 12), (3, 1, 0), (4, 2, 16), (5, 3, 28), (6, 4, 40)])
+        self.assertEqual([it["state"] for it in told], ["live", "live", "ending", "ending", "live", "live"])
+        self.assertEqual([it["object"]["birth"] for it in told], [0] * 6)
+        self.assertEqual([it["freed"] for it in told][4], [{"interface": "wl_surface", "id": 6, "birth": 0}])
+
+    def test_a_short_session(self):
+        """It has no last part, and none is left there of a session before."""
+        with open(f"{self.recorded}.last", "w", encoding="ascii") as file:
+            file.write("of a session before")
+        self.lines(sync(2), options=["--record", self.recorded, "--record-last"])
+        self.assertEqual(sorted(os.listdir(self.folder)), ["a.rec", "a.rec.tables", "display"])
+
+    def test_words(self):
+        self.assertEqual(self.ran("--record-last", "true", status=125)[1],
+                         "waywire-inspect: --record-last stands with --record\n")
 
 
 class Costs(Inspected):

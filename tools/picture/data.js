@@ -56,7 +56,9 @@ class Session {
         this.object = Int32Array.from(raw.object);
         this.size = Int32Array.from(raw.size);
         this.state = Uint8Array.from(raw.state);
-        this.time = summed(raw.time, Float64Array);
+        // A recording that begins in the middle of its session has times from there on.
+        const begin = Math.round((raw.head.from ?? 0) * 1e6);
+        this.time = summed(raw.time, Float64Array).map((it) => Math.max(0, it - begin));
         this.piece = summed(raw.piece, Int32Array);
         this.values = raw.values;
         this.objects = raw.objects.id.map((id, number) => newObject(
@@ -68,7 +70,7 @@ class Session {
         const last = Math.max(0, this.count - 1);
         // The session's end, where the page has all of it and the recording says when that was.
         const { ended, cut } = raw.verdict ?? {};
-        const end = this.isTimed && !raw.left_out ? Math.round((ended ?? cut ?? 0) * 1e6) : 0;
+        const end = this.isTimed && !raw.left_out ? Math.round((ended ?? cut ?? 0) * 1e6) - begin : 0;
         this.span = Math.max(this.count ? this.time[last] : 0, end, 1);
         // Behind what broke a rule, and behind an error, no answer is looked for.
         const lastLooked = raw.broken ?? raw.error;

@@ -100,6 +100,10 @@ class Panel {
         if (!session.isTimed) {
             said.push("This recording has no times: what was late is not known, and the picture is in order of messages.");
         }
+        if (typeof session.raw.head.from === "number") {
+            said.push(`This recording begins ${duration(session.raw.head.from * 1e6)} after its session did, and times `
+                + "count from there. It is not judged.");
+        }
         if (session.isTimed && verdict && verdict.ended === null && !leftOut) {
             said.push(verdict.cut === null
                 ? "This recording does not say when its session ended: the page ends with the last message."
