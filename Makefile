@@ -165,15 +165,15 @@ install: all
 		$(call fill,$(LIBDIR)/cmake/waywire) c/$$file.in > $(DESTDIR)$(LIBDIR)/cmake/waywire/$$file; \
 	done
 	chmod 644 $(DESTDIR)$(LIBDIR)/pkgconfig/waywire.pc $(DESTDIR)$(LIBDIR)/cmake/waywire/*.cmake
-	install -m 644 examples/tables/*.tables $(DESTDIR)$(DATADIR)/waywire/tables
+	install -m 644 examples/tables/*.tables examples/tables/*.names $(DESTDIR)$(DATADIR)/waywire/tables
 	install -m 644 LICENSE docs/FORMATS.md docs/GUIDE.md $(DESTDIR)$(DATADIR)/doc/waywire
 	install -d $(DESTDIR)$(DATADIR)/doc/waywire/examples
 	install -m 644 examples/c/* examples/*.rec $(DESTDIR)$(DATADIR)/doc/waywire/examples
 	for file in $(rust); do \
 		install -D -m 644 rust/waywire/$$file $(DESTDIR)$(DATADIR)/waywire/rust/$$file || exit; \
 	done
-	install -m 644 tools/protocol.py tools/rust_stubs.py tools/table_text.py tools/valid_tables.py \
-		tools/core.tables tools/core.xml \
+	install -m 644 tools/protocol.py tools/protocol_names.py tools/rust_stubs.py tools/table_text.py \
+		tools/valid_tables.py tools/core.tables tools/core.names tools/core.xml \
 		$(DESTDIR)$(DATADIR)/waywire/tools
 	for tool in tables-from-xml stubs-from-xml; do \
 		install -m 755 tools/$$tool $(DESTDIR)$(DATADIR)/waywire/tools && \

@@ -290,12 +290,16 @@ def inspector_is_installed(_program):
 
 
 def knows_installed_tables(tool, folder):
-    """The tool reads the installed texts, makes a text of XML, and makes a page, without a word on standard error."""
+    """The tool reads the installed texts and names, makes a text of XML, and makes a page, without a word on standard error."""
     recording = os.path.join(folder, "session.rec")
     shutil.copy(os.path.join(TOP, "examples", "drm_lease.rec"), recording)
     said = run([tool, "--read", recording], with_error=True)
     if not said.endswith("\nlawful: 3 requests, 5 events, 0 and 0 bytes left\n"):
         raise Failed(f"it says {said!r}")
+    said = run([tool, "--read", os.path.join(TOP, "examples", "gtk_dialog.rec")])
+    for it in ("capabilities(3 pointer|keyboard)", "array[4] {4 activated}"):
+        if it not in said:
+            raise Failed(f"it does not print {it}")
     xml = os.path.join(folder, "own.xml")
     with open(xml, "w", encoding="utf-8") as file:
         file.write('<protocol name="p"><interface name="own" version="1"/></protocol>')

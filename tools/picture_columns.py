@@ -14,8 +14,9 @@ from array import array
 # A page holds no more messages, and no more bytes of text; what comes behind is left out, and it says so.
 MOST_MESSAGES = 200_000
 MOST_TEXT = 32 * 2**20
-# Of a message no more bytes are kept.
+# Of a message no more bytes are kept, and of an array no more numbers.
 MOST_BYTES = 256
+MOST_NUMBERS = 8
 # A time has fewer seconds.
 MOST_SECONDS = 10**9
 STATES = {"live": 0, "ending": 1, "unknown": 2}
@@ -65,11 +66,21 @@ def microseconds(seconds):
         raise ValueError("a time")
     return round((seconds or 0) * 1_000_000)
 
+
+def contents(argument):
+    """What an array holds, in words: its first numbers with their names, where it has numbers."""
+    numbers, names = argument.get("numbers", [])[:MOST_NUMBERS], argument.get("names", [])
+    words = [" ".join([str(it), *(["|".join(names[at])] if names[at : at + 1] and names[at] else [])])
+             for at, it in enumerate(numbers)]
+    more = [".."] if len(argument.get("numbers", [])) > MOST_NUMBERS else []
+    return ", ".join(words + more)
+
+
 class Columns:
     """What a page says of the session of one client."""
 
     def __init__(self, client=1):
-        self.client, self.others = client, set()
+        self.client, self.others = client, {}
         self.head, self.who = {}, {}
         self.verdict = self.broken = self.error = None
         self.signatures, self.strings = Numbered(), Numbered()
@@ -77,6 +88,7 @@ class Columns:
         names = ("time", "piece", "signature", "object", "size", "offset", "state")
         self.rows = {it: array("q") for it in names}
         self.values, self.rest, self.bytes = [], [], []
+        self.names, self.arrays = {}, []
         self.made, self.destroyed, self.freed = [], [], []
         # The number of each message, and pairs of an answer's place and its question's.
         self.numbers, self.answers, self.unanswered = array("q"), [], []
@@ -100,8 +112,10 @@ class Columns:
                 elif kind in does:
                     if found.get("client", 1) == self.client:
                         does[kind](found)
+                    elif kind == "client":
+                        self.others[found["client"]] = [found.get("name"), found.get("pid")]
                     else:
-                        self.others.add(found["client"])
+                        self.others.setdefault(found["client"], [None, None])
             except (ValueError, KeyError, TypeError, AttributeError) as error:
                 raise NoLines from error
         if not self.head:
@@ -128,7 +142,7 @@ class Columns:
     def take_error(self, found):
         """A wl_display.error; its message came just before."""
         self.error = {"place": len(self.rest) - 1, "object": self.object(found["object"]),
-                      "code": found["code"], "text": found["text"]}
+                      "code": found["code"], "text": found["text"], "names": found.get("names") or []}
 
     def take_broken(self, found):
         """A message that breaks a rule is a row like others, also where it could not be taken apart."""
@@ -181,11 +195,12 @@ class Columns:
         rows, about = self.rows, found["object"]
         arguments, direction = found["arguments"], found["direction"]
         place = len(self.rest)
-        kinds = tuple([(it["kind"], it.get("name")) for it in arguments])
+        kinds = tuple([(it["kind"], it.get("name"), it.get("enum")) for it in arguments])
         signature = (about.get("interface"), found["message"], direction, found["opcode"], kinds)
         rows["signature"].append(self.signatures.of(signature))
         rows["object"].append(self.object(about))
         self.values.extend([self.value(it) for it in arguments])
+        self.note_names(place, arguments)
         # The places of messages in a picture never go back.
         time = max(self.last_time, microseconds(found["time"]))
         rows["time"].append(time - self.last_time)
@@ -206,6 +221,15 @@ class Columns:
                 kept += (place, self.object(it))
         self.rest.append(self.end_of_line(found, arguments))
         self.bytes.append(found["bytes"][: 2 * MOST_BYTES])
+
+    def note_names(self, place, arguments):
+        """Notes the names of values, by their enum, and what arrays hold."""
+        for at, it in enumerate(arguments):
+            if it["kind"] == "array":
+                if words := contents(it):
+                    self.arrays.append((place, at, words))
+            elif it.get("names"):
+                self.names.setdefault(it["enum"], {})[it["value"]] = "|".join(it["names"])
 
     def end_of_line(self, found, arguments):
         """What the printed line has behind the message's name, with letters of all scripts as they are."""
@@ -231,7 +255,9 @@ class Columns:
         """All of it, deflated, in base64."""
         about = list(zip(*self.about)) or [[], [], [], []]
         parts = {
-            "form": 1, "title": title, "head": self.head, "client": self.who, "others": len(self.others),
+            "form": 1, "title": title, "head": self.head, "client": self.who,
+            "others": [[it, *who] for it, who in sorted(self.others.items())],
+            "names": self.names, "arrays": self.arrays,
             "verdict": self.verdict, "broken": self.broken, "error": self.error, "left_out": self.left_out, "cut_at": self.cut_at,
             "notes": self.notes,
             "signatures": self.signatures.values(), "strings": self.strings.values(),

@@ -28,11 +28,21 @@ struct object {
 
 /* ---- messages */
 
+/* What the values of an argument mean (names.c). */
+struct meaning {
+	const char *enumeration; /* as wl_shm.format; null where it has none */
+	size_t length;
+	const char *entries;     /* values and names, with spaces between; null where they are not known */
+	bool is_bitfield;
+	bool is_numbers;         /* of an array: it has 32-bit numbers */
+};
+
 struct argument {
 	waywire_arg value;
 	struct object object; /* that it names, as before the message, or makes */
 	const char *name;     /* null where none is known */
 	size_t name_length;
+	struct meaning meaning;
 };
 
 struct message {

@@ -22,7 +22,7 @@
 #define NOTHING_INSPECTED 125
 
 /* What stands in front of a line. */
-enum front { TIME_NONE, TIME_SINCE, TIME_DELTA };
+enum front { TIME_NONE, TIME_SINCE, TIME_DELTA, TIME_CLOCK };
 
 struct options {
 	char **tables; /* the files of --tables */
@@ -37,6 +37,7 @@ struct options {
 	struct filter only, except;
 	enum front time;
 	bool json, stats, colour, stop_when_broken, verbose;
+	bool no_names; /* lines stand without the names of values */
 	char **command; /* ends with a null; null where there is none */
 };
 
@@ -141,10 +142,11 @@ void source_without(struct source *source, const struct source *other);
 /* Whether a file is a protocol's XML, by its name. */
 bool is_xml(const char *path);
 
-/* Reads the names of arguments: of the core, and of the XML of --tables (names.c). */
+/* Reads the names that stand beside the files of --tables. From now on messages get names; those that are installed
+ * are read with the first (names.c). */
 void names_read(const struct options *options);
 
-/* Names the arguments of a message, where its interface came from an XML that was read. */
+/* Names the arguments of a message, and says what their values mean, as far as that is known. */
 void name_arguments(struct message *message);
 
 void names_free(void);
@@ -178,8 +180,14 @@ struct recording {
 /* The process at a socket, and its name. */
 struct client client_at(int socket, unsigned number);
 
-/* The moment, as `2026-11-26T20:40:00Z`; `size` is at least 32. */
+/* The moment, as `2026-11-26T20:40:00.250Z`; `size` is at least 32. */
 void write_moment(char *text, size_t size);
+
+/* A moment that was written, in seconds since 1970; -1 where it is none. The part of a second may be missing. */
+double read_moment(const char *text);
+
+/* The moment in seconds since 1970. */
+double moment_now(void);
 
 /* Whether a file can be written, which is left as it is; said where it cannot. */
 bool can_write(const char *path);
@@ -309,6 +317,7 @@ void way_close_descriptors(struct way *way);
 struct session {
 	struct session *next;
 	struct client client;
+	char who[128]; /* its program and process; empty where they are not known */
 	bool is_over;
 	int sockets[2];
 	struct way ways[2];
@@ -322,6 +331,7 @@ struct shared {
 	const struct options *options;
 	const struct known *known;
 	struct timespec start;  /* when the first client connected */
+	double moment;          /* the same, in seconds since 1970 */
 	sigset_t while_waiting; /* the signals that are blocked while nothing is done */
 	pid_t command;          /* the process of the command; 0 where there is none */
 	unsigned session_count; /* that were begun */

@@ -121,6 +121,56 @@ static void put_object_argument(struct text *text, const struct argument *argume
 	text_format(text, ",\"state\":\"%s\"", state_of(&argument->object));
 }
 
+/* Puts the names of a value as an array; bits of a bitfield that have none are left out. */
+static void put_value_names(struct text *text, const struct meaning *meaning, uint32_t value)
+{
+	struct value_name names[MOST_NAMES];
+	uint32_t rest;
+	size_t count = names_of_value(meaning, value, names, &rest);
+	text_add(text, "[");
+	for (size_t each = 0; each < count; each++) {
+		text_add(text, each ? "," : "");
+		put_string(text, names[each].bytes, names[each].length);
+	}
+	text_add(text, "]");
+}
+
+/* Puts the enum of an argument's values, and the key of its names; false where it has none. */
+static bool begin_names(struct text *text, const struct argument *argument)
+{
+	if (!argument->meaning.enumeration)
+		return false;
+	text_add(text, ",\"enum\":");
+	put_string(text, argument->meaning.enumeration, argument->meaning.length);
+	text_add(text, ",\"names\":");
+	return true;
+}
+
+static void put_enum(struct text *text, const struct argument *argument, uint32_t value)
+{
+	if (begin_names(text, argument))
+		put_value_names(text, &argument->meaning, value);
+}
+
+/* Puts the numbers of an array, and their names where its numbers have an enum. */
+static void put_numbers(struct text *text, const struct argument *argument)
+{
+	size_t count = has_numbers(argument) ? argument->value.length / 4 : 0;
+	if (!has_numbers(argument))
+		return;
+	text_add(text, ",\"numbers\":[");
+	for (size_t each = 0; each < count; each++)
+		text_format(text, each ? ",%" PRIu32 : "%" PRIu32, number_at(&argument->value, each));
+	text_add(text, "]");
+	if (!begin_names(text, argument))
+		return;
+	for (size_t each = 0; each < count; each++) {
+		text_add(text, each ? "," : "[");
+		put_value_names(text, &argument->meaning, number_at(&argument->value, each));
+	}
+	text_add(text, count ? "]" : "[]");
+}
+
 static void put_number(struct text *text, const struct argument *argument)
 {
 	const waywire_arg *value = &argument->value;
@@ -130,9 +180,11 @@ static void put_number(struct text *text, const struct argument *argument)
 	} else if (value->kind == WAYWIRE_INT) {
 		begin_argument(text, "int", argument);
 		text_format(text, ",\"value\":%" PRId32, value->i);
+		put_enum(text, argument, (uint32_t)value->i);
 	} else {
 		begin_argument(text, "uint", argument);
 		text_format(text, ",\"value\":%" PRIu32, value->u);
+		put_enum(text, argument, value->u);
 	}
 }
 
@@ -155,6 +207,7 @@ static void put_argument(struct text *text, const struct argument *argument, uin
 		begin_argument(text, "array", argument);
 		text_format(text, ",\"size\":%zu", value->length);
 		put_bytes(text, "value", value->bytes, value->length);
+		put_numbers(text, argument);
 		break;
 	case WAYWIRE_FD:
 		begin_argument(text, "fd", argument);
@@ -205,6 +258,20 @@ static void put_message_parts(struct text *text, const struct shown *shown, cons
 	put_name(text, line->bytes, line->length);
 }
 
+/* Puts the messages that led to an error. */
+static void put_before(struct text *text, const struct shown *shown, const struct object *object)
+{
+	struct before before[MOST_BEFORE];
+	size_t count = history_before(shown->history, object, before);
+	text_add(text, ",\"before\":[");
+	for (size_t each = 0; each < count; each++) {
+		text_format(text, "%s{\"number\":%" PRIu64 ",\"text\":", each ? "," : "", before[each].number);
+		put_name(text, before[each].line->bytes, before[each].line->length);
+		text_add(text, "}");
+	}
+	text_add(text, "]");
+}
+
 /* What a wl_display.error says, in a line of its own. */
 static void print_error(const struct shown *shown, const struct message *message)
 {
@@ -217,6 +284,9 @@ static void print_error(const struct shown *shown, const struct message *message
 	put_parts(&line, &args[0].object);
 	text_format(&line, "},\"code\":%" PRIu32 ",\"text\":", args[1].value.u);
 	put_name(&line, args[2].value.bytes, args[2].value.length);
+	text_add(&line, ",\"names\":");
+	put_value_names(&line, &args[1].meaning, args[1].value.u);
+	put_before(&line, shown, &args[0].object);
 	print_line(&line);
 }
 

@@ -25,7 +25,7 @@ static void lose(struct judging *judging, waywire_status status)
 void judge_begin(struct judging *judging, const struct options *options, const waywire_tables *tables,
 	unsigned number)
 {
-	*judging = (struct judging){ .shown = { .options = options, .number = number },
+	*judging = (struct judging){ .shown = { .options = options, .number = number, .history = history_new() },
 		.follower = { .tables = tables, .limit = options->limit } };
 	waywire_status status = waywire_inspector_new(tables, options->limit, &judging->follower.inspector);
 	if (status)
@@ -37,6 +37,7 @@ void judge_free(struct judging *judging)
 	waywire_inspector_free(judging->follower.inspector);
 	stats_free(&judging->stats);
 	questions_free(&judging->questions);
+	history_free(judging->shown.history);
 	text_free(&judging->reason);
 	text_free(&judging->verdict);
 }
@@ -159,7 +160,8 @@ static void print_broken_message(struct judging *judging, struct message *messag
 	text_format(&words, "F%u: ", fault.number);
 	put_fault(&words, &judging->follower, message, &fault);
 	name_arguments(message);
-	struct breaking breaking = { message, &line, &words, &judging->verdict, fault };
+	struct breaking breaking = { message, &line, &words, &judging->verdict, fault,
+		gone_object(&judging->follower, message, &fault) };
 	print_broken(&judging->shown, &breaking);
 	text_free(&line);
 	text_free(&words);

@@ -26,8 +26,7 @@ static void put_bound(struct text *text, const struct argument *argument)
 	put_object(text, &argument->object);
 }
 
-/* Puts an argument; `descriptor` is the number of the next one, 0 where it is not known. */
-static void put_argument(struct text *text, const struct argument *argument, uint64_t descriptor)
+void put_printed_argument(struct text *text, const struct argument *argument, uint64_t descriptor)
 {
 	const waywire_arg *value = &argument->value;
 	switch (value->kind) {
@@ -51,22 +50,35 @@ static void put_argument(struct text *text, const struct argument *argument, uin
 	}
 }
 
-void put_message(struct text *text, const struct message *message)
+/* Whether a message could be taken apart, at least in part. */
+static bool has_arguments(const struct message *message)
 {
-	uint64_t descriptor = message->first_descriptor;
+	return message->name && message->status != WAYWIRE_FAULT_UNKNOWN_MESSAGE
+		&& message->status != WAYWIRE_FAULT_BAD_SIZE;
+}
+
+void put_front_of_message(struct text *text, const struct message *message)
+{
 	text_add(text, message->from == CLIENT ? "-> " : "<- ");
 	put_object(text, &message->target);
-	if (!message->name || message->status == WAYWIRE_FAULT_UNKNOWN_MESSAGE
-		|| message->status == WAYWIRE_FAULT_BAD_SIZE) {
-		text_format(text, ": opcode %u, %zu bytes", message->opcode, message->size);
+	if (!has_arguments(message))
 		return;
-	}
 	text_add(text, ".");
 	text_put(text, message->name, message->name_length);
 	text_add(text, "(");
+}
+
+void put_message(struct text *text, const struct message *message)
+{
+	uint64_t descriptor = message->first_descriptor;
+	put_front_of_message(text, message);
+	if (!has_arguments(message)) {
+		text_format(text, ": opcode %u, %zu bytes", message->opcode, message->size);
+		return;
+	}
 	for (size_t place = 0; place < message->arg_count; place++) {
 		text_add(text, place ? ", " : "");
-		put_argument(text, &message->args[place], descriptor);
+		put_printed_argument(text, &message->args[place], descriptor);
 		descriptor += descriptor && message->args[place].value.kind == WAYWIRE_FD;
 	}
 	if (message->status)

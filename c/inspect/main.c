@@ -36,10 +36,13 @@ static const char help[] =
 	"  --only NAME[,..]       Messages of this INTERFACE, or that make or name an object\n"
 	"                         of it, or this INTERFACE.MESSAGE, and no others\n"
 	"  --except NAME[,..]     All but the messages of this INTERFACE, or this\n"
-	"                         INTERFACE.MESSAGE\n"
-	"  --time[=delta]         In front of each line the seconds since the first client\n"
-	"                         connected, or since the line before\n"
-	"  --json                 A JSON object in each line\n"
+	"                         INTERFACE.MESSAGE. * and ? in names: 'xdg_*', '*.configure'\n"
+	"  --time[=delta|=clock]  In front of each line the seconds since the first client\n"
+	"                         connected, or since the line before; or the local time\n"
+	"  --json                 A JSON object in each line. Without --output what COMMAND\n"
+	"                         prints goes to standard error\n"
+	"  --no-names             Lines as waywire trace prints them, without the names of\n"
+	"                         values and what arrays hold\n"
 	"  --stats                At the end of each session what it consisted of, and what\n"
 	"                         was not answered\n"
 	"  --color WHEN           Colours: auto, always or never [default: auto]\n"
@@ -49,7 +52,8 @@ static const char help[] =
 	"What is done:\n"
 	"  --stop-when-broken     Closes a client's connection where a message breaks a rule\n";
 
-enum { TABLES = 1, NO_TABLES, LIMIT, RECORD, RECORD_LAST, READ, OUTPUT, PICTURE, ONLY, EXCEPT, TIME, JSON, STATS,
+enum { TABLES = 1, NO_TABLES, LIMIT, RECORD, RECORD_LAST, READ, OUTPUT, PICTURE, ONLY, EXCEPT, TIME, JSON,
+	NO_NAMES, STATS,
 	COLOUR, STOP, VERBOSE, HELP, VERSION };
 
 static const struct option known_options[] = {
@@ -65,6 +69,7 @@ static const struct option known_options[] = {
 	{ "except", required_argument, NULL, EXCEPT },
 	{ "time", optional_argument, NULL, TIME },
 	{ "json", no_argument, NULL, JSON },
+	{ "no-names", no_argument, NULL, NO_NAMES },
 	{ "stats", no_argument, NULL, STATS },
 	{ "color", required_argument, NULL, COLOUR },
 	{ "stop-when-broken", no_argument, NULL, STOP },
@@ -111,9 +116,11 @@ static bool colour_of(const char *when)
 
 static enum front time_of(const char *how)
 {
-	if (how && strcmp(how, "delta"))
-		fail("--time=%s: not delta", how);
-	return how ? TIME_DELTA : TIME_SINCE;
+	if (!how)
+		return TIME_SINCE;
+	if (strcmp(how, "delta") && strcmp(how, "clock"))
+		fail("--time=%s: not delta or clock", how);
+	return *how == 'd' ? TIME_DELTA : TIME_CLOCK;
 }
 
 static void take_option(struct options *options, struct later *later, int option, char *word)
@@ -131,6 +138,7 @@ static void take_option(struct options *options, struct later *later, int option
 	case EXCEPT: later->except[later->except_count++] = word; break;
 	case TIME: options->time = time_of(word); break;
 	case JSON: options->json = true; break;
+	case NO_NAMES: options->no_names = true; break;
 	case STATS: options->stats = true; break;
 	case COLOUR: later->colour = word; break;
 	case STOP: options->stop_when_broken = true; break;
@@ -207,7 +215,7 @@ int main(int count, char **words)
 	char *beside = options.read ? tables_beside(&options) : NULL;
 	known_read(&known, &options);
 	apply_later(&options, &later, &known);
-	if (options.json)
+	if (options.json || !options.no_names)
 		names_read(&options);
 	picture_begin(&options);
 	int status = options.read ? read_recording(&options, &known) : run(&options, &known);

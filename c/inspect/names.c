@@ -1,73 +1,153 @@
-/* The names of arguments, which tables do not have: those of the core, and of the XML of --tables. */
+/* The names that tables do not have: of arguments, and of the values of enums. They come from the XML of --tables,
+ * from the file NAME.names beside a text NAME.tables of --tables, and from those that are installed. */
 #define _GNU_SOURCE
 #include "inspect.h"
 
+#include <dirent.h>
 #include <limits.h>
+#include <stdio.h>
 
-/* The lines of `tables-from-xml --names`, each ended by a NUL, and where they begin, in their order. */
-static struct text lines;
-static char **sorted;
-static size_t count;
+/* So many messages have their line kept at hand. */
+#define KEPT 1024
+
+/* Lines as tools/protocol_names.py makes them, each ended by a NUL, and where they begin, in their order. */
+struct lines {
+	struct text bytes;
+	char **sorted;
+	size_t count;
+};
+
+static struct lines given, installed;
+static bool is_wanted, is_installed_read;
+
+/* The line of a message, by its interface's place, its sender and its opcode. */
+static struct kept {
+	uint64_t key; /* 0 where nothing is kept */
+	const char *names;
+} kept[KEPT];
+
+/* ---- files */
 
 static int by_bytes(const void *one, const void *other)
 {
 	return strcmp(*(char *const *)one, *(char *const *)other);
 }
 
-static void sort_lines(void)
+static void sort_lines(struct lines *lines)
 {
-	for (size_t each = 0; each < lines.length; each++)
-		count += lines.bytes[each] == '\n';
-	sorted = calloc(count + 1, sizeof *sorted);
-	if (!sorted)
-		fail("out of memory");
-	char *at = lines.bytes;
-	for (size_t each = 0; each < count; each++) {
-		sorted[each] = at;
+	for (size_t each = 0; each < lines->bytes.length; each++)
+		lines->count += lines->bytes.bytes[each] == '\n';
+	lines->sorted = calloc(lines->count + 1, sizeof *lines->sorted);
+	if (!lines->sorted)
+		lines->count = 0;
+	char *at = lines->bytes.bytes;
+	for (size_t each = 0; each < lines->count; each++) {
+		lines->sorted[each] = at;
 		at = strchr(at, '\n');
 		*at++ = 0;
 	}
-	qsort(sorted, count, sizeof *sorted, by_bytes);
+	if (lines->count)
+		qsort(lines->sorted, lines->count, sizeof *lines->sorted, by_bytes);
+}
+
+/* Adds the lines of a file, if it is there. */
+static void add_file(struct lines *lines, const char *path)
+{
+	char bytes[65536];
+	size_t came;
+	FILE *file = fopen(path, "rbe");
+	if (!file)
+		return;
+	while ((came = fread(bytes, 1, sizeof bytes, file)))
+		for (char *at = bytes, *end = bytes + came; at < end;) {
+			char *nul = memchr(at, 0, (size_t)(end - at)); /* which no line has */
+			text_put(&lines->bytes, at, (size_t)((nul ? nul : end) - at));
+			at = nul ? nul + 1 : end;
+		}
+	fclose(file);
+	if (lines->bytes.length && lines->bytes.bytes[lines->bytes.length - 1] != '\n')
+		text_add(&lines->bytes, "\n");
+}
+
+/* Adds what the tool for XML says of the files of --tables that it can read. */
+static void add_xml(struct lines *lines, const struct options *options)
+{
+	char tool[PATH_MAX];
+	char **words = calloc(options->table_count + 3, sizeof *words);
+	size_t count = 0;
+	if (!words)
+		fail("out of memory");
+	find_tool(tool, sizeof tool, "tables-from-xml");
+	words[count++] = tool;
+	words[count++] = "--names";
+	for (size_t each = 0; each < options->table_count; each++)
+		if (is_xml(options->tables[each]))
+			words[count++] = options->tables[each];
+	if (count > 2 && run_to_end(words, &lines->bytes, false))
+		notice("%s has failed: arguments have no names", tool);
+	free(words);
 }
 
 void names_read(const struct options *options)
 {
-	char tool[PATH_MAX], core[PATH_MAX];
-	char **words = calloc(options->table_count + 4, sizeof *words);
-	size_t given = 0;
-	if (!words)
-		fail("out of memory");
-	find_tool(tool, sizeof tool, "tables-from-xml");
-	find_tool(core, sizeof core, "core.xml");
-	words[given++] = tool;
-	words[given++] = "--names";
-	words[given++] = core;
-	for (size_t each = 0; each < options->table_count; each++)
-		if (is_xml(options->tables[each]))
-			words[given++] = options->tables[each];
-	if (run_to_end(words, &lines, false))
-		notice("%s has failed: arguments have no names", tool);
-	sort_lines();
-	free(words);
+	char path[PATH_MAX];
+	is_wanted = true;
+	add_xml(&given, options);
+	for (size_t each = 0; each < options->table_count; each++) {
+		const char *name = options->tables[each], *end = strrchr(name, '.');
+		if (end && !strcmp(end, ".tables")
+			&& snprintf(path, sizeof path, "%.*s.names", (int)(end - name), name) < (int)sizeof path)
+			add_file(&given, path);
+	}
+	sort_lines(&given);
+}
+
+/* Reads the installed names, the first time that a name is asked for. */
+static void read_installed(void)
+{
+	char path[PATH_MAX], folder[PATH_MAX];
+	is_installed_read = true;
+	find_tool(path, sizeof path, "core.names");
+	add_file(&installed, path);
+	find_tables(folder, sizeof folder);
+	DIR *entries = opendir(folder);
+	for (struct dirent *it; entries && (it = readdir(entries));) {
+		const char *end = strrchr(it->d_name, '.');
+		if (end && !strcmp(end, ".names")
+			&& snprintf(path, sizeof path, "%s/%s", folder, it->d_name) < (int)sizeof path)
+			add_file(&installed, path);
+	}
+	if (entries)
+		closedir(entries);
+	sort_lines(&installed);
+}
+
+static void free_lines(struct lines *lines)
+{
+	text_free(&lines->bytes);
+	free(lines->sorted);
+	*lines = (struct lines){ { NULL, 0, 0 }, NULL, 0 };
 }
 
 void names_free(void)
 {
-	text_free(&lines);
-	free(sorted);
-	sorted = NULL;
-	count = 0;
+	free_lines(&given);
+	free_lines(&installed);
+	memset(kept, 0, sizeof kept);
+	is_wanted = is_installed_read = false;
 }
 
-/* The line of a message, which begins with this; null where there is none. */
-static const char *line_of(const char *begin, size_t length)
+/* ---- lines */
+
+/* What a line has behind this beginning; null where there is no such line. */
+static const char *line_in(const struct lines *lines, const struct text *begin)
 {
-	size_t from = 0, to = count;
+	size_t from = 0, to = lines->count;
 	while (from < to) {
 		size_t middle = from + (to - from) / 2;
-		int order = strncmp(sorted[middle], begin, length);
+		int order = strncmp(lines->sorted[middle], begin->bytes, begin->length);
 		if (!order)
-			return sorted[middle] + length;
+			return lines->sorted[middle] + begin->length;
 		if (order < 0)
 			from = middle + 1;
 		else
@@ -76,21 +156,88 @@ static const char *line_of(const char *begin, size_t length)
 	return NULL;
 }
 
-void name_arguments(struct message *message)
+static const char *line_of(const struct text *begin)
+{
+	if (!is_installed_read)
+		read_installed();
+	const char *line = begin->bytes ? line_in(&given, begin) : NULL;
+	return line || !begin->bytes ? line : line_in(&installed, begin);
+}
+
+/* The names of a message's arguments; null where they are not known. */
+static const char *find_names(const struct message *message)
 {
 	struct text begin = { NULL, 0, 0 };
-	if (!count || !message->name || !message->target.name)
-		return;
+	size_t count = 1;
 	text_put(&begin, message->target.name, message->target.name_length);
 	text_add(&begin, message->from == CLIENT ? ".request." : ".event.");
 	text_put(&begin, message->name, message->name_length);
 	text_add(&begin, " ");
-	const char *names = begin.bytes ? line_of(begin.bytes, begin.length) : NULL;
-	for (size_t place = 0; names && *names && place < message->arg_count; place++) {
-		message->args[place].name = names;
-		message->args[place].name_length = strcspn(names, " ");
-		names += message->args[place].name_length;
-		names += *names == ' ';
-	}
+	const char *names = line_of(&begin);
 	text_free(&begin);
+	for (const char *at = names; at && *at; at++)
+		count += *at == ' ';
+	return count == message->signature.arg_count ? names : NULL;
+}
+
+static const char *names_of(const struct message *message)
+{
+	uint64_t key = ((uint64_t)message->target.interface << 17 | (uint64_t)message->from << 16 | message->opcode) + 1;
+	struct kept *its = &kept[key % KEPT];
+	if (its->key != key)
+		*its = (struct kept){ key, find_names(message) };
+	return its->names;
+}
+
+/* What the values of an enum mean, which is named `interface.enum`. */
+static struct meaning meaning_of(const char *name, size_t length)
+{
+	static const char bitfield[] = "bitfield ";
+	struct meaning meaning = { .enumeration = name, .length = length, .is_numbers = true };
+	const char *point = memchr(name, '.', length);
+	struct text begin = { NULL, 0, 0 };
+	if (!point)
+		return (struct meaning){ .is_numbers = length == 4 && !memcmp(name, "uint", 4) };
+	text_put(&begin, name, (size_t)(point - name));
+	text_add(&begin, ".enum");
+	text_put(&begin, point, length - (size_t)(point - name));
+	text_add(&begin, " ");
+	meaning.entries = line_of(&begin);
+	text_free(&begin);
+	meaning.is_bitfield = meaning.entries && !strncmp(meaning.entries, bitfield, sizeof bitfield - 1);
+	if (meaning.is_bitfield)
+		meaning.entries += sizeof bitfield - 1;
+	return meaning;
+}
+
+/* The code of a wl_display.error is of the enum `error` of the object's interface. */
+static void name_code(struct message *message)
+{
+	static const char error[] = ".error";
+	static char name[260 + sizeof error];
+	const struct object *object = &message->args[0].object;
+	if (!object->name || object->name_length > 260)
+		return;
+	memcpy(name, object->name, object->name_length);
+	memcpy(name + object->name_length, error, sizeof error - 1);
+	message->args[1].meaning = meaning_of(name, object->name_length + sizeof error - 1);
+}
+
+void name_arguments(struct message *message)
+{
+	if (!is_wanted || !message->name || !message->target.name)
+		return;
+	const char *names = names_of(message);
+	for (size_t place = 0; names && place < message->arg_count; place++) {
+		struct argument *argument = &message->args[place];
+		size_t length = strcspn(names, " ");
+		const char *colon = memchr(names, ':', length);
+		argument->name = names;
+		argument->name_length = colon ? (size_t)(colon - names) : length;
+		if (colon)
+			argument->meaning = meaning_of(colon + 1, length - argument->name_length - 1);
+		names += length + (names[length] == ' ');
+	}
+	if (is_error(message) && message->arg_count == 3)
+		name_code(message);
 }

@@ -2,6 +2,8 @@
 #define _GNU_SOURCE
 #include "inspect.h"
 
+#include <inttypes.h>
+
 #define RED "\033[31m"
 #define PLAIN "\033[0m"
 /* The arrow of a line and the space behind it. */
@@ -9,6 +11,19 @@
 
 /* When the last line was printed. */
 static double last_line;
+
+/* Puts the local time of a moment, in seconds since 1970; a dash where it is not known. */
+static void put_clock(struct text *text, double moment)
+{
+	double rounded = moment + 0.0005;
+	time_t whole = (time_t)rounded;
+	struct tm parts;
+	char clock[16];
+	if (moment < 0 || !localtime_r(&whole, &parts) || !strftime(clock, sizeof clock, "%H:%M:%S", &parts))
+		text_format(text, "%12s ", "-");
+	else
+		text_format(text, "%s.%03d ", clock, (int)((rounded - (double)whole) * 1000));
+}
 
 static void put_front(struct text *text, const struct shown *shown, double seconds)
 {
@@ -18,7 +33,9 @@ static void put_front(struct text *text, const struct shown *shown, double secon
 		last_line = since;
 		since = since < 0 ? since : delta > 0 ? delta : 0;
 	}
-	if (shown->options->time && since < 0)
+	if (shown->options->time == TIME_CLOCK)
+		put_clock(text, since < 0 || shown->moment < 0 ? -1 : shown->moment + since);
+	else if (shown->options->time && since < 0)
 		text_format(text, "%11s ", "-");
 	else if (shown->options->time)
 		text_format(text, "%11.6f ", since);
@@ -60,6 +77,16 @@ static void put_coloured(struct text *text, const struct message *message, const
 	text_put(text, line->bytes + name, line->length - name);
 }
 
+/* Puts a message's line with the names that are known, unless that is not wanted. */
+static void put_line(struct text *text, const struct shown *shown, const struct message *message,
+	const struct text *line)
+{
+	if (shown->options->no_names)
+		text_put(text, line->bytes, line->length);
+	else
+		put_line_with_names(text, message, line);
+}
+
 static void print_and_free(struct text *text)
 {
 	print(text->bytes, text->length);
@@ -85,38 +112,90 @@ static void print_note(const struct shown *shown, const struct message *message,
 	text_free(&words);
 }
 
+/* Says which messages about an object came last. */
+static void print_before(const struct shown *shown, double seconds, const struct object *object)
+{
+	struct before before[MOST_BEFORE];
+	size_t count = history_before(shown->history, object, before);
+	struct text words = { NULL, 0, 0 };
+	if (object->id == DISPLAY_ID)
+		text_add(&words, "the last requests before it:");
+	else {
+		text_add(&words, "the last messages about ");
+		put_object(&words, object);
+		text_add(&words, ":");
+	}
+	for (size_t each = 0; each < count; each++) {
+		if (!each)
+			print_words(shown, seconds, &words, false);
+		words.length = 0;
+		text_format(&words, "  message %" PRIu64 ": ", before[each].number);
+		text_put(&words, before[each].line->bytes, before[each].line->length);
+		print_words(shown, seconds, &words, false);
+	}
+	text_free(&words);
+}
+
 void print_message(const struct shown *shown, const struct message *message, const struct text *line,
 	const struct beside *beside)
 {
-	struct text text = { NULL, 0, 0 };
+	struct text text = { NULL, 0, 0 }, named = { NULL, 0, 0 };
 	bool is_asked = beside->is_red || beside->note || is_shown(shown->options, message);
 	if (is_asked && shown->options->json) {
 		json_message(shown, message, line, beside);
 	} else if (is_asked) {
 		put_front(&text, shown, message->seconds);
 		text_add(&text, beside->is_marked ? "? " : "");
+		put_line(&named, shown, message, line);
 		if (beside->is_red || !shown->options->colour)
-			put_red(&text, shown, line, beside->is_red);
+			put_red(&text, shown, &named, beside->is_red);
 		else {
-			put_coloured(&text, message, line);
+			put_coloured(&text, message, &named);
 			text_add(&text, "\n");
 		}
+		text_free(&named);
 		print_and_free(&text);
 		if (beside->note)
 			print_note(shown, message, beside->note);
+		if (is_error(message) && message->arg_count)
+			print_before(shown, message->seconds, &message->args[0].object);
 	}
+	history_note(shown->history, message, line);
+}
+
+/* Puts who a client is behind what is said of its whole session, where there are others. */
+static void put_who(struct text *text, const struct shown *shown)
+{
+	if (shown->is_numbered && shown->who && *shown->who)
+		text_format(text, " (%s)", shown->who);
+}
+
+/* Prints the line of a verdict. */
+static void print_verdict_line(const struct shown *shown, double seconds, const struct text *verdict, bool is_red)
+{
+	struct text line = { NULL, 0, 0 };
+	text_put(&line, verdict->bytes, verdict->length);
+	put_who(&line, shown);
+	print_words(shown, seconds, &line, is_red);
+	text_free(&line);
 }
 
 void print_broken(const struct shown *shown, const struct breaking *breaking)
 {
 	double seconds = breaking->message->seconds;
-	if (shown->options->json) {
+	struct text line = { NULL, 0, 0 };
+	if (shown->options->json)
 		json_broken(shown, breaking);
-		return;
+	else {
+		put_line(&line, shown, breaking->message, breaking->line);
+		print_words(shown, seconds, &line, true);
+		text_free(&line);
+		print_words(shown, seconds, breaking->words, true);
+		if (breaking->gone.id)
+			print_before(shown, seconds, &breaking->gone);
+		print_verdict_line(shown, seconds, breaking->verdict, true);
 	}
-	print_words(shown, seconds, breaking->line, true);
-	print_words(shown, seconds, breaking->words, true);
-	print_words(shown, seconds, breaking->verdict, true);
+	history_note(shown->history, breaking->message, breaking->line);
 }
 
 void print_verdict(const struct shown *shown, const struct ending *ending)
@@ -124,5 +203,5 @@ void print_verdict(const struct shown *shown, const struct ending *ending)
 	if (shown->options->json)
 		json_verdict(shown, ending);
 	else if (!ending->is_said)
-		print_words(shown, ending->seconds, ending->words, ending->is_red);
+		print_verdict_line(shown, ending->seconds, ending->words, ending->is_red);
 }

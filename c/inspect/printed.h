@@ -31,8 +31,40 @@ bool is_shown(const struct options *options, const struct message *message);
 /* Puts the line of a message as far as it could be taken apart, as a trace has it. */
 void put_message(struct text *text, const struct message *message);
 
+/* Puts the line of a message up to its arguments. */
+void put_front_of_message(struct text *text, const struct message *message);
+
+/* Puts an argument; `descriptor` is the number of the next one, 0 where it is not known. */
+void put_printed_argument(struct text *text, const struct argument *argument, uint64_t descriptor);
+
 /* Puts an object by its interface and id. */
 void put_object(struct text *text, const struct object *object);
+
+/* ---- names of values (values.c) */
+
+struct value_name {
+	const char *bytes;
+	size_t length;
+};
+
+/* A value has no more names than its bits, or one. */
+#define MOST_NAMES 32
+
+/* The names of a value: its own, or those of its bits in a bitfield. Returns how many; `rest` gets the bits that have
+ * none. */
+size_t names_of_value(const struct meaning *meaning, uint32_t value, struct value_name *names, uint32_t *rest);
+
+/* Whether an argument is an array of 32-bit numbers. */
+bool has_numbers(const struct argument *argument);
+
+/* The number at a place of an array of these. */
+uint32_t number_at(const waywire_arg *array, size_t place);
+
+/* Puts the names of an argument's value, and what stands in a short array. */
+void put_meaning(struct text *text, const struct argument *argument);
+
+/* Puts the line of a message with names behind its numbers. What is no line of that message stays as it is. */
+void put_line_with_names(struct text *text, const struct message *message, const struct text *line);
 
 /* Which rule a message breaks: F1 is 1. */
 struct fault {
@@ -44,6 +76,9 @@ struct fault {
 /* Puts what is wrong with a message, in words (words.c). */
 void put_fault(struct text *text, const struct follower *follower, const struct message *message,
 	const struct fault *fault);
+
+/* The object because of which a message breaks a rule, if it is not there any more or never was; else one with id 0. */
+struct object gone_object(const struct follower *follower, const struct message *message, const struct fault *fault);
 
 /* ---- counts (stats.c) */
 
@@ -69,6 +104,31 @@ void stats_put(struct text *text, const struct stats *stats, const struct follow
 
 void stats_free(struct stats *stats);
 
+/* ---- what led to an error (history.c) */
+
+/* The last messages of a client. */
+struct history;
+
+/* Null where memory runs out: then nothing is noted. */
+struct history *history_new(void);
+
+void history_free(struct history *history);
+
+/* Notes a message with its line. */
+void history_note(struct history *history, const struct message *message, const struct text *line);
+
+/* So many messages are said to have led to an error. */
+#define MOST_BEFORE 5
+
+struct before {
+	uint64_t number;
+	const struct text *line;
+};
+
+/* The last messages that are for an object, make it or name it, the oldest first; of wl_display the last requests; of
+ * an unknown object those about its id. They are looked for among the last 64 messages. Returns how many there are. */
+size_t history_before(const struct history *history, const struct object *object, struct before *before);
+
 /* ---- a client (printed.c, json.c) */
 
 /* The client that lines are of. */
@@ -76,7 +136,10 @@ struct shown {
 	const struct options *options;
 	unsigned number;   /* the client's */
 	bool is_numbered;  /* whether lines say so */
+	const char *who;   /* its program and process; null or empty where they are not known */
+	struct history *history;
 	double start;      /* when it connected, in seconds behind the first client */
+	double moment;     /* when the first client connected, in seconds since 1970; less than 0 where it is not known */
 };
 
 /* What is said of a message beside its line. */
@@ -95,6 +158,7 @@ struct breaking {
 	const struct message *message;
 	const struct text *line, *words, *verdict;
 	struct fault fault;
+	struct object gone; /* because of which it does; with id 0 where there is none */
 };
 void print_broken(const struct shown *shown, const struct breaking *breaking);
 

@@ -21,7 +21,7 @@
 
 /* ---- the client */
 
-/* The name of a process, without what a line cannot have. */
+/* The name of a process, with `?` for what a line cannot have. */
 static void find_name(struct client *client)
 {
 	char path[64];
@@ -33,9 +33,12 @@ static void find_name(struct client *client)
 		client->name[0] = 0;
 	fclose(file);
 	client->name[strcspn(client->name, "\n")] = 0;
-	for (char *it = client->name; *it; it++)
-		if ((unsigned char)*it < ' ' || *it == 0x7f)
+	for (char *it = client->name; *it;) {
+		size_t size = shown_character((unsigned char *)it, strlen(it));
+		if (!size)
 			*it = '?';
+		it += size ? size : 1;
+	}
 }
 
 struct client client_at(int socket, unsigned number)
@@ -50,13 +53,37 @@ struct client client_at(int socket, unsigned number)
 	return client;
 }
 
+/* ---- moments */
+
+double moment_now(void)
+{
+	struct timespec now;
+	clock_gettime(CLOCK_REALTIME, &now);
+	return (double)now.tv_sec + (double)now.tv_nsec / 1e9;
+}
+
 void write_moment(char *text, size_t size)
 {
+	struct timespec now;
 	struct tm parts;
-	time_t now = time(NULL);
-	text[0] = 0;
-	if (gmtime_r(&now, &parts))
-		strftime(text, size, "%Y-%m-%dT%H:%M:%SZ", &parts);
+	size_t length = 0;
+	clock_gettime(CLOCK_REALTIME, &now);
+	if (gmtime_r(&now.tv_sec, &parts))
+		length = strftime(text, size, "%Y-%m-%dT%H:%M:%S", &parts);
+	snprintf(text + length, size - length, length ? ".%03ldZ" : "", now.tv_nsec / 1000000);
+}
+
+double read_moment(const char *text)
+{
+	struct tm parts = { 0 };
+	const char *end = strptime(text, "%Y-%m-%dT%H:%M:%S", &parts);
+	double part = 0, unit = 0.1;
+	time_t whole = end ? timegm(&parts) : -1;
+	if (whole < 0)
+		return -1;
+	for (end += *end == '.'; *end >= '0' && *end <= '9'; end++, unit /= 10)
+		part += unit * (*end - '0');
+	return strcmp(end, "Z") ? -1 : (double)whole + part;
 }
 
 /* ---- files */

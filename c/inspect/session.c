@@ -2,6 +2,7 @@
 #define _GNU_SOURCE
 #include "inspect.h"
 
+#include <stdio.h>
 #include <stdlib.h>
 #include <sys/socket.h>
 #include <unistd.h>
@@ -14,10 +15,20 @@ static double seconds_since(const struct shared *shared)
 	return (double)(now.tv_sec - shared->start.tv_sec) + (double)(now.tv_nsec - shared->start.tv_nsec) / 1e9;
 }
 
-/* Lines say the client's number where a second one has come, or may come at any time. */
+/* Lines say the client's number where a second one has come, or may come at any time. The first of them says who the
+ * client is. */
 static void number_lines(struct session *session, const struct shared *shared)
 {
-	session->judging.shown.is_numbered = shared->session_count > 1 || !shared->options->command;
+	struct shown *shown = &session->judging.shown;
+	struct text words = { NULL, 0, 0 };
+	if (shown->is_numbered || (shared->session_count < 2 && shared->options->command))
+		return;
+	shown->is_numbered = true;
+	if (!*session->who)
+		return;
+	text_format(&words, "is %s", session->who);
+	print_words(shown, seconds_since(shared) - session->connected, &words, false);
+	text_free(&words);
 }
 
 /* ---- handing on */
@@ -111,15 +122,28 @@ void session_step(struct session *session, struct shared *shared, const struct p
 
 /* ---- its life */
 
+/* Writes which program the client is, and its process. */
+static void write_who(struct session *session)
+{
+	const struct client *client = &session->client;
+	session->who[0] = 0;
+	if (client->process)
+		snprintf(session->who, sizeof session->who, "%s%sprocess %ld", client->name, *client->name ? ", " : "",
+			(long)client->process);
+}
+
 struct session *session_new(struct shared *shared, int client, int compositor)
 {
 	struct session *made = malloc(sizeof *made);
 	if (!made)
 		return NULL;
-	if (!shared->session_count)
+	if (!shared->session_count) {
 		clock_gettime(CLOCK_MONOTONIC, &shared->start);
+		shared->moment = moment_now();
+	}
 	made->next = NULL;
 	made->client = client_at(client, ++shared->session_count);
+	write_who(made);
 	made->is_over = false;
 	made->connected = seconds_since(shared);
 	made->sockets[CLIENT] = client;
@@ -135,11 +159,15 @@ struct session *session_new(struct shared *shared, int client, int compositor)
 	recording_begin(&made->recording, shared->options, shared->known, &made->client);
 	judge_begin(&made->judging, shared->options, shared->known->tables, made->client.number);
 	made->judging.shown.start = made->connected;
+	made->judging.shown.moment = shared->moment;
+	made->judging.shown.who = made->who;
 	if (shared->options->json)
 		json_client(made->client.number, *made->client.name ? made->client.name : NULL,
 			(long)made->client.process);
 	if (shared->options->verbose)
 		notice("client %u is process %ld", made->client.number, (long)made->client.process);
+	number_lines(made, shared);
+	print_now();
 	return made;
 }
 

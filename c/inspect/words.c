@@ -134,3 +134,15 @@ void put_fault(struct text *text, const struct follower *follower, const struct 
 		text_format(text, "an id is at most %d", MOST_IDS);
 	}
 }
+
+struct object gone_object(const struct follower *follower, const struct message *message, const struct fault *fault)
+{
+	struct object object = { 0 };
+	switch (fault->number) {
+	case 2: object = message->target; break;
+	case 5: object = object_at(message, fault->place); break;
+	case 6: object = object_of(follower, object_at(message, fault->place).id); break;
+	default: break;
+	}
+	return object.state == LIVE ? (struct object){ 0 } : object;
+}

@@ -40,6 +40,9 @@ broken: > message 2 at byte 12: F2 unknown object
 """
 # What is said of a question that has waited for a second or longer.
 WAITING = re.compile(r"^.*(?:: \d+ not answered|: none of \d+ answered).*\n", re.M)
+# Who a client is, in words; a string, or what stands behind a number or an array to explain it.
+WHO = r"(?:[^()\"]*, )?process \d+"
+NAMED = re.compile(r'("[^"]*")|(?<=\d) \w+(?:\|\w+)*(?=[,)])|(?<=\]) \{[^}]*\}')
 GONE = "waywire-inspect: the compositor has closed the connection of client 1\n"
 
 
@@ -140,9 +143,17 @@ class Inspected(unittest.TestCase):
         return said if said is None or "objects left open" in said else WAITING.sub("", said)
 
     def of_one(self, said):
-        """What was said of a client that is the only one, without its number."""
-        is_one = said is not None and not re.search(r"^(?: *[\d.]+ )?#2 ", said, re.M)
-        return re.sub(r"^( *[\d.]+ )?#1 ", r"\1", said, flags=re.M) if is_one else said
+        """What was said of a client that is the only one, without its number and without who it is."""
+        if said is None or re.search(r"^(?: *[\d.:]+ )?#2 ", said, re.M):
+            return said
+        said = re.sub(r"^( *[\d.:]+ )?#1 is .*\n", "", said, flags=re.M)
+        said = re.sub(rf" \({WHO}\)(?=(?:\x1b\[0m)?$)", "", said, flags=re.M)
+        return re.sub(r"^( *[\d.:]+ )?#1 ", r"\1", said, flags=re.M)
+
+    def who(self):
+        """Who the clients are that the test itself plays."""
+        with open("/proc/self/comm", encoding="ascii") as file:
+            return f"{file.read().strip()}, process {os.getpid()}"
 
     def pieces(self, path):
         """The pieces of a recording, each a line, without the comments."""
@@ -173,9 +184,13 @@ class Inspected(unittest.TestCase):
             lines = [it for it in lines if not WAITING.match(f"{it}\n")]
             is_broken = lines[-1].startswith("broken: ")
             self.assertEqual([it.returncode for it in ran], [is_broken] * 2)
-            lines = [self.escaped(it) for it in lines]
+            lines = [self.escaped(self.without_names(it)) for it in lines]
             self.assertEqual(ran[0].stdout.splitlines(), lines[:-1] + lines[-1:] * is_broken)
             self.assertEqual(ran[1].stdout.splitlines(), lines[-1:])
+
+    def without_names(self, line):
+        """The line of a message without the names of values and what arrays hold."""
+        return NAMED.sub(lambda it: it[1] or "", line) if re.match("(?:->|<-) ", line) else line
 
     def escaped(self, line):
         """A line as the program prints it, which knows no characters but those of ASCII."""
@@ -567,8 +582,9 @@ class Judging(Inspected):
         self.passes(other, other_compositor, sync(2))
         said, error = self.finish(status=1)
         broken = "".join(f"#1 {it}\n" for it in BROKEN.splitlines())
-        self.assertEqual(said, "#1 " + SYNC.format(2) + broken + "#2 " + SYNC.format(2)
-                         + "#2 lawful: 1 requests, 0 events, 0 and 0 bytes left\n")
+        who = self.who()
+        self.assertEqual(said, f"#1 is {who}\n#2 is {who}\n#1 " + SYNC.format(2) + broken.rstrip() + f" ({who})\n#2 "
+                         + SYNC.format(2) + f"#2 lawful: 1 requests, 0 events, 0 and 0 bytes left ({who})\n")
         self.assertEqual(error, "waywire-inspect: client 1 is closed: a message broke a rule\n")
 
     def test_several_clients(self):
@@ -583,9 +599,10 @@ class Judging(Inspected):
         lawful = "lawful: 1 requests, 2 events, 0 and 0 bytes left"
         lines = [SYNC.format(2).strip(), "<- wl_callback@2.done(7)", "<- wl_display@1.delete_id(2)"]
         wanted = {1: [*lines, lawful], 2: [*lines, *BROKEN.splitlines()]}
+        said = said.replace(f" ({self.who()})\n", "\n")
         for number, its_lines in wanted.items():
             its = [it for it in said.splitlines() if it.startswith(f"#{number} ")]
-            self.assertEqual(its, [f"#{number} {it}" for it in its_lines])
+            self.assertEqual(its, [f"#{number} {it}" for it in (f"is {self.who()}", *its_lines)])
         self.assertEqual(error, "")
         for it in (one, at_one, two, at_two):
             self.assertEqual(it.recv(100), b"")
@@ -640,7 +657,7 @@ class Judging(Inspected):
             (["--limit", "7", "true"], "--limit 7: not a multiple of 4 from 4096 to 65532"),
             (["--limit", "0", "true"], "--limit 0: not a multiple of 4 from 4096 to 65532"),
             (["--color=red", "true"], "--color red: not auto, always or never"),
-            (["--time=ago", "true"], "--time=ago: not delta"),
+            (["--time=ago", "true"], "--time=ago: not delta or clock"),
             (["--only", "wl_nothing", "true"], "--only wl_nothing: no tables have that interface"),
             (["--except", "wl_display,", "true"], "--except : no tables have that interface"),
             (["--only", "wl_surface.draw", "true"],

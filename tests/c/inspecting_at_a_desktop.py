@@ -17,7 +17,7 @@ import unittest
 
 sys.dont_write_bytecode = True
 sys.path.insert(0, os.path.dirname(os.path.realpath(__file__)))
-from inspecting import LONG, WAYWIRE, main  # noqa: E402
+from inspecting import LONG, WAYWIRE, WHO, main  # noqa: E402
 import inspecting_at_sway  # noqa: E402
 from checks import COMES_UP, has_come, need  # noqa: E402
 
@@ -29,7 +29,7 @@ DRAWN = r"-> wl_surface@\d+\.commit\("
 ASKS = r"(?s)\.get_data_device\(.*\.get_toplevel\("
 OFFERS = r"\.set_(primary_)?selection\("
 OFFERED = r"<- wl_data_device@\d+\.selection\(wl_data_offer@"
-VERDICT = re.compile(r"^(?:#\d+ )?((?:lawful|broken: |not judged from request|unjudged).*)", re.M)
+VERDICT = re.compile(rf"^(?:#\d+ )?((?:lawful|broken: |not judged from request|unjudged).*?)(?: \({WHO}\))?$", re.M)
 # Those that have queues of their own, by which they act on events.
 HAVE_QUEUES = {"gtk4-demo", "gtk4-widget-factory", "gtk4-icon-browser", "featherpad",
                "weston-subsurfaces"}

@@ -62,7 +62,7 @@ class Asking(Talking):
         *_, told, verdict = map(json.loads, self.read("--json"))
         self.assertEqual(told, {
             "type": "unanswered", "client": 1, "number": 22, "time": 1.017, "direction": "request",
-            "object": {"interface": "wl_surface", "id": 10, "birth": 1}, "message": "frame", "waiting": 3})
+            "object": {"interface": "wl_surface", "id": 10, "birth": 16}, "message": "frame", "waiting": 3})
         self.assertEqual((verdict["verdict"], verdict["ended"], verdict["cut"]), ("lawful", 4.017, None))
 
     def test_an_end_that_is_not_said(self):

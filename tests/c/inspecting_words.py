@@ -121,12 +121,13 @@ class Unjudged(Talking):
                            bind(1, "own_shell1", 5, 5), sync(6), (message(4, 0, 1, 9),),
                            (message(5, 0),), (message(4, 0, 1, 9),))
         self.assertEqual([it for it in lines if "keymap" in it],
-                         ["? <- wl_keyboard@4.keymap(1, fd 1, 9)", "? <- wl_keyboard@4.keymap(1, fd, 9)"])
+                         ["? <- wl_keyboard@4.keymap(1 xkb_v1, fd 1, 9)", "? <- wl_keyboard@4.keymap(1 xkb_v1, fd, 9)"])
 
     def test_an_error(self):
         lines = self.lines(*self.GIVEN, (error(3, 2, "no"),), status=1)
-        self.assertEqual(lines[-2:], [
-            '? <- wl_display@1.error(unknown@3, 2, "no")',
+        self.assertEqual(lines[-4:], [
+            '? <- wl_display@1.error(unknown@3, 2, "no")', "the last messages about unknown@3:",
+            '  message 4: -> wl_registry@2.bind(1, "own_shell1", 5, new id own_shell1@3)',
             "not judged from request 2 on: own_shell1 is not in the tables; lawful until then; "
             "2 requests, 3 events; ended by wl_display.error"])
 
@@ -137,10 +138,10 @@ class Broken(Talking):
     SURFACE = (REGISTRY, (announced(1, "wl_compositor", 6),), bind(1, "wl_compositor", 6, 3), message(3, 0, 4))
 
     def broken(self, *said):
-        """What is printed of the last message: its line, and what is wrong."""
+        """What is printed of the last message: its line, what is wrong, and what was said of an object that is gone."""
         lines = self.lines(*said, status=1)
         self.assertTrue(lines[-1].startswith("broken: "), lines)
-        return lines[-3:-1]
+        return lines[next(at for at, it in enumerate(lines) if re.match(r"F\d+: ", it)) - 1:-1]
 
     def test_words(self):
         """The rules that a request can break."""
@@ -166,31 +167,45 @@ class Broken(Talking):
         self.assertRegex(words, r"\AF4: argument 2: \w")
 
     def test_what_was_destroyed(self):
-        """A message for an object that is gone says which message destroyed it; so does an id used too early."""
+        """Behind a message about an object that is gone stand the last messages about it."""
         gone = (*self.SURFACE, message(4, 0))
-        self.assertEqual(self.broken(*gone, message(4, 6))[1], "F2: wl_surface@4 was destroyed")
-        self.assertEqual(self.broken(*gone, message(3, 0, 4))[1],
-                         "F6: argument 0: wl_surface@4 was destroyed, and no delete_id has made "
-                         "its id free")
-        self.assertEqual(self.broken(*gone, (message(1, 1, 4),), message(4, 6))[1],
-                         "F2: no object has the id 4")
+        about = ["the last messages about wl_surface@4:",
+                 "  message 4: -> wl_compositor@3.create_surface(new id wl_surface@4)",
+                 "  message 5: -> wl_surface@4.destroy()"]
+        self.assertEqual(self.broken(*gone, message(4, 6))[1:], ["F2: wl_surface@4 was destroyed", *about])
+        self.assertEqual(self.broken(*gone, message(3, 0, 4))[1:], [
+            "F6: argument 0: wl_surface@4 was destroyed, and no delete_id has made its id free", *about])
+
+    def test_what_has_no_id_any_more(self):
+        """Behind a message for an id that is free stand the last messages about that id."""
+        self.assertEqual(self.broken(*self.SURFACE, message(4, 0), (message(1, 1, 4),), message(4, 6))[1:], [
+            "F2: no object has the id 4", "the last messages about unknown@4:",
+            "  message 4: -> wl_compositor@3.create_surface(new id wl_surface@4)",
+            "  message 5: -> wl_surface@4.destroy()", "  message 6: <- wl_display@1.delete_id(4)"])
 
     def test_an_error_ends_a_session(self):
         for options in ((), ("--only", "wl_output")):
             lines = self.lines(*self.SURFACE, (error(4, 1, "grün"),), options=options, status=1)
-            self.assertEqual(lines[-2:], ['<- wl_display@1.error(wl_surface@4, 1, "grün")',
+            self.assertEqual(lines[-4:], ['<- wl_display@1.error(wl_surface@4, 1 invalid_transform, "grün")',
+                                          "the last messages about wl_surface@4:",
+                                          "  message 4: -> wl_compositor@3.create_surface(new id wl_surface@4)",
                                           "lawful up to wl_display.error: 3 requests, 2 events, 0 and 0 bytes left"])
 
     def test_an_error_behind_a_broken_message(self):
         lines = self.lines(sync(2), message(9, 0), sync(3), (done(2) + error(1, 0, "bad id"),), sync(4), status=1)
-        self.assertEqual(lines[-5:], [
-            "broken: > message 2 at byte 12: F2 unknown object", "? -> wl_display@1.sync(new id wl_callback@3)",
-            "? <- wl_callback@2.done(0)", "? <- wl_display@1.delete_id(2)",
-            '? <- wl_display@1.error(wl_display@1, 0, "bad id")'])
+        self.assertEqual(lines[3:], ["broken: > message 2 at byte 12: F2 unknown object", f"? {SYNC.format(3)[:-1]}",
+                                     "? <- wl_callback@2.done(7)", "? <- wl_display@1.delete_id(2)",
+                                     '? <- wl_display@1.error(wl_display@1, 0 invalid_object, "bad id")',
+                                     "the last requests before it:",
+                                     "  message 1: -> wl_display@1.sync(new id wl_callback@2)",
+                                     "  message 2: -> unknown@9: opcode 0, 8 bytes, bytes 0900000000000800",
+                                     "  message 3: -> wl_display@1.sync(new id wl_callback@3)"])
 
     def test_an_error_is_red(self):
         lines = self.lines(sync(2), (error(1, 0, "no"),), options=["--color=always"], status=1)
-        self.assertEqual(lines[-2:], ['\x1b[31m<- wl_display@1.error(wl_display@1, 0, "no")\x1b[0m',
+        self.assertEqual(lines[-4:], ['\x1b[31m<- wl_display@1.error(wl_display@1, 0 invalid_object, "no")\x1b[0m',
+                                      "the last requests before it:",
+                                      "  message 1: -> wl_display@1.sync(new id wl_callback@2)",
                                       "\x1b[31mlawful up to wl_display.error: 1 requests, 1 events, "
                                       "0 and 0 bytes left\x1b[0m"])
 
@@ -255,7 +270,8 @@ class Printing(Talking):
     def test_numbers_of_clients(self):
         """A client that is started by hand has one from its first line on: others may come."""
         lines = self.talk(sync(2), numbered=True)[0]
-        self.assertEqual(lines, ["#1 " + SYNC.format(2).strip(), "#1 " + LAWFUL.format(1, 0)])
+        self.assertEqual(lines, [f"#1 is {self.who()}", "#1 " + SYNC.format(2).strip(),
+                                 f"#1 {LAWFUL.format(1, 0)} ({self.who()})"])
 
     def test_stats(self):
         lines = self.lines(sync(2), (done(2),), sync(2), message(1, 1, 3), options=["--stats"])
@@ -315,7 +331,7 @@ class Json(Talking):
         head, its_client, *messages, verdict = told
         self.assertEqual((head["type"], head["recording"], head["command"], head["timed"]), ("head", None, None, True))
         self.assertEqual((head["tables"][0], "xdg-shell" in head["tables"]), ("core", True))
-        self.assertRegex(head["started"], r"\A\d{4}-\d\d-\d\dT\d\d:\d\d:\d\dZ\Z")
+        self.assertRegex(head["started"], r"\A\d{4}-\d\d-\d\dT\d\d:\d\d:\d\d\.\d{3}Z\Z")
         self.assertEqual((its_client["type"], its_client["client"], its_client["pid"]), ("client", 1, os.getpid()))
         self.assertGreaterEqual(verdict.pop("ended"), messages[-1]["time"])
         self.assertEqual(verdict, {"type": "verdict", "client": 1, "verdict": "lawful", "words": LAWFUL.format(3, 3),
@@ -337,14 +353,15 @@ class Json(Talking):
 
     def test_kinds_of_arguments(self):
         told = self.told(*Printing.TITLED, raw(7, 2, text(b"a\xffb\"\n")), message(7, 1, 0),
-                         (raw(7, 0, struct.pack("<iiI", -3, 4, 4) + b"\1\2\3\4"),))
+                         (raw(7, 0, struct.pack("<iiIII", -3, 4, 8, 4, 9)),))
         messages = [it for it in told if it["type"] == "message"]
         self.assertEqual(messages[-3]["arguments"], [
-            {"kind": "string", "name": None, "value": "a\ufffdb\"\n", "bytes": "61ff62220a"}])
-        self.assertEqual(messages[-2]["arguments"], [{"kind": "object", "name": None, "id": 0}])
+            {"kind": "string", "name": "title", "value": "a\ufffdb\"\n", "bytes": "61ff62220a"}])
+        self.assertEqual(messages[-2]["arguments"], [{"kind": "object", "name": "parent", "id": 0}])
         self.assertEqual(messages[-1]["arguments"], [
-            {"kind": "int", "name": None, "value": -3}, {"kind": "int", "name": None, "value": 4},
-            {"kind": "array", "name": None, "size": 4, "value": "01020304"}])
+            {"kind": "int", "name": "width", "value": -3}, {"kind": "int", "name": "height", "value": 4},
+            {"kind": "array", "name": "states", "size": 8, "value": "0400000009000000", "numbers": [4, 9],
+             "enum": "xdg_toplevel.state", "names": [["activated"], []]}])
 
     def test_births(self):
         told = self.told(sync(2), (done(2),), sync(2), (done(2),))
@@ -352,6 +369,7 @@ class Json(Talking):
 
     def test_broken(self):
         told = self.told(sync(2), message(9, 0), (error(1, 0, "no"),), status=1)
+        broken_line = "-> unknown@9: opcode 0, 8 bytes, bytes 0900000000000800"
         broken = next(it for it in told if it["type"] == "broken")
         self.assertEqual(broken, {"type": "broken", "client": 1, "number": 2, "fault": "F2",
                                   "words": "F2: no object has the id 9", "direction": "request", "offset": 12,
@@ -360,7 +378,10 @@ class Json(Talking):
         self.assertEqual([it["type"] for it in told], ["head", "client", "message", "broken", "message", "error",
                                                        "unanswered", "verdict"])
         self.assertEqual(told[-3], {"type": "error", "client": 1, "number": 3, "object":
-                                    {"interface": "wl_display", "id": 1, "birth": 0}, "code": 0, "text": "no"})
+                                    {"interface": "wl_display", "id": 1, "birth": 0}, "code": 0, "text": "no",
+                                    "names": ["invalid_object"], "before": [
+                                        {"number": 1, "text": "-> wl_display@1.sync(new id wl_callback@2)"},
+                                        {"number": 2, "text": broken_line}]})
         self.assertEqual((told[-1]["verdict"], told[-1]["words"]),
                          ("broken", "broken: > message 2 at byte 12: F2 unknown object"))
 
@@ -515,7 +536,7 @@ class Recording(Talking):
         with open("/proc/self/comm", encoding="ascii") as file:
             name = file.read().strip()
         self.assertEqual(lines[0], f"# client {name} {os.getpid()}")
-        self.assertRegex(lines[1], r"\A# started \d{4}-\d\d-\d\dT\d\d:\d\d:\d\dZ\Z")
+        self.assertRegex(lines[1], r"\A# started \d{4}-\d\d-\d\dT\d\d:\d\d:\d\d\.\d{3}Z\Z")
         self.assertTrue(lines[2].startswith("# tables core "), lines[2])
         times = [float(it.removeprefix("# ")) for it in (*lines[3:7:2], lines[7].removeprefix("# ended "))]
         self.assertEqual((len(lines), 0 <= times[0] <= times[1] <= times[2] < LONG), (8, True))
@@ -581,6 +602,8 @@ class Reading(Talking):
         for both in zip(told, again):
             for it in both:
                 it.pop("recording", None)
+                # The one began with the tool, the other with its client.
+                it.pop("started", None)
                 # Those of FILE.tables are one text.
                 it.pop("tables", None)
         self.assertEqual(told, again)

@@ -35,7 +35,7 @@ class RealClients(Inspected):
     # object that the client has destroyed libwayland knows no names, and prints the id with a sign.
     DEBUG = re.compile(r"\[ *[\d.]+\] (?:\{[^}]*\} )?(?:discarded )?( -> )?(?:(\w+)|\[\w+\])[@#](-?\d+)"
                        r"\.(\w+|\[event \d+\])\((?:(-?\d+)[.,)])?")
-    LINE = re.compile(r"(->|<-) (\w+)@(\d+)\.(\w+)\((?:(-?\d+)[.,)])?")
+    LINE = re.compile(r"(->|<-) (\w+)@(\d+)\.(\w+)\((?:(-?\d+)[., )])?")
 
     def start_compositor(self, words, path, env, **kept):
         """Starts a compositor, which is ended with the test, and waits until a client can connect

@@ -267,6 +267,16 @@ class TablesFromXml(unittest.TestCase):
             <event name="e"><arg name="z" type="new_id" interface="a"/></event></interface>"""
         self.assertEqual(self.made(given, words=("--names", "{0}")), (["a.request.r x y", "a.event.e z"], []))
 
+    def test_names_of_values(self):
+        """Each enum has a line, and an argument names its enum, also one of another interface."""
+        given = """<interface name="a" version="1"><request name="r"><arg name="x" type="int" enum="e"/>
+            <arg name="y" type="uint" enum="b.f"/></request>
+            <enum name="e"><entry name="one" value="1"/><entry name="two" value="0x2"/></enum></interface>
+            <interface name="b" version="1"><enum name="f" bitfield="true"><entry name="1" value="1 &lt;&lt; 4"/></enum>
+            </interface>"""
+        self.assertEqual(self.made(given, words=("--names", "--comment", "it", "{0}")), ([
+            "# it", "a.request.r x:a.e y:b.f", "a.enum.e 1 one 2 two", "b.enum.f bitfield 16 1"], []))
+
     def test_a_lowered_version_keeps_places(self):
         """Messages out of the order of their versions: what stands behind one that goes, goes."""
         text = """<interface name="a" version="3"><request name="r" since="3"/><request name="s" since="2"/>

@@ -85,6 +85,10 @@ class Texts(unittest.TestCase):
             with contextlib.redirect_stderr(io.StringIO()):
                 made = tool.text_of(name, files)
             self.assertEqual(made, stored, f"run tools/dev/make-tables {name}")
+            # Names are no part of a text: one can stand without.
+            if os.path.exists(f"{TOP}/examples/tables/{name}.names"):
+                self.assertEqual(tool.names_of(name, files), read(f"examples/tables/{name}.names"),
+                                 f"run tools/dev/make-tables {name}")
         if others:
             self.skipTest(f"{', '.join(others)}: {self.missing} in that version")
 

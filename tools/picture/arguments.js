@@ -9,16 +9,22 @@ function bytesOf(session, message) {
 
 // An argument's value in words; an object of the session beside it, if it names one.
 function argumentWords(session, message, place) {
-    const [kind] = session.signatures[session.signature[message]].kinds[place];
+    const [kind, , enumeration] = session.signatures[session.signature[message]].kinds[place];
     const value = session.value(message, place);
     const object = session.objects[value];
     switch (kind) {
         case "object": return object ? { text: "", object } : { text: "nil" };
         case "new": return { text: `version ${object.version}`, object };
         case "string": return { text: value < 0 ? "nil" : `“${session.raw.strings[value]}”` };
-        case "array": return { text: several(value, "byte") };
+        case "array": {
+            const contents = session.contents.get(`${message} ${place}`);
+            return { text: several(value, "byte") + (contents ? `: ${contents}` : "") };
+        }
         case "fd": return { text: value === null ? "fd" : `fd ${value}` };
-        default: return { text: String(value) };
+        default: {
+            const name = session.raw.names[enumeration]?.[value];
+            return { text: name ? `${value} ${name}` : String(value) };
+        }
     }
 }
 

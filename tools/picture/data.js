@@ -61,6 +61,7 @@ class Session {
         this.time = summed(raw.time, Float64Array).map((it) => Math.max(0, it - begin));
         this.piece = summed(raw.piece, Int32Array);
         this.values = raw.values;
+        this.contents = new Map(raw.arrays.map(([message, place, words]) => [`${message} ${place}`, words]));
         this.objects = raw.objects.id.map((id, number) => newObject(
             number, raw.objects.interface[number], id, raw.objects.birth[number], raw.objects.version[number]));
         this.lowered = null;
@@ -179,6 +180,11 @@ class Session {
     isOpen(object) {
         return object.destroyed < 0 && object.freed < 0 && object.end < 0;
     }
+}
+
+// Which program a client is, and its process, as far as they are known.
+function whoOf(name, pid) {
+    return [name, pid && `process ${pid}`].filter((it) => it).join(", ");
 }
 
 function microseconds(time) {

@@ -171,15 +171,29 @@ function isSpread(session, left) {
     return quarters.size === 4;
 }
 
+// The last messages before one that are for an object, make it or name it; of wl_display the last requests.
+function ledTo(session, message, object) {
+    const about = new Set(object ? [...object.messages, ...object.naming, object.made] : []), found = [];
+    for (let it = message - 1; it >= Math.max(0, message - 64) && found.length < 5; it--) {
+        if (object?.id === 1 ? session.direction[it] === REQUEST : about.has(it)) {
+            found.unshift(it);
+        }
+    }
+    return found;
+}
+
 function endFindings(session) {
     const { broken, error, notes } = session.raw, found = [];
     if (broken) {
         found.push({ level: "bad", message: session.bad, words: `${ruleOf(broken)}${whatIsWrong(broken)}.` });
     }
     if (error) {
-        const about = session.objects[error.object]?.name ?? "an object that is not known";
+        const object = session.objects[error.object], about = object?.name ?? "an object that is not known";
+        const code = [error.code, ...error.names].join(" ");
+        const before = ledTo(session, error.place, object).map((it) => `${session.nameOf(it)} (${counted(it + 1)})`);
         found.push({ level: "bad", message: error.place, words: `The compositor ended the session with error `
-            + `${error.code} for ${about}. It says: “${error.text}”` });
+            + `${code} for ${about}. It says: “${error.text}”`
+            + (before.length ? `. Before it: ${before.join(", ")}.` : "") });
     }
     for (const [message, words] of notes) {
         found.push({ level: "note", message, words: `Message ${counted(message + 1)}: ${words}` });

@@ -9,7 +9,12 @@ function fillHead(app) {
     const { session } = app, { verdict, broken, error } = session.raw, head = document.getElementById("about");
     const kind = broken ? "broken" : error ? "error" : verdict?.verdict ?? "unknown";
     const words = broken ? `broken: ${ruleOf(broken)}` : error ? `ended by error ${error.code}` : kind;
-    head.append(element("h1", "", session.title), pill(kind === "lawful" ? "good" : broken || error ? "bad" : "look", words));
+    head.append(element("h1", "", session.title));
+    const { name, pid } = session.raw.client, who = whoOf(name === session.title ? null : name, pid);
+    if (who) {
+        head.append(element("span", "counts who", who));
+    }
+    head.append(pill(kind === "lawful" ? "good" : broken || error ? "bad" : "look", words));
     const looks = session.findings.filter((it) => it.level === "look").length;
     if (looks) {
         const button = element("button", "pill look", `${looks} to look at`);

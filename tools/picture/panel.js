@@ -115,9 +115,10 @@ class Panel {
                 + `message ${counted(end)} are left out. `
                 + "The verdict is that of the whole recording.");
         }
-        if (others) {
-            said.push(`${several(others, "further client")} took part, and ${others === 1 ? "has a page" : "have pages"} `
-                + "of their own.");
+        if (others.length) {
+            const words = others.map(([number, name, pid]) => [`#${number}`, whoOf(name, pid)].filter((it) => it).join(" "));
+            said.push(`${several(others.length, "further client")} took part, and `
+                + `${others.length === 1 ? "has a page of its" : "have pages of their"} own: ${words.join("; ")}.`);
         }
         return said.map((it) => element("p", "remark", it));
     }
@@ -146,7 +147,7 @@ class Panel {
     about({ head, client, verdict }) {
         const rows = [
             ["verdict", verdict?.words], ["recording", head.recording], ["command", (head.command ?? []).join(" ")],
-            ["client", [client.name, client.pid && `process ${client.pid}`].filter((it) => it).join(", ")],
+            ["client", whoOf(client.name, client.pid)],
             ["started", head.started], ["tables", (head.tables ?? []).join(", ")],
         ].filter(([, value]) => value);
         return [element("h2", "", "The session"), rows.map(([name, value]) => this.row(name, String(value)))];

@@ -1,0 +1,152 @@
+/* The names of an argument's values beside its numbers. */
+#define _GNU_SOURCE
+#include "printed.h"
+
+#include <inttypes.h>
+
+/* Of an array of numbers so many are printed, and all bytes of another that has no more than this. */
+#define MOST_NUMBERS 8
+#define MOST_BYTES 16
+
+/* Goes to the next entry of an enum: its value and its name. False behind the last. */
+static bool next_entry(const char **entries, uint32_t *value, const char **name, size_t *length)
+{
+	char *end;
+	if (!*entries || !**entries)
+		return false;
+	*value = (uint32_t)strtoul(*entries, &end, 10);
+	if (*end != ' ')
+		return false;
+	*name = end + 1;
+	*length = strcspn(*name, " ");
+	*entries = *name + *length;
+	*entries += **entries == ' ';
+	return *length;
+}
+
+/* The name of exactly this value; false where it has none. */
+static bool find_entry(const struct meaning *meaning, uint32_t wanted, struct value_name *name)
+{
+	const char *entries = meaning->entries;
+	for (uint32_t value; next_entry(&entries, &value, &name->bytes, &name->length);)
+		if (value == wanted)
+			return true;
+	return false;
+}
+
+size_t names_of_value(const struct meaning *meaning, uint32_t value, struct value_name *names, uint32_t *rest)
+{
+	size_t count = 0;
+	*rest = 0;
+	if (find_entry(meaning, value, &names[0]))
+		return 1;
+	*rest = value;
+	for (uint32_t bit = 1; meaning->is_bitfield && bit; bit <<= 1)
+		if (value & bit && find_entry(meaning, bit, &names[count])) {
+			count++;
+			*rest &= ~bit;
+		}
+	return count;
+}
+
+/* Puts the names of a value behind a space, with bars between. */
+static void put_names(struct text *text, const struct meaning *meaning, uint32_t value)
+{
+	struct value_name names[MOST_NAMES];
+	uint32_t rest;
+	size_t count = names_of_value(meaning, value, names, &rest);
+	for (size_t each = 0; each < count; each++) {
+		text_add(text, each ? "|" : " ");
+		text_put(text, names[each].bytes, names[each].length);
+	}
+	if (count && rest)
+		text_format(text, "|0x%" PRIx32, rest);
+}
+
+uint32_t number_at(const waywire_arg *array, size_t place)
+{
+	const unsigned char *bytes = (const unsigned char *)array->bytes + 4 * place;
+	return bytes[0] | (uint32_t)bytes[1] << 8 | (uint32_t)bytes[2] << 16 | (uint32_t)bytes[3] << 24;
+}
+
+bool has_numbers(const struct argument *argument)
+{
+	return argument->value.kind == WAYWIRE_ARRAY && argument->meaning.is_numbers && argument->value.length % 4 == 0;
+}
+
+static void put_contents(struct text *text, const struct argument *argument)
+{
+	size_t length = argument->value.length, count = length / 4;
+	if (!length || (!has_numbers(argument) && length > MOST_BYTES))
+		return;
+	text_add(text, " {");
+	if (!has_numbers(argument))
+		text_hex(text, (const unsigned char *)argument->value.bytes, length);
+	for (size_t each = 0; has_numbers(argument) && each < count && each < MOST_NUMBERS; each++) {
+		uint32_t number = number_at(&argument->value, each);
+		text_format(text, each ? ", %" PRIu32 : "%" PRIu32, number);
+		put_names(text, &argument->meaning, number);
+	}
+	text_add(text, has_numbers(argument) && count > MOST_NUMBERS ? ", ..}" : "}");
+}
+
+void put_meaning(struct text *text, const struct argument *argument)
+{
+	switch (argument->value.kind) {
+	case WAYWIRE_INT: put_names(text, &argument->meaning, (uint32_t)argument->value.i); break;
+	case WAYWIRE_UINT: put_names(text, &argument->meaning, argument->value.u); break;
+	case WAYWIRE_ARRAY: put_contents(text, argument); break;
+	default: break;
+	}
+}
+
+/* Whether a line has these words at a place. */
+static bool has_words(const struct text *line, size_t at, const struct text *words)
+{
+	return words->length <= line->length - at && !memcmp(line->bytes + at, words->bytes, words->length);
+}
+
+/* Whether there is anything to put behind an argument of a message. */
+static bool has_meaning(const struct message *message)
+{
+	for (size_t place = 0; place < message->arg_count; place++) {
+		const struct argument *argument = &message->args[place];
+		if (argument->value.kind == WAYWIRE_ARRAY ? argument->value.length > 0 : argument->meaning.entries != NULL)
+			return true;
+	}
+	return false;
+}
+
+/* Puts a part of a line that stands at a place. Returns its end; 0 where something else stands there. */
+static size_t put_part(struct text *text, const struct text *line, size_t at, const struct text *part)
+{
+	if (!part->length || !has_words(line, at, part))
+		return 0;
+	text_put(text, part->bytes, part->length);
+	return at + part->length;
+}
+
+void put_line_with_names(struct text *text, const struct message *message, const struct text *line)
+{
+	uint64_t descriptor = message->first_descriptor;
+	struct text part = { NULL, 0, 0 };
+	size_t at = 0;
+	if (has_meaning(message)) {
+		put_front_of_message(&part, message);
+		at = put_part(text, line, 0, &part);
+	}
+	for (size_t place = 0; at && place < message->arg_count; place++) {
+		const struct argument *argument = &message->args[place];
+		part.length = 0;
+		text_add(&part, place ? ", " : "");
+		put_printed_argument(&part, argument, descriptor);
+		at = put_part(text, line, at, &part);
+		descriptor += descriptor && argument->value.kind == WAYWIRE_FD;
+		if (at)
+			put_meaning(text, argument);
+	}
+	text_free(&part);
+	if (!at)
+		text->length = 0;
+	text_put(text, line->bytes + at, line->length - at);
+}
