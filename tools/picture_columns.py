@@ -6,7 +6,6 @@ apart: bytes are kept as digits, and the end of a line as it was printed."""
 
 import base64
 import bisect
-import collections
 import json
 import zlib
 from array import array

@@ -38,6 +38,8 @@ BROKEN = """-> unknown@9: opcode 0, 8 bytes, bytes 0900000000000800
 F2: no object has the id 9
 broken: > message 2 at byte 12: F2 unknown object
 """
+# What is printed of the answer to that sync, which comes behind it.
+BEHIND = "? <- wl_callback@2.done(7)\n? <- wl_display@1.delete_id(2)\n"
 # What is said of a question that has waited for a second or longer.
 WAITING = re.compile(r"^.*(?:: \d+ not answered|: none of \d+ answered).*\n", re.M)
 # Who a client is, in words; a string, or what stands behind a number or an array to explain it.
@@ -320,7 +322,7 @@ class Passing(Inspected):
         self.assertIn(GONE, error)
 
     def test_the_last_words_of_a_client(self):
-        self.start()
+        self.start("--output", f"{self.recorded}.lines")
         client, compositor = self.client()
         data = sync(2) * 20_000
         def write():
@@ -548,12 +550,12 @@ class Judging(Inspected):
         self.assertEqual(sorted(os.listdir(self.folder)), ["a.rec", "a.rec.tables", "display"])
 
     def test_a_broken_message(self):
-        """It is named at its place; what comes behind it is passed, and not printed."""
+        """It is named at its place; what comes behind it is passed, and printed as not judged."""
         self.answering(done(2))
         data = sync(2) + message(9, 0) + sync(3)
         said, error = self.ran("--record", self.recorded, *client(data, 24, 0), status=1)
-        self.assertEqual((said, error), (SYNC.format(2) + BROKEN, ""))
-        self.checked(self.recorded, [said.splitlines()[0], said.splitlines()[-1]])
+        self.assertEqual((said, error), (SYNC.format(2) + BROKEN + f"? {SYNC.format(3)}" + BEHIND, ""))
+        self.checked(self.recorded, [said.splitlines()[0], BROKEN.splitlines()[-1]])
         self.assertEqual(self.pieces(self.recorded), f"> {data.hex()}\n< {done(2).hex()}\n")
 
     def test_a_broken_message_and_a_status(self):
@@ -564,7 +566,8 @@ class Judging(Inspected):
         self.answering(done(2))
         said, _ = self.ran("--color=always", *client(sync(2) + message(9, 0), 24, 0), status=1)
         lines = said.splitlines()
-        self.assertEqual(lines[1:], [f"\x1b[31m{it}\x1b[0m" for it in BROKEN.splitlines()])
+        self.assertEqual(lines[1:4], [f"\x1b[31m{it}\x1b[0m" for it in BROKEN.splitlines()])
+        self.assertEqual([re.sub(r"\x1b\[\d+m", "", it) for it in lines[4:]], BEHIND.splitlines())
         # The arrow and the interface have colours, and no other word.
         coloured = r"\x1b\[32m-> \x1b\[\d\dmwl_display\x1b\[0m@1\.sync\(new id wl_callback@2\)"
         self.assertRegex(lines[0], rf"\A{coloured}\Z")

@@ -12,8 +12,8 @@ from collections import deque
 from dataclasses import dataclass, field
 
 sys.dont_write_bytecode = True
-sys.path.insert(0, os.path.dirname(os.path.dirname(os.path.realpath(__file__))))
-import checks  # noqa: E402, F401
+TESTS = os.path.dirname(os.path.dirname(os.path.realpath(__file__)))
+sys.path[:0] = [TESTS, os.path.join(TESTS, "..", "tools")]
 import table_text  # noqa: E402
 
 FIRST_OF_SERVER = 0xFF000000

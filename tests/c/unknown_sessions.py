@@ -184,7 +184,7 @@ def check_verdict(told, play, counts):
 def check(play, part, lines):
     """The lines that the tool printed of a session are so. Returns how many messages it had of which kind."""
     known, counts = Known(part), Counter(messages=0, unjudged=0)
-    told = [json.loads(it) for it in lines]
+    told = [it for it in map(json.loads, lines) if it["type"] != "unanswered"]
     must([it["type"] for it in told] == ["head", "client", *["message"] * len(play.said), "verdict"], "lines",
          [it for it in told if it["type"] in ("broken", "error", "bad_line")])
     is_judged = True

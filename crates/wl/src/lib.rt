@@ -534,6 +534,7 @@
 //!         &mut self, direction: Direction, bytes: &[u8], tokens: usize,
 //!     ) -> Result<(), AllocError>
 //!     fn lines(&self) -> &[u8]
+//!     fn judged_count(&self) -> u64
 //!     fn verdict(&self) -> Verdict
 //! Twins<A>
 //!     fn new(alloc: A) -> Result<Self, AllocError>
