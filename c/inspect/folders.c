@@ -1,4 +1,4 @@
-/* Where the tool finds what belongs to it: the texts of tables, and the tools in Python. */
+/* Finds the folders with the texts of tables and with the tools in Python, from the path of the tool. */
 #define _GNU_SOURCE
 #include "inspect.h"
 

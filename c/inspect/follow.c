@@ -7,7 +7,7 @@ static const uint16_t error_opcode = 0, delete_id_opcode = 1, bind_opcode = 0;
 
 /* ---- objects */
 
-/* Names an object's interface, where the tables have it. */
+/* Sets the name of an object's interface; null if the tables do not have it. */
 static void name_interface(const struct follower *follower, struct object *object)
 {
 	if (waywire_tables_name(follower->tables, object->interface, &object->name, &object->name_length))
