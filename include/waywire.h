@@ -815,6 +815,7 @@ uint64_t waywire_inspector_judged(const waywire_inspector *inspector);
  *         waywire_inspector_go_past(inspector, sender);
  *     }
  *
+ * Bytes are kept until their message is gone past, and an object's place until its id is used again.
  * So the numbers of the messages are those of the pieces' order, and a message with a number of at most
  * waywire_inspector_judged was judged. */
 

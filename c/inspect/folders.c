@@ -1,4 +1,4 @@
-/* Finds the folders with the texts of tables and with the tools in Python, from the path of the tool. */
+/* Finds the tool's own folders: the table texts and the tools in Python. */
 #define _GNU_SOURCE
 #include "inspect.h"
 

@@ -79,7 +79,7 @@ void find_own(char *path, size_t size);
 /* The path of a tool in Python, or of a file beside these. */
 void find_tool(char *path, size_t size, const char *name);
 
-/* The folder of the installed texts of tables. */
+/* The folder with the installed table texts. */
 void find_tables(char *folder, size_t size);
 
 /* ---- the tables (tables.c, texts.c, protocols.c) */

@@ -54,7 +54,7 @@ struct part {
 	struct reopening reopening;
 };
 
-/* Whether a line begins with words; `line` then stands behind them. */
+/* Skips these words at the start of a line. False if it does not begin with them. */
 static bool takes(const char **line, const char *end, const char *begin)
 {
 	size_t length = strlen(begin);
