@@ -1,5 +1,5 @@
-/* What the files of the library for C share: handles, and tests of what C may pass. `make` makes local what is global
- * here: only the calls of include/waywire.h are for others to see. */
+/* What the files of the library for C share: handles, and tests of what C may pass. `make` makes local what is
+ * global here: only the calls of include/waywire.h are visible to others. */
 #ifndef WAYWIRE_CALLS_H
 #define WAYWIRE_CALLS_H
 
@@ -12,8 +12,8 @@ struct handle {
 	void *at;
 };
 
-/* The head of each block of memory of the library's. The blocks of tables are in one ring with the tables; any
- * other block is a ring of its own. */
+/* The head of each block of the library's memory. The blocks of tables are in one ring with the tables; any other
+ * block is a ring of its own. */
 struct block {
 	struct block *before, *after;
 };
@@ -31,17 +31,17 @@ struct waywire_tables {
 /* So the compiler may put a function into its callers, although the code can be moved in memory. */
 #define HIDDEN __attribute__((visibility("hidden")))
 
-/* Memory that stands for an empty slice that is null. */
+/* The address used for an empty slice that is null. */
 extern HIDDEN uint32_t nowhere[1];
 
 /* Tests a slice, and gives an empty one that is null an address. */
 HIDDEN waywire_status slice(const void **bytes, size_t length, size_t size);
 
-/* Joins the users of tables. Nothing else of tables changes once they are made, so any calls read them at one
- * time. */
+/* Joins the users of tables. Nothing else about tables changes after they are made, so any number of calls can
+ * read them at one time. */
 HIDDEN waywire_tables *used(const waywire_tables *tables);
 
-/* Reads a text over the tables of a client, which takes what comes out: `more`, whose user it is. */
+/* Reads a text and appends it to the tables of a client, which takes the result, `more`, and becomes its user. */
 HIDDEN waywire_status read_for_client(struct handle *client, const void *text, size_t length,
 	waywire_tables **more, size_t *line, uint32_t *rule);
 

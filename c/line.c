@@ -1,4 +1,4 @@
-/* The line of a report, as a trace has it. It stands on the calls of waywire.h alone. */
+/* The line of a report, as in a trace. It uses only the calls of waywire.h. */
 
 #include "waywire.h"
 
@@ -7,7 +7,7 @@
 #include <stdio.h>
 #include <string.h>
 
-/* A text that is written as far as there is room, and counted whole. */
+/* A text that is written as far as there is room, and whose whole length is counted. */
 struct text {
 	char *at;
 	size_t room;
@@ -58,7 +58,7 @@ static void put_fixed(struct text *text, int32_t parts)
 		size % 256 * 390625);
 }
 
-/* An object by the name of its interface, where the tables have that, and its id. */
+/* An object by the name of its interface, if the tables have it, and its id. */
 static void put_object(struct text *text, const waywire_tables *tables, uint16_t interface, uint32_t id)
 {
 	const char *name;

@@ -1,5 +1,5 @@
-/* Tables, and messages that are taken apart by them. An export takes a handle of tables as it is, since any calls have
- * it at one time. */
+/* Tables, and messages that are decoded with them. An export takes a handle of tables by value, because any
+ * number of calls may have it at one time. */
 #include "calls.h"
 
 uint32_t waywire_c_tables_core(void **tables);
@@ -32,19 +32,19 @@ SAME(decoded, offsetof(waywire_decoded, opcode) == 4 && offsetof(waywire_decoded
 
 /* ---- the memory of the exports
  *
- * The exports never free tables, since an end borrows them for as long as the process runs. So all that is allocated
- * while tables are made is linked into a ring, and freed as a whole once neither the caller nor an end or an inspector
- * uses them, or if they could not be made.
+ * The exports never free tables, because an end borrows them for as long as the process runs. So all that is
+ * allocated while tables are made is linked into a ring, and freed as a whole when the caller, the ends and the
+ * inspectors no longer use them, or if they could not be made.
  *
- * Every block has the same head, whatever it is for. So a block can grow and be freed whether or not tables are being
- * made then, and whether or not they were when it was allocated. */
+ * Every block has the same head, whatever it is for. So a block can grow and be freed whether or not tables are
+ * being made at the time, and whether or not they were when it was allocated. */
 
 SAME(block, sizeof(struct block) == 16); /* what follows is aligned as `malloc` aligns */
 
 /* The ring of the tables that this thread makes; null while it makes none. */
 static __thread struct block *making;
 
-/* Puts a block into a ring; without one it is a ring of its own. Returns what follows its head. */
+/* Puts a block into a ring; without one it becomes a ring of its own. Returns what follows its head. */
 static void *linked(struct block *block, struct block *ring)
 {
 	block->before = ring ? ring : block;
@@ -92,7 +92,7 @@ static void free_tables(waywire_tables *tables)
 	free(tables);
 }
 
-/* Tables without anything in them, for one caller. */
+/* Empty tables, for one caller. */
 static waywire_tables *empty_tables(void)
 {
 	waywire_tables *tables = malloc(sizeof *tables);
@@ -105,7 +105,7 @@ static waywire_tables *empty_tables(void)
 	return tables;
 }
 
-/* Hands out tables that were made, or frees what there is of them. */
+/* Returns tables that were made, or frees what there is of them. */
 static waywire_status made_tables(waywire_status status, waywire_tables *made, waywire_tables **tables)
 {
 	if (status)
@@ -142,7 +142,7 @@ waywire_status waywire_tables_core(waywire_tables **tables)
 	return made_tables(status, made, tables);
 }
 
-/* Reads a text over these tables; or over those of a client, which takes what comes out. */
+/* Reads a text and appends it to these tables, or to those of a client, which takes the result. */
 static waywire_status read_over(const waywire_tables *tables, struct handle *client, const void *text,
 	size_t length, waywire_tables **more, size_t *line, uint32_t *rule)
 {
@@ -230,7 +230,7 @@ waywire_status waywire_tables_kind(const waywire_tables *tables, uint16_t interf
 	return waywire_c_tables_kind(tables->handle, interface, sender, opcode, place, kind);
 }
 
-/* The interface of an argument that was taken apart, and who makes it if it is new. */
+/* The interface of a decoded argument, and who makes it if it is new. */
 static uint16_t decoded_interface(const waywire_tables *tables, const waywire_kind *kind, waywire_arg *arg)
 {
 	uint16_t bound;

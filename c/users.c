@@ -1,4 +1,4 @@
-/* Pointers of the caller's: how one is set. */
+/* The caller's pointers: how one is set. */
 #include "users.h"
 
 /* Makes room for the pointer at a place. */

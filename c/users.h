@@ -1,6 +1,6 @@
-/* Pointers of the caller's. They lie beside an end, by the id of their object, and hold for the
- * object that has the birth. A birth never comes twice in a range of ids, so a pointer of an object
- * that ended is never that of another, and nothing need be undone. */
+/* The caller's pointers. They are kept beside an end, by the id of their object, and are valid for the object
+ * with the stored birth. A birth never occurs twice in a range of ids, so the pointer of an object that ended is
+ * never taken for another's, and nothing need be undone. */
 #ifndef WAYWIRE_USERS_H
 #define WAYWIRE_USERS_H
 
@@ -19,8 +19,8 @@ struct user_range {
 	size_t count;
 };
 
-/* Of the ids that a client gives, and of those that a server gives: one vector by id would ask for
- * 64 GiB at the server's first. */
+/* One vector for the client's ids and one for the server's: a single vector by id would need 64 GiB for the
+ * server's first id. */
 struct users {
 	struct user_range of_client, of_server;
 };
@@ -32,7 +32,7 @@ static inline void *user_in(const struct user_range *range, uint32_t place, uint
 	return range->at[place].pointer;
 }
 
-/* The pointer of an object; null where it has none. Every report asks. */
+/* The pointer of an object; null if it has none. Every report asks for it. */
 static inline void *user_of(const struct users *users, waywire_object object)
 {
 	if (object.id < FIRST_SERVER_ID)

@@ -1,9 +1,9 @@
-/* The calls of include/waywire.h over the proved exports of the crate waywire_c.
+/* The calls of include/waywire.h, built on the proved exports of the crate waywire_c.
  *
- * An export relies on its types and tests nothing: a slice is a pointer that is not null and a length of
- * at most PTRDIFF_MAX, and an out-parameter is never null. So each call here tests what C may pass
- * wrongly. An export takes the address of a handle, which ends begin with here; that of tables, which any calls
- * have at one time, it takes as it is. */
+ * An export relies on its types and tests nothing: a slice is a pointer that is not null and a length of at most
+ * PTRDIFF_MAX, and an out-parameter is never null. So each call here tests what C may pass wrongly. An export
+ * takes the address of a handle, with which ends begin here; the handle of tables, which any number of calls may
+ * have at one time, is passed by value. */
 #include "users.h"
 
 uint32_t waywire_c_client_new(struct handle tables, const waywire_sizes *, void **made);
@@ -70,7 +70,7 @@ SAME(report_parts, offsetof(waywire_report, text) == 64 && offsetof(waywire_repo
 	&& offsetof(waywire_report, place) == 80 && offsetof(waywire_report, offset) == 88
 	&& offsetof(waywire_report, replaced) == 96 && offsetof(waywire_report, interface) == 112
 	&& offsetof(waywire_report, forgotten) == 114 && offsetof(waywire_report, version) == 116);
-/* An export writes what stands before `user`. */
+/* An export writes the fields before `user`. */
 SAME(report_end, offsetof(waywire_report, user) == 120 && offsetof(waywire_report, replaced_user) == 128
 	&& offsetof(waywire_report, args) == 136 && sizeof(waywire_report) == 136 + 20 * 48);
 
@@ -96,8 +96,8 @@ static bool has_bytes(const waywire_arg *arg)
 	return arg->kind == WAYWIRE_STRING || arg->kind == WAYWIRE_ARRAY;
 }
 
-/* Whether the slices of arguments are such as an export takes, also where their kind has none: as those are that
- * include/waywire.h makes. */
+/* Whether an export can take the slices of arguments, even if their kind has none; those that include/waywire.h
+ * makes pass. */
 static bool have_slices(const waywire_arg *args, size_t count)
 {
 	if (!args)
@@ -140,7 +140,7 @@ static void list_tokens(waywire_report *report, uint32_t tokens[WAYWIRE_MAX_ARGS
 
 #define BEFORE_SERVER_IDS (FIRST_SERVER_ID - 1)
 
-/* The id after this one where so many ids of each range were used; 0 behind the last. */
+/* The id after this one, given how many ids of each range were used; 0 after the last. */
 static uint32_t id_after(uint32_t id, uint32_t of_client, uint32_t of_server)
 {
 	if (id < of_client)
@@ -152,7 +152,7 @@ static uint32_t id_after(uint32_t id, uint32_t of_client, uint32_t of_server)
 
 /* ---- what both ends have */
 
-/* An end, the tables that it lends, its objects' pointers, and the tokens of its last report. */
+/* An end, its tables, its objects' pointers, and the tokens of its last report. */
 struct waywire_end {
 	struct handle handle;
 	waywire_tables *tables;
@@ -481,7 +481,7 @@ waywire_status waywire_server_drop_object(waywire_server server, waywire_object 
 	return waywire_c_server_drop_object(&server.end->handle, object);
 }
 
-/* How many bytes of a text an error has room for, no character of UTF-8 cut. */
+/* How many bytes of a text fit in an error, without cutting a UTF-8 character. */
 static size_t error_length(const char *text)
 {
 	size_t length = strlen(text);

@@ -1,5 +1,30 @@
-/* Made by stubs-from-xml, which says what each function does.
- * Typed calls for the protocol core, over waywire.h.
+/* Typed calls for the protocol core, over waywire.h. Made by stubs-from-xml.
+ *
+ * Calls.  For each interface: the type of its objects, waywire_INTERFACE, a struct with the one
+ * member `object`; for a client waywire_INTERFACE_REQUEST, for a server
+ * waywire_INTERFACE_send_EVENT; opcodes, and the versions that have them; enums. A call returns its
+ * status. An object that the message makes is written to the last argument, which may be null; a
+ * refused call writes nothing. A descriptor is given as its token, an int. Once the call has
+ * returned WAYWIRE_OK the end has it: waywire_socket_flush closes it when it has gone, and `take`
+ * gives it back. After any other status it is still the caller's.
+ *
+ * Callbacks.  struct waywire_INTERFACE_events and _requests have one for each message, or null.
+ * A dispatcher calls the one for a report, with `data`, the target, and the arguments in order:
+ *
+ *     int, fixed   int32_t; a fixed number is in 256ths
+ *     uint         uint32_t
+ *     string       const char *, which ends with a NUL; null for the null string
+ *     array        const void *, and size_t, its length in bytes
+ *     object       the type of its interface, or waywire_object; its id is 0 for null. An object
+ *                  that the client has destroyed meanwhile comes too, and every call refuses it
+ *     new_id       the same type: the object that the message has made, which is live
+ *     fd           int: the token, cast. Over waywire-socket.h it is an open descriptor, which is
+ *                  the callback's to close or to keep; over other transports what was fed
+ *
+ * Pointers point into the end. They are valid until the next call that may change that end, also
+ * one in the callback; this call itself may still be given them. Copy what is kept longer.
+ * A dispatcher returns false if there is no callback for a report, as for WAYWIRE_DISCARDED. The
+ * descriptors of the report's `tokens` are then the caller's; a waywire_connection closes them.
  */
 #ifndef WAYWIRE_CORE_H
 #define WAYWIRE_CORE_H

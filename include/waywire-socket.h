@@ -1,36 +1,32 @@
-/* waywire-socket: a Unix socket for the ends of waywire.h, and a connection that calls back.
+/* waywire-socket: a Unix socket for the ends of waywire.h, and a connection that calls callbacks.
  *
- * The ends of waywire.h turn calls into bytes, and bytes into reports. This header moves the bytes
- * and the file descriptors, and calls back for each report. It has two parts, and the first can be
- * used alone:
+ * The ends of waywire.h turn calls into bytes, and bytes into reports. This header moves the bytes and the file
+ * descriptors, and calls back for each report. It has two parts, and the first can be used alone:
  *
  *  1. Sockets.      Connect and listen as libwayland does, and pass bytes with descriptors. `flush`
  *                   and `fill` pass those of an end.
  *  2. Connections.  An end, its socket, and for each object a dispatcher and the caller's data.
  *                   `dispatch` does what wl_display_dispatch does.
  *
- * Descriptors.  A token is here a descriptor of this process. A descriptor that is sent belongs to
- * the end once the call that sends it has returned WAYWIRE_OK, and is closed when the socket has
- * taken it: to keep a descriptor, send a duplicate. A descriptor that came belongs to the callback
- * that gets it. Every descriptor that is made here is close-on-exec.
+ * Descriptors. Here a token is a descriptor of this process. A descriptor that is sent belongs to the end after
+ * the call that sends it has returned WAYWIRE_OK, and is closed when the socket has taken it: to keep a
+ * descriptor, send a duplicate. A descriptor that came belongs to the callback that gets it. Every descriptor
+ * that is made here is close-on-exec.
  *
- * Waiting.  waywire_connection_dispatch, _roundtrip and _drain wait, each with a limit.
- * waywire_socket_connect, _connect_to and waywire_connection_connect wait if the compositor has too
- * many clients that it has not accepted; only _connect_to has a limit. No other call waits, whether
- * or not its socket is non-blocking. A program with a loop of its own polls waywire_connection_fd
- * there.
+ * Waiting.  waywire_connection_dispatch, _roundtrip and _drain wait, each with a limit. waywire_socket_connect,
+ * _connect_to and waywire_connection_connect wait if the compositor has too many clients that it has not
+ * accepted; only _connect_to has a limit. No other call waits, whether or not its socket is non-blocking. A
+ * program with a loop of its own polls waywire_connection_fd there.
  *
- * Errors.  A call that returns -1 or a null pointer says why in errno. A call that returns a
- * waywire_status with another status than WAYWIRE_OK has changed nothing. Each refused allocation
- * is an error of the call: ENOMEM or WAYWIRE_NO_MEMORY. Nothing is written to standard error, and a
- * closed socket makes no signal.
+ * Errors.  A call that returns -1 or a null pointer says why in errno. A call that returns a waywire_status with
+ * another status than WAYWIRE_OK has changed nothing. Each refused allocation is an error of the call: ENOMEM or
+ * WAYWIRE_NO_MEMORY. Nothing is written to standard error, and a closed socket makes no signal.
  *
- * Threads.  There is no global state but the environment: waywire_socket_connect, _connect_to and
- * _listen read it, and waywire_socket_connect removes WAYLAND_SOCKET. Only one call at a time may
- * use a connection or its end, on any thread.
+ * Threads.  There is no global state but the environment: waywire_socket_connect, _connect_to and _listen read
+ * it, and waywire_socket_connect removes WAYLAND_SOCKET. Only one call at a time may use a connection or its end,
+ * on any thread.
  *
- * Null.  A pointer may be null only where the text of the call says so.
- */
+ * Null.  A pointer may be null only where the text of the call says so. */
 #ifndef WAYWIRE_SOCKET_H
 #define WAYWIRE_SOCKET_H
 
@@ -95,11 +91,10 @@ int waywire_listening_socket_accept(const waywire_listening_socket *listening);
  * is allowed. */
 void waywire_listening_socket_close(waywire_listening_socket *listening);
 
-/* Sends bytes, and descriptors with the first of them. Returns how many bytes went, at least 1. The
- * descriptors went with these, and stay open here. `descriptors` may be null if `count` is 0.
- * Returns -1 with errno: EAGAIN if the socket takes nothing now; EINVAL if there are more than 253
- * descriptors, the limit of the kernel; else as sendmsg. An end at the other side receives no more
- * than WAYWIRE_SOCKET_DESCRIPTORS at once. */
+/* Sends bytes, and descriptors with the first of them. Returns how many bytes were sent, at least 1. The
+ * descriptors were sent with these, and stay open here. `descriptors` may be null if `count` is 0. Returns -1
+ * with errno: EAGAIN if the socket takes nothing now; EINVAL if there are more than 253 descriptors, the limit of
+ * the kernel; else as sendmsg. An end at the other side receives no more than WAYWIRE_SOCKET_DESCRIPTORS at once. */
 ssize_t waywire_socket_send(int socket, const waywire_part parts[2], const int *descriptors,
 	size_t count);
 
@@ -112,22 +107,20 @@ ssize_t waywire_socket_send(int socket, const waywire_part parts[2], const int *
 ssize_t waywire_socket_receive(int socket, const waywire_part parts[2],
 	int descriptors[WAYWIRE_SOCKET_DESCRIPTORS], size_t *count);
 
-/* Receives as waywire_socket_receive, but up to `room` descriptors; EOVERFLOW if more came at once.
- * This is for a proxy: with room for 253 it can hand on whatever a client sends. `descriptors` may
- * be null if `room` is 0. */
+/* Receives as waywire_socket_receive, but up to `room` descriptors; EOVERFLOW if more came at once. This is for a
+ * proxy: with room for 253 it can pass on whatever a client sends. `descriptors` may be null if `room` is 0. */
 ssize_t waywire_socket_receive_up_to(int socket, const waywire_part parts[2], int *descriptors,
 	size_t room, size_t *count);
 
-/* Sends what waits in an end's outbox, also at a failed end, and closes the descriptors that went.
- * Returns 0 once all has gone.
- * Returns -1 with errno, and the rest still waits: EAGAIN if the socket takes no more now, so poll
- * for POLLOUT and call again; else as waywire_socket_send. */
+/* Sends what waits in an end's outbox, also at a failed end, and closes the descriptors that were sent. Returns 0
+ * when everything has been sent.
+ * Returns -1 with errno, and the rest still waits: EAGAIN if the socket takes no more now, so poll for POLLOUT
+ * and call again; else as waywire_socket_send. */
 int waywire_socket_flush(int socket, waywire_end *end);
 
-/* Receives once into an end's inbox, of which all messages are to be read before. Returns as
- * waywire_socket_receive. ENOBUFS if the inbox has no room for WAYWIRE_SOCKET_DESCRIPTORS tokens
- * and a byte: the other end has sent descriptors that belong to no message, or this end has
- * failed. */
+/* Receives once into an end's inbox; read all its messages before. Returns as waywire_socket_receive. ENOBUFS if
+ * the inbox has no room for WAYWIRE_SOCKET_DESCRIPTORS tokens and a byte: the other end has sent descriptors that
+ * belong to no message, or this end has failed. */
 ssize_t waywire_socket_fill(int socket, waywire_end *end);
 
 /* Closes a socket, and every descriptor that was not sent, or that came and was not reported. The
@@ -137,7 +130,7 @@ void waywire_socket_close(int socket, waywire_end *end);
 
 /* ---- 2. connections: making and closing */
 
-/* An end and its socket, and what is called for its objects. */
+/* An end, its socket, and the callbacks for its objects. */
 typedef struct waywire_connection waywire_connection;
 
 /* Connects a client to a compositor, as waywire_socket_connect. The tables may be freed afterwards.
@@ -175,11 +168,11 @@ waywire_server waywire_connection_server(const waywire_connection *connection);
 waywire_status waywire_connection_add_global(waywire_connection *connection, const char *interface,
 	uint32_t version, uint32_t *name);
 
-/* Limits what the other end can cost. A connection ends with EPROTO once it has more objects than
- * this (a server tells its client: wl_display.error, no_memory), and with ETIMEDOUT once the other
- * end has read nothing for this many milliseconds while bytes wait for it. 0 objects and -1
- * milliseconds are no limit. A server begins with 50,000 and 120,000, a client with none. The time is
- * looked at in flush and dispatch: while a connection wants_write, a loop of one's own polls no longer. */
+/* Limits what the other end can cost. A connection ends with EPROTO when it has more objects than this (a server
+ * sends wl_display.error, no_memory), and with ETIMEDOUT when the other end has read nothing for this many
+ * milliseconds while bytes wait for it. 0 objects and -1 milliseconds mean no limit. A server begins with 50,000
+ * and 120,000, a client with no limits. The time is checked in flush and dispatch: while a connection
+ * wants_write, a loop of one's own must not poll for longer. */
 void waywire_connection_set_limits(waywire_connection *connection, size_t objects,
 	int milliseconds);
 
@@ -208,40 +201,38 @@ waywire_status waywire_connection_listen(waywire_connection *connection, waywire
 waywire_status waywire_connection_implement(waywire_connection *connection,
 	const waywire_listener *listeners, size_t count, void *data);
 
-/* Gives an object data, and says how they are destroyed; null is not at all. They replace what the
- * object had, which is destroyed unless it is the same pointer. WAYWIRE_STALE if the object is not
- * live, WAYWIRE_NO_MEMORY.
+/* Gives an object data, and a function that destroys them; null means that nothing destroys them. They replace
+ * what the object had, which is destroyed unless it is the same pointer. WAYWIRE_STALE if the object is not live,
+ * WAYWIRE_NO_MEMORY.
  *
- * Data are destroyed after the last message of their object: at a client delete_id, or the event
- * whose new object replaces it (`replaced` of waywire_report); at a server the request that
- * destroys it. Some objects have no last message: at a client those that the server made, and at a
- * server those that an event destroys, or a request as its argument. Their data are destroyed
- * later, when other objects get data, or with the connection. waywire_connection_forget destroys
- * them at once. */
+ * Data are destroyed after the last message of their object: at a client delete_id, or the event whose new object
+ * replaces it (`replaced` of waywire_report); at a server the request that destroys it. Some objects have no last
+ * message: at a client those that the server made, and at a server those that an event destroys, or a request as
+ * its argument. Their data are destroyed later, when other objects get data, or with the connection.
+ * waywire_connection_forget destroys them at once. */
 waywire_status waywire_connection_set_data(waywire_connection *connection, waywire_object object,
 	void *data, void (*destroy)(void *data));
 
-/* The data of an object that is live, from `listen` or `set_data`; else null. */
+/* The data of a live object, from `listen` or `set_data`; else null. */
 void *waywire_connection_data(const waywire_connection *connection, waywire_object object);
 
-/* Destroys the data of an object that is live, and removes its dispatcher. For an object without a
- * last message, call it before you send what destroys the object. */
+/* Destroys the data of a live object, and removes its dispatcher. For an object without a last message, call it
+ * before you send what destroys the object. */
 void waywire_connection_forget(waywire_connection *connection, waywire_object object);
 
 /* ---- reading and writing */
 
-/* Sends what waits, and calls back for all messages that were read. If there were none, it waits
- * until some come. A server announces its globals. Returns how many messages there were, or 0 after
- * this many milliseconds: -1 is no limit, and 0 does not wait.
+/* Sends what waits, and calls the callbacks for all messages that were read. If there were none, it waits until
+ * some come. A server announces its globals. Returns how many messages there were, or 0 after this many
+ * milliseconds: -1 means no limit, and 0 not to wait.
  *
- * Returns -1 with errno. The connection goes on after ENOMEM (a message found no memory, or the
- * kernel had none), ENOBUFS and ETOOMANYREFS (the kernel had no room to send): nothing is lost, and
- * the next call tries again. With any other errno it has ended: waywire_connection_failure says
- * why.
+ * Returns -1 with errno. The connection continues after ENOMEM (there was no memory for a message, or in the
+ * kernel), ENOBUFS and ETOOMANYREFS (the kernel had no room to send): nothing is lost, and the next call tries
+ * again. With any other errno it has ended: waywire_connection_failure says why.
  *
- * What callbacks write is sent by the next call. At a server half of the outbox is free before each
- * message, so a callback has room for what it writes: a client that does not read is not read
- * either. At a client a callback can meet WAYWIRE_FULL. */
+ * What callbacks write is sent by the next call. At a server, half of the outbox is free before each message, so
+ * a callback has room for what it writes; nothing is read from a client that does not read. At a client, a
+ * callback can get WAYWIRE_FULL. */
 int waywire_connection_dispatch(waywire_connection *connection, int milliseconds);
 
 /* Dispatches until the compositor has read all that the client has written, by wl_display.sync.
@@ -249,28 +240,25 @@ int waywire_connection_dispatch(waywire_connection *connection, int milliseconds
  * waywire_connection_dispatch, and EINVAL at a server. */
 int waywire_connection_roundtrip(waywire_connection *connection, int milliseconds);
 
-/* Sends what waits, until all of it has gone, as after WAYWIRE_FULL. It reads nothing. Returns 0.
- * Returns -1 with errno: EAGAIN after this many milliseconds (-1: no limit), else as
- * waywire_connection_flush. */
+/* Sends what waits until all of it has gone, for example after WAYWIRE_FULL. It reads nothing. Returns 0. Returns
+ * -1 with errno: EAGAIN after this many milliseconds (-1: no limit), else as waywire_connection_flush. */
 int waywire_connection_drain(waywire_connection *connection, int milliseconds);
 
-/* A loop of one's own polls this descriptor, for POLLIN if the connection wants_read, and for
- * POLLOUT if it wants_write. Before that it flushes, and afterwards it fills and dispatches what is
- * pending; or it makes one call for all of this, which does not wait:
- * waywire_connection_dispatch(it, 0). If the connection wants neither, messages wait that had no
- * room for their answers before the flush, or that found no memory: dispatch without waiting. */
+/* A loop of one's own polls this descriptor, for POLLIN if the connection wants_read, and for POLLOUT if it
+ * wants_write. Before that it flushes, and afterwards it fills and dispatches what is pending; or it makes one
+ * call for all of this, which does not wait: waywire_connection_dispatch(it, 0). If the connection wants neither,
+ * messages wait for whose answers there was no room before the flush, or no memory: dispatch without waiting. */
 int waywire_connection_fd(const waywire_connection *connection);
 
 /* Whether bytes wait to be sent. */
 bool waywire_connection_wants_write(const waywire_connection *connection);
 
-/* Whether `fill` would read: not while messages wait that were read and not dispatched. */
+/* Whether `fill` would read. It does not while messages that were read are not dispatched. */
 bool waywire_connection_wants_read(const waywire_connection *connection);
 
-/* Sends what waits, as wl_display_flush does. Returns 0 once all has gone. Returns -1 with errno:
- * EAGAIN if the socket takes no more now; at a client EPIPE or ECONNRESET if the compositor has
- * closed the connection, which can still be read and may say why; else as
- * waywire_connection_dispatch. */
+/* Sends what waits, as wl_display_flush does. Returns 0 when everything has been sent. Returns -1 with errno:
+ * EAGAIN if the socket takes no more now; at a client EPIPE or ECONNRESET if the compositor has closed the
+ * connection, which can still be read and may say why; else as waywire_connection_dispatch. */
 int waywire_connection_flush(waywire_connection *connection);
 
 /* Receives once. Returns 1, or 0 if nothing is there yet, or if messages are still to be
@@ -279,8 +267,8 @@ int waywire_connection_flush(waywire_connection *connection);
  * the connection goes on. */
 int waywire_connection_fill(waywire_connection *connection);
 
-/* Calls back for all messages that were read, and announces globals. Returns how many messages
- * there were; -1 with errno as waywire_connection_dispatch. */
+/* Calls the callbacks for all messages that were read, and announces globals. Returns how many messages there
+ * were; -1 with errno as waywire_connection_dispatch. */
 int waywire_connection_dispatch_pending(waywire_connection *connection);
 
 /* Why a connection has ended. */

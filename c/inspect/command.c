@@ -63,7 +63,7 @@ int start_command(char **command, const char *display, bool is_aside, const sigs
 	sigaddset(&usual, SIGPIPE);
 	setenv("WAYLAND_DISPLAY", display, 1);
 	unsetenv("WAYLAND_SOCKET");
-	/* What the command leaves behind becomes a child of the tool, which so learns of its end. */
+	/* Processes that the command leaves behind become children of the tool, so it learns of their end. */
 	prctl(PR_SET_CHILD_SUBREAPER, 1);
 	posix_spawnattr_init(&attributes);
 	posix_spawnattr_setflags(&attributes, POSIX_SPAWN_SETSIGDEF | POSIX_SPAWN_SETSIGMASK);

@@ -70,7 +70,7 @@ void keyed_drop(struct keyed *keyed, uint64_t key)
 	if (!keyed->room || !keyed->places[free_place].value)
 		return;
 	keyed->count--;
-	/* What follows moves up, unless it would come before the place where it is looked for first. */
+	/* Moves the following entries up, unless one would come before the place where its search begins. */
 	for (size_t each = (free_place + 1) & last; keyed->places[each].value; each = (each + 1) & last) {
 		size_t first = first_place(keyed, keyed->places[each].key);
 		if (((each - first) & last) < ((each - free_place) & last))

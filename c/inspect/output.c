@@ -49,7 +49,7 @@ void fail(const char *format, ...)
 	exit(NOTHING_INSPECTED);
 }
 
-/* Waits until the output takes something, and where the tool is told to stop, a second. */
+/* Waits until the output takes something; after the tool was told to stop, for one second at most. */
 static bool wait_for_output(void)
 {
 	struct pollfd polled = { output, POLLOUT, 0 };

@@ -88,7 +88,8 @@ void reopen_begin(struct reopening *reopening, struct follower *follower, size_t
 	uint32_t next = client_ids < 2 ? 2 : client_ids < MOST_IDS ? (uint32_t)client_ids : MOST_IDS;
 	size_t most = server_ids < MOST_IDS ? server_ids : MOST_IDS;
 	*reopening = (struct reopening){ follower, next, next + 1 };
-	/* An id is taken only behind as many messages as it has ids before it. Those of no id change nothing. */
+	/* The library accepts an id only after as many messages as there are ids before it. Messages without an
+	 * id change nothing. */
 	for (size_t each = 0; each < (most > next ? most : next) + 2; each++)
 		give_delete_id(reopening, 0);
 	struct building message = begun(DISPLAY_ID);
@@ -110,7 +111,7 @@ struct found {
 	size_t arg_count;
 };
 
-/* Puts an argument with nothing in it, or the new id. False where one of its kind has to be something else. */
+/* Puts an empty argument, or the new id. False if an argument of its kind cannot be empty. */
 static bool put_argument(struct building *message, const waywire_kind *kind, uint32_t new_id)
 {
 	switch (kind->kind) {

@@ -15,8 +15,8 @@ static double seconds_since(const struct shared *shared)
 	return (double)(now.tv_sec - shared->start.tv_sec) + (double)(now.tv_nsec - shared->start.tv_nsec) / 1e9;
 }
 
-/* Lines say the client's number where a second one has come, or may come at any time. The first of them says who the
- * client is. */
+/* Lines have the client's number if a second client has come, or may come at any time. The first such line says
+ * who the client is. */
 static void number_lines(struct session *session, const struct shared *shared)
 {
 	struct shown *shown = &session->judging.shown;

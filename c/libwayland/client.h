@@ -1,9 +1,9 @@
-/* What the files of c/libwayland share: a libwayland-client over the client of waywire.h.
+/* What the files of c/libwayland share: a libwayland-client built on the client of waywire.h.
  *
- * A display has a client, which reads and writes its messages, and a lock, which every call takes
- * before it uses the client. Each object of the client has a proxy, which is what the client keeps
- * as the user's pointer of the object. What the client reports is copied into events, which wait in
- * queues and are dispatched without the lock. */
+ * A display has a client, which reads and writes its messages, and a lock, which every call takes before it uses
+ * the client. Each object of the client has a proxy, which is what the client keeps as the user's pointer of the
+ * object. What the client reports is copied into events, which wait in queues and are dispatched without the
+ * lock. */
 #ifndef WAYWIRE_WAYLAND_CLIENT_H
 #define WAYWIRE_WAYLAND_CLIENT_H
 
@@ -84,17 +84,16 @@ struct wl_display {
 
 /* ---- tables (tables.c) */
 
-/* Makes the client of a display, over the tables that every display begins with. False with
- * errno. */
+/* Makes the client of a display, with the tables that every display begins with. False with errno. */
 bool make_client(struct wl_display *display, const waywire_sizes *sizes);
 
 /* Whether the client's tables agree with an interface: they have all its messages, with the same
  * arguments. If not, it says why on stderr. */
 bool agrees_with_tables(struct wl_display *display, const struct wl_interface *interface);
 
-/* Adds to the client's tables what they lack of an interface, and of all interfaces that its
- * messages name. False with errno if that cannot be, or if the interface contradicts the tables;
- * then it has said why on stderr. Ends reports. */
+/* Adds to the client's tables what they lack of an interface, and of all interfaces that its messages name. False
+ * with errno if that cannot be, or if the interface contradicts the tables; then it has said why on stderr.
+ * Reports become invalid. */
 bool learn_interface(struct wl_display *display, const struct wl_interface *interface);
 
 /* ---- proxies (proxy.c) */
@@ -155,8 +154,7 @@ struct event {
  * end. */
 int take_report(struct wl_display *display, const waywire_report *report, size_t length);
 
-/* Takes the first event out of a queue, and calls what listens. The lock is taken, and given up
- * during the call. */
+/* Takes the first event out of a queue, and calls its listener. The lock is taken, and given up during the call. */
 void dispatch_first(struct wl_display *display, struct wl_event_queue *queue);
 
 /* Drops all events of a queue. */

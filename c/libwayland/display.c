@@ -49,7 +49,7 @@ EXPORT uint32_t wl_display_get_protocol_error(struct wl_display *display,
 
 /* ---- connecting */
 
-/* Begins a display over a client that is made. */
+/* Sets up a display with a client. */
 static void init_display(struct wl_display *display)
 {
 	struct wl_proxy *proxy = &display->proxy;
@@ -66,7 +66,7 @@ static void init_display(struct wl_display *display)
 	give_object(proxy, waywire_end_display(display->client.end));
 }
 
-/* Takes a display apart, of which the descriptor is closed and the end given up. */
+/* Frees a display whose descriptor is closed and whose end is given up. */
 static void free_display(struct wl_display *display)
 {
 	waywire_end_free(display->client.end);
@@ -127,7 +127,7 @@ static void let_go_of_all(struct wl_display *display)
 	waywire_object it = { 0, 0 };
 	while (!waywire_end_object_after(end, it.id, &it)) {
 		struct wl_proxy *proxy = NULL;
-		/* That of a dead object of the server may be gone. */
+		/* The pointer of a dead object of the server may be invalid. */
 		if (it.id < FIRST_SERVER_ID || !waywire_end_live(end, it, NULL, NULL))
 			proxy = waywire_end_user(end, it);
 		if (proxy)

@@ -24,8 +24,8 @@
 
 /* ---- making and dropping them */
 
-/* Makes an event with room for `room` bytes behind its arguments. Null with errno. `signature` is
- * that of its message. */
+/* Makes an event with room for `room` bytes after its arguments. Null with errno. `signature` is that of its
+ * message. */
 static struct event *new_event(struct wl_proxy *proxy, const struct signature *signature,
 	uint32_t opcode, size_t room)
 {
@@ -101,8 +101,8 @@ static void put_in_queue(struct wl_event_queue *queue, struct event *event)
 
 /* ---- copying a message */
 
-/* Whether an argument of a report is what a letter of a signature asks for. A new object of no
- * interface is an `n` there, and a number in the tables. */
+/* Whether an argument of a report is what a letter of a signature requires. A new object of no interface is an
+ * `n` there, and a number in the tables. */
 static bool is_of_letter(const waywire_arg *arg, char letter)
 {
 	switch (arg->kind) {
@@ -134,14 +134,14 @@ static bool is_null(const waywire_arg *arg)
 	return arg->kind == WAYWIRE_NULL_STRING || arg->kind == WAYWIRE_NULL_OBJECT;
 }
 
-/* How much memory the arrays and strings of a report take, behind the arguments. */
+/* How much memory the arrays and strings of a report need, after the arguments. */
 struct sizes {
 	size_t arrays, bytes;
 };
 
-/* Reads the signature of the event that a report is for. False if the interface of its proxy has no
- * such event, or one of other arguments: the tables were made of another struct. The tables allow
- * null in more places. */
+/* Reads the signature of the event that a report is for. False if the interface of its proxy has no such event,
+ * or one with other arguments, because the tables were made from another struct. The tables allow null in more
+ * places. */
 static bool read_event(const struct wl_proxy *proxy, const waywire_report *report,
 	struct signature *signature, struct sizes *sizes)
 {
@@ -170,7 +170,7 @@ struct behind {
 	char *bytes;
 };
 
-/* Copies bytes, and a NUL behind them. */
+/* Copies bytes, followed by a NUL. */
 static char *copy_bytes(struct behind *behind, const waywire_arg *arg)
 {
 	char *copy = behind->bytes;

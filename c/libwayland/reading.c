@@ -23,7 +23,7 @@ static int receive(struct wl_display *display)
 	return -1;
 }
 
-/* How many bytes wait in the inbox, but for a constant. It is asked for what is printed alone. */
+/* How many bytes wait in the inbox, apart from a constant. It is needed only for printing. */
 static size_t room_of(const waywire_end *end)
 {
 	return is_debugging() ? waywire_end_in_room(end).bytes : 0;

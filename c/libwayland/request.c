@@ -30,7 +30,7 @@ static bool is_of_bind(const struct signature *signature)
 		&& !memcmp(signature->letters, BIND_SIGNATURE, BIND_COUNT);
 }
 
-/* Finds the message of a request, and takes its signature apart. */
+/* Finds the message of a request, and parses its signature. */
 static void begin_request(struct request *request, struct wl_proxy *proxy, uint32_t opcode)
 {
 	const struct wl_interface *interface = proxy->object.interface;
@@ -74,8 +74,8 @@ static bool refuse(const struct request *request, int error, const char *why)
 	return false;
 }
 
-/* What the client does not write. A target that is gone is no error unless the program waits for a
- * new object: the server may have ended it while the program could not know. */
+/* A request that the client does not write. A target that is gone is no error unless the program waits for a new
+ * object: the server may have ended it while the program could not know. */
 static bool refuse_status(const struct request *request, waywire_status status)
 {
 	switch (status) {
@@ -164,8 +164,8 @@ static waywire_arg array_argument(const struct wl_array *array)
 	return array ? waywire_array(array->data, array->size) : waywire_array(NULL, 0);
 }
 
-/* Puts an argument into the form of the client. Returns 0, or an errno: EINVAL for null where that
- * is not allowed, else why a descriptor cannot be duplicated. */
+/* Converts an argument to the client's form. Returns 0, or an errno: EINVAL for null where that is not allowed,
+ * else why a descriptor cannot be duplicated. */
 static int convert_argument(char letter, bool nullable, const union wl_argument *arg,
 	waywire_arg *out)
 {
@@ -198,7 +198,7 @@ static int convert_argument(char letter, bool nullable, const union wl_argument 
 	return arg->s || nullable ? 0 : EINVAL; /* each of these three is a pointer */
 }
 
-/* Puts the arguments of a request into the form of the client. Returns 0, or an errno. */
+/* Converts the arguments of a request to the client's form. Returns 0, or an errno. */
 static int convert(const struct request *request, waywire_arg out[WAYWIRE_MAX_ARGS])
 {
 	const struct signature *signature = &request->signature;
@@ -215,7 +215,7 @@ static int convert(const struct request *request, waywire_arg out[WAYWIRE_MAX_AR
 
 /* ---- writing */
 
-/* Writes a request to the outbox, which has room for it or not. */
+/* Writes a request to the outbox, if there is room. */
 static waywire_status write_once(const struct request *request, const waywire_arg *args,
 	waywire_object *made)
 {

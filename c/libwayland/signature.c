@@ -1,12 +1,12 @@
-/* The signatures of messages, which programs hand in as text: see client.h. */
+/* The signatures of messages, which programs pass in as text: see client.h. */
 #include "client.h"
 
 #include <limits.h>
 
-/* A number in front of a signature has at most so many digits. */
+/* A number at the front of a signature has at most this many digits. */
 #define MOST_DIGITS 10
 
-/* What a character is: no part of a signature, if it is not in the table below. */
+/* The kind of a character: no part of a signature, if it is not in the table below. */
 enum letter_class {
 	PLAIN = 1,
 	WITH_NULL = 2, /* a `?` may precede it */
@@ -26,7 +26,7 @@ static bool is_digit(char it)
 	return it >= '0' && it <= '9';
 }
 
-/* The text behind the number in front of a signature; null if the number is above UINT32_MAX. */
+/* The text after the number at the front of a signature; null if the number is above UINT32_MAX. */
 static const char *behind_number(const char *text)
 {
 	uint64_t number = 0;

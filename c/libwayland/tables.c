@@ -1,21 +1,19 @@
-/* The tables of a client, which grow with the wl_interface structs that the program hands in. See
- * client.h.
+/* The tables of a client, which grow with the wl_interface structs that the program passes in. See client.h.
  *
- * Before the program makes its first object with an interface, this file writes a table text: the
- * interface and all interfaces that its messages name, unless the tables have them already. The
- * client reads the text. So the tables have an interface before an event can come for it.
+ * Before the program makes its first object with an interface, this file writes a table text: the interface and
+ * all interfaces that its messages name, unless the tables have them already. The client reads the text. So the
+ * tables have an interface before an event can come for it.
  *
- * A struct does not say which messages destroy an object, so nothing is marked `D`. A delete_id
- * then ends a live object, and the server may reuse the id of a live object of its own. No message
- * has a since number: libwayland delivers an event that is newer than its object, and leaves it to
- * the server to refuse a request that is. */
+ * A struct does not say which messages destroy an object, so nothing is marked `D`. A delete_id then ends a live
+ * object, and the server may reuse the id of a live object of its own. No message has a since number: libwayland
+ * delivers an event that is newer than its object, and leaves it to the server to refuse a request that is. */
 #include "client.h"
 
 #include <errno.h>
 #include <stdio.h>
 #include <stdlib.h>
 
-/* The version of every interface: that of a struct is no limit, since programs bind above it. */
+/* The version of every interface. That of a struct is no limit, because programs bind above it. */
 #define ANY_VERSION "4294967295"
 
 /* What tables can have: the rules V1 and V3 of docs/FORMATS.md. */
@@ -313,8 +311,7 @@ static void add_argument(struct text *text, const struct shown_argument *arg)
 	}
 }
 
-/* Messages are named by their opcodes, since the names of some have capitals, which tables do not
- * take. */
+/* Messages are named by their opcodes, because some names have capitals, which tables do not accept. */
 static void add_message(struct text *text, waywire_sender sender, size_t opcode,
 	const struct wl_message *message)
 {
@@ -517,7 +514,7 @@ static void end_growth(struct growth *growth)
 	free(growth->text.bytes);
 }
 
-/* Remembers the interfaces that the tables have all of, once they have the text. */
+/* Remembers the interfaces that the tables have completely, once they have the text. */
 static void remember_written(const struct growth *growth)
 {
 	for (size_t each = 0; each < growth->count; each++)

@@ -5,7 +5,7 @@
 #include <stdlib.h>
 #include <string.h>
 
-/* The room of an array that has its first bytes. */
+/* The room of an array when it has its first bytes. */
 #define FIRST_ROOM 16
 
 /* What the data of a released array point to, as in libwayland: nothing is there. */
@@ -71,7 +71,7 @@ EXPORT void wl_array_release(struct wl_array *array)
 	array->data = RELEASED;
 }
 
-/* Makes room for so many bytes in all, by doubling. False with ENOMEM, and nothing has changed. */
+/* Makes room for this many bytes in all, by doubling. False with ENOMEM, and nothing has changed. */
 static bool make_room(struct wl_array *array, size_t size)
 {
 	size_t room = array->alloc ? array->alloc : FIRST_ROOM;

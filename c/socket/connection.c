@@ -8,12 +8,12 @@
 #include <stdlib.h>
 #include <time.h>
 
-/* What a server bears of its client, unless it is told otherwise. */
+/* A server's default limits for its client. */
 #define SERVER_OBJECTS 50000
 #define SERVER_PATIENCE 120000
 
-/* A libwayland whose buffers grow can send many descriptors before the bytes of their messages. Each that waits is one
- * of the process, which often may have 1,024. */
+/* A libwayland whose buffers grow can send many descriptors before the bytes of their messages. Each one that
+ * waits counts against the process's limit, often 1,024. */
 static const waywire_sizes usual_sizes = { 65536, 64, 65536, 256, WAYWIRE_USUAL_LIMIT };
 
 int64_t moment(void)
@@ -25,8 +25,8 @@ int64_t moment(void)
 
 /* ---- making one */
 
-/* Whether an end of these sizes can pass what libwayland sends at once, and any message: also while the
- * descriptors of one wait whose bytes are not whole. */
+/* Whether an end with these sizes can take what libwayland sends at once, and any message, even while the
+ * descriptors of an incomplete message wait. */
 static bool can_carry(const waywire_sizes *sizes)
 {
 	size_t limit = sizes->limit ? sizes->limit : WAYWIRE_USUAL_LIMIT;
@@ -167,7 +167,7 @@ const waywire_failure *waywire_connection_failure(const waywire_connection *conn
 	return connection->failure.error ? &connection->failure : NULL;
 }
 
-/* Notes why a connection has ended, of which its text is written. */
+/* Notes why a connection has ended; its text is written already. */
 static int ended(waywire_connection *connection, int error)
 {
 	if (connection->server.end) /* its client is still sent the wl_display.error that waits */

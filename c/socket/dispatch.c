@@ -10,7 +10,7 @@
 /* The place of wl_display in all tables. */
 #define DISPLAY_INTERFACE 0
 
-/* So many bytes are sent in one go while messages are read, as libwayland's buffer holds. */
+/* While messages are read, this many bytes are sent in one go: the size of libwayland's buffer. */
 #define BATCH 4096
 
 /* ---- writing */
@@ -69,8 +69,8 @@ bool waywire_connection_wants_write(const waywire_connection *connection)
 		&& (parts[0].length || parts[1].length);
 }
 
-/* Flushes, and says whether the connection goes on: also if the socket takes no more, or if a
- * client's server has closed it. */
+/* Flushes, and says whether the connection continues. It does even if the socket takes no more, or if a client's
+ * server has closed it. */
 static bool flushes(waywire_connection *connection)
 {
 	return !waywire_connection_flush(connection)
@@ -133,8 +133,8 @@ static void destroy_made(waywire_connection *connection)
 	}
 }
 
-/* Calls what a report is for: the dispatcher of its object, else that of the interface. Returns
- * false if there was no callback. */
+/* Calls the dispatcher of the report's object, else that of the interface. Returns false if there was no
+ * callback. */
 static bool call(waywire_connection *connection, struct entry *entry, uint16_t interface,
 	const waywire_report *report)
 {
@@ -162,12 +162,12 @@ static struct entry *take_entry(waywire_connection *connection, waywire_report *
 	return target;
 }
 
-/* Calls back for one report, and ends the entry of its target if it is the last. */
+/* Calls the callback for one report, and ends the entry of its target if it is the last. */
 static void hear(waywire_connection *connection, waywire_report *report)
 {
 	waywire_end *end = connection->end;
 	bool was_heard = false;
-	/* A callback that dispatches has the end write others in their place. */
+	/* If a callback dispatches, the end overwrites these with others. */
 	uint32_t tokens[WAYWIRE_MAX_ARGS];
 	size_t token_count = report->token_count;
 	if (token_count)
@@ -193,8 +193,8 @@ static void hear(waywire_connection *connection, waywire_report *report)
 	release_entry(target);
 }
 
-/* Whether the outbox has so little in it that callbacks have room for what they write: sends what
- * waits once that is worth it. Returns 1, or 0 if there is too much, or -1. */
+/* Whether the outbox has room for what callbacks write; sends what waits when there is enough of it. Returns 1,
+ * or 0 if there is too much, or -1. */
 static int has_room(waywire_connection *connection)
 {
 	const waywire_amounts *half = &connection->half;
@@ -207,9 +207,8 @@ static int has_room(waywire_connection *connection)
 	return waits.bytes <= half->bytes && waits.tokens <= half->tokens;
 }
 
-/* Prepares for the next message. Returns 1, or 0 if it has to wait: a server reads nothing more
- * from a client that does not read, while a client goes on, or the two could wait for each other
- * for ever. -1 with errno. */
+/* Prepares for the next message. Returns 1, or 0 if it has to wait: a server reads nothing more from a client
+ * that does not read. A client reads on; otherwise the two could wait for each other forever. -1 with errno. */
 static int is_ready(waywire_connection *connection)
 {
 	int room = has_room(connection);
@@ -233,7 +232,7 @@ static int has_too_many(waywire_connection *connection)
 	return fail(connection, EPROTO, text);
 }
 
-/* Reads the next message, and calls back. Returns 1, or 0 if none is read now, or -1 with errno. */
+/* Reads the next message, and calls its callback. Returns 1, or 0 if none is read now, or -1 with errno. */
 static int read_next(waywire_connection *connection)
 {
 	waywire_report report;
@@ -265,7 +264,7 @@ static int read_next(waywire_connection *connection)
 	return connection->failure.error ? ended_before(connection) : 1;
 }
 
-/* Calls back for all that waits. Adds to `count` how many messages were read. Returns 0, or -1 with
+/* Calls the callbacks for all that waits. Adds to `count` how many messages were read. Returns 0, or -1 with
  * errno. */
 static int read_all(waywire_connection *connection, int *count)
 {
@@ -286,7 +285,7 @@ int waywire_connection_dispatch_pending(waywire_connection *connection)
 
 /* ---- waiting */
 
-/* The end of a time that begins now; below 0 if it has none. */
+/* The end of a period that begins now; below 0 if it has none. */
 static int64_t end_of(int milliseconds)
 {
 	return milliseconds < 0 ? -1 : moment() + milliseconds;
@@ -323,8 +322,8 @@ static int wait_until(waywire_connection *connection, int64_t end)
 	return ready > 0 || end < 0 || moment() < end;
 }
 
-/* Flushes, calls back for what waits, and else waits. Adds to `count` how many messages were read.
- * Returns 1, or 0 if the time is over, or -1 with errno. */
+/* Flushes, and calls the callbacks for what waits; if nothing waits, waits itself. Adds to `count` how many
+ * messages were read. Returns 1, or 0 if the time is over, or -1 with errno. */
 static int step(waywire_connection *connection, int64_t end, int *count)
 {
 	int before = *count;
@@ -361,7 +360,7 @@ int waywire_connection_drain(waywire_connection *connection, int milliseconds)
 	return 0;
 }
 
-/* As `step`, but 0 if the time was over before it, and it has not done what is waited for. */
+/* As `step`, but 0 if the time was over before it and it did nothing. */
 static int step_in_time(waywire_connection *connection, int64_t end, int *count, const bool *is_done)
 {
 	bool is_late = end >= 0 && moment() >= end;

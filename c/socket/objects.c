@@ -1,8 +1,7 @@
-/* What a connection keeps for its objects. An entry is what its end keeps as the user's pointer of
- * the object.
+/* What a connection keeps for its objects: an entry, which its end keeps as the user's pointer of the object.
  *
- * A pointer of an object that is gone may lead to an entry that was freed. So a pointer is followed
- * only if its object is live, or if it comes with the object's last report. */
+ * A pointer of an object that is gone may lead to an entry that was freed. So a pointer is followed only if its
+ * object is live, or if it comes with the object's last report. */
 #include "socket.h"
 
 #include <stdlib.h>
@@ -139,7 +138,7 @@ static waywire_status make_entry(waywire_connection *connection, waywire_object 
 	return WAYWIRE_OK;
 }
 
-/* Puts data in the place of those that an entry has. */
+/* Replaces the data of an entry. */
 static void replace_data(struct entry *entry, void *data, void (*destroy)(void *data))
 {
 	void (*destroy_before)(void *data) = entry->destroy;
@@ -188,7 +187,7 @@ void waywire_connection_forget(waywire_connection *connection, waywire_object ob
 		end_entry(connection, entry);
 }
 
-/* Makes room for what is called at the places before this one. */
+/* Makes room for the listeners at the places before this one. */
 static waywire_status reach(waywire_connection *connection, size_t count)
 {
 	if (count <= connection->implemented_count)

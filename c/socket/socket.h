@@ -1,5 +1,5 @@
-/* What the files of c/socket share. They stand on the calls of waywire.h alone. `make` makes local
- * what is global here: only the calls of include/waywire-socket.h are for others to see. */
+/* What the files of c/socket share. They use only the calls of waywire.h. `make` makes local what is global here:
+ * only the calls of include/waywire-socket.h are visible to others. */
 #ifndef WAYWIRE_SOCKET_PARTS_H
 #define WAYWIRE_SOCKET_PARTS_H
 
@@ -73,11 +73,11 @@ struct waywire_connection {
 /* Milliseconds of a clock that only goes on (connection.c). */
 HIDDEN int64_t moment(void);
 
-/* Ends a connection for good with an errno and a text, which a server's other end is still sent
- * what waits about. Returns -1, with errno set (connection.c). */
+/* Ends a connection for good with an errno and a text; a server still sends what waits. Returns -1, with errno
+ * set (connection.c). */
 HIDDEN int fail(waywire_connection *connection, int error, const char *text);
 
-/* The same where a message that came broke a rule, and where wl_display.error came. */
+/* The same if a message that came broke a rule, and if wl_display.error came. */
 HIDDEN int fail_by_fault(waywire_connection *connection, waywire_status status,
 	const waywire_report *report);
 HIDDEN int fail_by_error(waywire_connection *connection, const waywire_report *report);
@@ -98,7 +98,7 @@ HIDDEN void release_entry(struct entry *entry);
 /* Ends all entries. */
 HIDDEN void end_entries(waywire_connection *connection);
 
-/* Whether something is called for the messages to an object. */
+/* Whether there is a callback for messages to an object. */
 HIDDEN bool is_heard(const waywire_connection *connection, waywire_object object,
 	uint16_t interface);
 

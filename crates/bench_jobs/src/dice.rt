@@ -1,15 +1,15 @@
-//! Random draws, the same ones for the same number.
+//! Random draws; the same number gives the same draws.
 use rand_core::Rng;
 use rand_pcg::Pcg32;
 
-/// What draws come from.
+/// The state of the draws.
 #[derive(Drop)]
 pub(crate) struct Dice {
     words: Pcg32,
 }
 
 impl Dice {
-    /// Draws by a number, where each round and each part of a job has draws of its own.
+    /// Draws from a number; each round and each part of a job has its own draws.
     pub(crate) fn new(seed: u32, round: u32, part: u64) -> Dice {
         let state = u64::from(round).wrapping_mul(4_294_967_296) | u64::from(seed);
         Dice {
@@ -21,12 +21,12 @@ impl Dice {
         self.words.next_u32()
     }
 
-    /// A number below this one; 0 where there is none.
+    /// A number below this one; 0 if there is none.
     pub(crate) fn below(&mut self, count: u32) -> u32 {
         self.word().checked_rem(count).unwrap_or(0)
     }
 
-    /// A place in a list of this length; 0 where it is empty.
+    /// An index of a list with this length; 0 if it is empty.
     pub(crate) fn place(&mut self, len: usize) -> usize {
         self.below(u32::try_from(len).unwrap_or(u32::MAX)) as usize
     }

@@ -1,7 +1,7 @@
-//! What the results of a job come to.
+//! A digest of the results of a job.
 use std::fmt::{self, Display, Formatter};
 
-/// A digest of results: other results give another one, but for a chance of one in 2^64.
+/// A digest of results: different results give a different one, except with a chance of 1 in 2^64.
 #[derive(Drop)]
 pub(crate) struct Digest {
     value: u64,
@@ -23,7 +23,7 @@ impl Digest {
         self.number(u64::from(word));
     }
 
-    /// Takes in bytes and how many they are.
+    /// Adds bytes and their number.
     pub(crate) fn bytes(&mut self, bytes: &[u8]) {
         let (words, rest) = bytes.as_chunks::<8>();
         for word in words {

@@ -1,4 +1,5 @@
-//! Messages between the two ends of a connection: a desktop's traffic, by the calls of both ends.
+//! Messages between the two ends of a connection: a desktop's traffic, through the calls of both
+//! ends.
 use crate::Amount;
 use crate::dice::Dice;
 use crate::digest::Digest;
@@ -14,19 +15,19 @@ use wl::{Arg, End, Fixed, Limit, Object, Sizes, Tables, event, request};
 struct Course {
     /// How many turns there are.
     turns: u32,
-    /// How many turns are carried at once, at most.
+    /// How many turns are carried together, at most.
     at_once: u32,
     /// How many surfaces stay open.
     open: u32,
     /// The most bytes of a title.
     title: u32,
-    /// How many turns wait unread at the server all the while.
+    /// How many turns always wait unread at the server.
     waiting: u32,
     /// Whether each byte comes alone.
     by_bytes: bool,
 }
 
-/// A desktop: reads as real ones are.
+/// A desktop, with reads as in real programs.
 const USUAL: Course = Course {
     turns: 300_000,
     at_once: 3,
@@ -42,7 +43,7 @@ const BATCHES: Course = Course {
     ..USUAL
 };
 
-/// Beside 100,000 objects.
+/// With 100,000 objects.
 const MANY: Course = Course {
     turns: 40_000,
     open: 100_000,
@@ -93,7 +94,7 @@ struct Desk {
     buffer: Object,
 }
 
-/// What a server writes when it has read the requests of a turn.
+/// What a server writes after it has read the requests of a turn.
 #[derive(Clone, Copy)]
 enum Reply {
     Frame(Object),
@@ -103,14 +104,14 @@ enum Reply {
     Nothing,
 }
 
-/// What a session is played with.
+/// The state with which a session is played.
 #[derive(Drop)]
 struct Player<'a> {
     dice: Dice,
     time: u32,
     wire: Wire,
     digest: &'a mut Digest,
-    /// What the server owes for the requests that were written.
+    /// The server's replies still to be sent to the requests that were written.
     replies: Vec<Reply>,
 }
 
@@ -120,7 +121,7 @@ impl Player<'_> {
         self.time
     }
 
-    /// A number that an int of a message has.
+    /// A number for an int argument.
     fn int(&mut self, count: u32) -> i32 {
         i32::try_from(self.dice.below(count)).unwrap_or(0)
     }
@@ -243,7 +244,7 @@ fn frame(client: &mut Client<'_>, desk: Desk, play: &mut Player<'_>) -> Option<R
     Some(Reply::Frame(callback))
 }
 
-/// Shows a buffer of a pool of its own, and drops both.
+/// Shows a buffer of its own pool, and destroys both.
 fn buffer(client: &mut Client<'_>, desk: Desk, play: &mut Player<'_>) -> Option<Reply> {
     let height = play.int(480);
     let args = [
@@ -262,7 +263,7 @@ fn buffer(client: &mut Client<'_>, desk: Desk, play: &mut Player<'_>) -> Option<
     Some(Reply::Nothing)
 }
 
-/// A surface with a region, both dropped.
+/// A surface with a region, both destroyed.
 fn child(client: &mut Client<'_>, desk: Desk, play: &mut Player<'_>) -> Option<Reply> {
     let surface = make(
         client,
@@ -397,7 +398,7 @@ fn answer(server: &mut Server<'_>, desk: Desk, reply: Reply, play: &mut Player<'
     }
 }
 
-/// Some turns, carried at once.
+/// Several turns, carried together.
 fn turns(
     client: &mut Client<'_>,
     server: &mut Server<'_>,
@@ -453,7 +454,7 @@ fn open_many(
     Some(())
 }
 
-/// One turn at a server that reads late: requests that ask for no answer, and an event.
+/// One turn at a server that reads late: requests that need no answer, and an event.
 fn late_turn(
     client: &mut Client<'_>,
     server: &mut Server<'_>,
@@ -491,7 +492,7 @@ fn play_late(
     Some(())
 }
 
-/// Plays a course over two ends.
+/// Plays a course with two ends.
 fn play_over(
     client: &mut Client<'_>,
     server: &mut Server<'_>,
@@ -513,7 +514,7 @@ fn play_over(
     Some(())
 }
 
-/// Plays a course over two ends of its own.
+/// Plays a course with two new ends.
 fn play_course(
     alloc: Global,
     tables: &Tables,

@@ -1,6 +1,6 @@
-//! The proportions of real protocols, of the 13 texts of examples/tables: 35 interfaces with 179
-//! messages. A list has each number in the proportion of those that have it. Its last number also
-//! stands for those above it.
+//! The proportions of real protocols, from the 13 texts of examples/tables: 35 interfaces with 179
+//! messages. A list has each number as often, in proportion, as it occurs. Its last number also
+//! represents greater ones.
 use crate::dice::Dice;
 
 /// How many interfaces the text of one protocol has.
@@ -14,7 +14,7 @@ pub(crate) const INTERFACE_NAMES: [u32; 35] = [
     26, 26, 26, 27, 28, 30, 30, 31, 31, 31, 39,
 ];
 
-/// How many requests an interface has that no event ends.
+/// How many requests an interface has, among those that no event ends.
 pub(crate) const REQUESTS: [u32; 34] = [
     1, 1, 1, 1, 2, 2, 2, 2, 2, 2, 2, 2, 2, 2, 2, 2, 2, 3, 3, 3, 3, 3, 3, 3, 3, 4, 4, 4, 5, 5, 8, 9,
     10, 14,
@@ -25,26 +25,26 @@ pub(crate) const EVENTS: [u32; 35] = [
     6, 6, 7,
 ];
 
-/// How long the name of a message is, `destroy` left out.
+/// How long the name of a message is, without `destroy`.
 pub(crate) const MESSAGE_NAMES: [u32; 49] = [
     4, 4, 4, 4, 5, 5, 5, 6, 6, 6, 6, 7, 7, 8, 8, 9, 9, 9, 9, 9, 10, 10, 10, 10, 10, 10, 11, 11, 12,
     12, 12, 12, 13, 13, 13, 14, 14, 15, 15, 15, 15, 16, 17, 18, 20, 20, 20, 23, 25,
 ];
 
-/// How many arguments a message has, `destroy` left out.
+/// How many arguments a message has, without `destroy`.
 pub(crate) const ARGUMENTS: [u32; 49] = [
     0, 0, 0, 0, 0, 0, 0, 0, 0, 1, 1, 1, 1, 1, 1, 1, 1, 1, 1, 1, 1, 1, 1, 1, 1, 1, 1, 1, 1, 2, 2, 2,
     2, 2, 2, 2, 2, 2, 2, 2, 2, 3, 3, 4, 4, 4, 5, 5, 6,
 ];
 
-/// The kinds of arguments but new ids. Behind a parenthesis an interface is named.
+/// The kinds of arguments except new ids. A parenthesis is followed by an interface's name.
 pub(crate) const KINDS: [&[u8]; 32] = [
     b" u", b" u", b" u", b" u", b" u", b" u", b" u", b" u", b" u", b" u", b" u", b" i", b" i",
     b" i", b" i", b" i", b" i", b" i", b" i", b" o(", b" o(", b" o(", b" o(", b" ?o(", b" ?o(",
     b" s", b" s", b" f", b" f", b" h", b" a", b" ?s",
 ];
 
-/// The core's interfaces of which objects are.
+/// The core interfaces of object arguments.
 pub(crate) const CORE: [&[u8]; 8] = [
     b"wl_surface",
     b"wl_surface",
@@ -56,7 +56,7 @@ pub(crate) const CORE: [&[u8]; 8] = [
     b"wl_pointer",
 ];
 
-/// One number of a list; for its last, one of those from it to the most.
+/// One number of a list; if it is the last, a number from it to the most.
 pub(crate) fn number_of(dice: &mut Dice, list: &[u32], most: u32) -> Option<u32> {
     let place = dice.place(list.len());
     let number = *list.get(place)?;

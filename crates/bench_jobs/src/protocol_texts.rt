@@ -1,4 +1,4 @@
-//! Texts in the shape of real protocols, read, and names looked up in them.
+//! Texts shaped like real protocols: reading them, and looking names up in them.
 use crate::Amount;
 use crate::dice::Dice;
 use crate::digest::Digest;
@@ -10,25 +10,25 @@ use crate::signatures::add_tables;
 use std::alloc::Global;
 use wl::{Side, Tables};
 
-/// The most bytes of a name, and the most messages of a side.
+/// The longest name in bytes, and the most messages of a side.
 const MOST: u32 = 40;
 
 /// The most arguments of a message.
 const MOST_ARGUMENTS: u32 = 20;
 
-/// What names are made of.
+/// The letters of names.
 const WORDS: &[u8] = b"surface_configure_toplevel_feedback_manager_constraint_pointer_output";
 
 const HEAD: &[u8] =
     b"# Made by tools/tables-from-xml from this-protocol.xml of wayland-protocols 1.31-1.\n";
 
-/// So many bytes of a name.
+/// This many bytes of a name.
 fn words(dice: &mut Dice, len: u32) -> Option<&'static [u8]> {
     let from = dice.below(24) as usize;
     WORDS.get(from..from.saturating_add(len as usize))
 }
 
-/// Two letters that stand for a number.
+/// Two letters that represent a number.
 fn letters(number: u32) -> [u8; 2] {
     [b'a' + (number % 26) as u8, b'a' + (number / 26 % 26) as u8]
 }
@@ -40,14 +40,14 @@ struct Span {
     to: usize,
 }
 
-/// An interface of a text, by its place there.
+/// An interface of a text, by its index.
 #[derive(Clone, Copy)]
 struct Interface {
     place: u32,
     version: u32,
 }
 
-/// A message of a text: the place of its interface, and where its name lies.
+/// A message of a text: the index of its interface, and where its name lies.
 #[derive(Clone, Copy)]
 struct Message {
     interface: u32,
@@ -67,7 +67,7 @@ impl Names {
         self.bytes.get(span.from..span.to)
     }
 
-    /// The name of the next interface, with words that are drawn.
+    /// The next interface's name, with drawn words.
     fn push(&mut self, place: u32, words: &[u8]) -> Option<()> {
         let from = self.bytes.len();
         self.bytes.extend_from_slice(b"zwp_").ok()?;
@@ -78,7 +78,7 @@ impl Names {
         self.spans.push(Span { from, to }).ok()
     }
 
-    /// So many names, in place of those that were there.
+    /// Draws this many names, replacing those that were there.
     fn draw(&mut self, dice: &mut Dice, count: u32) -> Option<()> {
         self.bytes.clear();
         self.spans.clear();
@@ -90,7 +90,7 @@ impl Names {
     }
 }
 
-/// How many interfaces a text has, and how many of these, its last, are ended by an event.
+/// How many interfaces a text has, and how many of these, its last ones, an event ends.
 #[derive(Clone, Copy)]
 struct Size {
     interfaces: u32,
@@ -103,7 +103,7 @@ const JOINED: Size = Size {
     ended: 1,
 };
 
-/// A text that is made.
+/// A generated text.
 #[derive(Drop)]
 struct Text {
     dice: Dice,
@@ -128,12 +128,12 @@ impl Text {
         self.bytes.extend_from_slice(name).ok()
     }
 
-    /// How many interfaces no event ends. They stand first.
+    /// How many interfaces no event ends. They come first.
     fn lasting(&self) -> u32 {
         self.size.interfaces.saturating_sub(self.size.ended)
     }
 
-    /// The interface of an object: one of the core's three times out of four.
+    /// The interface of an object: three times out of four one of the core.
     fn object(&mut self) -> Option<()> {
         if self.dice.below(4) == 0 {
             let count = self.lasting();
@@ -162,7 +162,7 @@ impl Text {
         Some(())
     }
 
-    /// The arguments of a message. Of 74 requests that have some, 22 make an object.
+    /// The arguments of a message. Of 74 requests with arguments, 22 make an object.
     fn arguments(&mut self, side: Side) -> Option<()> {
         let mut count = number_of(&mut self.dice, &ARGUMENTS, MOST_ARGUMENTS)?;
         if side == Side::Request && count > 0 && self.dice.below(74) < 22 {
@@ -175,7 +175,7 @@ impl Text {
         Some(())
     }
 
-    /// Keeps the message whose name begins here and ends where the text does.
+    /// Keeps the message whose name begins here and ends at the end of the text.
     fn keep(&mut self, interface: Interface, from: usize) -> Option<()> {
         let to = self.bytes.len();
         let message = Message {
@@ -185,7 +185,7 @@ impl Text {
         self.messages.push(message).ok()
     }
 
-    /// The name of a message. One of three begins with `set_`.
+    /// The name of a message. One in three begins with `set_`.
     fn name(&mut self, interface: Interface, number: u32) -> Option<()> {
         let len = number_of(&mut self.dice, &MESSAGE_NAMES, MOST)?;
         let from = self.bytes.len();
@@ -200,8 +200,8 @@ impl Text {
         self.keep(interface, from)
     }
 
-    /// A message, with what stands behind its arguments. Where its interface has more than one
-    /// version, three of eight came with a later one than the first.
+    /// A message, with what follows its arguments. If its interface has more than one version,
+    /// three in eight were introduced by a later one than the first.
     fn message(&mut self, interface: Interface, side: Side, number: u32, end: &[u8]) -> Option<()> {
         self.put(match side {
             Side::Request => b"request ",
@@ -218,7 +218,7 @@ impl Text {
         self.put(b"\n")
     }
 
-    /// `destroy`, then the others.
+    /// `destroy`, followed by the others.
     fn requests(&mut self, interface: Interface) -> Option<()> {
         self.put(b"request ")?;
         let from = self.bytes.len();
@@ -238,7 +238,7 @@ impl Text {
         Some(())
     }
 
-    /// The events of an interface that two of them end.
+    /// The events of an interface, two of which end it.
     fn last_events(&mut self, interface: Interface) -> Option<()> {
         self.message(interface, Side::Event, 0, b"")?;
         self.message(interface, Side::Event, 1, b" D")?;
@@ -285,7 +285,7 @@ impl Text {
     }
 }
 
-/// Looks interfaces and messages up by their names, as binds and stubs do.
+/// Looks up interfaces and messages by their names, as binds and stubs do.
 fn look_up(tables: &Tables, text: &mut Text, digest: &mut Digest) -> Option<()> {
     for _ in 0..text.size.interfaces {
         let message = text.some_message()?;
@@ -298,7 +298,7 @@ fn look_up(tables: &Tables, text: &mut Text, digest: &mut Digest) -> Option<()> 
     Some(())
 }
 
-/// The tables with those of one text: all that they hold, and what is looked up in them.
+/// The tables with those of one text added: all that they contain, and what is looked up in them.
 fn read_one(core: &Tables, text: &mut Text, size: Size, digest: &mut Digest) -> Option<()> {
     text.write(size)?;
     let tables = core.read_more(&text.bytes).ok()?;
@@ -322,7 +322,7 @@ fn read_all(core: &Tables, text: &mut Text, amount: Amount, digest: &mut Digest)
     Some(())
 }
 
-/// Reads texts that are made.
+/// Reads generated texts.
 pub(crate) fn read(alloc: Global, amount: Amount, digest: &mut Digest) -> Option<()> {
     let core = Tables::core(alloc).ok()?;
     let mut text = Text {

@@ -8,12 +8,12 @@ use std::alloc::Global;
 use wl::{End, Limit, Sizes, Tables, request};
 
 const DISPLAY: u32 = 1;
-/// The registry of each client that stays, and what it binds first.
+/// The registry of each client that stays, and the id that it binds first.
 const REGISTRY: u32 = 2;
 
 const FIXES: u32 = 3;
 
-/// The interfaces of a desktop's globals, of which the first is that of global 1.
+/// The interfaces of a desktop's globals; the first is that of global 1.
 const GLOBALS: [&[u8]; 10] = [
     b"wl_fixes",
     b"wl_compositor",
@@ -45,7 +45,7 @@ struct Offer {
     version: u32,
 }
 
-/// What stands where a client is: the bytes that it writes, and room for those that it reads.
+/// A client's side: the bytes that it writes, and room for those that it reads.
 #[derive(Drop)]
 struct Peer<'a> {
     dice: Dice,
@@ -100,7 +100,7 @@ impl Peer<'_> {
             .ok()
     }
 
-    /// Adds wl_fixes, then so many globals that are drawn.
+    /// Adds wl_fixes, then this many drawn globals.
     fn add_all(&mut self, server: &mut Server<'_>, tables: &Tables, count: u32) -> Option<()> {
         self.offers.clear();
         self.add(server, tables, 0)?;
@@ -111,14 +111,14 @@ impl Peer<'_> {
         Some(())
     }
 
-    /// Binds the global of a name.
+    /// Binds the global with a name.
     fn bind(&mut self, name: u32, id: u32) -> Option<()> {
         let offer = *self.offers.get(name.saturating_sub(1) as usize)?;
         let behind = [offer.version, id];
         named_message(&mut self.request, REGISTRY, name, offer.iface, &behind)
     }
 
-    /// The server announces all that it owes.
+    /// The server announces all globals.
     fn announce(&mut self, server: &mut Server<'_>) -> Option<()> {
         for _ in 0..u32::MAX {
             let count = server.announce().ok()?;
@@ -132,7 +132,7 @@ impl Peer<'_> {
     }
 }
 
-/// A client that comes: two registries, some binds, and a registry that is dropped.
+/// A client arrives: two registries, some binds, and a registry that is destroyed.
 fn welcome(server: &mut Server<'_>, tables: &Tables, peer: &mut Peer<'_>) -> Option<()> {
     peer.add_all(server, tables, GLOBAL_COUNT)?;
     peer.get_registry(REGISTRY)?;
@@ -153,7 +153,7 @@ fn welcome(server: &mut Server<'_>, tables: &Tables, peer: &mut Peer<'_>) -> Opt
     peer.announce(server)
 }
 
-/// A client that makes very many registries, then drops one and makes one, again and again, while
+/// A client that makes very many registries, then repeatedly destroys one and makes one, while
 /// globals come and go.
 fn resist(
     server: &mut Server<'_>,
@@ -203,7 +203,7 @@ fn play(
     }
 }
 
-/// A server of its own for one client.
+/// A new server for one client.
 fn serve_one(
     alloc: Global,
     tables: &Tables,
@@ -215,7 +215,7 @@ fn serve_one(
     play(&mut server, tables, registries, rounds, peer)
 }
 
-/// Clients that come, and some with very many registries.
+/// Clients that arrive, some of them with very many registries.
 pub(crate) fn serve(
     alloc: Global,
     tables: &Tables,

@@ -1,8 +1,9 @@
-//! A lawful session as a desktop has them, message by message as bytes.
+//! A lawful session such as desktops have, message by message as bytes.
 //!
-//! How often each kind of turn comes is after 110,000 messages of real programs: of 16 turns four
-//! draw a frame, four move the pointer, two type a key, three ask for a round trip, and one each
-//! makes and drops a buffer of a new pool, a surface with a region, and sets a title.
+//! The frequencies of the kinds of turns follow 110,000 messages of real programs. Of 16 turns,
+//! four draw a frame, four move the pointer, two type a key, three ask for a round trip, and one
+//! each makes and destroys a buffer of a new pool, makes and destroys a surface with a region, and
+//! sets a title.
 use crate::dice::Dice;
 use crate::spelling::{message, named_message, text_message};
 use wl::{event, request};
@@ -30,7 +31,7 @@ const KEYBOARD: u32 = 10;
 const POOL: u32 = 11;
 
 const BUFFER: u32 = 12;
-/// Those that turns make and drop.
+/// Those that turns make and destroy.
 const FRAME: u32 = 13;
 
 const SYNC: u32 = 14;
@@ -80,20 +81,20 @@ impl Turn {
     }
 }
 
-/// A session that goes on.
+/// A session in progress.
 #[derive(Drop)]
 pub(crate) struct Session {
     dice: Dice,
     time: u32,
     serial: u32,
-    /// The id that is used last.
+    /// The last id used.
     used: u32,
     /// The most bytes of a title.
     title: u32,
 }
 
 impl Session {
-    /// A session whose titles have at most so many bytes.
+    /// A session whose titles have at most this many bytes.
     pub(crate) fn new(dice: Dice, title: u32) -> Session {
         Session {
             dice,
@@ -119,7 +120,7 @@ impl Session {
         turn.request(DISPLAY, request::wl_display::GET_REGISTRY, &[REGISTRY])
     }
 
-    /// The globals, bound once the events of the turn have come.
+    /// The globals, bound after the events of the turn have come.
     pub(crate) fn bind(&mut self, turn: &mut Turn) -> Option<()> {
         turn.bind(1, b"wl_compositor", 6, COMPOSITOR)?;
         turn.bind(2, b"wl_shm", 2, SHM)?;
@@ -150,7 +151,7 @@ impl Session {
         )
     }
 
-    /// Each kind of turn once: the ids of those that come and go are used in their order.
+    /// Each kind of turn once, so that the ids of temporary objects are used in order.
     pub(crate) fn warm(&mut self, turn: &mut Turn) -> Option<()> {
         self.frame(turn)?;
         self.sync(turn)?;
@@ -158,7 +159,7 @@ impl Session {
         self.child(turn)
     }
 
-    /// One turn, of a kind that is drawn.
+    /// One turn, of a drawn kind.
     pub(crate) fn turn(&mut self, turn: &mut Turn) -> Option<()> {
         match self.dice.below(16) {
             0..=3 => self.frame(turn),
@@ -181,7 +182,7 @@ impl Session {
         )
     }
 
-    /// A request for an object that there never was.
+    /// A request for an object that never existed.
     pub(crate) fn break_rule(&mut self, turn: &mut Turn) -> Option<()> {
         turn.request(self.used.wrapping_add(9), request::wl_surface::COMMIT, &[])
     }

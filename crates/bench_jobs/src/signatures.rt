@@ -1,8 +1,8 @@
-//! Tables, and what is in them.
+//! Tables, and their contents.
 use crate::digest::Digest;
 use wl::{Destroys, Iface, Kind, Side, Signature, Tables};
 
-/// Takes in a place. None is a number that no place is.
+/// Adds an index. None is a number that no index has.
 fn add_place(digest: &mut Digest, place: Option<Iface>) {
     digest.number(place.map_or(65_536, |iface| u64::from(iface.0)));
 }
@@ -48,7 +48,7 @@ fn add_signature(digest: &mut Digest, signature: &Signature) {
     digest.number(kinds.len() as u64);
 }
 
-/// Takes in the requests or the events of an interface, and how many they are.
+/// Adds the requests or the events of an interface, and their number.
 fn add_side(digest: &mut Digest, tables: &Tables, iface: Iface, side: Side) {
     for opcode in 0..u16::MAX {
         let Some(signature) = tables.message(iface, side, opcode) else {
@@ -59,7 +59,7 @@ fn add_side(digest: &mut Digest, tables: &Tables, iface: Iface, side: Side) {
     }
 }
 
-/// Takes in all that tables hold.
+/// Adds all that tables contain.
 pub(crate) fn add_tables(digest: &mut Digest, tables: &Tables) {
     for place in 0..u16::MAX {
         let iface = Iface(place);

@@ -1,7 +1,7 @@
 //! Messages as bytes, and pieces as lines of a recording.
 use wl::Direction;
 
-/// The longest string that a message is given.
+/// The longest string in a message.
 const LONGEST: u32 = 4000;
 
 fn word(out: &mut Vec<u8>, word: u32) -> Option<()> {
@@ -24,7 +24,7 @@ pub(crate) fn message(out: &mut Vec<u8>, target: u32, opcode: u16, body: &[u32])
     Some(())
 }
 
-/// Appends a string of this many bytes, of which none is 0: so many times the letter.
+/// Appends a string of this many bytes, none of them 0: the letter, repeated.
 fn string(out: &mut Vec<u8>, letter: u8, len: u32) -> Option<()> {
     word(out, len.wrapping_add(1))?;
     for _ in 0..len {
@@ -33,7 +33,7 @@ fn string(out: &mut Vec<u8>, letter: u8, len: u32) -> Option<()> {
     pad(out, len)
 }
 
-/// Appends the byte 0 behind a string of this length, and zeros up to the next word.
+/// Appends the byte 0 that ends a string of this length, and zeros up to the next word.
 fn pad(out: &mut Vec<u8>, len: u32) -> Option<()> {
     for _ in 0..4 - len % 4 {
         out.push(0).ok()?;
@@ -59,7 +59,7 @@ pub(crate) fn text_message(
     string(out, letter, len)
 }
 
-/// Appends wl_registry.global or bind: a number, a name, and the words behind it.
+/// Appends wl_registry.global or bind: a number, a name, and the words that follow.
 pub(crate) fn named_message(
     out: &mut Vec<u8>,
     target: u32,
@@ -99,7 +99,7 @@ fn sign(direction: Direction) -> &'static [u8] {
     }
 }
 
-/// Appends the line of a piece of whole messages, with so many tokens, of which there is at most 1.
+/// Appends the line of a piece of whole messages, with at most one token.
 pub(crate) fn line(
     text: &mut Vec<u8>,
     direction: Direction,

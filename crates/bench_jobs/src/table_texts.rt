@@ -1,4 +1,4 @@
-//! Texts of tables read, and names looked up in them.
+//! Table texts: reading them, and looking names up in them.
 use crate::Amount;
 use crate::dice::Dice;
 use crate::digest::Digest;
@@ -20,18 +20,18 @@ const DESKTOP: Size = Size {
     messages: 12,
 };
 
-/// As many interfaces as tables hold beside the core's.
+/// As many interfaces as tables can have besides the core's.
 const LARGE: Size = Size {
     interfaces: 1_000,
     messages: 12,
 };
 
-/// The arguments of a message, without those that name an interface.
+/// The arguments of a message, except those that name an interface.
 const ARGUMENTS: [&[u8]; 8] = [
     b" i i", b" u", b" s", b"", b" u u i", b" f f", b" ?s u", b" a",
 ];
 
-/// A text that is made.
+/// A generated text.
 #[derive(Drop)]
 struct Text {
     dice: Dice,
@@ -45,7 +45,7 @@ impl Text {
         self.bytes.extend_from_slice(bytes).ok()
     }
 
-    /// Four letters that stand for a number.
+    /// Four letters that represent a number.
     fn letters(&mut self, number: u32) -> Option<()> {
         let mut left = number;
         for _ in 0..4 {
@@ -105,7 +105,7 @@ impl Text {
     }
 }
 
-/// Looks interfaces and messages up by their names, as binds and stubs do.
+/// Looks up interfaces and messages by their names, as binds and stubs do.
 fn look_up(tables: &Tables, text: &mut Text, size: Size, digest: &mut Digest) -> Option<()> {
     for _ in 0..size.interfaces {
         text.bytes.clear();
@@ -124,7 +124,7 @@ fn look_up(tables: &Tables, text: &mut Text, size: Size, digest: &mut Digest) ->
     Some(())
 }
 
-/// The tables with those of one text: all that they hold, and what is looked up in them.
+/// The tables with those of one text added: all that they contain, and what is looked up in them.
 fn read_one(core: &Tables, text: &mut Text, size: Size, digest: &mut Digest) -> Option<()> {
     text.write(size)?;
     let tables = core.read_more(&text.bytes).ok()?;

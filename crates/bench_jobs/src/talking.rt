@@ -1,4 +1,4 @@
-//! Two ends in one program: carrying, reading, and what is read.
+//! Two ends in one program: carrying, reading, and digesting what is read.
 use crate::digest::Digest;
 use wl::{Arg, Args, End, GotRef, Incoming, Named, Object, SlotTable};
 
@@ -6,7 +6,7 @@ pub(crate) type Client<'t> = wl::Client<'t, SlotTable>;
 
 pub(crate) type Server<'t> = wl::Server<'t, SlotTable>;
 
-/// What stands where a connection has a socket.
+/// What takes the place of a connection's socket.
 #[derive(Drop)]
 pub(crate) struct Wire {
     pub bytes: Vec<u8>,
@@ -58,7 +58,7 @@ fn add_message(digest: &mut Digest, target: Object, opcode: u16, args: Args<'_>)
     }
 }
 
-/// Reads requests, as many as came or so many at most. Returns how many these were.
+/// Reads requests, all that came or at most this many. Returns their number.
 pub(crate) fn read_requests(
     server: &mut Server<'_>,
     most: u32,
@@ -100,7 +100,7 @@ fn add_incoming(digest: &mut Digest, incoming: Incoming<'_>) {
     }
 }
 
-/// Reads events, as many as came or so many at most. Returns how many these were.
+/// Reads events, all that came or at most this many. Returns their number.
 pub(crate) fn read_events(client: &mut Client<'_>, most: u32, digest: &mut Digest) -> Option<u32> {
     for count in 0..most {
         match client.next() {
@@ -131,7 +131,7 @@ fn take<'a, F: End, T: End>(
     ))
 }
 
-/// Carries what waits at the one end to the other, as much as that has room for.
+/// Carries what waits at one end to the other, as much as that has room for.
 pub(crate) fn carry<F: End, T: End>(
     from: &mut F,
     to: &mut T,
@@ -144,7 +144,7 @@ pub(crate) fn carry<F: End, T: End>(
     Some(())
 }
 
-/// Carries requests byte by byte, the tokens with the first, and reads behind each.
+/// Carries requests byte by byte, the tokens with the first, and reads after each.
 pub(crate) fn carry_requests_by_bytes(
     client: &mut Client<'_>,
     server: &mut Server<'_>,
@@ -160,7 +160,7 @@ pub(crate) fn carry_requests_by_bytes(
     Some(())
 }
 
-/// Carries events byte by byte, the tokens with the first, and reads behind each.
+/// Carries events byte by byte, the tokens with the first, and reads after each.
 pub(crate) fn carry_events_by_bytes(
     server: &mut Server<'_>,
     client: &mut Client<'_>,

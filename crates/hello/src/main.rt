@@ -1,5 +1,5 @@
-//! A client and a server in one process, with a buffer where a connection has a socket. The page of
-//! the crate `wl` has the same text, and says what it does.
+//! A client and a server in one process, with a buffer in place of a socket. The page of the crate
+//! `wl` has the same text, with an explanation.
 #![tactic(auto)]
 
 ghost use Rattle.std.specs.Prelude.{◌≤◌, length};
@@ -33,14 +33,14 @@ fn main(rt: HostRuntime) -> Result<()> {
     Ok(())
 }
 
-/// What a client and a server over these tables wrote to each other.
+/// What a client and a server with these tables wrote to each other.
 fn session(alloc: Global, tables: &Tables) -> Result<Recording> {
     let mut client = Client::new(alloc, tables, SIZES)?;
     let mut server = Server::new(alloc, tables, SIZES)?;
     talk(tables, &mut client, &mut server, Recording::new(alloc))
 }
 
-/// The client makes a surface, and hears when the server has read all that it wrote.
+/// The client makes a surface, and waits until the server has read all that it wrote.
 fn talk(
     tables: &Tables,
     client: &mut Client<'_>,

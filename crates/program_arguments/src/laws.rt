@@ -4,8 +4,7 @@ ghost use Rattle.std.specs.Prelude.{List, ◌∷◌, codes};
 ghost use Rattle.clap.specs.Words.{Text};
 ghost use Rattle.program_arguments.specs.Asking.{AsksHelp, HasFault};
 
-/// These words behind the program's name ask for help, whatever stands behind them, and are no
-/// fault.
+/// These words after the program's name ask for help, whatever follows them, and are no fault.
 pub fn help_has_its_words()
     ensures long { (name : Text) (rest : List Text) → AsksHelp (name ∷ codes "--help" ∷ rest)
         × (HasFault (name ∷ codes "--help" ∷ rest) → ⊥) }
@@ -13,7 +12,7 @@ pub fn help_has_its_words()
         × (HasFault (name ∷ codes "-h" ∷ rest) → ⊥) }
 {}
 
-/// And these ask for the version.
+/// These words ask for the version.
 pub fn the_version_has_its_words()
     ensures long { (name : Text) (rest : List Text) → AsksHelp (name ∷ codes "--version" ∷ rest)
         × (HasFault (name ∷ codes "--version" ∷ rest) → ⊥) }

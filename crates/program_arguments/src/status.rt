@@ -1,9 +1,9 @@
-//! The exit statuses of the program. `docs/FORMATS.md` says when each comes.
+//! The exit statuses of the program. `docs/FORMATS.md` says when each is returned.
 
-/// The output was printed, of a lawful session or a demonstration; or help or the version was.
+/// The output was printed, for a lawful session or a demonstration; or help or the version was.
 pub const SUCCESS: u8 = 0;
 
-/// The output was printed, of a session that breaks a rule.
+/// The output was printed, for a session that breaks a rule.
 pub const BROKEN_SESSION: u8 = 1;
 
 /// The command line is wrong.

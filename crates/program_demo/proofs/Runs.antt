@@ -13,7 +13,7 @@ use Rattle.program_demo.proofs.LessIsLeft.{left_for, less_left}
 use Rattle.program_demo.specs.Playing.{does_something, lacks_memory, FollowsSteps, finished, once, again}
 use Rattle.program_demo.specs.Playing.{at_last, Ran, Plays}
 
--- a world in which the last pair of a run stands, and in which the run can go on
+-- a world that the last pair of a run represents, and in which the run can go on
 record Ends (pair : PairState) (world : World) (moves : List Move) (replies : List Reply)
     (last : PairState) : Type 0 where
   here : World

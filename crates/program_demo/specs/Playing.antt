@@ -1,4 +1,4 @@
--- What it is to play a session.
+-- What it means to play a session.
 use Rattle.std.specs.Prelude.{◌≡◌, Bool, true, false, nat_lt, List, [], ◌∷◌, Option, Some}
 use Rattle.std.specs.List.{list_any}
 use Rattle.std.specs.declared.result.Result.{Result}
@@ -45,7 +45,7 @@ lacks_memory (ServerNext (Err errors.Memory)) = true
 lacks_memory _ = false
 
 -- The moves with their replies are those of a session: each part once, or until the last reply says
--- that nothing was done; and for each move there was memory.
+-- that nothing was done; and there was memory for each move.
 pub data FollowsSteps : List DemoStep → List Move → List Reply → Type 0 where
   finished : FollowsSteps [] [] []
   once : {parts : List DemoStep} {move : Move} {moves : List Move}
@@ -69,8 +69,9 @@ pub record Ran (pair : PairState) (moves : List Move) (replies : List Reply) (la
   pub runs : (world : World) → Stands pair world → Runs pair world moves replies last
   pub granted : list_any lacks_memory replies ≡ false
 
--- A session leads from this pair to that one: both ends do each move and reply as their calls say,
--- and so, in whatever world the first pair stands, each reply is one that the world allows.
+-- A session leads from this pair to that one: both ends make each move and reply as their calls
+-- say, and so, in any world that the first pair represents, each reply is one that the world
+-- allows.
 pub record Plays (parts : List DemoStep) (pair last : PairState) : Type 0 where
   pub moves : List Move
   pub replies : List Reply

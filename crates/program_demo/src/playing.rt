@@ -1,4 +1,4 @@
-//! The session, played.
+//! Playing the session.
 ghost use Rattle.std.specs.Prelude.{◌≡◌, IfOk, OnOk, [], ◌∷◌, false};
 ghost use Rattle.std.specs.List.{list_any};
 ghost use Rattle.wl_session.specs.Meaning.{move_of, moves_of, reply_of, replies_of};
@@ -39,7 +39,7 @@ pub fn play<T: Table>(
     read_at_client(alloc, pair, piece)
 }
 
-/// All that waits is carried to the server, and read there.
+/// Carries all that waits to the server, and reads it there.
 fn read_at_server<T: Table>(
     alloc: &T::Alloc,
     pair: &mut Pair<'_, T>,
@@ -51,7 +51,7 @@ fn read_at_server<T: Table>(
     repeat(alloc, pair, Move::ServerNext)
 }
 
-/// All that waits is carried to the client, and read there.
+/// Carries all that waits to the client, and reads it there.
 fn read_at_client<T: Table>(
     alloc: &T::Alloc,
     pair: &mut Pair<'_, T>,
@@ -63,7 +63,7 @@ fn read_at_client<T: Table>(
     repeat(alloc, pair, Move::ClientNext)
 }
 
-/// Does a carry or a read again and again, until nothing more is moved or read.
+/// Repeats a carry or a read until nothing more is moved or read.
 fn repeat<T: Table>(
     alloc: &T::Alloc,
     pair: &mut Pair<'_, T>,
@@ -80,7 +80,7 @@ fn repeat<T: Table>(
     }
 }
 
-/// Does each of these moves once.
+/// Makes each of these moves once.
 fn play_all<T: Table>(pair: &mut Pair<'_, T>, moves: &[Move<T::Alloc>]) -> Result<(), AllocError>
     ensures { OnOk result (Plays (each_once (moves_of moves.now)) pair.old pair.new) }
 {
@@ -88,7 +88,7 @@ fn play_all<T: Table>(pair: &mut Pair<'_, T>, moves: &[Move<T::Alloc>]) -> Resul
     Ok(())
 }
 
-/// Does these moves. The error is lack of memory, for the replies or for one of the moves.
+/// Makes these moves. The error is lack of memory, for the replies or for one of the moves.
 fn run_all<T: Table>(
     pair: &mut Pair<'_, T>,
     moves: &[Move<T::Alloc>],

@@ -10,7 +10,7 @@ use wl_server::GlobalError;
 #[derive(Clone, Copy, Debug, PartialEq, Eq)]
 pub enum SocketError {
     /// A read or write failed, the input ended early, an end could not read what came or refused a
-    /// call of the session, or the two ends do not agree.
+    /// call of the session, or the two ends do not have the same objects.
     Failed,
     /// Out of memory.
     Memory,

@@ -40,7 +40,7 @@ pub(crate) fn flush_all<E: End, W: Write>(
     }
 }
 
-/// How many bytes these are together, where so many can be counted.
+/// The sum of these numbers of bytes, if it can be counted.
 fn counted(count: usize, more: usize) -> Result<usize, SocketError>
     ensures { IfOk result (λ all. all ≡ count + more) }
 {
@@ -68,8 +68,8 @@ pub(crate) fn receive<R: Read, A: Allocator>(
     Ok(bytes)
 }
 
-/// How many bytes a read gave, and none where it failed and is to be made again. It fails at the
-/// end of the input, whatever retries are left, and where a read failed and none is left.
+/// How many bytes a read returned; 0 if it failed and is to be repeated. It fails at the end of the
+/// input, whatever retries are left, and if a read failed and no retry is left.
 fn counted_read(read: io::Result<usize>, retries: &mut usize) -> Result<usize, SocketError>
     ensures { CountsRead read result retries.old retries.new }
 {
@@ -83,7 +83,7 @@ fn counted_read(read: io::Result<usize>, retries: &mut usize) -> Result<usize, S
     }
 }
 
-/// Hands bytes to an end, which reads all messages that wait then.
+/// Gives bytes to an end, which then reads all messages that wait.
 pub(crate) fn deliver<E: Receiver, A: Allocator>(
     alloc: A,
     end: &mut E,
@@ -105,7 +105,7 @@ pub(crate) fn deliver<E: Receiver, A: Allocator>(
     }
 }
 
-/// Uses up one of the retries, or fails where none is left.
+/// Uses up one of the retries, or fails if none is left.
 fn try_again(retries: &mut usize) -> Result<(), SocketError>
     ensures used { OnOk result (retries.new + 1 ≡ retries.old) }
     ensures none { OnErr result (retries.old ≡ 0) }

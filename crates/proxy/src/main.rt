@@ -1,5 +1,5 @@
-//! A proxy between a client and a compositor, in one process: a server towards the one, a client
-//! towards the other. It prints each message and passes it on, each object by its twin.
+//! A proxy between a client and a compositor, in one process: a server to the client, a client to
+//! the compositor. It prints each message and passes it on, with each object replaced by its twin.
 #![tactic(auto)]
 
 use anyhow::{Context, Result, bail};
@@ -12,7 +12,7 @@ use wl::{
 
 mod scene;
 
-/// A clipboard, whose offers the compositor makes.
+/// A clipboard; the compositor makes its offers.
 const CLIPBOARD: &[u8] = b"interface clipboard 1\n\
     request ask\n\
     request release D\n\
@@ -24,7 +24,7 @@ type Client<'t> = wl::Client<'t, SlotTable>;
 
 type Server<'t> = wl::Server<'t, SlotTable>;
 
-/// What the proxy keeps beside its two ends.
+/// What the proxy keeps besides its two ends.
 #[derive(Drop)]
 struct Proxy<'t> {
     tables: &'t Tables,
@@ -71,15 +71,15 @@ impl Proxy<'_> {
         if let (Some(made), Some(new)) = (call.made, new) {
             self.twins.add(made, new)?;
         }
-        // No delete_id comes for an object of the compositor's that the request has ended.
+        // No delete_id comes for an object of the compositor that the request has ended.
         if target.id >= FIRST_SERVER_ID && client.live(target).is_none() {
             self.twins.remove(target);
         }
         Ok(())
     }
 
-    /// The call that passes a message on. None where an argument names an object without a twin,
-    /// and of a bind.
+    /// The call that passes a message on. `None` if an argument names an object without a twin, and
+    /// for a bind.
     fn call<'a>(&self, side: Side, args: Args<'a>) -> Option<Call<'a>> {
         let mut left = args;
         let count = args.len().min(20);
@@ -140,8 +140,8 @@ impl Proxy<'_> {
         Ok(())
     }
 
-    /// Destroys what the compositor made by an event that was not passed on. Where no request
-    /// without arguments does that, it stays.
+    /// Destroys what the compositor made in an event that was not passed on. If no request without
+    /// arguments does that, it stays.
     fn keep_or_destroy(&self, made: Object, client: &mut Client<'_>) -> Result<()> {
         let (None, Some((iface, version))) = (self.twins.at_server(made), client.live(made)) else {
             return Ok(());
@@ -169,8 +169,8 @@ impl Proxy<'_> {
                 if self.is_registry(&read) {
                     return self.pass_global(opcode, args, server);
                 }
-                // An event of an object that the client was not told of, or that names one which is
-                // gone, is for nobody.
+                // An event for an object that was not announced to the client, or that names an
+                // object which is gone, is dropped.
                 let Some(target) = self.twins.at_server(target) else {
                     return Ok(());
                 };
@@ -207,7 +207,7 @@ impl Proxy<'_> {
         }
     }
 
-    /// Offers a global of the compositor's to the client, or withdraws it.
+    /// Offers a global of the compositor to the client, or withdraws it.
     fn pass_global(&mut self, opcode: u16, args: Args<'_>, server: &mut Server<'_>) -> Result<()> {
         let mut args = args;
         let Some(GotRef::Uint(name)) = args.next() else {

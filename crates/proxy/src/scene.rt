@@ -22,7 +22,7 @@ const OFFER: u16 = 0;
 
 const DESTROY_OFFER: u16 = 0;
 
-/// Who stands in a row: the client, the proxy with its two ends, the compositor.
+/// The participants in a row: the client, the proxy with its two ends, the compositor.
 #[derive(Drop)]
 struct Row<'t> {
     app: Client<'t>,
@@ -48,7 +48,7 @@ impl<'t> Row<'t> {
         })
     }
 
-    /// Adds the compositor's globals, and the twins that every row has: the two wl_displays.
+    /// Adds the compositor's globals, and the first twins: the two wl_displays.
     fn begin(&mut self) -> Result<()> {
         let tables = self.proxy.tables;
         let interface = tables.interface(b"wl_compositor").context("no interface")?;
@@ -73,7 +73,7 @@ impl<'t> Row<'t> {
         Ok(())
     }
 
-    /// The client makes a surface, hears that this was read, and destroys it.
+    /// The client makes a surface, is told that this was read, and destroys it.
     fn make_surface<W: Write>(&mut self, registry: Object, out: &mut W) -> Result<()> {
         let compositor = self.app.bind(registry, 1, b"wl_compositor", 6)?;
         let surface = self.create(compositor, request::wl_compositor::CREATE_SURFACE)?;
@@ -85,8 +85,8 @@ impl<'t> Row<'t> {
         self.turn(out)
     }
 
-    /// The client is offered what is in the clipboard: twice with the same id, and last when it has
-    /// released the clipboard.
+    /// The client is offered the contents of the clipboard: twice with the same id, and finally
+    /// after it has released the clipboard.
     fn offer_clipboard<W: Write>(&mut self, registry: Object, out: &mut W) -> Result<()> {
         let clipboard = self.app.bind(registry, 2, b"clipboard", 1)?;
         for _ in 0..2 {
@@ -139,8 +139,8 @@ fn carry<A: End, B: End>(from: &mut A, to: &mut B) {
     to.feed(bytes, tokens);
 }
 
-/// What the compositor does: it answers syncs, offers what a clipboard is asked for, and announces
-/// its globals.
+/// The compositor's work: it answers syncs, offers what a clipboard is asked for, and announces its
+/// globals.
 fn serve(tables: &Tables, compositor: &mut Server<'_>) -> Result<()> {
     let display = compositor.display();
     for _ in 0..u64::MAX {
@@ -167,7 +167,7 @@ fn is_clipboard(tables: &Tables, compositor: &Server<'_>, object: Object) -> boo
     }
 }
 
-/// A client and a server, of two different connections.
+/// A client and a server of two different connections.
 fn ends<'t>(alloc: Global, tables: &'t Tables) -> Result<(Client<'t>, Server<'t>)> {
     let client = Client::new(alloc, tables, SIZES)?;
     Ok((client, Server::new(alloc, tables, SIZES)?))

@@ -15,7 +15,7 @@ impl Plan {
         refused: None,
     };
 
-    // Refuses the allocation of this number from here, where 0 is the next one.
+    // Refuses the allocation with this number from here; 0 is the next one.
     pub(crate) fn refusing(number: u64) -> Plan
         ensures refused { result.refused ≡ Some number }
         ensures asked { result.asked ≡ 0 }
@@ -38,7 +38,7 @@ impl Plan {
         self.refused.is_some_and(|number| number < self.asked)
     }
 
-    // Counts one more allocation, and says whether it is refused: exactly the one of the chosen
+    // Counts one more allocation, and says whether it is refused: only the one with the chosen
     // number is. The count stops at the largest `u64`, which no run reaches.
     pub(crate) fn ask(&mut self) -> bool
         ensures refused { IsTrue result ↔ (self.old.refused ≡ Some self.old.asked) }

@@ -1,4 +1,5 @@
-// What owns memory frees it at each way out, so a test does all else behind a loan.
+// What owns memory frees it at each exit of a function, so a test does everything else behind a
+// borrow.
 use super::*;
 use std::test::Fail;
 
@@ -22,7 +23,7 @@ fn is_filled(numbers: &[u32]) -> bool {
     numbers.len() == 40
 }
 
-// Whether it grows to 40 numbers, where none of these allocations is refused.
+// Whether it grows to 40 numbers, when none of these allocations is refused.
 fn fills(
     memory: &RefusingAllocator,
     numbers: &mut Vec<u32, RefusingAllocator>,
@@ -46,7 +47,7 @@ fn is_refused(
         && fills(memory, numbers, 6)
 }
 
-// Whether a new vector keeps this many numbers where the allocation of this number is refused.
+// Whether a new vector keeps this many numbers when the allocation with this number is refused.
 fn keeps(memory: &RefusingAllocator, number: u64, kept: usize) -> Result<bool, AllocError> {
     let mut numbers = Vec::new(memory.clone()?);
     memory.refuse_nth(number);
@@ -61,7 +62,7 @@ fn asks_five_times(memory: &RefusingAllocator) -> Result<bool, AllocError> {
     Ok(is_filled && !memory.has_refused())
 }
 
-// A vector takes room for 4, 8, 16, 32 and 64 numbers in turn, and keeps those that it has where it
+// A vector takes room for 4, 8, 16, 32 and 64 numbers in turn, and keeps those that it has when it
 // is refused more.
 #[test]
 fn a_growing_vec_is_refused_at_each_allocation_in_turn(rt: HostRuntime) -> Result<(), Fail> {
@@ -105,7 +106,7 @@ impl<A: Allocator + Clone + Drop> Names<A> {
     }
 }
 
-// A type with its allocator as an associated type, as an object table has one.
+// A type that has its allocator as an associated type, as an object table does.
 trait Keeper {
     type Alloc: Allocator + Clone + Drop;
 
@@ -124,8 +125,8 @@ fn names_of<K: Keeper>(keeper: &K) -> Result<Names<K::Alloc>, AllocError> {
     Names::new(keeper.alloc()?)
 }
 
-// Whether an addition is refused just where an allocation was, changes nothing then, and gives with
-// memory again what it would have given.
+// Whether an addition is refused only if an allocation was, then changes nothing, and with memory
+// gives what it would have given.
 fn adds(memory: &RefusingAllocator, names: &mut Names<RefusingAllocator>) -> bool {
     if names.add(b"wl_display").is_ok() {
         return !memory.has_refused();
@@ -136,7 +137,7 @@ fn adds(memory: &RefusingAllocator, names: &mut Names<RefusingAllocator>) -> boo
         && names.are(&[b"wl_display"])
 }
 
-// The same of new names, with the allocation of this number refused.
+// The same for new names, with the allocation with this number refused.
 fn adds_refused(memory: &RefusingAllocator, number: u64) -> Result<bool, AllocError> {
     memory.refuse_none();
     let mut names = names_of(memory)?;
@@ -144,7 +145,7 @@ fn adds_refused(memory: &RefusingAllocator, number: u64) -> Result<bool, AllocEr
     Ok(adds(memory, &mut names))
 }
 
-// The loop that other crates use: the call is refused each of its allocations in turn, until it is
+// The loop that other crates use: each of the call's allocations is refused in turn, until it is
 // granted them all.
 #[test]
 fn a_call_is_refused_each_of_its_allocations_in_turn(rt: HostRuntime) -> Result<(), Fail> {
@@ -167,7 +168,7 @@ fn grants(memory: &RefusingAllocator<RefusingAllocator>) -> Result<bool, AllocEr
     Ok(Box::new(memory.clone()?, 7u8).is_ok())
 }
 
-// Whether just the second of three blocks is refused, where a clone has chosen it.
+// Whether only the second of three blocks is refused, when a clone has chosen it.
 fn refuses_the_second(
     above: &RefusingAllocator<RefusingAllocator>,
     clone: &RefusingAllocator<RefusingAllocator>,
@@ -177,7 +178,7 @@ fn refuses_the_second(
     Ok(are_granted == (true, false, true) && above.has_refused())
 }
 
-// Whether just the first of two blocks is refused, where the allocator below has chosen it.
+// Whether only the first of two blocks is refused, when the allocator below has chosen it.
 fn refuses_the_first(
     above: &RefusingAllocator<RefusingAllocator>,
     below: &RefusingAllocator,
@@ -187,8 +188,7 @@ fn refuses_the_first(
     Ok(are_granted == (false, true))
 }
 
-// Whether clones share the count and the choice, and a handle over another counts what it is asked
-// for itself.
+// Whether clones share the count and the choice, and a handle over another has its own count.
 fn share_one_choice(
     below: &RefusingAllocator,
     above: &RefusingAllocator<RefusingAllocator>,

@@ -1,5 +1,5 @@
-//! The tests of `wl_wire`, `wl_sigs`, `wl_message`, `wl_object_map` and `wl_twins`, over their public
-//! calls.
+//! The tests of `wl_wire`, `wl_sigs`, `wl_message`, `wl_object_map` and `wl_twins`, through their
+//! public calls.
 #![tactic(auto)]
 
 #[cfg(test)]

@@ -1,4 +1,5 @@
-// What owns a queue drops it at each way out, so a test does all else behind a `&mut`.
+// What owns a queue drops it at each exit of a function, so a test does everything else behind a
+// `&mut`.
 ghost use Rattle.std.specs.Prelude.{◌≡◌, false};
 
 use std::alloc::{AllocError, Global};
@@ -23,7 +24,7 @@ const BIND: [u8; 40] = [
     b'o', b's', b'i', b't', b'o', b'r', 0, 0, 0, 6, 0, 0, 0, 4, 0, 0, 0,
 ];
 
-/// What stands in front: the header of a whole message, or a bad size.
+/// What is at the front: the header of a whole message, or a bad size.
 fn front(inbox: &mut Inbox<Global>) -> Result<Option<Header>, BadSize> {
     match inbox.frame() {
         Ok(Some(frame)) => Ok(Some(frame.header)),
@@ -32,7 +33,7 @@ fn front(inbox: &mut Inbox<Global>) -> Result<Option<Header>, BadSize> {
     }
 }
 
-/// Whether this stands in front of fresh bytes, at this limit.
+/// Whether this is at the front of fresh bytes, with this limit.
 fn begin_at(
     limit: Limit,
     alloc: Global,
@@ -48,17 +49,17 @@ fn begin_at(
     }
 }
 
-/// Whether this stands in front of fresh bytes, at the usual limit.
+/// Whether this is at the front of fresh bytes, with the usual limit.
 fn begin_with(alloc: Global, bytes: &[u8], want: Result<Option<Header>, BadSize>) -> bool {
     begin_at(Limit::USUAL, alloc, bytes, want)
 }
 
-/// Whether no whole message stands in front, and no bad size.
+/// Whether neither a whole message nor a bad size is at the front.
 fn waits(inbox: &mut Inbox<Global>) -> bool {
     front(inbox) == Ok(None)
 }
 
-/// Whether a message with this header and body stands in front, and this number of tokens waits.
+/// Whether a message with this header and body is at the front, and this number of tokens waits.
 fn is_framed(inbox: &mut Inbox<Global>, header: Header, body: &[u8], tokens: usize) -> bool {
     match inbox.frame() {
         Ok(Some(frame)) => frame.header == header && frame.body == body && frame.tokens == tokens,
@@ -66,7 +67,7 @@ fn is_framed(inbox: &mut Inbox<Global>, header: Header, body: &[u8], tokens: usi
     }
 }
 
-/// Takes the message out that stands in front, with none of the tokens. Whether there is one.
+/// Takes out the message at the front, with none of the tokens. True if there was one.
 fn pops(inbox: &mut Inbox<Global>) -> bool {
     match inbox.frame() {
         Ok(Some(_)) => {
@@ -77,7 +78,8 @@ fn pops(inbox: &mut Inbox<Global>) -> bool {
     }
 }
 
-/// Whether sizes of 7 and 4100 are told, once the header is there; 4096 is waited for.
+/// Whether sizes of 7 and 4100 are reported as soon as the header is there, and a message of 4096
+/// is waited for.
 fn tells_bad_sizes(alloc: Global) -> bool {
     let seven = Err(BadSize { size: 7 });
     let above = Err(BadSize { size: 4100 });
@@ -92,7 +94,7 @@ fn a_size_that_no_message_has_is_told_with_its_header(rt: HostRuntime) {
     assert!(rt; tells_bad_sizes(rt.alloc()));
 }
 
-/// Whether the number of bytes of each limit, and no other number, makes a limit.
+/// Whether exactly the numbers of bytes of limits make a limit.
 fn makes_the_limits() -> bool {
     for bytes in 0..70_000 {
         let is_limit = 4096 <= bytes && bytes <= 65_532 && bytes % 4 == 0;
@@ -112,8 +114,8 @@ fn limits_are_the_multiples_of_4_from_4096_to_65532(rt: HostRuntime) {
     assert!(rt; makes_the_limits());
 }
 
-/// Whether an inbox with the greatest limit waits for what is above the usual one, and tells a size
-/// that no message of any limit has.
+/// Whether an inbox with the greatest limit waits for messages above the usual one, and reports a
+/// size that no limit allows.
 fn tells_what_no_limit_allows(alloc: Global) -> bool {
     let Some(greatest) = Limit::new(65_532) else {
         return false;
@@ -130,7 +132,7 @@ fn the_limit_tells_which_size_is_bad(rt: HostRuntime) {
     assert!(rt; tells_what_no_limit_allows(rt.alloc()));
 }
 
-/// Whether a message of 4096 bytes comes with its last byte.
+/// Whether a message of 4096 bytes is there with its last byte.
 fn comes_with_its_last_byte(inbox: &mut Inbox<Global>) -> bool {
     inbox.feed(&[1, 0, 0, 0, 0, 0, 0, 16], &[]);
     inbox.feed(&[0; 4087], &[]);
@@ -151,7 +153,7 @@ fn a_message_of_4096_bytes_is_waited_for(rt: HostRuntime) -> Result<(), Fail> {
     Ok(())
 }
 
-/// Whether no message comes with any of these bytes, each fed by itself.
+/// Whether no message is there after any of these bytes, each fed alone.
 fn waits_at_each(inbox: &mut Inbox<Global>, bytes: &[u8]) -> bool {
     for byte in bytes {
         inbox.feed(&[*byte], &[]);
@@ -162,7 +164,7 @@ fn waits_at_each(inbox: &mut Inbox<Global>, bytes: &[u8]) -> bool {
     true
 }
 
-/// Whether `BIND` comes with its last byte, fed byte by byte, and leaves nothing.
+/// Whether `BIND` is there with its last byte, fed byte by byte, and leaves nothing.
 fn comes_byte_by_byte(inbox: &mut Inbox<Global>) -> bool {
     let waits = waits_at_each(inbox, &BIND[..39]);
     inbox.feed(&BIND[39..], &[]);
@@ -181,7 +183,7 @@ fn a_message_comes_byte_by_byte(rt: HostRuntime) -> Result<(), Fail> {
     Ok(())
 }
 
-/// Whether just these numbers of bytes and tokens are taken in.
+/// Whether exactly these numbers of bytes and tokens are taken in.
 fn takes_in(
     inbox: &mut Inbox<Global>,
     from: &[u8],
@@ -203,7 +205,7 @@ fn holds_back_bytes(inbox: &mut Inbox<Global>) -> bool {
         && inbox.room() == 4096
 }
 
-/// Whether bytes without tokens then fit as far as there is room.
+/// Whether bytes without tokens are then taken in as far as there is room.
 fn takes_bytes_alone(inbox: &mut Inbox<Global>) -> bool {
     holds_back_bytes(inbox)
         && takes_in(inbox, &[0; 4090], &[], 4090, 0)
@@ -218,7 +220,7 @@ fn tokens_that_do_not_fit_hold_back_the_bytes(rt: HostRuntime) -> Result<(), Fai
     Ok(())
 }
 
-/// Pushes a message. Whether it is whole and fits.
+/// Pushes a message. True if it is whole and fits.
 fn pushes(outbox: &mut Outbox<Global>, message: &[u8], tokens: &[u32]) -> bool {
     outbox.limit().is_message(message) && outbox.push(message, tokens).is_ok()
 }
@@ -228,7 +230,7 @@ fn is_full(outbox: &mut Outbox<Global>, message: &[u8], tokens: &[u32]) -> bool 
     outbox.limit().is_message(message) && outbox.push(message, tokens) == Err(Full)
 }
 
-/// Whether just these bytes and tokens are taken, where there are as many places for them.
+/// Whether exactly these bytes and tokens are taken, if there is room for as many.
 fn gives<const BYTES: usize, const TOKENS: usize>(
     outbox: &mut Outbox<Global>,
     bytes: [u8; BYTES],
@@ -282,7 +284,7 @@ fn fills_up(outbox: &mut Outbox<Global>) -> bool {
         && outbox.token_room() == 0
 }
 
-/// Whether a take with more room then gets just what was pushed.
+/// Whether a take with more room then gets exactly what was pushed.
 fn fills_up_and_gives_both(outbox: &mut Outbox<Global>) -> bool {
     let mut bytes = [0; 40];
     let all = Taken {
@@ -309,7 +311,7 @@ fn long_event() -> [u8; 64] {
     event
 }
 
-/// Whether the error event fits behind a message that fills the outbox.
+/// Whether the error event fits after a message that fills the outbox.
 fn fits_a_full_outbox(outbox: &mut Outbox<Global>) -> bool
     requires { outbox.old.has_error ≡ false }
 {
@@ -325,7 +327,7 @@ fn fits_a_full_outbox(outbox: &mut Outbox<Global>) -> bool
         && outbox.room() == 12
 }
 
-/// Whether an ordinary message then goes behind the rest of it, and no other fits.
+/// Whether an ordinary message then follows the rest of it, and no other fits.
 fn goes_behind(outbox: &mut Outbox<Global>) -> bool
     requires { outbox.old.has_error ≡ false }
 {
@@ -360,7 +362,7 @@ fn is_new_inbox(inbox: &Inbox<RefusingAllocator>) -> bool {
     inbox.room() == 4096 && inbox.token_room() == 20 && inbox.is_empty()
 }
 
-/// Whether an outbox is made, and is as it should be, with the allocation of this number refused.
+/// Whether an outbox is made, and is right, with the allocation with this number refused.
 fn makes_an_outbox(memory: &RefusingAllocator, number: u64) -> Result<bool, AllocError> {
     let alloc = memory.clone()?;
     memory.refuse_nth(number);
@@ -370,7 +372,7 @@ fn makes_an_outbox(memory: &RefusingAllocator, number: u64) -> Result<bool, Allo
     }
 }
 
-/// The same of an inbox.
+/// The same for an inbox.
 fn makes_an_inbox(memory: &RefusingAllocator, number: u64) -> Result<bool, AllocError> {
     let alloc = memory.clone()?;
     memory.refuse_nth(number);

@@ -1,4 +1,4 @@
-//! The objects of an end in both ranges of ids, over each kind of table.
+//! The objects of an end in both ranges of ids, with each kind of table.
 ghost use Rattle.std.specs.Prelude.{◌<◌};
 
 use std::alloc::{AllocError, Allocator, Global};
@@ -14,7 +14,7 @@ const DISPLAY: Iface = Iface(0);
 
 const OFFER: Iface = Iface(2);
 
-/// One call, made only where it is allowed.
+/// One call, made only if it is allowed.
 #[derive(Clone, Copy)]
 enum Call {
     OpenNext(Maker),
@@ -87,7 +87,7 @@ fn reply_of<T: Table>(objects: &mut Objects<T>, call: Call) -> Reply {
     }
 }
 
-/// Whether each call returns what stands beside it.
+/// Whether each call returns the reply given with it.
 fn replies<T: Table>(objects: &mut Objects<T>, rows: &[(Call, Reply)]) -> bool {
     for row in rows {
         let (call, reply) = *row;
@@ -129,7 +129,7 @@ const BOTH_RANGES: [(Call, Reply); 27] = [
     (Call::OpenNext(Maker::Client), Reply::Opened(4, 5)),
 ];
 
-/// Without a table of the server's range nothing is there, and nothing is opened.
+/// Without a table of the server's range there is nothing, and nothing is opened.
 const ONE_RANGE: [(Call, Reply); 12] = [
     (Call::Look(FIRST - 1), Reply::NoRow),
     (Call::Look(FIRST), Reply::NoRow),
@@ -148,8 +148,8 @@ const ONE_RANGE: [(Call, Reply); 12] = [
     (Call::OpenAt(3), Reply::Opened(3, 3)),
 ];
 
-/// The server's range is full with 1,048,575 objects, one fewer than the client's. An object may
-/// still take another's place.
+/// The server's range is full with 1,048,575 objects, one fewer than the client's. An object can
+/// still replace another.
 const FULL_RANGE: [(Call, Reply); 8] = [
     (
         Call::OpenNext(Maker::Server),
@@ -179,7 +179,7 @@ const FULL_RANGE: [(Call, Reply); 8] = [
     ),
 ];
 
-/// Opens all ids of the server's range. Whether each was given its id and birth.
+/// Opens all ids of the server's range. True if each was given its id and birth.
 fn fill<T: Table>(objects: &mut Objects<T>) -> bool {
     for birth in 1..MAX_IDS {
         let id = FIRST - 1 + birth;
@@ -214,7 +214,7 @@ fn fills_up<T: Table<Alloc = Global> + Drop>(alloc: Global) -> Result<bool, Allo
     )
 }
 
-/// Whether both tables are made just where none of their allocations is refused.
+/// Whether both tables are made if and only if none of their allocations is refused.
 fn is_made<T: Table<Alloc = RefusingAllocator> + Drop>(
     memory: &RefusingAllocator,
     number: u64,
@@ -224,7 +224,7 @@ fn is_made<T: Table<Alloc = RefusingAllocator> + Drop>(
     Ok(Objects::<T>::with_server_range(alloc, DISPLAY).is_ok())
 }
 
-/// Whether the making is refused with each of its allocations in turn, and made in the end.
+/// Whether making them is refused with each of the allocations in turn, and finally succeeds.
 fn is_refused_in_turn<T: Table<Alloc = RefusingAllocator> + Drop>(
     memory: &RefusingAllocator,
 ) -> Result<bool, AllocError> {

@@ -1,16 +1,17 @@
-// What goes through the rings of the queues, with their seam at each place of a message. What owns
-// a queue drops it at each way out, so a test does all else behind a `&mut`.
+// Messages that pass through the rings of the queues, with the rings' seam at each byte of a
+// message. What owns a queue drops it at each exit of a function, so a test does everything else
+// behind a `&mut`.
 
 use std::alloc::Global;
 use std::test::Fail;
 use wl_message::{Fed, Inbox, Limit, Outbox, Taken};
 
-/// How many messages go in at a queue. Beside those that wait at the end, more come out than the
-/// larger ring has places, 4163, so they begin at each place: neither 2 nor 3 divides the number of
+/// How many messages are pushed. Besides those that wait at the end, more come out than the larger
+/// ring has places, 4163, so they begin at each place: neither 2 nor 3 divides the number of
 /// places.
 const ROUNDS: u16 = 4700;
 
-/// Messages that go through a queue.
+/// Messages that pass through a queue.
 #[derive(Clone, Copy)]
 struct Messages {
     /// How many bytes each has, with its header.
@@ -50,7 +51,7 @@ const CASES: [Messages; 5] = [
     },
 ];
 
-/// Writes the message of this number: its header, and then bytes that differ from place to place
+/// Writes the message with this number: its header, and then bytes that differ from place to place
 /// and from one message to the next.
 fn write_message(message: &mut [u8], number: u16) {
     for (place, byte) in message.iter_mut().enumerate() {
@@ -71,7 +72,7 @@ fn write_tokens(tokens: &mut [u32], number: u16) {
     }
 }
 
-/// Feeds the message of this number. Whether all of it is taken in.
+/// Feeds the message with this number. True if all of it is taken in.
 fn feeds(inbox: &mut Inbox<Global>, message: &mut [u8], tokens: &mut [u32], number: u16) -> bool {
     write_message(message, number);
     write_tokens(tokens, number);
@@ -82,7 +83,7 @@ fn feeds(inbox: &mut Inbox<Global>, message: &mut [u8], tokens: &mut [u32], numb
     inbox.feed(message, tokens) == all
 }
 
-/// Takes the message out that stands in front. Whether it and its tokens are these, and lent
+/// Takes out the message at the front. True if it and its tokens are these, and are lent
 /// afterwards.
 fn pops(inbox: &mut Inbox<Global>, message: &[u8], tokens: &[u32]) -> bool {
     let body = &message[message.len().min(8)..];
@@ -99,7 +100,7 @@ fn pops(inbox: &mut Inbox<Global>, message: &[u8], tokens: &[u32]) -> bool {
     &*popped == tokens && inbox.last() == body && inbox.last_tokens() == tokens
 }
 
-/// Whether messages that go through an inbox come out as they went in.
+/// Whether messages come out of an inbox as they went in.
 fn pass_an_inbox(
     inbox: &mut Inbox<Global>,
     bytes: &mut [u8],
@@ -139,7 +140,7 @@ fn messages_pass_an_inbox_with_its_seam_at_each_place(rt: HostRuntime) -> Result
     Ok(())
 }
 
-/// Pushes the message of this number. Whether it fits.
+/// Pushes the message with this number. True if it fits.
 fn pushes(
     outbox: &mut Outbox<Global>,
     message: &mut [u8],
@@ -151,8 +152,8 @@ fn pushes(
     outbox.limit().is_message(message) && outbox.push(message, tokens).is_ok()
 }
 
-/// Takes a message out, where there are as many places as it has bytes and tokens. Whether it and
-/// its tokens are these.
+/// Takes a message out into as much room as it has bytes and tokens. True if it and its tokens are
+/// these.
 fn takes(outbox: &mut Outbox<Global>, message: &[u8], tokens: &[u32]) -> bool {
     let mut bytes_taken = [0; 4096];
     let mut tokens_taken = [0; 20];
@@ -167,7 +168,7 @@ fn takes(outbox: &mut Outbox<Global>, message: &[u8], tokens: &[u32]) -> bool {
         && &*tokens_taken == tokens
 }
 
-/// Whether messages that go through an outbox come out as they went in.
+/// Whether messages come out of an outbox as they went in.
 fn pass_an_outbox(
     outbox: &mut Outbox<Global>,
     bytes: &mut [u8],
@@ -189,7 +190,7 @@ fn pass_an_outbox(
     true
 }
 
-// With the 64 bytes that are kept for an error event its ring has 4163 bytes.
+// With the 64 bytes reserved for an error event, its ring has 4163 bytes.
 #[test]
 fn messages_pass_an_outbox_with_its_seam_at_each_place(rt: HostRuntime) -> Result<(), Fail> {
     let mut bytes = [0; 4096];
@@ -208,11 +209,11 @@ fn messages_pass_an_outbox_with_its_seam_at_each_place(rt: HostRuntime) -> Resul
     Ok(())
 }
 
-/// How many bytes the longest message at the greatest limit has.
+/// The length of the longest message with the greatest limit, in bytes.
 const LONGEST: usize = 65_532;
 
-/// How often it goes through a ring of a few places more. It begins at each place, for each time it
-/// begins one place, or 65, before where it began last: 65 and 65,597 have no divisor in common.
+/// How often it passes through a slightly larger ring. It begins at each place, because each time
+/// it begins one place, or 65, before its last beginning: 65 and 65,597 have no common divisor.
 const LONG_ROUNDS: u32 = 65_597;
 
 /// Whether one message comes out of an inbox each time as it went in.
@@ -264,7 +265,7 @@ fn repeat_in_an_outbox(outbox: &mut Outbox<Global>, message: &[u8], tokens: &[u3
     true
 }
 
-// With the 64 bytes that are kept for an error event its ring has 65,597 bytes.
+// With the 64 bytes reserved for an error event, its ring has 65,597 bytes.
 #[test]
 fn the_longest_message_passes_an_outbox_with_its_seam_at_each_place(
     rt: HostRuntime,

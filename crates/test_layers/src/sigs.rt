@@ -5,10 +5,10 @@ use test_allocator::RefusingAllocator;
 use wl_sigs::{Destroys, Side, Signature, Tables};
 use wl_wire::{Iface, Kind};
 
-// Each interface with its version, its requests and its events, in the order of their opcodes.
-// Arguments: i int, u uint, f fixed, s string, o object, n new_id, a array, h descriptor; with `?`
-// null is allowed. D: the message destroys its target; D(0): the object that its argument at place
-// 0 names. `@k`: since version k, where that is not 1. Written from wayland.xml.
+// Each interface with its version, its requests and its events, in order of opcode. Arguments: i
+// int, u uint, f fixed, s string, o object, n new_id, a array, h descriptor; with `?` null is
+// allowed. D: the message destroys its target; D(0): it destroys the object that its argument at
+// index 0 names. `@k`: since version k, if that is not 1. Written from wayland.xml.
 static TABLE: [&str; 19] = [
     "wl_display 1 | sync n(wl_callback); get_registry n(wl_registry) | error o(any) u s; delete_id u",
     "wl_registry 1 | bind u n(no interface) | global u s u; global_remove u",
@@ -50,7 +50,7 @@ fn put_interface<A: Allocator, B: Allocator>(
     }
 }
 
-/// How the text of a kind begins.
+/// The first letters of a kind's text.
 fn letter(kind: Kind) -> &'static str {
     match kind {
         Kind::Int => " i",
@@ -142,7 +142,7 @@ fn put_row<A: Allocator>(
     put_messages(text, tables, iface, Side::Event)
 }
 
-/// Whether this is the row of the interface at this place.
+/// Whether this is the row of the interface at this index.
 pub(crate) fn has_row<A: Allocator>(
     alloc: Global,
     tables: &Tables<A>,
@@ -188,7 +188,7 @@ fn finds_opcodes(tables: &Tables) -> bool {
             .is_none()
 }
 
-// Every signature stands at its place, side and opcode, and nothing else does.
+// Every signature is at its index, side and opcode, and there are no others.
 #[test]
 fn the_core_tables_are_those_of_the_documentation(rt: HostRuntime) -> Result<(), Fail> {
     let tables = Tables::core(rt.alloc())?;
@@ -205,8 +205,9 @@ fn are_made(alloc: Global, memory: RefusingAllocator) -> bool {
     }
 }
 
-/// Whether the making is refused, where the allocation of this number is, with lack of memory, and
-/// the same call with memory returns the tables. Where it is not met the tables are made.
+/// Whether making the tables is refused, for lack of memory, if the allocation with this number is,
+/// and the same call with memory returns the tables; if there is no such allocation, whether the
+/// tables are made.
 fn is_made_at_last(
     alloc: Global,
     memory: &RefusingAllocator,
@@ -221,7 +222,7 @@ fn is_made_at_last(
     Ok(is_refused && are_made(alloc, memory.clone()?))
 }
 
-/// How many allocations there are, each of which is refused in turn; none where that goes wrong.
+/// How many allocations there are; each is refused in turn. `None` if that goes wrong.
 fn refused_in_turn(alloc: Global) -> Result<Option<u64>, AllocError> {
     let memory = RefusingAllocator::new(alloc)?;
     for number in 0u64..1000 {

@@ -1,4 +1,4 @@
-//! Tables that are read from texts, behind the core tables.
+//! Tables read from texts, appended to the core tables.
 
 use crate::sigs::has_row;
 use std::alloc::{AllocError, Allocator, Global};
@@ -16,8 +16,8 @@ const VIEWPORTER_ROWS: [&str; 2] = [
     "wp_viewport 1 | destroy D; set_source f f f f; set_destination i i | none",
 ];
 
-// Each kind and each ending, skipped lines, a carriage return, a name that stands further down, a
-// name of the core, and a last line without a line feed.
+// Each kind and each ending, skipped lines, a carriage return, a name declared later, a name of the
+// core, and a last line without a line feed.
 const EVERY_FORM: &str =
     "# every form\r\n\ninterface first 4294967295\nrequest all i u f s ?s a h o(wl_output) ?o(first) n(second)\nrequest later D @2\nevent plain o ?o N(first) @4294967295\r\ninterface second 007\nevent gone o(first) D\n#";
 
@@ -26,7 +26,7 @@ const EVERY_FORM_ROWS: [&str; 2] = [
     "second 7 | none | gone o(first) D",
 ];
 
-// Texts of which each line has a form, with the first line that breaks a rule, and the least rule
+// Texts whose lines all have a form, with the first line that breaks a rule, and the lowest rule
 // there.
 static BROKEN: [(&str, usize, u8); 45] = [
     // V1: a name of the core, of the same text, and names with other bytes.
@@ -70,7 +70,7 @@ static BROKEN: [(&str, usize, u8); 45] = [
     ("interface a 1\nevent e o(any)", 2, 9),
     ("interface a 1\nevent e N(b)", 2, 9),
     // V11: in a request, two in an event, of an interface that ends by an event, and of the four
-    // that are always the same.
+    // fixed ones.
     ("interface a 1\nrequest r N(a)", 2, 11),
     ("interface a 1\nevent e N(a) N(a)", 2, 11),
     (
@@ -82,8 +82,8 @@ static BROKEN: [(&str, usize, u8); 45] = [
     ("interface a 1\nevent e N(wl_registry)", 2, 11),
     ("interface a 1\nevent e N(wl_callback)", 2, 11),
     ("interface a 1\nevent e N(wl_fixes)", 2, 11),
-    // Of extensions: each of the four that are always the same (V2); a lower version (V8); no such
-    // interface above (V9); and messages that do not go with those that are there.
+    // Extensions: each of the four fixed interfaces (V2); a lower version (V8); no such interface
+    // above (V9); and messages that conflict with existing ones.
     ("extend wl_display 2", 1, 2),
     ("extend wl_registry 0", 1, 2),
     ("extend wl_callback 1", 1, 2),
@@ -100,12 +100,12 @@ static BROKEN: [(&str, usize, u8); 45] = [
     ),
     ("extend wl_seat 10\nrequest r @11", 2, 8),
     ("extend wl_seat 10\nrequest r o(b)", 2, 9),
-    // The first line of several, and the least rule of one line.
+    // The first line of several, and the lowest rule of one line.
     ("interface a 1\nevent e o(b)\nrequest r n n", 2, 9),
     ("interface a 1\nrequest r n o @2", 2, 5),
 ];
 
-// Texts with a line that has no form, before or behind a broken rule, with the number of the first
+// Texts with a line that has no form, before or after a broken rule, with the number of the first
 // such line.
 static BAD_LINES: [(&str, usize); 14] = [
     ("request poke", 1),
@@ -133,7 +133,7 @@ const SEAT_ROW: &str =
 
 const PAD_ROW: &str = "pad 2 | destroy D | told i @2";
 
-/// Whether a text declares these two interfaces behind the core tables, and no other.
+/// Whether a text adds these two interfaces to the core tables, and no other.
 fn gives(alloc: Global, text: &[u8], rows: &[&str]) -> Result<bool, AllocError> {
     let core = Tables::core(alloc)?;
     let Ok(tables) = core.read_more(text) else {
@@ -156,7 +156,7 @@ fn a_text_adds_its_interfaces_in_order(rt: HostRuntime) -> Result<(), Fail> {
     Ok(())
 }
 
-// An extension leaves each interface at its place, and each message at its opcode.
+// An extension leaves each interface at its index, and each message at its opcode.
 #[test]
 fn a_text_extends_interfaces(rt: HostRuntime) -> Result<(), Fail> {
     let alloc = rt.alloc();
@@ -172,7 +172,7 @@ fn a_text_extends_interfaces(rt: HostRuntime) -> Result<(), Fail> {
     Ok(())
 }
 
-// An added message that does not go with those of tables that are there.
+// An added message that conflicts with one of the existing tables.
 #[test]
 fn what_a_text_adds_goes_with_what_is_there(rt: HostRuntime) -> Result<(), Fail> {
     let core = Tables::core(rt.alloc())?;
@@ -188,7 +188,7 @@ fn what_a_text_adds_goes_with_what_is_there(rt: HostRuntime) -> Result<(), Fail>
     Ok(())
 }
 
-// Names of an earlier text count as there already.
+// Names of an earlier text count as existing.
 #[test]
 fn texts_are_read_one_behind_the_other(rt: HostRuntime) -> Result<(), Fail> {
     let core = Tables::core(rt.alloc())?;
@@ -205,7 +205,7 @@ fn texts_are_read_one_behind_the_other(rt: HostRuntime) -> Result<(), Fail> {
     Ok(())
 }
 
-// It is asked of the events of all tables, those that were there before too.
+// The events of all tables count, including existing ones.
 #[test]
 fn tables_tell_whether_the_server_makes_objects(rt: HostRuntime) -> Result<(), Fail> {
     let core = Tables::core(rt.alloc())?;
@@ -243,7 +243,7 @@ fn texts_are_refused_at_the_first_line_for_the_least_rule(rt: HostRuntime) -> Re
     Ok(())
 }
 
-// How many requests a text has, and the places of two of them that have one name.
+// How many requests a text has, and the indices of two of them with the same name.
 static REPEATED: [(u32, u32, u32); 14] = [
     (2, 0, 1),
     (15, 0, 14),
@@ -261,7 +261,7 @@ static REPEATED: [(u32, u32, u32); 14] = [
     (40, 19, 20),
 ];
 
-/// Adds an interface with so many requests, of which one has the name of another.
+/// Adds an interface with this many requests, two of which have the same name.
 fn put_repeated(text: &mut String, count: u32, named: u32, again: u32) -> Result<(), AllocError> {
     writeln!(text, "interface of_{count} 1")?;
     for place in 0..count {
@@ -271,7 +271,7 @@ fn put_repeated(text: &mut String, count: u32, named: u32, again: u32) -> Result
     Ok(())
 }
 
-// A name stands once on a side, of few messages and of many.
+// A name occurs once on a side, with few messages and with many.
 #[test]
 fn a_repeated_name_is_refused_where_it_stands_again(rt: HostRuntime) -> Result<(), Fail> {
     let core = Tables::core(rt.alloc())?;
@@ -343,8 +343,8 @@ fn put_interfaces(text: &mut String, most: u32) -> Result<(), AllocError> {
     Ok(())
 }
 
-// 1,024 interfaces with those of the core, of 256 messages each; with one interface or message more
-// it is V3.
+// 1,024 interfaces including those of the core, of 256 messages each; one more interface or message
+// breaks V3.
 #[test]
 fn the_largest_text_is_read(rt: HostRuntime) -> Result<(), Fail> {
     let core = Tables::core(rt.alloc())?;
@@ -365,8 +365,9 @@ fn the_largest_text_is_read(rt: HostRuntime) -> Result<(), Fail> {
     Ok(())
 }
 
-/// Whether the reading is refused, where the allocation of this number is, for lack of memory, and
-/// the same call with memory returns the tables. Where it is not met the tables are read.
+/// Whether reading is refused, for lack of memory, if the allocation with this number is, and the
+/// same call with memory returns the tables; if there is no such allocation, whether the tables are
+/// read.
 fn is_read_at_last(
     alloc: Global,
     memory: &RefusingAllocator,
@@ -385,7 +386,7 @@ fn is_read_at_last(
     }
 }
 
-// Each allocation is refused in turn, until one is not met.
+// Each allocation is refused in turn, until there are no more.
 #[test]
 fn a_reading_is_refused_each_allocation_in_turn(rt: HostRuntime) -> Result<(), Fail> {
     let alloc = rt.alloc();

@@ -1,5 +1,5 @@
-// What becomes of the queues where a stream fails. What owns a queue drops it at each way out, so a
-// test does all else behind a `&mut`.
+// What happens to the queues when a stream fails. What owns a queue drops it at each exit of a
+// function, so a test does everything else behind a `&mut`.
 
 use std::alloc::Global;
 use std::io::ErrorKind;
@@ -31,12 +31,12 @@ const COMMIT: [u8; 8] = [4, 0, 0, 0, 6, 0, 8, 0];
 /// wl_shm.create_pool with new id 5 and size 4096, for object 4. It takes a token.
 const CREATE_POOL: [u8; 16] = [4, 0, 0, 0, 0, 0, 16, 0, 5, 0, 0, 0, 0, 16, 0, 0];
 
-/// Pushes a message. Whether it is whole and fits.
+/// Pushes a message. True if it is whole and fits.
 fn pushes(outbox: &mut Outbox<Global>, message: &[u8], tokens: &[u32]) -> bool {
     outbox.limit().is_message(message) && outbox.push(message, tokens).is_ok()
 }
 
-/// Whether a flush to a writer of this script returns this, and the writer takes these bytes.
+/// Whether a flush to a writer with this script returns this, and the writer takes these bytes.
 fn flushes(
     alloc: Global,
     outbox: &mut Outbox<Global>,
@@ -74,7 +74,7 @@ fn a_flush_goes_on_after_a_failure(rt: HostRuntime) -> Result<(), Fail> {
     Ok(())
 }
 
-/// Whether a flush stops before a message with a token, and goes on once the token is taken.
+/// Whether a flush stops before a message with a token, and goes on after the token is taken.
 fn stops_before_a_token(alloc: Global, outbox: &mut Outbox<Global>) -> bool {
     let stopped = Err(FlushError::NeedsTokens { written: 8 });
     let again = Err(FlushError::NeedsTokens { written: 0 });
@@ -120,7 +120,8 @@ fn a_flush_fails_where_no_byte_is_taken(rt: HostRuntime) -> Result<(), Fail> {
     Ok(())
 }
 
-/// Whether a flush writes all, at each place of the ring, to a writer that takes some bytes a call.
+/// Whether a flush writes all, at each place of the ring, to a writer that takes some bytes per
+/// call.
 fn writes_across_the_seam(alloc: Global, outbox: &mut Outbox<Global>) -> bool {
     for _ in 0..40 {
         let written = pushes(outbox, &GET_REGISTRY, &[])
@@ -147,7 +148,7 @@ fn a_flush_writes_across_the_seam(rt: HostRuntime) -> Result<(), Fail> {
     Ok(())
 }
 
-/// Whether a message comes whole, though a read fails within it.
+/// Whether a message arrives whole although a read fails within it.
 fn comes_after_a_failure(inbox: &mut Inbox<Global>, kind: ErrorKind) -> bool {
     let script = [Step::Pass(3), Step::Fail(kind)];
     let mut reader = ScriptReader::new(&GET_REGISTRY, &script);
@@ -159,7 +160,7 @@ fn comes_after_a_failure(inbox: &mut Inbox<Global>, kind: ErrorKind) -> bool {
         && inbox.is_empty()
 }
 
-/// Takes wl_display.get_registry with new id 2 out. Whether it stands in front.
+/// Takes out wl_display.get_registry with new id 2. True if it is at the front.
 fn pops_get_registry(inbox: &mut Inbox<Global>) -> bool {
     let is_there = match inbox.frame() {
         Ok(Some(frame)) => frame.header == HEADER && frame.body == &GET_REGISTRY[8..],
@@ -168,7 +169,7 @@ fn pops_get_registry(inbox: &mut Inbox<Global>) -> bool {
     is_there && pops(inbox)
 }
 
-/// Takes the message out that stands in front. Whether there is one.
+/// Takes out the message at the front. True if there was one.
 fn pops(inbox: &mut Inbox<Global>) -> bool {
     match inbox.frame() {
         Ok(Some(_)) => {
@@ -188,7 +189,7 @@ fn a_fill_goes_on_after_a_failure(rt: HostRuntime) -> Result<(), Fail> {
 }
 
 /// Whether a fill reads at most 4096 bytes and at most as many as are free, down to a single one,
-/// and with none free does not read.
+/// and does not read if none is free.
 fn reads_what_is_free(inbox: &mut Inbox<Global>) -> bool {
     let bytes = [0; 6000];
     let fails = [

@@ -1,5 +1,5 @@
-//! What each kind of table does, by the calls of the trait alone.
-// (Everything is done behind a `&mut`: what owns a table drops it at each way out.)
+//! What each kind of table does, through the calls of the trait only.
+// (Everything is done behind a `&mut`: what owns a table drops it at each exit of a function.)
 ghost use Rattle.std.specs.Prelude.{◌<◌};
 
 use std::alloc::{AllocError, Allocator, Global};
@@ -17,17 +17,17 @@ fn opens<T: Table>(table: &mut T, version: u32, id: u32, birth: u64) -> bool {
     table.open_next(CALLBACK, version) == Ok(Object { id, birth })
 }
 
-/// Whether an opening at this id returns an object of this birth.
+/// Whether an opening at this id returns an object with this birth.
 fn opens_at<T: Table>(table: &mut T, id: u32, birth: u64) -> bool {
     table.open_at(id, CALLBACK, 1) == Ok(Object { id, birth })
 }
 
-/// Whether an opening at this id is refused so.
+/// Whether an opening at this id is refused for this reason.
 fn refuses_at<T: Table>(table: &mut T, id: u32, why: TableError) -> bool {
     table.open_at(id, CALLBACK, 1) == Err(why)
 }
 
-/// Closes an object, if the table has it and it is not the first. Whether it did.
+/// Closes an object, if the table has it and it is not the first. True if it did.
 fn closes<T: Table>(table: &mut T, id: u32) -> bool {
     if id == 1 || table.look(id).is_none() {
         return false;
@@ -36,7 +36,7 @@ fn closes<T: Table>(table: &mut T, id: u32) -> bool {
     true
 }
 
-/// Makes a live object a zombie, if it is not the first. Whether it did.
+/// Makes a live object a zombie, if it is not the first. True if it did.
 fn ends<T: Table>(table: &mut T, id: u32) -> bool {
     match table.look(id) {
         Some(entry) if id != 1 && entry.state == State::Live => {
@@ -55,7 +55,7 @@ fn reopened<T: Table>(table: &mut T, id: u32) -> Option<Object> {
     Some(table.reopen(id, CALLBACK, 5))
 }
 
-/// Whether an opening in place of an entry returns an object of this birth, which then lives.
+/// Whether an opening in place of an entry returns an object with this birth, which is then live.
 fn reopens<T: Table>(table: &mut T, id: u32, birth: u64) -> bool {
     let entry = Entry {
         birth,
@@ -84,7 +84,7 @@ fn opens_three<T: Table>(table: &mut T) -> bool {
         && table.look(4) == Some(opened)
 }
 
-/// Freed, the latest first: 3, 4, 2.
+/// The freed ids, the latest first: 3, 4, 2.
 fn frees_three<T: Table>(table: &mut T) -> bool {
     closes(table, 2) && closes(table, 4) && closes(table, 3) && counts(table, 4, 1, 4)
 }
@@ -98,7 +98,7 @@ fn uses_freed_ids_again<T: Table>(table: &mut T) -> bool {
         && opens_at(table, 5, 6)
 }
 
-/// Freed: 2.
+/// The only freed id is 2.
 fn has_one_freed_id<T: Table>(table: &T) -> bool {
     table.is_free(2)
         && table.is_free(6)
@@ -107,8 +107,8 @@ fn has_one_freed_id<T: Table>(table: &T) -> bool {
         && !table.is_free(7)
 }
 
-/// Whether three objects are opened and closed, and their ids opened again: the one freed last by
-/// itself, the others where they are named.
+/// Whether three objects are opened and closed, and their ids opened again: the one freed last on
+/// its own, the others by id.
 fn reuses_ids<T: Table>(table: &mut T) -> bool {
     opens_three(table)
         && frees_three(table)
@@ -135,8 +135,8 @@ fn keeps_zombies<T: Table>(table: &mut T) -> bool {
         && opens(table, 1, 2, 3)
 }
 
-/// Whether objects take the place of a zombie and of a live one, each with the next birth: the
-/// freed ids stay, and so does the number of ids used.
+/// Whether objects replace a zombie and a live one, each with the next birth: the freed ids stay,
+/// and so does the number of ids used.
 fn replaces<T: Table>(table: &mut T) -> bool {
     opens_three(table)
         && ends(table, 2)
@@ -154,7 +154,7 @@ fn replaces<T: Table>(table: &mut T) -> bool {
         && opens(table, 1, 2, 9)
 }
 
-/// Opens the objects from id 2 on, below this id. Whether each was given its id and birth.
+/// Opens the objects from id 2 on, below this id. True if each was given its id and birth.
 fn opens_below<T: Table>(table: &mut T, limit: u32) -> bool {
     for id in 2..limit {
         if !table.can_open() || !opens(table, 1, id, (id - 1) as u64) {
@@ -175,7 +175,7 @@ fn is_full<T: Table>(table: &mut T) -> bool {
         && counts(table, 1_048_576, 1_048_576, 1_048_576)
 }
 
-/// Frees the ids from 2 on, below this id. Whether each was in use.
+/// Frees the ids from 2 on, below this id. True if each was in use.
 fn closes_below<T: Table>(table: &mut T, limit: u32) -> bool {
     for id in 2..limit {
         if !closes(table, id) {
@@ -185,7 +185,7 @@ fn closes_below<T: Table>(table: &mut T, limit: u32) -> bool {
     true
 }
 
-/// Whether the ids below this one come again, the greatest first, but for the one that is in use.
+/// Whether the ids below this one are used again, the greatest first, except the one in use.
 fn opens_downwards<T: Table>(table: &mut T, limit: u32, in_use: u32) -> bool {
     for back in 2..limit {
         let id = limit - back + 1;
@@ -197,9 +197,9 @@ fn opens_downwards<T: Table>(table: &mut T, limit: u32, in_use: u32) -> bool {
     true
 }
 
-/// Whether all ids come to be used, and one that is freed is the next; and where many are freed,
-/// an object is opened in their middle, and the others come in their order. A full table still
-/// opens one in place of another.
+/// Whether all ids can be used, and a freed one is the next; and, if many are freed, an object is
+/// opened in their middle, and the others follow in order. A full table still opens one in place of
+/// another.
 fn fills_up<T: Table>(table: &mut T) -> bool {
     opens_below(table, 1_048_577)
         && is_full(table)
@@ -227,8 +227,8 @@ fn are_same<T: Table, U: Table>(one: &T, other: &U) -> bool {
     true
 }
 
-/// Opens this number of objects, and closes the last three where they are more than three. Whether
-/// it did.
+/// Opens this number of objects, and closes the last three if they are more than three. True if it
+/// did.
 fn fill<T: Table>(table: &mut T, objects: u32) -> bool
     requires { objects < 100 }
 {
@@ -254,7 +254,7 @@ fn filled<T: Table<Alloc = RefusingAllocator> + Drop>(
     }
 }
 
-/// The object that an opening then gives, at its id where it is to be named.
+/// The object that an opening then gives, at its id if it is to be named.
 fn next_object(objects: u32, named: bool) -> Object
     requires { objects < 100 }
 {
@@ -269,7 +269,7 @@ fn next_object(objects: u32, named: bool) -> Object
     }
 }
 
-/// Opens one more, at its id where it is to be named.
+/// Opens one more, at its id if it is to be named.
 fn open<T: Table>(table: &mut T, id: u32, named: bool) -> Result<Object, TableError> {
     if named {
         table.open_at(id, CALLBACK, 1)
@@ -278,8 +278,8 @@ fn open<T: Table>(table: &mut T, id: u32, named: bool) -> Result<Object, TableEr
     }
 }
 
-/// Whether an opening returns this object where no allocation was refused. Else whether it is out
-/// of memory, the table is as it was before, and the same call returns the object with memory.
+/// Whether an opening returns this object, if no allocation was refused; else whether it is out of
+/// memory, the table is unchanged, and the same call returns the object with memory.
 fn opens_or_is_as_before<T: Table>(
     memory: &RefusingAllocator,
     before: &T,
@@ -296,7 +296,7 @@ fn opens_or_is_as_before<T: Table>(
         && open(table, object.id, named) == Ok(object)
 }
 
-/// The same of a table with this number of objects, with the allocation of this number refused.
+/// The same for a table with this number of objects, with the allocation with this number refused.
 fn is_refused_rightly<T: Table<Alloc = RefusingAllocator> + Drop>(
     memory: &RefusingAllocator,
     objects: u32,
@@ -317,7 +317,7 @@ fn is_refused_rightly<T: Table<Alloc = RefusingAllocator> + Drop>(
     opens_or_is_as_before(memory, &before, &mut table, object, named)
 }
 
-/// How many allocations an opening asks for, where each of them is refused rightly in turn.
+/// How many allocations an opening asks for; each of them is refused correctly in turn.
 fn refused_in_turn<T: Table<Alloc = RefusingAllocator> + Drop>(
     memory: &RefusingAllocator,
     objects: u32,
@@ -336,7 +336,7 @@ fn refused_in_turn<T: Table<Alloc = RefusingAllocator> + Drop>(
     None
 }
 
-/// Whether the making of a table is refused just where its allocation of this number is.
+/// Whether making a table is refused if and only if its allocation with this number is.
 fn is_made<T: Table<Alloc = RefusingAllocator> + Drop>(
     memory: &RefusingAllocator,
     number: u64,
@@ -346,8 +346,8 @@ fn is_made<T: Table<Alloc = RefusingAllocator> + Drop>(
     Ok(T::new(alloc, DISPLAY).is_ok())
 }
 
-/// Whether the making of a table is refused just where one of its allocations is, and made in the
-/// end.
+/// Whether making a table is refused if and only if one of its allocations is, and finally
+/// succeeds.
 fn is_made_in_the_end<T: Table<Alloc = RefusingAllocator> + Drop>(
     memory: &RefusingAllocator,
 ) -> Result<bool, AllocError> {
@@ -363,7 +363,7 @@ fn is_made_in_the_end<T: Table<Alloc = RefusingAllocator> + Drop>(
     Ok(false)
 }
 
-/// Whether each allocation of openings in tables of some sizes is refused rightly, and there are
+/// Whether each allocation of openings in tables of some sizes is refused correctly, and there are
 /// some.
 fn openings_are_refused<T: Table<Alloc = RefusingAllocator> + Drop>(
     memory: &RefusingAllocator,
@@ -380,14 +380,14 @@ fn openings_are_refused<T: Table<Alloc = RefusingAllocator> + Drop>(
     0 < asked
 }
 
-/// Whether each allocation of a table's making and of its openings is refused rightly in turn.
+/// Whether each allocation for making a table and for its openings is refused correctly in turn.
 fn is_refused_in_turn<T: Table<Alloc = RefusingAllocator> + Drop>(
     memory: &RefusingAllocator,
 ) -> Result<bool, AllocError> {
     Ok(is_made_in_the_end::<T>(memory)? && openings_are_refused::<T>(memory))
 }
 
-/// Whether an opening in place of an entry asks for no memory.
+/// Whether an opening in place of an entry allocates nothing.
 fn replaces_in_place<T: Table<Alloc = RefusingAllocator> + Drop>(
     memory: &RefusingAllocator,
 ) -> bool {
@@ -402,7 +402,7 @@ fn replaces_in_place<T: Table<Alloc = RefusingAllocator> + Drop>(
         && memory.asked() == 0
 }
 
-/// Whether this holds of a new table.
+/// Whether this holds for a new table.
 fn holds<T: Table<Alloc = Global> + Drop, F: FnOnce(&mut T) -> bool>(
     alloc: Global,
     scene: F,
@@ -501,7 +501,7 @@ enum Move {
     Reopen(u32),
 }
 
-/// What a call returned. An end, a closing and a reopening are made only where they are allowed,
+/// What a call returned. An ending, a closing and a reopening are made only if they are allowed,
 /// and say whether they were.
 #[derive(Clone, Copy, PartialEq)]
 enum Reply {
@@ -510,7 +510,7 @@ enum Reply {
     Reopened(Option<Object>),
 }
 
-/// The move that a number stands for.
+/// The move that a number represents.
 fn move_of(drawn: u32) -> Move {
     let id = drawn / 9 % 100;
     match drawn % 9 {
@@ -556,9 +556,9 @@ impl Replies {
     }
 }
 
-/// Whether two tables reply alike to 2,000 moves, never with lack of memory, and are the same in
-/// the end. The moves are drawn from a fixed sequence of numbers; 17 of them open an object in the
-/// midst of the freed ids.
+/// Whether two tables reply alike to 2,000 moves, never with lack of memory, and are equal in the
+/// end. The moves are drawn from a fixed sequence of numbers; 17 of them open an object in the
+/// middle of the freed ids.
 fn reply_alike<T: Table, U: Table>(one: &mut T, other: &mut U) -> bool {
     let mut replies = Replies {
         opened: 0,

@@ -1,5 +1,5 @@
-//! Which objects of a proxy's two ends stand for each other, where both ranges have the same births.
-// (Everything is done behind a `&mut`: what owns twins drops them at each way out.)
+//! Which objects of a proxy's two ends are twins, if both ranges have the same births.
+// (Everything is done behind a `&mut`: what owns twins drops them at each exit of a function.)
 
 use std::alloc::{AllocError, Allocator};
 use std::test::Fail;
@@ -26,13 +26,13 @@ const BY_SERVER: Object = Object {
     birth: 1,
 };
 
-/// Makes twins of an object of each range.
+/// Makes twins of objects of each range.
 fn fill<A: Allocator + Clone + Drop>(twins: &mut Twins<A>) -> Result<(), AllocError> {
     twins.add(BY_CLIENT, BY_CLIENT_THERE)?;
     twins.add(BY_SERVER, BY_SERVER_THERE)
 }
 
-/// Whether these stand for each other.
+/// Whether these are twins.
 fn are_twins<A: Allocator + Clone + Drop>(
     twins: &Twins<A>,
     at_server: Object,
@@ -45,7 +45,7 @@ fn both_have_twins<A: Allocator + Clone + Drop>(twins: &Twins<A>) -> bool {
     are_twins(twins, BY_CLIENT, BY_CLIENT_THERE) && are_twins(twins, BY_SERVER, BY_SERVER_THERE)
 }
 
-/// Whether a removal takes out both sides of the one, and leaves the other.
+/// Whether a removal removes both sides of one pair, and leaves the other.
 fn removes_one<A: Allocator + Clone + Drop>(twins: &mut Twins<A>) -> bool {
     twins.remove(BY_SERVER_THERE) == Some(BY_SERVER)
         && twins.at_client(BY_SERVER).is_none()
@@ -55,7 +55,7 @@ fn removes_one<A: Allocator + Clone + Drop>(twins: &mut Twins<A>) -> bool {
         && are_twins(twins, BY_CLIENT, BY_CLIENT_THERE)
 }
 
-/// Whether the next object with an id is told from the one before.
+/// Whether the next object with an id is distinguished from the one before.
 fn tells_the_next<A: Allocator + Clone + Drop>(twins: &mut Twins<A>) -> Result<bool, AllocError> {
     let next = Object {
         birth: 2,
@@ -88,8 +88,8 @@ fn forwards<A: Allocator + Clone + Drop>(twins: &Twins<A>) -> bool {
         && twins.request_arg(event).is_none()
 }
 
-/// Whether the second pair is refused just where this allocation of it is, the first one stays, and
-/// with memory both are twins.
+/// Whether the second pair is refused if and only if this allocation of it is, the first one stays,
+/// and with memory both are twins.
 fn is_refused_rightly(
     memory: &RefusingAllocator,
     twins: &mut Twins<RefusingAllocator>,
@@ -104,7 +104,7 @@ fn is_refused_rightly(
     Ok(is_right && both_have_twins(twins))
 }
 
-/// Whether each allocation of a pair is refused rightly in turn.
+/// Whether each allocation of a pair is refused correctly in turn.
 fn is_refused_in_turn(memory: &RefusingAllocator) -> Result<bool, AllocError> {
     for number in 0u64..20 {
         let mut twins = Twins::new(memory.clone()?)?;

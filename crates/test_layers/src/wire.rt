@@ -90,7 +90,7 @@ fn objects(rt: HostRuntime) {
     assert!(rt; are_objects(rt.alloc()));
 }
 
-/// Whether the faults of a string that is not null are told.
+/// Whether the faults of a non-null string are reported.
 fn tells_faults_of_strings(alloc: Global) -> bool {
     let text = Kind::Str { null: false };
     has_fault(alloc, text, b"\x04\0\0\0a\0b\0", ArgFault::InnerNul)
@@ -99,7 +99,7 @@ fn tells_faults_of_strings(alloc: Global) -> bool {
         && has_fault(alloc, text, b"\0\0\0\0", ArgFault::NullNotAllowed)
 }
 
-/// Whether those of an object that is not null and of a word are.
+/// Whether those of a non-null object and of a word are.
 fn tells_faults_of_words(alloc: Global) -> bool {
     let object = Kind::Obj {
         null: false,
@@ -115,8 +115,8 @@ fn faults(rt: HostRuntime) {
     assert!(rt; !ValueRef::Str(Some(b"a\0b")).fits());
 }
 
-/// Whether the faults of a new object's name are told. Whatever the name holds, its version and id
-/// are to be there first.
+/// Whether the faults of a new object's name are reported. Whatever the name contains, its version
+/// and id must be there first.
 fn tells_faults_of_names(alloc: Global) -> bool {
     let name = Kind::New(None);
     let null = b"\0\0\0\0\x05\0\0\0\x03\0\0\0";
@@ -179,7 +179,7 @@ fn is_seat0(alloc: Global, name: &Bytes) -> bool {
     }
 }
 
-/// Whether it gives them back.
+/// Whether it gives the bytes back.
 fn gives_seat0(name: Bytes) -> bool {
     name.into_vec().as_slice() == b"seat0".as_slice()
 }

@@ -1,4 +1,4 @@
-//! Moves, made at an end or at a pair, and their replies as text.
+//! Moves that are made at an end or at a pair, and their replies as text.
 
 use crate::moves::{arguments_of, lend, read_move};
 use crate::names::Names;
@@ -13,7 +13,8 @@ use wl_objects::Table;
 use wl_session::{Move, Pair, Reply};
 use wl_sigs::Tables;
 
-/// What moves are read and told with: the tables, and the objects that were seen.
+/// What is needed to read moves and to write about them: the tables, and the objects that were
+/// seen.
 #[derive(Drop)]
 pub struct Actor<'a> {
     pub alloc: Global,
@@ -39,8 +40,8 @@ impl<'a> Actor<'a> {
         }
     }
 
-    /// Makes the call of a verb and the words behind it at an end, and appends its reply. Whether
-    /// the verb is that of a move.
+    /// Makes the call of a verb and the words after it at an end, and appends its reply. True if
+    /// the verb is a move's.
     pub fn act<E: Playable>(
         &mut self,
         end: &mut E,
@@ -102,7 +103,7 @@ impl<'a> Actor<'a> {
     }
 
     /// Makes the move of these words at a pair, whose moves have this memory, and appends its
-    /// reply. Whether the words are those of a move.
+    /// reply. True if the words are a move's.
     pub fn run<T: Table>(
         &mut self,
         pair: &mut Pair<'_, T>,
@@ -175,7 +176,7 @@ impl<'a> Actor<'a> {
     }
 }
 
-/// Appends this many moves of these words, or none where the words are those of no move.
+/// Appends this many moves of these words, or none if the words are no move's.
 fn read_moves<A: Allocator + Clone + Drop>(
     alloc: &A,
     tables: &Tables,

@@ -4,7 +4,7 @@ use crate::trouble::Trouble;
 use std::alloc::{AllocError, Allocator, Global};
 use std::fmt::Write;
 
-/// Bytes and tokens that come at one time.
+/// Bytes and tokens that come together.
 #[derive(Drop)]
 pub struct Chunk {
     pub bytes: Vec<u8>,
@@ -21,7 +21,7 @@ pub fn read_chunk(alloc: Global, words: &str) -> Result<Chunk, Trouble> {
     Ok(chunk)
 }
 
-/// The same of words that a comma parts.
+/// The same for words separated by a comma.
 pub fn read_chunks(alloc: Global, words: &str) -> Result<Vec<Chunk>, Trouble> {
     let mut chunks = Vec::new(alloc);
     if let Some(words) = words.trim().strip_prefix("bytewise ") {
@@ -128,7 +128,7 @@ fn put_numbered<A: Allocator + Clone + Drop>(
     Ok(())
 }
 
-/// Appends bytes as words of eight digits; `-` where there are none.
+/// Appends bytes as words of eight digits; `-` if there are none.
 pub fn write_bytes(out: &mut String, bytes: &[u8]) -> Result<(), AllocError> {
     if bytes.is_empty() {
         return out.push_str("-");
@@ -151,12 +151,12 @@ pub fn write_chunk(out: &mut String, bytes: &[u8], tokens: &[u32]) -> Result<(),
     Ok(())
 }
 
-/// Whether a byte stands in a quoted text as itself.
+/// Whether a quoted text shows a byte unchanged.
 fn is_plain(byte: &u8) -> bool {
     *byte > 0x20 && *byte < 0x7f && *byte != b'"' && *byte != b','
 }
 
-/// Appends bytes as one word: in double quotes where all of them are plain, else as digits.
+/// Appends bytes as one word: in double quotes if all of them are plain, else as digits.
 pub fn write_text(out: &mut String, bytes: &[u8]) -> Result<(), AllocError> {
     if !bytes.iter().all(is_plain) {
         for byte in bytes {

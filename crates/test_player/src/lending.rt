@@ -1,4 +1,4 @@
-//! Reports that an end lends, as text.
+//! Borrowed reports, as text.
 
 use crate::acting::Actor;
 use std::alloc::AllocError;
@@ -7,7 +7,7 @@ use wl_server::{OwnedRequest, Request};
 use wl_sigs::Side;
 use wl_wire::Bytes;
 
-/// Appends what a client lent.
+/// Appends a client's borrowed report.
 pub(crate) fn write_lent_event(
     actor: &mut Actor<'_>,
     reply: &mut String,
@@ -49,7 +49,7 @@ pub(crate) fn write_lent_event(
     actor.teller().write_incoming(reply, &owned)
 }
 
-/// Appends what a server lent, and adds the objects that it made.
+/// Appends a server's borrowed report, and adds the objects that it made.
 pub(crate) fn write_lent_request(
     actor: &mut Actor<'_>,
     reply: &mut String,

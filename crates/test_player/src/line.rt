@@ -1,24 +1,23 @@
 //! One call of a scene.
 
-/// What a call is to do with memory.
+/// How a call is given memory.
 #[derive(Clone, Copy)]
 pub enum Memory {
     /// It has all that it asks for.
     Granted,
-    /// Each allocation that it asks for is refused in turn; where a number is given, there are that
-    /// many.
+    /// Each of its allocations is refused in turn; if a number is given, there are that many.
     Refused(Option<u64>),
-    /// It asks for none.
+    /// It asks for no memory.
     Unasked,
 }
 
-/// A call, how often it is made, and what it must answer.
+/// A call, how often it is made, and the answer that it must give.
 #[derive(Clone, Copy)]
 pub struct Line<'a> {
     pub times: u32,
     pub memory: Memory,
     pub call: &'a str,
-    /// The first line of the answer; none where it is left open.
+    /// The first line of the answer; `None` if it is left open.
     pub wanted: Option<&'a str>,
 }
 
@@ -40,7 +39,7 @@ impl<'a> Line<'a> {
     }
 }
 
-/// What the front of a row says of memory, and the rest.
+/// What the front of a row says about memory, and the rest.
 fn memory_of(row: &str) -> (Memory, &str) {
     match row.split_once(": ") {
         Some(("each refused", rest)) => (Memory::Refused(None), rest),

@@ -9,7 +9,7 @@ use wl_session::{Move, SendArg};
 use wl_sigs::{Side, Tables};
 use wl_wire::{Fixed, Iface};
 
-/// The move that a verb and the words behind it stand for; none where the verb is that of no move.
+/// The move that a verb and the words after it mean; `None` if the verb is no move's.
 pub fn read_move<A: Allocator + Clone + Drop>(
     alloc: &A,
     tables: &Tables,
@@ -108,7 +108,7 @@ fn read_global<A: Allocator>(tables: &Tables, words: &mut Words<'_>) -> Result<M
     Ok(Move::AddGlobal { iface, version })
 }
 
-/// The place of an interface: by its name, or by its number.
+/// The index of an interface, given by its name or by its index.
 fn iface_of(tables: &Tables, word: &str) -> Result<Iface, Trouble> {
     match tables.interface(word.as_bytes()) {
         Some(iface) => Ok(iface),
@@ -136,7 +136,7 @@ fn opcode_of(tables: &Tables, side: Side, iface: Iface, name: &[u8]) -> Option<u
     None
 }
 
-/// The arguments that the words left stand for.
+/// The arguments that the remaining words mean.
 fn read_arguments<A: Allocator + Clone + Drop>(
     alloc: &A,
     words: &Words<'_>,
@@ -195,7 +195,7 @@ pub fn arguments_of<A: Allocator>(action: &Move<A>) -> &[SendArg<A>] {
     }
 }
 
-/// The arguments, lent.
+/// The arguments, borrowed.
 pub fn lend<A: Allocator>(alloc: Global, args: &[SendArg<A>]) -> Result<Vec<Arg<'_>>, AllocError> {
     let mut list = Vec::new(alloc);
     for arg in args {

@@ -9,8 +9,8 @@ use wl_session::{Move, Reply};
 use wl_sigs::{Side, Tables};
 use wl_wire::{Iface, Kind};
 
-/// The objects that a scene has seen, of each range of ids by their births, each with its
-/// interface. A report is written with the name of its message, also where its object has ended.
+/// The objects that a scene has seen, by their births in each range of ids, each with its
+/// interface. So a report can be written with the name of its message even if its object has ended.
 #[derive(Drop)]
 pub struct Names {
     of_client: BTreeMap<u64, Iface>,
@@ -39,7 +39,7 @@ impl Names {
         Ok(())
     }
 
-    /// The interface of an object; none where it was not seen.
+    /// The interface of an object; `None` if it was not seen.
     pub fn iface(&self, object: Object) -> Option<Iface> {
         let seen = if object.id < FIRST_SERVER_ID {
             &self.of_client

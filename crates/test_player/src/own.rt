@@ -1,4 +1,4 @@
-//! What a pair recorded.
+//! Judging what a pair recorded.
 
 use std::alloc::{AllocError, Allocator};
 use wl_message::Limit;
@@ -20,7 +20,7 @@ fn begin_of<A: Allocator + Clone + Drop>(
     Ok(begin)
 }
 
-/// The verdict on the first pieces that a pair recorded, by this limit.
+/// The verdict on the first pieces that a pair recorded, with this limit.
 pub fn verdict_on<T: Table>(
     alloc: &T::Alloc,
     tables: &Tables,
@@ -32,7 +32,7 @@ pub fn verdict_on<T: Table>(
     check(alloc.clone()?, &begin, tables, limit)
 }
 
-/// The verdict on what a pair recorded, up to the first error that was posted, by this limit.
+/// The verdict on what a pair recorded, up to the first error that was posted, with this limit.
 pub fn own_verdict<T: Table>(
     alloc: &T::Alloc,
     tables: &Tables,

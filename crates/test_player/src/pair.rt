@@ -1,4 +1,4 @@
-//! Both ends of a connection, played at.
+//! Playing scenes at both ends of a connection.
 
 use crate::acting::Actor;
 use crate::ends::yes_or_no;
@@ -49,7 +49,7 @@ impl<'a, 't, T: Table + Drop> Stage for AtPair<'a, 't, T> {
 
 impl<'a, 't, T: Table + Drop> AtPair<'a, 't, T> {
     /// Appends what is wrong with what the pair recorded, up to the first error that was posted;
-    /// nothing where it is lawful.
+    /// nothing if it is lawful.
     pub fn judge(&self, wrong: &mut String) -> Result<(), AllocError> {
         let verdict = own_verdict(&self.granting, self.tables, &self.pair, self.limit)?;
         if matches!(verdict, Verdict::Lawful { .. }) {
@@ -69,7 +69,7 @@ impl<'a, 't, T: Table + Drop> AtPair<'a, 't, T> {
         self.query(verb, &mut words, reply)
     }
 
-    /// Makes a move again and again in one run: how often, and the call.
+    /// Repeats a move in one run: how often, and the call.
     fn play_many(&mut self, words: &str, reply: &mut String) -> Result<(), Trouble> {
         let mut words = Words::of(words);
         let count = words.size()?;
@@ -78,7 +78,7 @@ impl<'a, 't, T: Table + Drop> AtPair<'a, 't, T> {
             .run_many(&mut self.pair, &self.granting, count, call, reply)
     }
 
-    /// Appends what is asked for.
+    /// Appends what the words ask for.
     fn query(&self, verb: &str, words: &mut Words<'_>, reply: &mut String) -> Result<(), Trouble> {
         match verb {
             "text" => self.write_text(words.size()?, reply)?,
@@ -119,7 +119,7 @@ fn write_ended(reply: &mut String, ended_at: Option<usize>) -> Result<(), AllocE
     }
 }
 
-/// Appends a piece as a recording's line.
+/// Appends a piece as a line of a recording.
 pub fn write_piece<A: Allocator>(
     reply: &mut String,
     piece: Option<&Passed<A>>,

@@ -1,4 +1,4 @@
-//! Where a scene is played.
+//! Where a scene is played: a client, a server, a pair or a recording.
 ghost use Rattle.wl_message.specs.Arrived.{AreSizes};
 
 use crate::acting::Actor;
@@ -21,7 +21,7 @@ use wl_recording::Recording;
 use wl_server::Server;
 use wl_session::Pair;
 
-/// The sizes of an end's queues where a scene names none.
+/// The sizes of an end's queues if a scene gives none.
 const USUAL: Sizes = Sizes {
     out_bytes: 65_536,
     out_tokens: 64,
@@ -42,7 +42,7 @@ fn usual() -> Queues {
     Queues { sizes: USUAL }
 }
 
-/// Queues of these sizes; none where no queues have them.
+/// Queues of these sizes, or trouble if no queues have them.
 fn queues_of(sizes: Sizes) -> Result<Queues, Trouble> {
     if sizes.is_allowed() {
         Ok(Queues { sizes })
@@ -51,7 +51,7 @@ fn queues_of(sizes: Sizes) -> Result<Queues, Trouble> {
     }
 }
 
-/// The limit that a word gives in bytes; none where it cannot be a limit.
+/// The limit that a word gives in bytes, or trouble if it is no limit.
 fn limit_of(words: &mut Words<'_>) -> Result<Limit, Trouble> {
     match Limit::new(words.number()?) {
         Some(limit) => Ok(limit),
@@ -104,8 +104,8 @@ pub fn play_at(
     }
 }
 
-/// Which allocation is refused when the client, server or pair of a scene is made, which its first
-/// row `begin` stands for.
+/// Which allocation is refused when the client, server or pair of a scene is made; the scene's
+/// first row `begin` represents that.
 fn begins_refused(scene: &Scene<'_>, refusal: Option<Refusal>) -> Option<u64> {
     match refusal {
         Some(refusal) if refusal.row == 0 && begins(&scene.rows) => Some(refusal.number),
@@ -189,7 +189,8 @@ fn at_end<T: Table<Alloc = RefusingAllocator>, E: Playable<Table = T> + Drop>(
     play(props, &mut stage, &scene.rows, refusal)
 }
 
-/// Plays a scene at a pair: the queues of the client, and behind a bar those of the server.
+/// Plays a scene at a pair; the words give the queues of the client and, after a bar, those of the
+/// server.
 fn at_pair<T: Table<Alloc = RefusingAllocator> + Drop>(
     props: Props<'_>,
     sizes: &str,
@@ -231,7 +232,7 @@ fn play_and_judge<T: Table + Drop>(
     Ok(played)
 }
 
-/// Plays a scene at a recording of nothing.
+/// Plays a scene at an empty recording.
 fn at_recording(
     props: Props<'_>,
     scene: &Scene<'_>,

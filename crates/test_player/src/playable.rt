@@ -12,7 +12,7 @@ use wl_server::{OwnedRequest, Server};
 use wl_session::{Direction, Move, Reply};
 use wl_sigs::{Side, Tables};
 
-/// A client or a server at which moves are made: what the two do each in its own way.
+/// A client or a server at which moves are made: what each of the two does in its own way.
 pub trait Playable: Receiver {
     /// The verb of its reading.
     const NEXT: &'static str;
@@ -20,25 +20,25 @@ pub trait Playable: Receiver {
     /// Which pieces of a recording it reads.
     const READS: Direction;
 
-    /// Makes the call of a move, with its arguments; none where it is no call of this end.
+    /// Makes the call of a move, with its arguments; `None` if it is no call of this end.
     fn act(
         &mut self,
         action: &Move,
         args: &[Arg<'_>],
     ) -> Option<Reply<<Self::Table as Table>::Alloc>>;
 
-    /// Makes the bind of a move, of a global that need not have been announced; none where the move
+    /// Makes the bind of a move, for a global that need not have been announced; `None` if the move
     /// is no bind, and at a server.
     fn act_unannounced(&mut self, action: &Move) -> Option<Reply<<Self::Table as Table>::Alloc>>;
 
-    /// Reads the next message by the call that lends its report, and appends that report in the
+    /// Reads the next message by the call whose report is borrowed, and appends that report in the
     /// words of an owned one.
     fn next_lent(&mut self, actor: &mut Actor<'_>, reply: &mut String) -> Result<(), AllocError>;
 
-    /// The object that the last message read has made: one of the server's, at a client.
+    /// At a client, the object of the server that the last message read made.
     fn made(&self) -> Option<Object>;
 
-    /// The live object that this one has replaced.
+    /// The live object that this one replaced.
     fn replaced(&self) -> Option<Object>;
 
     /// Adds the objects that a report made.

@@ -1,4 +1,4 @@
-//! A recording, played at.
+//! Playing scenes at a recording.
 
 use crate::bytes::read_chunk;
 use crate::replies::{OUT_OF_MEMORY, put_name, write_verdict};
@@ -12,7 +12,7 @@ use wl_recording::{Direction, Recording, RecordingError};
 use wl_session::{check, trace};
 use wl_sigs::Tables;
 
-/// A recording, and the memory of what is made of it.
+/// A recording, and the memory for what is made from it.
 #[derive(Drop)]
 pub struct AtRecording<'a, A: Allocator + Clone + Drop> {
     pub alloc: Global,
@@ -42,7 +42,7 @@ impl<'a, A: Allocator + Clone + Drop> Stage for AtRecording<'a, A> {
 }
 
 impl<'a, A: Allocator + Clone + Drop> AtRecording<'a, A> {
-    /// Adds a piece: its bytes, and behind a `+` how many tokens came with it.
+    /// Adds a piece: its bytes, and after a `+` how many tokens came with it.
     fn add(
         &mut self,
         direction: Direction,
@@ -57,13 +57,13 @@ impl<'a, A: Allocator + Clone + Drop> AtRecording<'a, A> {
         }
     }
 
-    /// Begins a recording of nothing.
+    /// Starts an empty recording.
     fn begin(&mut self, reply: &mut String) -> Result<(), Trouble> {
         self.recording = Recording::new(self.memory.clone()?);
         Ok(reply.push_str("nothing")?)
     }
 
-    /// Sets the limit to this number of bytes, where that is a limit.
+    /// Sets the limit to this number of bytes, if that is a limit.
     fn go_by(&mut self, words: &mut Words<'_>, reply: &mut String) -> Result<(), Trouble> {
         match Limit::new(words.number()?) {
             Some(limit) => {
@@ -74,7 +74,7 @@ impl<'a, A: Allocator + Clone + Drop> AtRecording<'a, A> {
         }
     }
 
-    /// Reads a text in the place of what there was.
+    /// Reads a text, and replaces the recording.
     fn parse(&mut self, text: &str, reply: &mut String) -> Result<(), Trouble> {
         let text = unescaped(self.alloc, text)?;
         match Recording::parse(self.memory.clone()?, text.as_bytes()) {
@@ -88,7 +88,7 @@ impl<'a, A: Allocator + Clone + Drop> AtRecording<'a, A> {
         }
     }
 
-    /// Appends what is asked for by one word.
+    /// Appends what one word asks for.
     fn query(&self, verb: &str, reply: &mut String) -> Result<(), Trouble> {
         match verb {
             "pieces" => write!(reply, "{}", self.recording.pieces().len())?,
@@ -141,7 +141,7 @@ impl<'a, A: Allocator + Clone + Drop> AtRecording<'a, A> {
     }
 }
 
-/// Appends the lines of a text that a line feed ends, each on a line of its own.
+/// Appends the lines of a text, each on its own line; each ends with a line feed in the text.
 fn write_lines(reply: &mut String, text: &[u8]) -> Result<(), AllocError> {
     match text.split_last() {
         Some((_, lines)) => {
@@ -152,7 +152,7 @@ fn write_lines(reply: &mut String, text: &[u8]) -> Result<(), AllocError> {
     }
 }
 
-/// A text in which `\n`, `\r`, `\t` and `\s` stand for a line feed, a carriage return, a tab and a
+/// A text with `\n`, `\r`, `\t` and `\s` replaced by a line feed, a carriage return, a tab and a
 /// space.
 fn unescaped(alloc: Global, text: &str) -> Result<String, AllocError> {
     let mut out = String::new(alloc);
@@ -166,7 +166,7 @@ fn unescaped(alloc: Global, text: &str) -> Result<String, AllocError> {
     Ok(out)
 }
 
-/// Appends what a letter stands for, and the rest.
+/// Appends the character that a letter means, and the rest.
 fn put_escaped(out: &mut String, part: &str) -> Result<(), AllocError> {
     let marks = [('n', "\n"), ('r', "\r"), ('t', "\t"), ('s', " ")];
     for (letter, mark) in marks {

@@ -1,4 +1,4 @@
-//! Texts of which equal ones follow one another.
+//! Texts in which equal ones may follow one another.
 
 use std::alloc::{AllocError, Global};
 use std::fmt::Write;
@@ -19,7 +19,7 @@ impl Repeated {
         }
     }
 
-    /// Counts a text; one that is another than the last ends the line of that.
+    /// Counts a text; if it differs from the last one, the line of that is finished.
     pub fn put(&mut self, out: &mut String, text: String) -> Result<(), AllocError> {
         if text.as_str() == self.text.as_str() {
             self.times = self.times.saturating_add(1);
@@ -31,7 +31,7 @@ impl Repeated {
         Ok(())
     }
 
-    /// Appends the line of the last text, and how often it came where that is more than once.
+    /// Appends the line of the last text, with how often it came if that is more than once.
     pub fn end(&self, out: &mut String) -> Result<(), AllocError> {
         let text = self.text.as_str();
         match self.times {

@@ -1,4 +1,4 @@
-//! What a scene is played at.
+//! What scenes are played at.
 
 use crate::trouble::Trouble;
 use std::alloc::{AllocError, Global};
@@ -6,15 +6,15 @@ use test_allocator::RefusingAllocator;
 use wl_objects::SlotTable;
 use wl_sigs::Tables;
 
-/// The object tables of all that a scene plays at.
+/// The object tables of everything at which scenes are played.
 pub type Objects = SlotTable<RefusingAllocator>;
 
-/// What a scene is played at.
+/// Something at which scenes are played.
 pub trait Stage {
     /// Makes a call, and appends its reply.
     fn play(&mut self, call: &str, reply: &mut String) -> Result<(), Trouble>;
 
-    /// Appends what can be seen of the value, which a call that is refused memory must not change.
+    /// Appends the visible state, which a call that is refused memory must not change.
     fn write_state(&self, text: &mut String) -> Result<(), AllocError>;
 }
 

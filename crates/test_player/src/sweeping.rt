@@ -1,4 +1,4 @@
-//! A scene, played once, or once for each allocation of a row that wants that.
+//! Playing a scene once, or once for each allocation of a row that asks for that.
 
 use crate::line::{Line, Memory};
 use crate::places::play_at;
@@ -47,7 +47,7 @@ fn sweep(
     format!(in props.alloc; "there is no end of the allocations")
 }
 
-/// What is wrong where a row asks for this number of allocations.
+/// What is wrong if a row asks for this number of allocations.
 fn miscounted(props: Props<'_>, number: u64, count: Option<u64>) -> Result<String, AllocError> {
     match count {
         Some(count) if count != number => {

@@ -6,9 +6,9 @@ use std::num::ParseIntError;
 /// Why a call of a scene is not played.
 #[derive(Clone, Copy)]
 pub enum Trouble {
-    /// There is no memory for what the player itself keeps.
+    /// There is no memory for what the player keeps.
     Memory,
-    /// There is no such call at this place, or one of its words is not of its form.
+    /// There is no such call here, or one of its words does not have its form.
     Unreadable,
 }
 

@@ -3,7 +3,7 @@
 use crate::trouble::Trouble;
 use wl_objects::Object;
 
-/// The words of a call that are left to read.
+/// The remaining words of a call.
 #[derive(Drop)]
 pub struct Words<'a> {
     rest: &'a str,
@@ -15,7 +15,7 @@ impl<'a> Words<'a> {
         Words { rest: text }
     }
 
-    /// All that is left.
+    /// All that remains.
     pub fn rest(&self) -> &'a str {
         self.rest
     }

@@ -1,5 +1,5 @@
-//! A line that is refused leaves the bytes of both directions as they were, and one that is no
-//! piece is refused as such, whether there is memory for its bytes or not.
+//! A refused line leaves the bytes of both directions unchanged. A line that is no piece is refused
+//! for that, whether or not there is memory for its bytes.
 use std::alloc::AllocError;
 use std::test::Fail;
 use test_allocator::RefusingAllocator;
@@ -37,12 +37,12 @@ const BAD: [&[u8]; 28] = [
     b"< 00\r0",
 ];
 
-/// What stands before a bad line.
+/// The text before a bad line.
 struct Beginning {
     text: &'static [u8],
-    /// How many pieces it tells.
+    /// How many pieces it has.
     pieces: usize,
-    /// The number of the line behind it, counted from the end of its last piece.
+    /// The number of the line after it, counted from the end of its last piece.
     next_line: usize,
     to_server: &'static [u8],
     to_client: &'static [u8],
@@ -112,7 +112,7 @@ impl Bytes {
         self.to_server.as_slice() == to_server && self.to_client.as_slice() == to_client
     }
 
-    /// Appends the first piece of a text, and returns what stands behind it.
+    /// Appends the first piece of a text, and returns the text after it.
     fn append_first<'a>(
         &mut self,
         text: &'a [u8],
@@ -147,7 +147,7 @@ fn is_piece(read: &Result<Option<Appended>, RecordingError>) -> bool {
     }
 }
 
-/// Whether the line is no piece of a recording where the first allocation is refused.
+/// Whether the line is refused as no piece of a recording even if the first allocation is refused.
 fn is_not_parsed(memory: &RefusingAllocator, line: &[u8]) -> Result<bool, AllocError> {
     let own = memory.clone()?;
     memory.refuse_nth(0);
@@ -156,7 +156,7 @@ fn is_not_parsed(memory: &RefusingAllocator, line: &[u8]) -> Result<bool, AllocE
     Ok(is_bad)
 }
 
-/// A text of a beginning, a line, and one more piece.
+/// A text made of a beginning, a line, and one more piece.
 fn text_of(
     memory: &RefusingAllocator,
     beginning: &Beginning,
@@ -169,8 +169,8 @@ fn text_of(
     Ok(text)
 }
 
-/// Whether a bad line behind a beginning is refused without a request for memory, and leaves what
-/// was read before it, so that the next piece stands right behind that.
+/// Whether a bad line after a beginning is refused without an allocation, and leaves what was read
+/// before it, so that the next piece follows that.
 fn leaves_all(
     memory: &RefusingAllocator,
     beginning: &Beginning,
@@ -229,18 +229,18 @@ fn a_count_without_its_sign_is_passed_over(rt: HostRuntime) -> Result<(), Fail> 
     Ok(())
 }
 
-/// What became of a piece where one allocation was refused.
+/// What happened to a piece when one allocation was refused.
 #[derive(Clone, Copy, PartialEq, Eq)]
 enum Outcome {
     /// It asks for fewer allocations, and was read.
     Read,
-    /// It was refused, and what was read before it is as it was.
+    /// It was refused, and what was read before it is unchanged.
     LeftAll,
     Wrong,
 }
 
-/// Reads a piece beside bytes of both directions, where the allocation of this number is refused,
-/// and then one more.
+/// Reads a piece with the allocation of this number refused, and then one more, beside bytes of
+/// both directions.
 fn append_without_memory(
     memory: &RefusingAllocator,
     refused: u64,
@@ -276,7 +276,8 @@ fn pieces_without_memory_leave_what_was_read(rt: HostRuntime) -> Result<(), Fail
     Ok(())
 }
 
-/// Whether the pieces of a recording, each without memory, leave the bytes of both directions.
+/// Whether the pieces of a recording, each without memory, leave the bytes of both directions
+/// unchanged.
 fn are_left_by_pieces(memory: &RefusingAllocator, text: &[u8]) -> Result<bool, AllocError> {
     let mut bytes = Bytes::new(memory)?;
     bytes.to_server.push(9)?;

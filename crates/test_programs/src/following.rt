@@ -1,4 +1,4 @@
-//! A follower goes past each message of a session, and where memory runs out it is as it was.
+//! A follower goes past each message of a session, and is unchanged if memory runs out.
 use crate::recordings::{DEVICES, MADE, SURFACE};
 use std::alloc::AllocError;
 use std::test::Fail;
@@ -8,12 +8,12 @@ use wl_message::Limit;
 use wl_recording::{Direction, Passed, Recording};
 use wl_sigs::Tables;
 
-/// More than any of these calls asks for, and than any of these pieces completes.
+/// More than any of these calls allocates, and than any of these pieces completes.
 const MOST: u32 = 1000;
 
 type Refusable<'t> = Follower<'t, RefusingAllocator>;
 
-/// Feeds a piece, whose allocations are refused one by one until it is granted all.
+/// Feeds a piece; its allocations are refused one by one until all are granted.
 fn feeds(memory: &RefusingAllocator, follower: &mut Refusable<'_>, piece: &Passed) -> bool {
     for number in 0..MOST {
         memory.refuse_nth(u64::from(number));
@@ -29,7 +29,7 @@ fn feeds(memory: &RefusingAllocator, follower: &mut Refusable<'_>, piece: &Passe
     false
 }
 
-/// The number of the message in front, if it could be read; 0 where there is none.
+/// The number of the next message, if it could be read; 0 if there is none.
 fn number_ahead(follower: &Refusable<'_>, direction: Direction) -> u64 {
     match follower.ahead(direction) {
         Some(message) if message.is_read => message.number,
@@ -37,7 +37,7 @@ fn number_ahead(follower: &Refusable<'_>, direction: Direction) -> u64 {
     }
 }
 
-/// Goes past the message in front likewise. Whether each refusal leaves it there.
+/// Goes past the next message in the same way. True if each refusal leaves it there.
 fn goes_past(
     memory: &RefusingAllocator,
     follower: &mut Refusable<'_>,
@@ -58,8 +58,8 @@ fn goes_past(
     false
 }
 
-/// Goes past the messages that a piece completes, from this number on, and returns the next; 0 where
-/// something is wrong.
+/// Goes past the messages that a piece completes, numbered from this one, and returns the next
+/// number; 0 if something is wrong.
 fn follows_piece(
     memory: &RefusingAllocator,
     follower: &mut Refusable<'_>,
@@ -83,8 +83,8 @@ fn follows_piece(
     0
 }
 
-/// How many messages of a session a follower reads and goes past, all of which it can read; None
-/// where something is wrong.
+/// How many messages of a session a follower reads and goes past, all of which it can read; `None`
+/// if something is wrong.
 fn follows(
     rt: &HostRuntime,
     memory: &RefusingAllocator,
@@ -103,7 +103,7 @@ fn follows(
     Ok(next.checked_sub(1))
 }
 
-/// The last message of `MADE` breaks a rule, and is read all the same.
+/// The last message of `MADE` breaks a rule, and is still read.
 #[test]
 fn follows_sessions_to_their_end(rt: HostRuntime) -> Result<(), Fail> {
     let tables = Tables::core(rt.alloc())?

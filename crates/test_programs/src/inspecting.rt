@@ -7,15 +7,15 @@ use wl_message::Limit;
 use wl_recording::{Passed, Recording};
 use wl_sigs::Tables;
 
-/// What was printed in all, and the last verdict.
+/// All that was printed, and the last verdict.
 #[derive(Drop)]
 pub struct Told {
     pub lines: Vec<u8>,
     pub verdict: Verdict,
 }
 
-/// Passes a piece, its bytes cut into parts of this size, its tokens with the first part. The lines
-/// are appended to those of the pieces before it.
+/// Passes a piece, with its bytes cut into parts of this size, and its tokens with the first part.
+/// The lines are appended to those of the pieces before it.
 fn pass_cut<A: Allocator + Clone>(
     inspector: &mut Inspector<'_, A>,
     piece: &Passed,

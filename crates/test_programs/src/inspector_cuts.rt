@@ -1,4 +1,4 @@
-//! However the bytes are cut, an inspector says what the trace of their recording says.
+//! However the bytes are split, an inspector says what the trace of their recording says.
 ghost use Rattle.std.specs.Prelude.{◌<◌};
 
 use crate::inspecting::inspect;

@@ -1,4 +1,4 @@
-//! A session that goes on and on takes no more memory, nor one behind a huge piece.
+//! However long a session lasts, it takes no more memory; the same holds after a huge piece.
 use linked_list_allocator::LocalHeap;
 use std::alloc::AllocError;
 use std::test::Fail;
@@ -17,7 +17,7 @@ const DONE: [u8; 24] = [
 
 const ROUNDS: u64 = 20_000;
 
-/// The verdict behind so many rounds, with memory for a small session alone.
+/// The verdict after this many rounds, with only enough memory for a small session.
 fn goes_on(heap: &LocalHeap, tables: &Tables) -> Result<Verdict, AllocError> {
     let mut inspector = Inspector::new(heap, tables, Limit::USUAL)?;
     go_on(&mut inspector)
@@ -60,7 +60,7 @@ const GLOBAL: [u8; 32] = [
 
 const GLOBALS: u64 = 2_000;
 
-/// How much memory an inspector takes behind small pieces, before a huge one and after it.
+/// How much memory an inspector takes after small pieces: before a huge piece, and after it.
 fn taken(heap: &LocalHeap, tables: &Tables, huge: &[u8]) -> Result<(usize, usize), AllocError> {
     let mut inspector = Inspector::new(heap, tables, Limit::USUAL)?;
     taken_by(heap, &mut inspector, huge)
@@ -96,7 +96,7 @@ fn a_huge_piece_takes_no_memory_for_good(rt: HostRuntime) -> Result<(), Fail> {
     Ok(())
 }
 
-/// How much memory an inspector takes, before a piece that wants more than there is and after it.
+/// How much memory an inspector takes: before a piece that needs more than there is, and after it.
 fn taken_by_refused(
     heap: &LocalHeap,
     tables: &Tables,

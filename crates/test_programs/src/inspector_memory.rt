@@ -1,4 +1,4 @@
-//! Where memory runs out, an inspector is as it was, and the same piece can be passed again.
+//! If memory runs out, an inspector is unchanged, and the same piece can be passed again.
 use crate::inspecting::Told;
 use crate::recordings::{ALL, DEVICES};
 use std::alloc::{AllocError, Allocator, Global};
@@ -9,8 +9,8 @@ use wl_message::Limit;
 use wl_recording::{Passed, Recording};
 use wl_sigs::Tables;
 
-/// Passes a piece whose allocations are refused one by one, until it is granted all. Whether each
-/// refusal leaves the lines and the verdict of before.
+/// Passes a piece; its allocations are refused one by one until all are granted. True if each
+/// refusal leaves the lines and the verdict unchanged.
 fn passes(
     memory: &RefusingAllocator,
     inspector: &mut Inspector<'_, RefusingAllocator>,
@@ -36,7 +36,7 @@ fn passes(
     false
 }
 
-/// Whether the pieces, each passed until it is granted all its allocations, give the lines and the
+/// Whether the pieces, each passed until all its allocations are granted, give the lines and the
 /// verdict of the trace.
 fn agrees(
     alloc: Global,
@@ -54,7 +54,7 @@ fn agrees(
     says(alloc, memory, &mut inspector, recording.pieces(), &told)
 }
 
-/// Whether an inspector says this of the pieces, each passed until it is granted all.
+/// Whether an inspector says this about the pieces, each passed until all is granted.
 fn says(
     alloc: Global,
     memory: &RefusingAllocator,
@@ -87,7 +87,7 @@ fn is_as_it_was_where_memory_runs_out(rt: HostRuntime) -> Result<(), Fail> {
     Ok(())
 }
 
-/// An inspector that some pieces have passed.
+/// An inspector after some pieces have passed.
 fn after<'t, A: Allocator + Clone>(
     alloc: A,
     tables: &'t Tables,
@@ -104,7 +104,7 @@ fn after<'t, A: Allocator + Clone>(
     Ok(inspector)
 }
 
-/// Whether two inspectors say the same of each of these pieces.
+/// Whether two inspectors say the same about each of these pieces.
 fn agree(
     one: &mut Inspector<'_, RefusingAllocator>,
     other: &mut Inspector<'_>,
@@ -121,7 +121,7 @@ fn agree(
     Ok(true)
 }
 
-/// A piece, those that pass before it, and others that pass behind it.
+/// A piece, the pieces before it, and the pieces after it.
 #[derive(Clone, Copy)]
 struct Passing<'a> {
     before: &'a [Passed],
@@ -129,17 +129,17 @@ struct Passing<'a> {
     others: &'a [Passed],
 }
 
-/// What came of refusing one allocation of a piece.
+/// The result of refusing one allocation of a piece.
 enum Refused {
-    /// The inspector says what one says that the piece was never passed to.
+    /// The inspector says what one says to which the piece was never passed.
     Forgotten,
-    /// The piece asks for fewer, and has passed.
+    /// The piece asks for fewer allocations, and has passed.
     NoMore,
     Wrong,
 }
 
-/// Refuses each allocation of a piece in turn, and goes on with other pieces each time. Whether
-/// each refused inspector says of these what one says that the piece was never passed to.
+/// Refuses each allocation of a piece in turn, and continues with other pieces each time. True if
+/// each refused inspector says about these what one says to which the piece was never passed.
 fn forgets(
     alloc: Global,
     memory: &RefusingAllocator,
@@ -194,8 +194,8 @@ fn refuse(
     })
 }
 
-/// Whether a refused piece leaves nothing behind, for whatever piece comes next: the pieces behind
-/// it, and those from the first one on.
+/// Whether a refused piece leaves no trace, whatever piece comes next: the pieces after it, and
+/// those from the first one on.
 fn leaves_nothing(
     alloc: Global,
     memory: &RefusingAllocator,
@@ -236,7 +236,8 @@ fn leaves_nothing_of_a_refused_piece(rt: HostRuntime) -> Result<(), Fail> {
     Ok(())
 }
 
-/// Whether the making of an inspector is refused each of its allocations in turn.
+/// Whether making an inspector is refused with each of its allocations in turn, and finally
+/// succeeds.
 fn is_made_at_last(memory: &RefusingAllocator, tables: &Tables) -> Result<bool, AllocError> {
     for number in 0u64..100 {
         let own = memory.clone()?;

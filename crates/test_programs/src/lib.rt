@@ -1,6 +1,6 @@
-//! The tests of the command's crates over their public calls, `program_jobs` and `program_socket`
-//! above all, and of what these stand on: the inspector of `wl_check`, lines that are no piece, and
-//! streams.
+//! The tests of the command's crates through their public calls, above all `program_jobs` and
+//! `program_socket`, and of what these use: the inspector of `wl_check`, lines that are no piece,
+//! and streams.
 #![tactic(auto)]
 
 #[cfg(test)]

@@ -1,6 +1,7 @@
 //! Recordings of small sessions.
 
-/// A client makes a surface, hears that all before was read, and makes the surface anew.
+/// A client makes a surface, is told that everything before it was read, and makes the surface
+/// again.
 pub const SURFACE: &[u8] = b"> 0100000001000c0002000000
 < 0200000000002400010000000e000000776c5f636f6d706f7369746f72000000060000000200000000001c000200000008000000776c5f736561740009000000
 > 0200000000002800010000000e000000776c5f636f6d706f7369746f7200000006000000030000000300000000000c0004000000
@@ -30,13 +31,13 @@ const BAD_SIZE: &[u8] = b"> 01000000000005
 < 0100000001000c0002000000
 ";
 
-/// The first new id is none that may come.
+/// The first new id is not allowed.
 const BAD_NEW_ID: &[u8] = b"> 0100000001000c0003000000
 > 0100000001000c0002000000
 ";
 
-/// The server makes objects, several in one piece, and some again with the ids of those that the
-/// client has destroyed. The last takes the id of one that is open.
+/// The server makes objects, several in one piece, and some with ids of objects that the client has
+/// destroyed. The last one takes the id of an open object.
 pub const MADE: &[u8] = b"> 0100000001000c0002000000
 < 020000000000180001000000040000006465760001000000
 > 0200000000001c000100000004000000646576000100000003000000

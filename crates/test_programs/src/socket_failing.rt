@@ -1,4 +1,4 @@
-// The session over streams in memory, of which one call fails, and with each allocation refused.
+// The session over streams in memory, one call of which fails, and with each allocation refused.
 use program_socket::{SessionOutcome, SocketError, socket_session, socket_text};
 use std::alloc::{AllocError, Allocator, Global};
 use std::cell::{Cell, RefCell};
@@ -9,17 +9,17 @@ use wl_message::{Limit, ScriptReader, ScriptWriter, Step};
 use wl_session::trace;
 use wl_sigs::Tables;
 
-/// The number of no call.
+/// A number that no call has.
 const NEVER: u32 = u32::MAX;
 
-/// The numbers of the reads, where as many bytes pass as are asked for: each turn is a write and a
+/// The numbers of the reads, if as many bytes pass as are asked for: each turn is a write and a
 /// read.
 const READS: [u32; 6] = [1, 3, 5, 7, 9, 11];
 
-/// What a call does that fails.
+/// What a failing call does.
 const FAILS: Step = Step::Fail(ErrorKind::Interrupted);
 
-/// What a read does that finds the end of the input, though more bytes come behind it.
+/// What a read does that finds the end of the input, although more bytes follow.
 const ENDS: Step = Step::Pass(0);
 
 /// What the session prints.
@@ -38,10 +38,10 @@ const SHOWN: &[u8] = b"-> wl_display@1.get_registry(new id wl_registry@2)
 agree: 4 objects
 ";
 
-/// The bytes on their way in one direction, which wait in memory.
+/// The bytes on their way in one direction, kept in memory.
 type Way = RefCell<Vec<u8>>;
 
-/// A connection in memory. One call of its two streams does this step, and at each other call at
+/// A connection in memory. One call of its two streams does this step, and in every other call at
 /// most this number of bytes passes.
 #[derive(Drop)]
 struct Connection {
@@ -55,7 +55,7 @@ struct Connection {
 }
 
 impl Connection {
-    /// A connection of which the call of this number fails.
+    /// A connection whose call with this number fails.
     fn failing(alloc: Global, fails_at: u32, most: usize) -> Connection {
         Connection::new(alloc, fails_at, FAILS, most)
     }
@@ -110,7 +110,7 @@ struct Stream<'a> {
     connection: &'a Connection,
 }
 
-/// The error where a way is in use, which it never is.
+/// The error if a direction's bytes are in use, which they never are.
 fn busy() -> io::Error {
     io::Error::from(ErrorKind::ResourceBusy)
 }
@@ -171,13 +171,13 @@ fn is_the_session(alloc: Global, tables: &Tables, played: &SessionOutcome<Global
     }
 }
 
-/// Whether this is that the session failed.
+/// Whether this says that the session failed.
 fn has_failed<T>(answer: &Result<T, SocketError>) -> bool {
     matches!(answer, Err(error) if *error == SocketError::Failed)
 }
 
-/// Whether the session comes to the same where the call of this number fails and is made again, and
-/// fails where it is not made again, as it never is for what the program prints.
+/// Whether the session has the same result if the call with this number fails and is repeated, and
+/// fails if it is not repeated; the program never repeats one.
 fn overcomes(alloc: Global, tables: &Tables, fails_at: u32, most: usize) -> bool {
     let overcome = match play(
         alloc,
@@ -194,7 +194,7 @@ fn overcomes(alloc: Global, tables: &Tables, fails_at: u32, most: usize) -> bool
     overcome && failed && has_failed(&printed(alloc, tables, &connection))
 }
 
-/// How many reads and writes the session makes where none fails, if it is the session.
+/// How many reads and writes the session makes if none fails, provided that it is the session.
 fn count_calls(alloc: Global, tables: &Tables, connection: &Connection) -> Option<u32> {
     match play(alloc, tables, connection, 0) {
         Ok(played) if is_the_session(alloc, tables, &played) => Some(connection.calls.get()),
@@ -202,7 +202,7 @@ fn count_calls(alloc: Global, tables: &Tables, connection: &Connection) -> Optio
     }
 }
 
-/// Whether the session overcomes a failure at each of its calls, of which there are at least this
+/// Whether the session overcomes a failure in each of its calls, of which there are at least this
 /// many.
 fn overcomes_each(alloc: Global, tables: &Tables, most: usize, at_least: u32) -> bool {
     let Some(calls) = count_calls(alloc, tables, &Connection::failing(alloc, NEVER, most)) else {
@@ -221,8 +221,8 @@ fn each_call_may_fail_once(rt: HostRuntime) -> Result<(), Fail> {
     Ok(())
 }
 
-/// Whether the session fails where the read of this number finds the end of the input, though a
-/// retry is left and a further read would give the rest.
+/// Whether the session fails if the read with this number finds the end of the input, although a
+/// retry is left and another read would give the rest.
 fn fails_at_an_end(alloc: Global, tables: &Tables, ends_at: u32) -> bool {
     let connection = Connection::new(alloc, ends_at, ENDS, usize::MAX);
     has_failed(&play(alloc, tables, &connection, 1))
@@ -237,7 +237,7 @@ fn reads_nothing_behind_an_end(rt: HostRuntime) -> Result<(), Fail> {
     Ok(())
 }
 
-/// What the session over a connection prints, in this memory.
+/// What the session over a connection prints, with this memory.
 fn printed<A: Allocator + Clone + Drop>(
     memory: A,
     tables: &Tables,
@@ -246,7 +246,7 @@ fn printed<A: Allocator + Clone + Drop>(
     socket_text(memory, tables, connection.client(), connection.server())
 }
 
-/// Whether the session is out of memory where an allocation was refused, and else prints what it
+/// Whether the session is out of memory if an allocation was refused, and else prints what it
 /// should.
 fn is_refused_or_whole(
     alloc: Global,
@@ -264,8 +264,8 @@ fn is_refused_or_whole(
     }
 }
 
-/// Refuses each allocation in turn. Whether each run ends as it should, and the last is refused
-/// none.
+/// Refuses each allocation in turn. True if each run ends as it should, and finally none is
+/// refused.
 fn is_refused_in_turn(
     alloc: Global,
     tables: &Tables,

@@ -1,4 +1,4 @@
-// A reader that keeps a copy: with each allocation refused, and where a read fails.
+// A reader that keeps a copy: with each allocation refused, and when a read fails.
 use std::alloc::{AllocError, Global};
 use std::io::{self, ErrorKind, Read};
 use std::test::Fail;
@@ -41,7 +41,7 @@ fn is_added_at_last(
     false
 }
 
-/// Whether a new `Tee` is out of memory where its only allocation is refused, and else copies.
+/// Whether a new `Tee` is out of memory if its only allocation is refused, and else copies.
 fn copies_at_last(memory: &RefusingAllocator) -> Result<bool, AllocError> {
     memory.refuse_nth(0);
     let refused = Tee::new(memory.clone()?, ScriptReader::new(BYTES, &[]), 6).is_err();
@@ -66,8 +66,8 @@ fn is_failure(read: io::Result<usize>, kind: ErrorKind) -> bool {
     }
 }
 
-/// Whether a read that fails behind 4 bytes says why, and so does one behind all 6, when there is
-/// no room to copy more.
+/// Whether a read that fails after 4 bytes gives the reason, and so does one after all 6, when
+/// there is no room to copy more.
 fn says_why(tee: &mut Tee<ScriptReader<'_>>, kind: ErrorKind) -> bool {
     let mut buf = [0; 6];
     matches!(tee.read(&mut buf), Ok(4))
@@ -76,7 +76,7 @@ fn says_why(tee: &mut Tee<ScriptReader<'_>>, kind: ErrorKind) -> bool {
         && is_failure(tee.read(&mut buf), ErrorKind::StorageFull)
 }
 
-/// Whether an error of this kind passes through a copying reader as it is.
+/// Whether an error of this kind passes through a copying reader unchanged.
 fn passes_on(alloc: Global, kind: ErrorKind) -> Result<bool, AllocError> {
     let script = [Step::Pass(4), Step::Fail(kind)];
     let mut tee = Tee::new(alloc, ScriptReader::new(BYTES, &script), 6)?;

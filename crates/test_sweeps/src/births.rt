@@ -1,4 +1,4 @@
-//! Ends that make and lose objects for a long time.
+//! Ends that make and destroy objects for a long time.
 
 use crate::replay::Props;
 use crate::tally::Tally;
@@ -29,7 +29,7 @@ const SYNC: [u8; 12] = [1, 0, 0, 0, 0, 0, 12, 0, 2, 0, 0, 0];
 /// wl_display.delete_id of 2, to a client.
 const DELETE: [u8; 12] = [1, 0, 0, 0, 1, 0, 12, 0, 2, 0, 0, 0];
 
-/// Makes callbacks at a client, the id of each of which the server deletes at once.
+/// Makes callbacks at a client; the server deletes the id of each at once.
 pub fn born_at_client<T: Table<Alloc = Global> + Drop>(props: Props<'_>) -> Result<Tally, Trouble> {
     let mut client = Client::<T>::new(props.alloc, props.tables, SIZES)?;
     make_callbacks(props, &mut client)
@@ -49,7 +49,7 @@ fn make_callbacks<T: Table<Alloc = Global>>(
     Ok(tally)
 }
 
-/// Lets a server read of callbacks, each of which it drops at once.
+/// Makes a server read requests for callbacks, each of which it drops at once.
 pub fn born_at_server<T: Table<Alloc = Global> + Drop>(props: Props<'_>) -> Result<Tally, Trouble> {
     let mut server = Server::<T>::new(props.alloc, props.tables, SIZES)?;
     drop_callbacks(props, &mut server)
@@ -68,7 +68,7 @@ fn drop_callbacks<T: Table<Alloc = Global>>(
     Ok(tally)
 }
 
-/// Reads a message at an end, and takes what it wrote. Whether it gave one report.
+/// Reads a message at an end, and takes what it wrote. True if it gave one report.
 fn reads<E: Receiver>(props: Props<'_>, end: &mut E, message: &[u8]) -> Result<bool, AllocError> {
     let mut reports = Vec::new(props.alloc);
     let pieces = [Piece {

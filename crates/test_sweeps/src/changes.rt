@@ -24,7 +24,7 @@ pub enum Change {
 impl Change {
     pub const ALL: [Change; 3] = [Change::Zero, Change::Ones, Change::LowestBit];
 
-    /// Changes the byte at a place, where there is one.
+    /// Changes the byte at a place, if there is one.
     pub fn apply(self, bytes: &mut [u8], place: usize) {
         if let Some(byte) = bytes.get_mut(place) {
             *byte = match self {

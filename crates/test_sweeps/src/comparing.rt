@@ -38,7 +38,7 @@ fn is_same(row: Option<Meant>, entry: Option<Entry>) -> bool {
     }
 }
 
-/// Whether both ends of the model have the same objects, as `Pair::agree` has it.
+/// Whether both ends of the model have the same objects, as in `Pair::agree`.
 pub fn agree(client: &MeantEnd, server: &MeantEnd) -> bool {
     let (here, there) = (&client.of_client, &server.of_client);
     let most = here.used().max(there.used());
@@ -62,7 +62,7 @@ pub fn agree(client: &MeantEnd, server: &MeantEnd) -> bool {
 }
 
 /// Whether the ends agree at an id: on the same live object, or on none. In the server's range the
-/// client has a zombie where the server has none.
+/// client may have a zombie if the server has none.
 fn are_alike(here: Option<Meant>, there: Option<Meant>, is_of_server: bool) -> bool {
     match (here, there) {
         (None, None) => !is_of_server,
@@ -72,7 +72,7 @@ fn are_alike(here: Option<Meant>, there: Option<Meant>, is_of_server: bool) -> b
     }
 }
 
-/// The number of objects, as `Pair::len` has it.
+/// The number of objects, as in `Pair::len`.
 pub fn count_of(client: &MeantEnd, server: &MeantEnd) -> usize {
     held(&client.of_client).saturating_add(held(&server.of_server))
 }

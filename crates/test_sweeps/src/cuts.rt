@@ -11,7 +11,7 @@ use wl_recording::{Direction, Recording};
 use wl_session::{Verdict, check};
 
 /// Cuts a lawful recording after each of its bytes: what is left is lawful, each whole message is
-/// counted, and the bytes behind the last are left.
+/// counted, and the bytes after the last are left over.
 pub fn judge_cut(props: Props<'_>, sample: &Sample<'_>) -> Result<Tally, Trouble> {
     let mut tally = Tally::NONE;
     for len in 0..sample.len().saturating_add(1) {
@@ -23,7 +23,7 @@ pub fn judge_cut(props: Props<'_>, sample: &Sample<'_>) -> Result<Tally, Trouble
     Ok(tally)
 }
 
-/// The first bytes of a recording, with all tokens of the pieces in which they stand.
+/// The first bytes of a recording, with all tokens of their pieces.
 fn cut_after(
     memory: &RefusingAllocator,
     sample: &Sample<'_>,
@@ -58,7 +58,7 @@ fn whole_messages(
     })
 }
 
-/// Whole messages, and the bytes behind them.
+/// Whole messages, and the bytes after them.
 #[derive(Clone, Copy)]
 struct Stretch {
     messages: usize,
@@ -82,7 +82,7 @@ fn count(stream: &[u8]) -> Stretch {
     }
 }
 
-/// What stands behind the first message; none where it is not whole.
+/// What follows the first message; `None` if it is not whole.
 fn behind_message(stream: &[u8]) -> Option<&[u8]> {
     let low = *stream.get(6)?;
     let high = *stream.get(7)?;

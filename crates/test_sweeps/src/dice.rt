@@ -1,10 +1,10 @@
-//! Random draws, the same ones each time.
+//! Random draws; they are the same each time.
 ghost use Rattle.std.specs.Prelude.{◌≡◌, ◌<◌};
 
 use rand_core::Rng;
 use rand_pcg::Pcg32;
 
-/// What draws come from.
+/// The state of the draws.
 #[derive(Drop)]
 pub struct Dice {
     words: Pcg32,
@@ -21,7 +21,7 @@ impl Dice {
         self.words.next_u32()
     }
 
-    /// A number below this one; 0 where there is none.
+    /// A number below this one; 0 if there is none.
     pub fn below(&mut self, count: usize) -> usize
         ensures below { 0 < count → result < count }
         ensures none { count ≡ 0 → result ≡ 0 }

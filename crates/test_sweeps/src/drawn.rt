@@ -161,7 +161,7 @@ impl Drawer {
         }
     }
 
-    /// One of the objects of an end, live or zombie. Two of three are of the server's range.
+    /// One of the objects of an end, live or zombie. Two in three are in the server's range.
     fn row(&mut self, end: &MeantEnd) -> Meant {
         for _ in 0..20 {
             let range = match self.dice.below(3) {

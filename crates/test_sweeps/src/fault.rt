@@ -1,4 +1,4 @@
-//! The event by which a server tells of a fault.
+//! The event with which a server reports a fault.
 
 use std::alloc::{AllocError, Global};
 use wl_objects::Fault;
@@ -33,7 +33,7 @@ fn put_number(bytes: &mut Vec<u8>, number: u32) -> Result<(), AllocError> {
     Ok(bytes.extend_from_slice(number.to_le_bytes().as_slice())?)
 }
 
-/// What the event says.
+/// The code and text of the event.
 fn code_and_text(fault: Fault) -> (u32, &'static [u8]) {
     match fault {
         Fault::BadSize => (1, b"bad message size"),

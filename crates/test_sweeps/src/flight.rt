@@ -9,13 +9,13 @@ use wl_object_map::Maker;
 use wl_objects::Object;
 use wl_wire::Iface;
 
-/// What a message does beside making and ending objects.
+/// What a message does besides making and ending objects.
 #[derive(Clone, Copy)]
 pub enum Effect {
     Nothing,
     /// It is the delete_id of its target.
     Frees,
-    /// It tells of the global of this name.
+    /// It announces the global of this name.
     Tells(usize),
 }
 

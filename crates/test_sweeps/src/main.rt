@@ -1,6 +1,6 @@
-//! Plays recorded sessions cut, changed and without memory, and lists of moves over both tables of
+//! Plays recorded sessions cut, changed and without memory, and lists of moves with both tables of
 //! objects. Prints for each sweep how often it played and how often the result was wrong. The
-//! recordings and lists are those that the command line names (crates/test_scenes/README.md).
+//! command line names the recordings and lists (crates/test_scenes/README.md).
 #![tactic(auto)]
 
 mod births;
@@ -40,7 +40,7 @@ use test_allocator::RefusingAllocator;
 use test_player::Trouble;
 use wl_sigs::Tables;
 
-/// Prints how a sweep went. Whether all went well.
+/// Prints how a sweep went. True if all went well.
 fn report(rt: &HostRuntime, name: &str, tally: Result<Tally, Trouble>) -> io::Result<bool> {
     match tally {
         Ok(tally) => {
@@ -54,7 +54,7 @@ fn report(rt: &HostRuntime, name: &str, tally: Result<Tally, Trouble>) -> io::Re
     }
 }
 
-/// Prints how each of some kinds went. Whether all went well.
+/// Prints how each of several kinds went. True if all went well.
 fn report_each(rt: &HostRuntime, names: &[&str], tallies: &[Tally]) -> io::Result<bool> {
     let mut all = true;
     for (name, tally) in names.iter().zip(tallies.iter()) {
@@ -118,7 +118,7 @@ fn judge_lists(
     Ok(tallies)
 }
 
-/// Prints how moves went. Whether all went well.
+/// Prints how moves went. True if all went well.
 fn print_moves(rt: &HostRuntime, tallies: Result<MoveTallies, Trouble>) -> io::Result<bool> {
     match tallies {
         Ok(tallies) => {
@@ -136,7 +136,7 @@ fn print_moves(rt: &HostRuntime, tallies: Result<MoveTallies, Trouble>) -> io::R
     }
 }
 
-/// The tables of the core interfaces and, behind them, those of a file's text.
+/// The tables of the core interfaces, followed by those of a file's text.
 fn read_tables(rt: &HostRuntime, name: &str) -> io::Result<Tables> {
     let text = fs::read(rt, name)?;
     match Tables::core(rt.alloc())?.read_more(&text) {
@@ -146,8 +146,7 @@ fn read_tables(rt: &HostRuntime, name: &str) -> io::Result<Tables> {
 }
 
 /// Sweeps over the files that the command line names. A name that ends in `.tables` is a file of
-/// further tables, for the files after it, and for the runs after all of them. Whether all went
-/// well.
+/// more tables, for the files after it, and for the runs after all of them. True if all went well.
 fn sweep_files(rt: &HostRuntime, props: Props<'_>) -> io::Result<bool> {
     let mut all = true;
     let mut tables = Tables::core(props.alloc)?;
@@ -172,7 +171,7 @@ fn sweep_files(rt: &HostRuntime, props: Props<'_>) -> io::Result<bool> {
     Ok(print_runs(rt, props)? && all)
 }
 
-/// Runs all sweeps. Whether all went well.
+/// Runs all sweeps. True if all went well.
 fn sweep_all(rt: &HostRuntime) -> io::Result<bool> {
     let alloc = rt.alloc();
     let tables = Tables::core(alloc)?;
@@ -191,7 +190,7 @@ fn sweep_all(rt: &HostRuntime) -> io::Result<bool> {
     Ok(all)
 }
 
-/// Plays the runs, and prints how they and their moves went. Whether all went well.
+/// Plays the runs, and prints how they and their moves went. True if all went well.
 fn print_runs(rt: &HostRuntime, props: Props<'_>) -> io::Result<bool> {
     match judge_runs(props) {
         Ok(tallies) => {

@@ -1,4 +1,4 @@
-//! Sessions of moves, over each of the two tables of objects.
+//! Sessions of moves, with each of the two tables of objects.
 
 use crate::drawn::Drawer;
 use crate::judging::{Judge, MoveTallies, SIZES};
@@ -19,7 +19,7 @@ pub struct Moves<'a> {
     pub seed: u64,
 }
 
-/// Plays a session over slots, and another over an ordered map.
+/// Plays a session with slots, and another with an ordered map.
 pub fn judge_moves(
     props: Props<'_>,
     moves: Moves<'_>,

@@ -56,8 +56,8 @@ pub fn refuse(props: Props<'_>, sample: &Sample<'_>, call: Call) -> Result<Tally
     Err(Trouble::Memory)
 }
 
-/// How many are wrong where no allocation was refused: none, where there was an answer, the same
-/// one, and there are allocations.
+/// How many are wrong in the end, when no allocation was refused: none if the result is the same as
+/// before, and there are allocations.
 fn wrong_at_last(is_refused: bool, is_same: bool, number: u64) -> usize {
     if is_refused || !is_same || number == 0 {
         1
@@ -66,8 +66,7 @@ fn wrong_at_last(is_refused: bool, is_same: bool, number: u64) -> usize {
     }
 }
 
-/// Whether a call has an answer, and not that it is out of memory. One that has another error has
-/// trouble.
+/// Whether a call returns something other than out of memory. Any other error is trouble.
 fn is_answered(props: Props<'_>, sample: &Sample<'_>, call: Call) -> Result<bool, Trouble> {
     let memory = props.memory.clone()?;
     let recording = &sample.recording;

@@ -38,7 +38,7 @@ pub struct Props<'a> {
     pub memory: &'a RefusingAllocator,
 }
 
-/// How the bytes of a recording come to an end: joined as far as no call stands between, or each
+/// How the bytes of a recording reach an end: joined as far as no call is in between, or each
 /// alone.
 #[derive(Clone, Copy)]
 enum Cut {
@@ -46,7 +46,7 @@ enum Cut {
     Bytewise,
 }
 
-/// What came of playing a session at an end.
+/// The outcome of playing a session at an end.
 #[derive(Drop)]
 struct Outcome {
     /// The replies to its calls and its reports, in the words of a scene.
@@ -284,8 +284,8 @@ impl<'a, E: Playable + Drop> Replay<'a, E> {
         end.stop == Some(NextError::Failed) && room.bytes == 0 && room.tokens == 0
     }
 
-    /// Appends the numbers of objects, and keeps what was written. After a fault a server's last
-    /// message tells of it.
+    /// Appends the numbers of objects, and keeps what was written. After a fault, a server's last
+    /// message must report it.
     fn finish(&mut self, outcome: &mut Outcome) -> Result<(), Trouble> {
         let objects = self.end.objects();
         write_counts(&mut outcome.text, objects, Maker::Client, DISPLAY_ID)?;

@@ -84,7 +84,7 @@ impl RandomMove {
     }
 }
 
-/// A run, and what its random moves are made of.
+/// A run, and what its random moves are made from.
 #[derive(Drop)]
 struct Run<'a> {
     alloc: Global,
@@ -163,7 +163,7 @@ impl<'a> Run<'a> {
         Ok(())
     }
 
-    /// Makes a move, alone in its run of the pair.
+    /// Makes a move, in a run of the pair with no other move.
     fn do_move<T: Table<Alloc = Global>>(
         &mut self,
         pair: &mut Pair<'_, T>,
@@ -195,7 +195,7 @@ impl<'a> Run<'a> {
         })
     }
 
-    /// A move of any kind but an error.
+    /// A move of any kind except an error.
     fn random_move(&mut self) -> Result<RandomMove, AllocError> {
         match self.dice.below(24) {
             0 | 1 | 2 | 3 | 4 => self.request(),
@@ -312,7 +312,7 @@ impl<'a> Run<'a> {
         Ok(RandomMove::of(Move::AddGlobal { iface, version }))
     }
 
-    /// The kinds of a message's arguments; none where there is no such message.
+    /// The kinds of a message's arguments; none if there is no such message.
     fn kinds_of(&self, iface: Iface, side: Side, opcode: u16) -> Result<Vec<Kind>, AllocError> {
         let mut kinds = Vec::new(self.alloc);
         if let Some(signature) = self.tables.message(iface, side, opcode) {

@@ -1,9 +1,9 @@
-//! What happens at one end in a recorded session: its own calls, and what it reads.
+//! The events at one end in a recorded session: its own calls, and what it reads.
 
 use std::alloc::{AllocError, Global};
 use wl_recording::Direction;
 
-/// What happens next at an end.
+/// The next event at an end.
 #[derive(Clone, Copy)]
 pub enum Step<'a> {
     /// It makes this call.
@@ -34,8 +34,8 @@ fn marks_of(direction: Direction) -> Marks {
     }
 }
 
-/// What happens at the end that reads in this direction, in order. Pieces that follow one another
-/// are read as one.
+/// The events at the end that reads in this direction, in order. Pieces that follow one another are
+/// read as one.
 pub fn steps_of(
     alloc: Global,
     text: &str,

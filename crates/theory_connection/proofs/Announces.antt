@@ -503,7 +503,7 @@ pub only_sent : (c : Core) (ds : List Due) → with_dues c ds ≡ record c { out
 only_sent c [] = refl
 only_sent c (d ∷ ds) = only_sent (with_sent c d.object.id (owed_opcode d.owing) (values_of c.tables d.owing) []) ds
 
--- an announcement keeps what stands
+-- after an announcement the pair represents the next world
 pub announce_keeps : (p : PairState) (w : World) (asked : List (Message Known)) (told : List (Coming Known))
     → StandsBy p w asked told → NotEnded p w → (reply : Result ℕ SendError) (p' : PairState) → Announces p reply p'
     → Moves p w asked told Announce (Announce reply) p'

@@ -37,7 +37,7 @@ birth_itself b = rw (maker_itself b.maker) (eq-eqb b.number b.number refl)
 -- ---- what is put
 
 module _ {X : Type 0} where
-  -- what is put at a birth stands there, and at every other birth stands what stood there
+  -- a birth has what was put there, and every other birth what it had
   pub put_tells : (f : Birth → Option X) (b : Birth) (o : Option X) (c : Birth)
       → ((c ≡ b) × (put f b o c ≡ o)) ⊎ ((c ≢ b) × (put f b o c ≡ f c))
   unfolding put

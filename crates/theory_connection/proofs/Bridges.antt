@@ -112,7 +112,7 @@ pub told_client : (v : Objects) (x : Known) → is_of_server x.id ≡ true
 told_client v x range = ap (λ (o : Objects). o.client)
     (changed_server (λ view place. table.opened_at view place x.born.iface x.born.version) v x.id range)
 
--- the client's rows with one more of the server open, in place of what stood at its id
+-- the client's rows with one more open object of the server, replacing what was at its id
 pub client_told_rows : (v : Objects) (x : Known) → is_of_server x.id ≡ true
     → x.born.birth ≡ server_birth v.server.births
     → client_rows (opened_at v x.id x.born.iface x.born.version) ≡ with_told (client_rows v) x.id (Open x.born)

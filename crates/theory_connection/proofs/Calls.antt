@@ -40,9 +40,9 @@ use Rattle.theory_connection.proofs.TwoRanges.{row_word}
 use Rattle.wl_object_map.specs.View.{lives}
 use Rattle.wl_objects.specs.Messages.{or_else}
 
--- ---- what stands where nothing stands against a write
+-- ---- what holds if no refusal of a write applies
 
--- what the checks of a call say where nothing stands against it
+-- what the checks of a call say if no refusal applies
 pub record Checked (limit : ℕ) (tables : List Interface) (side : Side) (view : Objects) (target : Object) (opcode : ℕ)
     (given : List Given) (signature : sigs.MessageSignature) : Type 0 where
   pub entry : Entry
@@ -146,7 +146,7 @@ by_checked limit tables side view target opcode given s (Some entry) e h =
       len = c.len;
     }
 
--- a call that nothing stands against is checked
+-- a call to which no refusal applies passes its checks
 pub is_checked : (limit : ℕ) (tables : List Interface) (side : Side) (view : Objects) (target : Object) (opcode : ℕ)
     (given : List Given) (s : sigs.MessageSignature) → checked limit tables side view target opcode given ≡ Ok s
     → Checked limit tables side view target opcode given s

@@ -29,7 +29,7 @@ flies o i ms b t f =
     (sym (goes_tokens o b t))
     (carried o i ms (goes o b t).bytes f (goes_there o b t))
 
--- a pair stands again after a carry to the server
+-- after a carry to the server the pair represents its world
 pub to_server_stands : (p : PairState) (w : World) (asked : List (Message Known)) (told : List (Coming Known))
     (most : ℕ) → StandsBy p w asked told
     → StandsBy (after_carry_to_server p (carries p.client.core p.server.core most)) w asked told
@@ -54,7 +54,7 @@ to_server_stands p w asked told most s = record {
   registries = s.registries;
 }
 
--- a pair stands again after a carry to the client
+-- after a carry to the client the pair represents its world
 pub to_client_stands : (p : PairState) (w : World) (asked : List (Message Known)) (told : List (Coming Known))
     (most : ℕ) → StandsBy p w asked told
     → StandsBy (after_carry_to_client p (carries p.server.core p.client.core most)) w asked told
@@ -78,7 +78,7 @@ to_client_stands p w asked told most s = record {
   registries = s.registries;
 }
 
--- a carry to the server keeps what stands
+-- a carry to the server keeps a pair representing its world
 pub carry_to_server_keeps : (p : PairState) (w : World) (asked : List (Message Known)) (told : List (Coming Known))
     → StandsBy p w asked told → NotEnded p w → (most : ℕ) (reply : CarryOutcome) (p' : PairState)
     → Carries (carries p.client.core p.server.core most) p
@@ -93,7 +93,7 @@ carry_to_server_keeps p w asked told s z most reply p' moved =
 carry_to_server_keeps p w asked told s z most reply p' (no_memory h) =
     record { world = w; answers = before z (no_memory h) refl; outcome = goes_on asked told z s stays }
 
--- a carry to the client keeps what stands
+-- a carry to the client keeps a pair representing its world
 pub carry_to_client_keeps : (p : PairState) (w : World) (asked : List (Message Known)) (told : List (Coming Known))
     → StandsBy p w asked told → NotEnded p w → (most : ℕ) (reply : CarryOutcome) (p' : PairState)
     → Carries (carries p.server.core p.client.core most) p

@@ -297,7 +297,7 @@ left_by st entry target name iface version g e =
       };
     }
 
--- a bind by the client keeps what stands
+-- after a bind by the client the pair represents the next world
 pub client_bind_keeps : (p : PairState) (w : World) (asked : List (Message Known)) (told : List (Coming Known))
     → StandsBy p w asked told → NotEnded p w → (target : Object) (name : ℕ) (iface : List ℕ) (version : ℕ)
     → (reply : Result (Option Object) SendError) (p' : PairState)

@@ -293,7 +293,7 @@ sends_that p w asked told s target opcode given signature new c k o can =
       steps = asks_world p w asked told s m can;
     }
 
--- a call of the client keeps what stands
+-- after a call of the client the pair represents the next world
 pub client_send_keeps : (p : PairState) (w : World) (asked : List (Message Known)) (told : List (Coming Known))
     → StandsBy p w asked told → NotEnded p w → (target : Object) (opcode : ℕ) (given : List Given)
     → Each FitsWords given

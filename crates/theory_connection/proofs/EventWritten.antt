@@ -81,7 +81,7 @@ told_core c m = record c {
   };
 }
 
--- a pair stands again after the server has written an event
+-- after the server has written an event the pair represents the next world
 pub tell_stands : (p : PairState) (w : World) (asked : List (Message Known)) (told : List (Coming Known))
     (s : StandsBy p w asked told) (m : Message Known) (c : CanTell p m)
     → StandsBy (with_server_core p (told_core p.server.core m)) (event_written w (renamed born_of m)) asked
@@ -142,7 +142,7 @@ dropped_core c x = record c {
   outbox = record c.outbox { messages = c.outbox.messages ++ spelled_coming (Delete x) ∷ [] };
 }
 
--- a pair stands again after the server has dropped an object
+-- after the server has dropped an object the pair represents the next world
 pub drop_stands : (p : PairState) (w : World) (asked : List (Message Known)) (told : List (Coming Known))
     (s : StandsBy p w asked told) (x : Known) → ThereRow (server_rows p.server.core.view) x → test_of p x.born ≡ true
     → x.id ≤ 1048576

@@ -14,17 +14,17 @@ use Rattle.theory_connection.specs.Flight.{ReadsInFlight, done, name, made, end,
 use Rattle.theory_connection.specs.Flight.{destroy, give_back}
 
 module _ {X : Type 0} where
-  -- what stands where after a row was put
+  -- the rows after a row was put
   pub put_row_tells : (f : ℕ → Option X) (i : ℕ) (o : Option X) (j : ℕ)
       → ((j ≡ i) × (put_row f i o j ≡ o)) ⊎ ((j ≢ i) × (put_row f i o j ≡ f j))
   unfolding put_row
   put_row_tells f i o j = grind (arith, nat_tests)
 
-  -- the row that was put stands there
+  -- the row that was put is there
   pub put_row_same : (f : ℕ → Option X) (i : ℕ) (o : Option X) → put_row f i o i ≡ o
   put_row_same f i o = grind (arith, put_row_tells)
 
-  -- at another place stands what stood there
+  -- any other place has what it had
   pub put_row_other : (f : ℕ → Option X) (i : ℕ) (o : Option X) (j : ℕ) → i ≢ j → put_row f i o j ≡ f j
   put_row_other f i o j ne =
       elim (put_row_tells f i o j) [ inl p ↦ absurd (ne (sym p.0)) | inr p ↦ p.1 ]
@@ -37,7 +37,7 @@ module _ {X : Type 0} where
       λ q. grind (arith, put_row_tells) in
       λ k q. each q k
 
-  -- of two puts at a place the last stands
+  -- of two puts at a place the last one counts
   pub put_row_over : (f : ℕ → Option X) (i : ℕ) (a b : Option X) → put_row (put_row f i a) i b ≡ put_row f i b
   put_row_over f i a b =
       let each : (q : ℕ) → put_row (put_row f i a) i b q ≡ put_row f i b q = λ q. grind (arith, put_row_tells) in

@@ -148,7 +148,7 @@ can_add s iface version false false c l e f h = absurd (cc h)
 can_add s iface version false true false l e f h = absurd (cc h)
 can_add s iface version false true true l e f h = record { can = e; few = ltb-true _ _ f }
 
--- a new global keeps what stands
+-- after a new global the pair represents the next world
 pub add_global_keeps : (p : PairState) (w : World) (asked : List (Message Known)) (told : List (Coming Known))
     → StandsBy p w asked told → NotEnded p w → (iface : Iface) (version : ℕ) → version < 2 ^ 32
     → (reply : Result ℕ GlobalError) (p' : PairState)
@@ -235,7 +235,7 @@ withdraw_stands p w asked told s name (Some x) e =
     (λ g h. record { can_be = h.can_be; word = h.word }) p.server.globals name x e s.globals.globals)
     (let l = length_set p.server.globals (name - 1) (withdrawn x) in omega (arith, l, s.globals.few_globals))
 
--- the withdrawal of a global keeps what stands
+-- after the withdrawal of a global the pair represents the next world
 pub withdraw_keeps : (p : PairState) (w : World) (asked : List (Message Known)) (told : List (Coming Known))
     → StandsBy p w asked told → NotEnded p w → (name : ℕ) (reply : Result (Unit {0}) GlobalError) (p' : PairState)
     → Calls (withdraw_refusal p.server name) p (with_server p (after_withdraw p.server name)) reply p'

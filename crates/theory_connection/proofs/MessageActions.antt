@@ -37,7 +37,7 @@ pub in_map : {X Y : Type 0} (f : X → Y) (x : X) (xs : List X) → In x xs → 
 in_map f x [] h = absurd h
 in_map f x (z ∷ xs) h = elim h [ inl p ↦ inl (ap f p) | inr p ↦ inr (in_map f x xs p) ]
 
--- what stands under an image
+-- the elements of a mapped list
 pub record From {X Y : Type 0} (f : X → Y) (y : Y) (xs : List X) : Type 0 where
   pub item : X
   pub there : In item xs
@@ -290,7 +290,7 @@ split_at x (y ∷ ys) i = elim i [
   | inr p ↦ (let k = split_at x ys p in record { front = y ∷ k.front; back = k.back; whole = λ n. y ∷ k.whole n })
 ]
 
--- an action that names an object, behind those of the messages before and other names of its event
+-- an action that names an object, after those of the messages before and other names of its event
 pub record NamedAt (k : Known) (front told : List (Coming Known)) : Type 0 where
   pub names_before : List Known
   pub rest : List Tell

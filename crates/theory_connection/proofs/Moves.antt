@@ -127,7 +127,7 @@ pub record IsMarked (p p' : PairState) : Type 0 where
   pub pieces : p'.recording ≡ p.recording
   pub mark : p'.ended_at ≡ Some (length p.recording)
 
--- the pair stands again with what is in flight now, or an error has ended the world
+-- the pair represents the world with what is in flight now, or an error has ended the world
 pub data Outcome (p : PairState) (asked : List (Message Known)) (told : List (Coming Known)) (p' : PairState)
     (w' : World) : Type 0 where
   goes_on : (asked' : List (Message Known)) (told' : List (Coming Known)) → NotEnded p' w' → StandsBy p' w' asked' told'
@@ -147,7 +147,7 @@ outcome_stands : {p p' : PairState} {w' : World} {asked : List (Message Known)} 
 outcome_stands (goes_on a t z s h) = stands a t z s
 outcome_stands (ends_it e m) = ended e
 
--- a step of a pair that stands, without what it did
+-- a step of a pair that represents its world, without what it did
 pub forget : {p p' : PairState} {w : World} {asked : List (Message Known)} {told : List
     (Coming Known)} {move : Move} {reply : Reply} → Moves p w asked told move reply p' → Keeps p w move reply p'
 forget m = record { world = m.world; answers = m.answers; stands = outcome_stands m.outcome }

@@ -206,7 +206,7 @@ module _ {test : Born → Bool} where
       let ne : n.id ≢ i = λ q. (let d = sym a ∙ ap s.rows q ∙ h in cc d) in
       (ne, gone_asks i t l (put_row_other s.rows n.id None i ne ∙ h))
 
-  -- behind the destroying request nothing on the way is about the object's id
+  -- after the destroying request nothing on the way concerns the object's id
   pub destroyed_last : (before after : List Ask) (x : Known) {s : Rows Born} {m : Rows Row}
       → Tied test (before ++ (Destroy x ∷ after)) s m → Each (λ a. ask_id a ≢ x.id) after
   destroyed_last [] after x (destroy {m = m} z l a b c t) = plain.free_asks x.id t (put_row_same m.rows x.id None)

@@ -92,7 +92,7 @@ opening_holds : (number : ℕ)
 unfolding put nothing
 opening_holds number = refl
 
--- a new pair stands, with nothing in flight
+-- a new pair represents its world, with nothing in flight
 pub new_stands_by : (tables : List Interface) (client_sizes server_sizes : Sizes)
     → client_sizes.limit.bytes ≡ server_sizes.limit.bytes → Valid tables
     → StandsBy (new_pair tables client_sizes server_sizes) opening_world [] []
@@ -161,7 +161,7 @@ new_stands_by tables client_sizes server_sizes one v = let has_range = has_serve
     opened id None h = refl
     opened id (Some e) h = ap (λ (r : Row). only_open (Some r)) (live_row id e e.state (h e refl))
 
--- a new pair stands for the opening world
+-- a new pair represents the opening world
 pub new_stands : (tables : List Interface) (client_sizes server_sizes : Sizes)
     → client_sizes.limit.bytes ≡ server_sizes.limit.bytes → Valid tables
     → Stands (new_pair tables client_sizes server_sizes) opening_world
@@ -331,7 +331,7 @@ agree_by p w asked told s d =
       };
     }
 
--- drained ends that stand have the same objects
+-- drained ends of a pair that represents a world have the same objects
 pub agree_drained : (p : PairState) (w : World) → Stands p w → w.ended ≡ false → drained p
     → Agree p.client.core.view p.server.core.view
 agree_drained p w (ended e) z d = absurd (cc (e, z))

@@ -97,7 +97,7 @@ marks_without object (r ∷ rs) f =
         subst (λ (o : Object). same_birth (birth_at r.object) (birth_at o) ≡ true) q (birth_itself (birth_at r.object)) in
         cc (e, t))) ∙ sym e
 
--- what stands in a longer list
+-- the elements of a longer list
 among_more : (o : Object) (rs : List server.Registry) (r : server.Registry) → IsAmong o (rs ++ r ∷ [])
     → IsAmong o rs ⊎ (r.object ≡ o)
 among_more o [] r h = elim h [ inl p ↦ inr p | inr p ↦ absurd p ]
@@ -202,7 +202,7 @@ pub fresh_row : (v : Objects) (n : Option Known) → IfThere (Fresh (server_rows
 fresh_row v None f = tt
 fresh_row v (Some x) f = (fresh_look x.id (look v x.id) f.free, fresh_range f)
 
--- the registries stand after a request is read
+-- the registries fit after a request is read
 pub has_read : (c : Core) (rs : List server.Registry) (n o : Option Known)
     → IsFreshId c.view (option_map made_of n) → IfThere (HeldRow c.view) o → HasRegistries c.view rs
     → HasRegistries (ended_view Event (opens c.view (option_map made_of n)) o)
@@ -213,7 +213,7 @@ has_read c rs n (Some x) f r h =
     has_closed (opens c.view made) (registries_after c rs made) (object_of x) r.entry
     (row_kept c.view made x.id r.entry f r.there) (ap (λ (b : Born). b.birth.number) r.same) (has_opened c rs made f h)
 
--- the registries stand where the server makes an object that is none
+-- the registries fit after the server makes an object that is no registry
 has_more : (v : Objects) (rs : List server.Registry) (n : Option Known) → IfThere (FreshTold (server_rows v)) n
     → IfThere (λ x. x.born.iface ≢ registry) n → HasRegistries v rs → HasRegistries (opens v (option_map made_of n)) rs
 has_more v rs None f o h = h
@@ -237,7 +237,7 @@ has_more v rs (Some x) f o h =
           });
     }
 
--- the registries stand after an event that makes and ends no registry
+-- the registries fit after an event that makes and ends no registry
 pub has_told : (v : Objects) (rs : List server.Registry) (n o : Option Known) → IfThere (FreshTold (server_rows v)) n
     → IfThere (λ x. x.born.iface ≢ registry) n
     → IfThere (λ (x : Known). (d : Entry) → look v x.id ≡ Some d → d.iface ≢ registry) o → HasRegistries v rs

@@ -62,7 +62,7 @@ opens_sound v (Some x) s e c =
     subst (λ (i : ℕ). ObjectsAreSound (opened_at v i x.born.iface x.born.version)) (sym e)
     (ObjectsAreSound-opened Client v x.born.iface x.born.version s c)
 
--- a pair stands again after the client has written a request
+-- after the client has written a request the pair represents the next world
 pub ask_stands : (p : PairState) (w : World) (asked : List (Message Known)) (told : List (Coming Known))
     (s : StandsBy p w asked told) (m : Message Known) (c : CanAsk p m)
     → StandsBy (asked_pair p m) (request_written w (renamed born_of m)) (asked ++ m ∷ []) told

@@ -37,7 +37,7 @@ use Rattle.theory_connection.proofs.TwoRanges.{told_sound}
 use Rattle.theory_connection.proofs.ReadAsMeant.{made_of}
 use Rattle.theory_connection.proofs.EndedObject.{Mortal, ended_view}
 
--- ---- what stands under a row
+-- ---- the object of a row
 
 -- what is mapped to something is something
 pub map_some : {X Y : Type 0} (f : X → Y) (o : Option X) (y : Y) → option_map f o ≡ Some y

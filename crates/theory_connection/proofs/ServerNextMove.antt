@@ -237,7 +237,7 @@ at_front p w asked told s z reply p' d (Bad n) e =
     absurd (never_bad p.client.core.outbox p.server.core.inbox _ n s.requests.in_boxes e)
 at_front p w asked told s z reply p' d (Whole n) e = at_whole p w asked told s n z e reply p' d
 
--- a read by the server keeps what stands
+-- after a read by the server the pair represents the next world
 pub server_next_keeps : (p : PairState) (w : World) (asked : List (Message Known)) (told : List (Coming Known))
     → StandsBy p w asked told → NotEnded p w
     → (reply : Result (Option Report) NextError) (p' : PairState)

@@ -234,9 +234,9 @@ module _ (p : PairState) (w : World) (asked : List (Message Known)) (told : List
       each_of [] f = tt
       each_of (q ∷ qs) f = (f q (inl refl), each_of qs (λ a i. f a (inr i)))
 
-  -- ---- behind a destroying request
+  -- ---- after a destroying request
 
-  -- no request behind it is about the id
+  -- no request after it concerns the id
   pub last_asked_id : (k : Known) (front rest : List (Message Known)) (m : Message Known) → asked ≡ front ++ m ∷ rest
       → m.ends ≡ Some k → IsUnasked k.id rest
   last_asked_id k front rest m e d =
@@ -260,7 +260,7 @@ module _ (p : PairState) (w : World) (asked : List (Message Known)) (told : List
           flight.destroyed_last (fs ++ (Use m.target ∷ (us ++ ms))) (all_asks rest) k
           (subst (λ (l : List Ask). Tied (by_event p.server.core.tables) l o s.meet.middle) whole s.meet.tied)
 
-  -- no request behind it names the object or destroys it again
+  -- no request after it names the object or destroys it again
   pub last_asked : (before after : List (Message Born)) (request later : Message Born) (x : Born)
       → w.requests ≡ before ++ request ∷ after → request.ends ≡ Some x → In later after
       → MessageNames x later ⊎ (later.ends ≡ Some x) → ⊥
@@ -322,7 +322,7 @@ module _ (p : PairState) (w : World) (asked : List (Message Known)) (told : List
       (subst (λ (l : List Tell). ReadsInFlight (by_event p.server.core.tables) l v s.meet.middle) e s.meet.reads)
       range free unnamed about
 
-  -- an event names by an id what stands there at the client when its turn comes
+  -- an event names by an id the object that the client has there when the event's turn comes
   pub latest_named : (k : Known) (front rest : List (Coming Known)) (m : Message Known) → told ≡ front ++ Event m ∷ rest
       → MessageNames k m → IsLatest v k (news_told front)
   latest_named k front rest m q n =

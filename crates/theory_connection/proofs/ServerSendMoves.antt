@@ -239,7 +239,7 @@ told_counted s None f = tt
 told_counted s (Some x) f =
     next_counted x.born.birth Server s.by_server.births (births_in (with_told s x.id x.born)) f.birth (omega arith)
 
--- what is told of it
+-- the report of it
 tells_one : (p : PairState) (w : World) (asked : List (Message Known)) (told : List (Coming Known))
     → StandsBy p w asked told → (m : Message Known) (c : CanTell p m)
     → LeadsTo p asked told (with_server_core p (told_core p.server.core m)) asked (told ++ (event_of m ∷ delete m.ends))
@@ -267,7 +267,7 @@ tells_one p w asked told s m c =
     (told_counted (server_rows v) (made_in m.args) c.new) ended)
     (delete_below (births_in now) m.ends ended)))
 
--- a call of the server keeps what stands
+-- after a call of the server the pair represents the next world
 pub server_send_keeps : (p : PairState) (w : World) (asked : List (Message Known)) (told : List (Coming Known))
     → StandsBy p w asked told → NotEnded p w → (target : Object) (opcode : ℕ) (given : List Given)
     → Each FitsWords given
@@ -352,7 +352,7 @@ droppable core object l h =
     droppable_at core object (live_row core.view object) refl
     (sym (ap (λ (b : Bool). cond b (Some refusals.Failed) (drop_at core (live_row core.view object))) l) ∙ h)
 
--- the drop of an object keeps what stands
+-- after the drop of an object the pair represents the next world
 pub server_drop_keeps : (p : PairState) (w : World) (asked : List (Message Known)) (told : List (Coming Known))
     → StandsBy p w asked told → NotEnded p w → (object : Object) (reply : Result (Unit {0}) SendError) (p' : PairState)
     → Calls (drop_refusal p.server.core object) p (with_server_core p (after_drop p.server.core object)) reply p'

@@ -134,7 +134,7 @@ pub births_makes : (v : Rows Row) (n : Option Known) → (client_makes v n).birt
 births_makes v None = refl
 births_makes v (Some n) = refl
 
--- what is told counts no birth of the client
+-- events count no birth of the client
 pub births_told : (v : Rows Row) (n : Option Known) → (client_told v n).births ≡ v.births
 births_told v None = refl
 births_told v (Some n) = refl

@@ -1,4 +1,4 @@
--- How a move changes each part of what stands.
+-- How a move changes each part of the relation between a pair and its world.
 use Rattle.std.proofs.Common.{◌≡◌, ◌≢◌, ℕ, Bool, true, false, cond, List, ◌∷◌, ◌++◌, map, length, take, ◌≤◌, ◌<◌}
 use Rattle.std.proofs.Common.{refl, sym, ap, subst, ◌∙◌, arith}
 use Rattle.std.specs.Prelude.{option_map, nat_eq, is_some}
@@ -93,13 +93,14 @@ by_makers v id r h =
     let m = map_some (row_of_entry id) (look v id) r h in
     ap (λ (x : Row). (birth_in x).maker) (sym m.2) ∙ row_maker m.0.state (born_of_entry id m.0)
 
--- an end's first birth of the server's range is that of the row which stands for nothing
+-- an end's first birth of the server's range follows that of row 1, which has no meaning
 pub some_births : (view : Objects) → ObjectsAreSound view → 0 < view.server.births
 some_births view sound = sound.server.born 1 _ sound.server.display.1
 
 module _ {view : Objects} {failed : Bool} {births : ℕ} {held : Birth → Option Row}
     (s : ClientStands view failed births held) where
-  -- A request makes this at the client, and ends that: the client's objects stand again.
+  -- A request makes this at the client, and ends that: the client's objects represent the next
+  -- world.
   pub client_message : (new ends : Option Known) → ObjectsAreSound (opens view (option_map made_of new))
       → IfThere (Fresh (client_rows view)) new → IfThere (λ x. 1 ≤ x.born.version) new
       → IfThere (IsHeldInRows (client_rows view)) ends
@@ -133,7 +134,8 @@ module _ {view : Objects} {failed : Bool} {births : ℕ} {held : Birth → Optio
         lives = lives;
       }
 
-  -- An event makes this at the client, and ends that: the client's objects stand again.
+  -- An event makes this at the client, and ends that: the client's objects represent the next
+  -- world.
   pub client_event : (new ends : Option Known) → IfThere (NextTold (client_rows view)) new
       → IfThere (λ x. 1 ≤ x.born.version) new
       → IfThere (IsHeldInRows (client_rows view)) ends → IfThere OfClient ends
@@ -168,7 +170,7 @@ module _ {view : Objects} {failed : Bool} {births : ℕ} {held : Birth → Optio
         lives = lives;
       }
 
-  -- A delete of what the client holds: the client's objects stand again.
+  -- A delete of what the client has: the client's objects represent the next world.
   pub client_delete : (x : Known) → IsHeldInRows (client_rows view) x → x.id ≢ 1 → OfClient x → (now : Bool)
       → now ≡ false
       → ClientStands (closed view x.id) now births (put held x.born.birth None)
@@ -196,7 +198,8 @@ module _ {view : Objects} {failed : Bool} {births : ℕ} {held : Birth → Optio
 
 module _ {view : Objects} {failed : Bool} {births : ℕ} {there : Birth → Option Born}
     (s : ServerStands view failed births there) where
-  -- A request makes this at the server, and ends that: the server's objects stand again.
+  -- A request makes this at the server, and ends that: the server's objects represent the next
+  -- world.
   pub server_message : (new ends : Option Known) → IfThere (Fresh (server_rows view)) new
       → IfThere (λ x. 1 ≤ x.born.version) new → IfThere (ThereRow (server_rows view)) ends → IfThere Mortal ends
       → ServerStands (ended_view Event (opens view (option_map made_of new)) ends) failed births
@@ -223,7 +226,8 @@ module _ {view : Objects} {failed : Bool} {births : ℕ} {there : Birth → Opti
         lives = s.lives;
       }
 
-  -- An event makes this at the server, and ends that: the server's objects stand again.
+  -- An event makes this at the server, and ends that: the server's objects represent the next
+  -- world.
   pub server_event : (new ends : Option Known) → IfThere (FreshTold (server_rows view)) new
       → IfThere (λ x. 1 ≤ x.born.version) new → IfThere (ThereRow (server_rows view)) ends → IfThere Mortal ends
       → ServerStands (ended_view Event (opens view (option_map made_of new)) ends) failed
@@ -254,7 +258,7 @@ module _ {view : Objects} {failed : Bool} {births : ℕ} {there : Birth → Opti
 
 -- ---- what is in flight, either way
 
--- what a read of the first message finds, and what is in flight behind it
+-- what a read of the first message finds, and what is in flight after it
 pub record First (from : Outgoing) (to : Arrived) (first : boxes.QueuedMessage) (rest : List boxes.QueuedMessage)
     (n : ℕ) : Type 0 where
   pub size : n ≡ length first.bytes
@@ -284,7 +288,7 @@ first_read from to first rest n f e =
     }
 
 module _ {M W : Type 0} {as_born : M → W} {as_sent : M → boxes.QueuedMessage} {Fitly : M → Type 0} where
-  -- More messages are written: they travel behind those in flight.
+  -- More messages are written: they are appended to those in flight.
   pub travel_more : (from after : Outgoing) (to : Arrived) (births now : List W) (messages more : List M)
       → Travel as_born as_sent Fitly from to births messages → now ≡ births ++ map as_born more
       → after.left ≡ from.left → after.messages ≡ from.messages ++ map as_sent more

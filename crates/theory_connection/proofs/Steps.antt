@@ -29,7 +29,7 @@ use Rattle.theory_connection.proofs.ServerNextMove.{server_next_keeps}
 use Rattle.theory_connection.proofs.Records.{keeps_record}
 use Rattle.theory_connection.proofs.Moves.{Moves, forget}
 
--- each move of a pair that stands is a step of its world
+-- each move of a pair that represents a world is a step of that world
 pub does_moves : (p : PairState) (w : World) (asked : List (Message Known)) (told : List (Coming Known))
     → StandsBy p w asked told → NotEnded p w → (move : Move) (reply : Reply) (p' : PairState) → IsMove move
     → Does p move reply p'
@@ -57,7 +57,7 @@ does_moves p w asked told s z ClientNext (ClientNext reply) p' m d = client_next
 does_moves p w asked told s z ServerNext (ServerNext reply) p' m d = server_next_keeps p w asked told s z reply p' d
 does_moves p w asked told s z _ _ p' m d = absurd d
 
--- a pair that stands still stands after a step
+-- a pair that represents a world represents the next one after a step
 pub step_keeps : (p : PairState) (w : World) → Stands p w → (move : Move) (reply : Reply) (p' : PairState) → IsMove move
     → Does p move reply p' → Keeps p w move reply p'
 step_keeps p w (ended e) move reply p' m d = record {
@@ -86,7 +86,7 @@ fault_at p w world reply what offset p' z (before e d m) h =
     subst (λ r. ReadsAtClient p.client.core.tables p w r world) h m
 fault_at p w world reply what offset p' z (after e f k) h = absurd (cc (e, z))
 
--- the client of a pair that stands meets no fault
+-- the client of a pair that represents a world meets no fault
 pub client_meets_none : (p : PairState) (w : World) (what : Fault) (offset : ℕ) → Stands p w → w.ended ≡ false
     → next_answer p.client ≡ Err (errors.Fault what offset) → ⊥
 client_meets_none p w what offset s z h =
@@ -101,7 +101,7 @@ fault_in p w world reply what offset p' z (before e d m) h =
     subst (λ r. ReadsAtServer p.server.core.tables p w r world) h m
 fault_in p w world reply what offset p' z (after e f k) h = absurd (cc (e, z))
 
--- the server of a pair that stands meets no fault
+-- the server of a pair that represents a world meets no fault
 pub server_meets_none : (p : PairState) (w : World) (what : Fault) (offset : ℕ) → Stands p w → w.ended ≡ false
     → requests.next_answer p.server ≡ Err (errors.Fault what offset) → ⊥
 server_meets_none p w what offset s z h =

@@ -424,7 +424,7 @@ module _ (p : PairState) (w : World) (asked : List (Message Known)) (told : List
       subst (λ (b : Born). by_event p.server.core.tables b ≡ true) k.1.1
       (plain.open_deleted k.0 s.meet.reads (subst (λ (n : Known). v.rows n.id ≡ Some (Open n.born)) e r.1.0) k.1.0)
 
-  -- nothing is about an id behind its delete
+  -- nothing concerns an id after its delete
   pub last_of_id : (k : Known) (front rest : List (Coming Known)) → told ≡ front ++ delete_of k ∷ rest
       → IsUnnamed k.id rest
   last_of_id k front rest e =
@@ -433,7 +433,7 @@ module _ (p : PairState) (w : World) (asked : List (Message Known)) (told : List
       plain.deleted_last (all_tells front) (all_tells rest) k
       (subst (λ (l : List Tell). ReadsInFlight (by_event p.server.core.tables) l v s.meet.middle) all s.meet.reads)
 
-  -- no event names an object behind its delete
+  -- no event names an object after its delete
   pub last_deleted : (before after : List (Coming Born)) (x : Born) → w.events ≡ before ++ delete_of x ∷ after
       → (c : Coming Born) → In c after → NamesBirth x c → ⊥
   last_deleted before after x h c i n =
@@ -543,7 +543,7 @@ module _ (p : PairState) (w : World) (asked : List (Message Known)) (told : List
         (among_marks x rs a)
   ]
 
-  -- a registry that is open at the server is told of globals
+  -- globals are announced to a registry that is open at the server
   pub registry_told : (x : Born) → IsThere w.server x → x.iface ≡ registry → In x.birth (map marks_birth w.registries)
   registry_told x h i =
       let k = there_known x h in
@@ -554,9 +554,9 @@ module _ (p : PairState) (w : World) (asked : List (Message Known)) (told : List
       (subst (λ (b : Birth). In b (map marks_birth (map marks_of p.server.registries))) (ap birth_of same)
       (among_marks (record { id = k.0.id; birth = r.entry.birth }) p.server.registries at))
 
--- ---- a pair that stands in a world
+-- ---- a pair that represents a world
 
--- what follows from what stands follows in a world that goes on
+-- what follows for a pair that represents a world follows in a world that goes on
 pub in_world : {A : Type 0} (p : PairState) (w : World) → StandsIn p w
     → ((asked : List (Message Known)) (told : List (Coming Known)) → StandsBy p w asked told → A) → A
 in_world {A} p w h f = by_stands h.stands

@@ -1,4 +1,4 @@
--- The message of a call that nothing stands against.
+-- The message of a call to which no refusal applies.
 use Rattle.std.proofs.Common.{◌≡◌, ℕ, ◌<◌, ◌≤◌, ◌^◌, Bool, true, false, cond, List, map, ◌⊎◌, inl}
 use Rattle.std.proofs.Common.{inr, refl, sym, ap, subst, ◌∙◌, arith}
 use Rattle.std.proofs.lemmas.Bool.{and_left, or_parts}
@@ -120,7 +120,7 @@ if_made : (P : Known → Type 0) (o : Option Known) (x : Known) → (o ≡ None)
 if_made P None x h f = tt
 if_made P (Some y) x h f = elim h [ inl p ↦ absurd (cc p) | inr p ↦ subst (IfThere P) (sym p) (f (λ e. cc e)) ]
 
--- the message of a call that nothing stands against is so
+-- the message of a call to which no refusal applies is the one that is meant
 pub call_is : (core : Core) (side : Side) (target : Object) (opcode : ℕ) (given : List Given)
     (signature : sigs.MessageSignature)
     → Valid core.tables → ObjectsAreSound core.view → Each FitsWords given

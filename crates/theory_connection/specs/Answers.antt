@@ -1,4 +1,4 @@
--- The reply that each move gets in the world, and what it does there.
+-- The reply to each move in the world, and the move's effect there.
 use Rattle.std.specs.Prelude.{◌≡◌, ◌≢◌, ◌⊎◌, ℕ, ◌+◌, ◌<◌, Bool, true, false, List, [], ◌∷◌, ◌++◌}
 use Rattle.std.specs.Prelude.{length, map}
 use Rattle.std.specs.Prelude.{take, if◌then◌else◌, Option, Some, None, is_some, option_map}
@@ -48,12 +48,12 @@ pub record IsMessageOf (tables : List Interface) (side : Side) (m : Message Born
   pub there : signature_at tables m.target.iface.0 side m.opcode ≡ Some signature
   pub ends : m.ends ≡ ended_by signature.destroys m.target m.args
 
--- the birth of an object that a call takes or returns: by its id's range the client made it, or the
--- server
+-- the birth of an object that a call takes or returns; its id's range says whether the client or
+-- the server made it
 abbrev pub birth_at : Object → Birth
 birth_at object = record { maker = maker_of object.id; number = object.birth }
 
--- an argument handed to a call: its objects by their births, its new object as this birth
+-- an argument passed to a call: its objects by their births, its new object as this birth
 abbrev pub handed : Birth → Given → Arg Birth
 handed next given = reshaped (option_map birth_at) (λ _. next) (λ t. t) given
 
@@ -61,7 +61,7 @@ abbrev pub writing : Side → Message Born → Action
 writing request_side m = WriteRequest m
 writing event_side m = WriteEvent m
 
--- The message is written whose objects have the births of those handed to the call; where it makes
+-- The message is written; its objects have the births of those passed to the call, and if it makes
 -- an object, that is the one that the call returned.
 pub record WritesThat (tables : List Interface) (side : Side) (w : World) (target : Birth)
     (opcode : ℕ) (args : List (Arg Birth)) (new : Option Object) (w' : World) : Type 0 where
@@ -77,12 +77,12 @@ pub record WritesThat (tables : List Interface) (side : Side) (w : World) (targe
 abbrev pub bind_args : ℕ → List ℕ → ℕ → ℕ → List (Arg Birth)
 bind_args name iface version births = Uint name ∷ NewNamed iface version (client_birth births) ∷ []
 
--- only an acceptance does anything
+-- only an acceptance has an effect
 abbrev pub IfAccepted : {X E : Type 0} → Result X E → World → World → (X → Type 0) → Type 0
 IfAccepted (Ok x) w w' P = P x
 IfAccepted (Err why) w w' P = w' ≡ w
 
--- ---- what is owed to the open registries, by births
+-- ---- what the open registries are owed, by births
 
 abbrev pub registry_of : Marks → server.Registry
 registry_of r = record {
@@ -94,7 +94,7 @@ registry_of r = record {
 abbrev pub marks_of : server.Registry → Marks
 marks_of r = record { birth = birth_at r.object; told = r.told; removed = r.removed }
 
--- an event that is owed, and the birth of the registry that it is for
+-- an event that is owed, and the birth of its registry
 pub record Owed : Type 0 where
   pub birth : Birth
   pub owing : Owing
@@ -115,12 +115,12 @@ mark_in o [] = []
 mark_in o (r ∷ registries) =
     (if same_birth r.birth o.birth then mark_one o.owing r else r) ∷ mark_in o registries
 
--- the arguments of an owed event, which names no object
+-- the arguments of an owed event; none is an object
 abbrev pub told_args : List Interface → Owing → List (Arg Birth)
 told_args tables owing =
     map (reshaped (λ _. None) client_birth (λ _. 0)) (values_of tables owing)
 
--- The events are written in this order, each to its registry, which is marked.
+-- The events are written in this order, each to its registry, which is then marked.
 pub data AnnouncesThose (tables : List Interface) : World → List Owed → World → Type 0 where
   none : {w : World} → AnnouncesThose tables w [] w
   more : {w between w' : World} {o : Owed} {others : List Owed}
@@ -132,8 +132,8 @@ pub data AnnouncesThose (tables : List Interface) : World → List Owed → Worl
 
 -- ---- reads
 
--- an object as a reader sees it, by its birth: none, live or dead; one that the reader does not
--- hold is in no report
+-- an object as a reader sees it, by its birth: none, live or dead; an object that the reader does
+-- not have is in no report
 pub data Seen : Type 0 where
   Null : Seen
   Live : Birth → Seen
@@ -150,13 +150,13 @@ by_row birth None = Unheld
 by_row birth (Some (Open x)) = Live birth
 by_row birth (Some (Ending x)) = Dead birth
 
--- how a birth is seen by an end with these objects
+-- how an end with these objects sees a birth
 abbrev pub seen_by : (Birth → Option Row) → Option Born → Seen
 seen_by rows None = Null
 seen_by rows (Some x) = by_row x.birth (rows x.birth)
 
--- The reported arguments are those of the message: each object as its birth, live or dead by these
--- rows, and each token.
+-- The reported arguments are those of the message: each object as its birth, live or dead according
+-- to these rows, and each token.
 abbrev pub ReportsArgs : (Birth → Option Row) → List (Arg Born) → List Reported → Type 0
 ReportsArgs rows args reported =
     map (reshaped seen_named birth_at (λ t. t)) reported
@@ -172,8 +172,8 @@ pub record ReportsRequest (w : World) (m : Message Born) (report : requests.Repo
   pub opcode : report.opcode ≡ m.opcode
   pub args : ReportsArgs (rows_of_server w) m.args report.args
 
--- The report of what comes to the client: of an event for an open object, the event as it was
--- meant; of one for an ending object, its tokens; of a delete, the object.
+-- The report of what comes to the client: for an event for an open object, the event as it was
+-- meant; for one for an ending object, its tokens; for a delete, the object.
 abbrev pub ReportsComing : World → Coming Born → events.Report → Type 0
 ReportsComing w (Event m) (events.Event target opcode args) =
     IsOpen w.client m.target × (birth_at target ≡ m.target.birth) × (opcode ≡ m.opcode)
@@ -191,16 +191,16 @@ HasNone inbox = HasMessage (in_front inbox) → ⊥
 abbrev pub HasOne : Arrived → Type 0
 HasOne inbox = HasMessage (in_front inbox)
 
--- whether a request that destroys this is answered by a delete: it is if the client made the object
+-- whether a request that destroys this must be followed by a delete: the client made the object
 abbrev pub is_answered : Option Born → Bool
 is_answered None = false
 is_answered (Some x) = same_maker x.birth.maker Client
 
--- a destroying request whose delete has no room
+-- a destroying request for whose delete there is no room
 abbrev pub IsOutFull : PairState → Message Born → Type 0
 IsOutFull p m = (is_answered m.ends ≡ true) × (room_of p.server.core.outbox < delete_id_len)
 
--- a request whose report needs memory, which is asked for only where its delete has room
+-- a request whose report needs memory, which is asked for only if there is room for its delete
 abbrev pub AsksMemory : PairState → Message Born → Type 0
 AsksMemory p m = (m.args ≢ []) × (IsOutFull p m → ⊥)
 
@@ -212,7 +212,7 @@ pub record ReadsRequest (tables : List Interface) (p : PairState) (w : World)
   pub reports : ReportsRequest w message report
   pub has_room : IsOutFull p message → ⊥
 
--- the first request stays, and this is the cause
+-- the first request stays, for this reason
 pub record KeepsRequest (p : PairState) (w : World) (cause : Message Born → Type 0)
     (w' : World) : Type 0 where
   pub waits : HasOne p.server.core.inbox
@@ -229,15 +229,16 @@ pub record ReadsEvent (tables : List Interface) (p : PairState) (w : World) (rep
   pub steps : Steps tables w (ReadEvent coming) w'
   pub reports : ReportsComing w coming report
 
--- What comes needs memory: an event with arguments for an open object, to report it; an event that
--- makes an object, to open that. The world has no ids: that it is only at the next unused one is
--- said by `Does`.
+-- What comes needs memory: an event with arguments for an open object, for its report; an event
+-- that makes an object, to open it. The world has no ids; `Does` says that this is only at the next
+-- unused one.
 abbrev pub NeedsMemory : World → Coming Born → Type 0
 NeedsMemory w (Event m) =
     (IsOpen w.client m.target × (m.args ≢ [])) ⊎ (is_some (made_in m.args) ≡ true)
 NeedsMemory w (Delete x) = ⊥
 
--- what comes first stays: it needs memory, for its report or its new object, and there was none
+-- the first of what comes stays: it needs memory, for its report or its new object, and there was
+-- none
 pub record KeepsEvent (p : PairState) (w : World) (w' : World) : Type 0 where
   pub waits : HasOne p.client.core.inbox
   pub coming : Coming Born
@@ -246,9 +247,9 @@ pub record KeepsEvent (p : PairState) (w : World) (w' : World) : Type 0 where
   pub because : NeedsMemory w coming
   pub same : w' ≡ w
 
--- The server's read takes the first request and reports it, where a whole message waits. The
--- request stays where its delete has no room, or else where there is no memory for a report with
--- arguments; it reports no fault and no failure.
+-- The server's read takes the first request and reports it, if a whole message waits. The request
+-- stays if there is no room for its delete, or else if there is no memory for a report with
+-- arguments; no fault and no failure is reported.
 abbrev pub ReadsAtServer : List Interface → PairState → World
     → Result (Option requests.Report) NextError → World → Type 0
 ReadsAtServer tables p w (Ok None) w' = HasNone p.server.core.inbox × (w' ≡ w)
@@ -257,7 +258,7 @@ ReadsAtServer tables p w (Err errors.OutFull) w' = KeepsRequest p w (IsOutFull p
 ReadsAtServer tables p w (Err errors.Memory) w' = KeepsRequest p w (AsksMemory p) w'
 ReadsAtServer tables p w (Err other) w' = ⊥
 
--- The client's read takes the first of what comes and reports it, where a whole message waits.
+-- The client's read takes the first of what comes and reports it, if a whole message waits.
 abbrev pub ReadsAtClient : List Interface → PairState → World
     → Result (Option events.Report) NextError → World → Type 0
 ReadsAtClient tables p w (Ok None) w' = HasNone p.client.core.inbox × (w' ≡ w)
@@ -276,7 +277,7 @@ pub record Drops (tables : List Interface) (w : World) (birth : Birth) (w' : Wor
   pub is : object.birth ≡ birth
   pub steps : Steps tables w (Drop object) w'
 
--- What a move does in the world, whose pair and reply are these.
+-- The effect of a move in the world, given the pair and the reply.
 abbrev pub Means : PairState → World → Move → Reply → World → Type 0
 Means p w (ClientSend target opcode given) (ClientSend reply) w' =
     IfAccepted reply w w' (λ new. WritesThat p.client.core.tables request_side w
@@ -311,14 +312,14 @@ Means p w _ _ w' = ⊥
 abbrev pub NotEnded : PairState → World → Type 0
 NotEnded p w = (w.ended ≡ false) × (p.ended_at ≡ None)
 
--- the pieces recorded stay where they are, and so does the mark that an error set
+-- the recorded pieces stay, and so does the mark that an error set
 pub record KeepsRecord (p p' : PairState) : Type 0 where
   pub more : List Piece
   pub pieces : p'.recording ≡ p.recording ++ more
   pub mark : (count : ℕ) → p.ended_at ≡ Some count → p'.ended_at ≡ Some count
 
 -- The reply that a move may get, and what it leaves of the pair and the world. After an error was
--- posted all is allowed, but what was recorded stays.
+-- posted anything is allowed, but what was recorded stays.
 pub data Answers (p : PairState) (w : World) (move : Move) (reply : Reply) (p' : PairState)
     (w' : World) : Type 0 where
   before : NotEnded p w → Does p move reply p' → Means p w move reply w'

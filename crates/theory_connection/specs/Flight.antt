@@ -1,4 +1,4 @@
--- What is in flight, taken apart to the smallest actions, and what it leads to.
+-- What is in flight, split into the smallest actions, and the states that it leads to.
 use Rattle.std.specs.Prelude.{◌≡◌, ◌≢◌, ◌⊎◌, ℕ, ◌+◌, ◌<◌, ◌≤◌, Bool, true, false, cond, ltb, nat_eq}
 use Rattle.std.specs.Prelude.{if◌then◌else◌, List, [], ◌∷◌, ◌++◌, map, Option, Some, None}
 use Rattle.std.specs.Prelude.{option_map}
@@ -30,18 +30,18 @@ pub record Rows (X : Type 0) : Type 0 where
   pub births : ℕ
   pub by_server : Counts
 
--- the rows with this at an id
+-- the rows with this one at an id
 unfoldable pub put_row : {X : Type 0} → (ℕ → Option X) → ℕ → Option X → ℕ → Option X
 put_row rows id row other = if nat_eq other id then row else rows other
 
--- an end's objects with this at an id
+-- an end's objects with this one at an id
 abbrev pub at : {X : Type 0} → Rows X → ℕ → Option X → Rows X
 at s id o = record s { rows = put_row s.rows id o }
 
 abbrev pub most : ℕ → ℕ → ℕ
 most a b = cond (ltb a b) b a
 
--- with a new object of the client at an id
+-- an end's objects with a new object of the client at an id
 abbrev pub with_made : {X : Type 0} → Rows X → ℕ → X → Rows X
 with_made s id x = record s {
   rows = put_row s.rows id (Some x);
@@ -49,11 +49,11 @@ with_made s id x = record s {
   births = s.births + 1;
 }
 
--- what is counted with one more object of the server's, at an id that was used or is the next one
+-- the counts with one more object of the server, at an id that was used or is the next one
 abbrev pub one_counted : Counts → ℕ → Counts
 one_counted c id = record { next = most c.next (id + 1); births = c.births + 1 }
 
--- with a new object of the server's at an id, in place of the row that stands there
+-- an end's objects with a new object of the server at an id, replacing the row there
 abbrev pub with_told : {X : Type 0} → Rows X → ℕ → X → Rows X
 with_told s id x = record s {
   rows = put_row s.rows id (Some x);
@@ -96,13 +96,13 @@ births_in v Server = v.by_server.births
 
 -- ---- actions
 
--- what a request does, one after another
+-- the actions of a request, one after another
 pub data Ask : Type 0 where
   Use : Known → Ask
   Make : Known → Ask
   Destroy : Known → Ask
 
--- what an event does
+-- the actions of an event
 pub data Tell : Type 0 where
   Name : Known → Tell
   Made : Known → Tell
@@ -144,7 +144,7 @@ abbrev pub all_tells : List (Coming Known) → List Tell
 all_tells [] = []
 all_tells (c ∷ cs) = tells c ++ all_tells cs
 
--- the object that an event's action is about
+-- the object of an event's action
 abbrev pub about : Tell → Known
 about (Name x) = x
 about (Made x) = x
@@ -155,7 +155,7 @@ about (Delete x) = x
 abbrev pub IsBelow : (Maker → ℕ) → Tell → Type 0
 IsBelow births t = IsAmongFirst births (about t).born.birth
 
--- the object that a request's action is about
+-- the object of a request's action
 abbrev pub asked_about : Ask → Known
 asked_about (Use x) = x
 asked_about (Make x) = x
@@ -167,12 +167,12 @@ IsAskedBelow births a = IsAmongFirst births (asked_about a).born.birth
 
 -- ---- what they lead to
 
--- an object is held at the client, open or ending
+-- the client has an object, open or ending
 abbrev pub IsHeldInRows : Rows Row → Known → Type 0
 IsHeldInRows v x = (v.rows x.id ≡ Some (Open x.born)) ⊎ (v.rows x.id ≡ Some (Ending x.born))
 
--- a new object of the client fits an end's table: its id is free or the next one, and it is the
--- client's next birth
+-- a new object of the client fits an end's table: its id is free or the next one, and its birth is
+-- the client's next
 pub record Fresh {X : Type 0} (v : Rows X) (x : Known) : Type 0 where
   pub free : v.rows x.id ≡ None
   pub some : 0 < x.id
@@ -182,7 +182,7 @@ pub record Fresh {X : Type 0} (v : Rows X) (x : Known) : Type 0 where
   pub left : v.births < max_births
 
 -- The client can read an event that makes this object of the server: the id was used before or is
--- the next one, no open object has it (an ending one may), and it is the server's next birth.
+-- the next one, no open object has it (an ending one may), and the birth is the server's next.
 pub record NextTold (v : Rows Row) (x : Known) : Type 0 where
   pub range : is_of_server x.id ≡ true
   pub not_open : (b : Born) → v.rows x.id ≢ Some (Open b)
@@ -191,73 +191,74 @@ pub record NextTold (v : Rows Row) (x : Known) : Type 0 where
   pub low : x.id ≤ max_server_id
   pub left : v.by_server.births < max_births
 
--- the row that the client will have, once all is read, of what the server has
+-- the client's row, after all is read, for what the server has
 abbrev pub at_client : Option Born → Option Row
 at_client o = option_map Open o
 
--- what the server will have, once all is read, of a client's row: the object if it is open, nothing
--- if it is ending
+-- what the server has, after all is read, for a client's row: the object if it is open, nothing if
+-- it is ending
 abbrev pub only_open : Option Row → Option Born
 only_open (Some (Open x)) = Some x
 only_open _ = None
 
--- The client at v can read all of these events: each object is there as it was meant, when its turn
--- comes. Then it is at w. The test says which objects have an interface with a destroying event.
+-- The client at v can read all of these events: when each one's turn comes, its objects are there
+-- as they were meant. Then the client is at w. The test says which objects have an interface with a
+-- destroying event.
 pub data ReadsInFlight (by_event : Born → Bool) : List Tell → Rows Row → Rows Row → Type 0 where
   done : {v : Rows Row} → ReadsInFlight by_event [] v v
-  -- what an event names is held at the client, open or ending
+  -- the client has what an event names, open or ending
   name : {es : List Tell} {v w : Rows Row} {x : Known} → IsHeldInRows v x
       → ReadsInFlight by_event es v w → ReadsInFlight by_event (Name x ∷ es) v w
-  -- an object that an event destroys is one of the client's with an interface that has a destroying
-  -- event, and becomes ending
+  -- an object that an event destroys is one of the client's, its interface has a destroying event,
+  -- and it becomes ending
   end : {es : List Tell} {v w : Rows Row} {x : Known} → by_event x.born ≡ true
       → is_of_server x.id ≡ false → IsHeldInRows v x
       → ReadsInFlight by_event es (at v x.id (Some (Ending x.born))) w
       → ReadsInFlight by_event (Destroyed x ∷ es) v w
   -- an event makes an object whose interface has no destroying event, as the server's next one at
-  -- the client; it replaces an ending row of its id
+  -- the client; it replaces an ending row with its id
   made : {es : List Tell} {v w : Rows Row} {x : Known} → by_event x.born ≡ false → NextTold v x
       → ReadsInFlight by_event es (with_told v x.id (Open x.born)) w
       → ReadsInFlight by_event (Made x ∷ es) v w
-  -- a deleted object is one of the client's and held, is not id 1, and is ending where its
-  -- interface has no destroying event; nothing names it afterwards
+  -- a deleted object is one of the client's and the client has it; it is not id 1, and it is ending
+  -- if its interface has no destroying event; nothing names it afterwards
   delete : {es : List Tell} {v w : Rows Row} {x : Known} → x.id ≢ 1
       → is_of_server x.id ≡ false → IsHeldInRows v x
       → (by_event x.born ≡ true) ⊎ (v.rows x.id ≡ Some (Ending x.born))
       → ReadsInFlight by_event es (at v x.id None) w → ReadsInFlight by_event (Delete x ∷ es) v w
 
--- The server at s can read all of these requests, while the client, which will be at m once it has
--- read all events written so far, reads the deletes that they bring. In the end the client's open
--- objects are those of the server, and in its own range the client holds nothing else.
+-- The server at s can read all of these requests, while the client, which will be at m after it has
+-- read all events written so far, reads the deletes that follow from them. In the end the client's
+-- open objects are those of the server, and in its own range the client has nothing else.
 pub data Tied (by_event : Born → Bool) : List Ask → Rows Born → Rows Row → Type 0 where
-  -- nothing in flight: both have the same counts, what is open at the client is what the server
-  -- has, and nothing else stands in the client's range
+  -- nothing is in flight: both have the same counts, the client's open objects are the server's,
+  -- and the client's range has nothing else
   drained : {s : Rows Born} {m : Rows Row} → ((id : ℕ) → only_open (m.rows id) ≡ s.rows id)
       → ((id : ℕ) → is_of_server id ≡ false → m.rows id ≡ at_client (s.rows id))
       → m.used ≡ s.used → m.births ≡ s.births → m.by_server ≡ s.by_server → Tied by_event [] s m
-  -- what a request names is open at the server, and is of an interface without a destroying event
+  -- what a request names is open at the server, and its interface has no destroying event
   use_ : {qs : List Ask} {s : Rows Born} {m : Rows Row} {x : Known}
       → s.rows x.id ≡ Some x.born → by_event x.born ≡ false
       → Tied by_event qs s m → Tied by_event (Use x ∷ qs) s m
-  -- the births made in requests are, in order, those from the server's number on, and each one's id
+  -- the births made by requests are, in order, those from the server's number on, and each one's id
   -- is free or next at the server
   make : {qs : List Ask} {s : Rows Born} {m : Rows Row} {x : Known} → Fresh s x
       → Tied by_event qs (with_made s x.id x.born) m → Tied by_event (Make x ∷ qs) s m
-  -- what a request destroys is open at the server and ending at the client; the delete of an
-  -- object of the client will come
+  -- what a request destroys is open at the server and ending at the client; if the client made it,
+  -- its delete will come
   destroy : {qs : List Ask} {s : Rows Born} {m : Rows Row} {x : Known}
       → x.id ≢ 1 → is_of_server x.id ≡ false → s.rows x.id ≡ Some x.born → by_event x.born ≡ false
       → m.rows x.id ≡ Some (Ending x.born)
       → Tied by_event qs (at s x.id None) (at m x.id None) → Tied by_event (Destroy x ∷ qs) s m
-  -- what a request destroys of the server's objects is open there and ending at the client; no
-  -- delete comes, so its row stays at the client until an event makes an object at its id
+  -- if a request destroys an object of the server, it is open there and ending at the client; no
+  -- delete comes, so its row stays at the client until an event makes an object with its id
   give_back : {qs : List Ask} {s : Rows Born} {m : Rows Row} {x : Known}
       → is_of_server x.id ≡ true → s.rows x.id ≡ Some x.born → by_event x.born ≡ false
       → m.rows x.id ≡ Some (Ending x.born)
       → Tied by_event qs (at s x.id None) m → Tied by_event (Destroy x ∷ qs) s m
 
--- Reading the events in flight leaves the client in the middle, and with that middle the server can
--- read the requests in flight.
+-- After reading the events in flight, the client is in the middle state; with this middle state,
+-- the server can read the requests in flight.
 pub record MeetInMiddle (by_event : Born → Bool) (es : List Tell) (qs : List Ask) (v : Rows Row)
     (s : Rows Born) : Type 0 where
   pub middle : Rows Row

@@ -1,4 +1,4 @@
--- Messages as they are meant: by the objects that they name, and not by ids alone.
+-- Messages as they are meant: they name objects, not just ids.
 use Rattle.std.specs.Prelude.{ℕ, zero, suc, ◌<◌, Bool, true, false, ◌&&◌, nat_eq, List, []}
 use Rattle.std.specs.Prelude.{◌∷◌, ◌++◌, map, Option, Some, None, option_map}
 use Rattle.wl_wire.specs.declared.kind.Iface.{Iface}
@@ -14,16 +14,16 @@ use Rattle.wl_message.specs.Outgoing as boxes
 use Rattle.wl_objects.specs.Writing.{message_bytes}
 use Rattle.wl_objects.specs.Messages.{or_else}
 
--- which object it is: the end that made it, and the object's number among all that this end made
+-- the identity of an object: the end that made it, and its number among all that this end made
 pub record Birth : Type 0 where
   pub maker : Maker
   pub number : ℕ
 
--- the client's birth of this number: its births begin at 0, with wl_display
+-- the client's birth with this number: its births begin at 0, with wl_display
 abbrev pub client_birth : ℕ → Birth
 client_birth number = record { maker = Client; number = number }
 
--- the server's birth of this number: its births begin at 1
+-- the server's birth with this number: its births begin at 1
 abbrev pub server_birth : ℕ → Birth
 server_birth number = record { maker = Server; number = number }
 
@@ -45,17 +45,16 @@ pub record Born : Type 0 where
   pub iface : Iface
   pub version : ℕ
 
--- an object as it stands on the wire and as it is meant
+-- an object on the wire and as it is meant
 pub record Known : Type 0 where
   pub id : ℕ
   pub born : Born
 
--- an argument, where O names an object: an object or none, a new object, a descriptor's token
+-- an argument, with O for objects: an object or none, a new object, a descriptor's token
 abbrev pub Arg : Type 0 → Type 0
 Arg O = Shape (Option O) O ℕ
 
--- a message: the object that it is for, its opcode, its arguments, and the object that it destroys,
--- if it destroys one
+-- a message: its target, its opcode, its arguments, and the object that it destroys, if any
 pub record Message (O : Type 0) : Type 0 where
   pub target : O
   pub opcode : ℕ
@@ -67,7 +66,7 @@ pub data Coming (O : Type 0) : Type 0 where
   Event : Message O → Coming O
   Delete : O → Coming O
 
--- ---- the same message with its objects named otherwise
+-- ---- the same message with its objects renamed
 
 abbrev pub rearg : {A B : Type 0} → (A → B) → Arg A → Arg B
 rearg f a = reshaped (option_map f) f (λ t. t) a
@@ -101,14 +100,14 @@ abbrev pub objects : {O : Type 0} → List (Arg O) → List O
 objects [] = []
 objects (a ∷ more) = objects_in_arg a ++ objects more
 
--- the object that the argument at a place names
+-- the object that the argument at an index names
 abbrev pub object_at : {O : Type 0} → List (Arg O) → ℕ → Option O
 object_at [] place = None
 object_at (Obj (Some x) ∷ more) zero = Some x
 object_at (_ ∷ more) zero = None
 object_at (a ∷ more) (suc place) = object_at more place
 
--- the object that a message destroys, by its signature
+-- the object that a message destroys, according to its signature
 abbrev pub ended_by : {O : Type 0} → Destroys → O → List (Arg O) → Option O
 ended_by Nothing target args = None
 ended_by Target target args = Some target
@@ -168,7 +167,7 @@ live_entry x = record {
   state = states.Live;
 }
 
--- the object of a row under this id: by the id's range the client made it, or the server
+-- the object of a row with this id; the id's range says whether the client or the server made it
 abbrev pub born_of_entry : ℕ → Entry → Born
 born_of_entry id e = record {
   birth = record { maker = maker_of id; number = e.birth };

@@ -1,5 +1,5 @@
--- A client and a server with nothing between them, what can be done with them, and what each call
--- returns and leaves.
+-- A client and a server joined directly, what can be done with them, and what each call returns and
+-- leaves.
 use Rattle.std.specs.Prelude.{◌≡◌, ℕ, ◌<◌, Bool, true, false, min, List, [], ◌++◌, length, take}
 use Rattle.std.specs.Prelude.{Option, Some, None, IsOk}
 use Rattle.std.specs.declared.result.Result.{Result}
@@ -41,7 +41,7 @@ pub record PairState : Type 0 where
   pub recording : List Piece
   pub ended_at : Option ℕ
 
--- both ends as they begin
+-- both ends when they are new
 abbrev pub new_pair : List Interface → Sizes → Sizes → PairState
 new_pair tables client_sizes server_sizes = record {
   client = client.new_state tables client_sizes;
@@ -101,8 +101,8 @@ with_server_core p c = with_server p (server.with_core p.server c)
 
 -- ---- a carry
 
--- What goes from one end to the other: at most this number of bytes, and at most what the other's
--- inbox has room for.
+-- What goes from one end to the other: at most this number of bytes, and at most as much as the
+-- other's inbox has room for.
 abbrev pub carries : Core → Core → ℕ → Amounts
 carries from to most = goes from.outbox (min most (in_room to).bytes) (in_room to).tokens
 
@@ -112,7 +112,7 @@ carried_bytes from taken = take taken.bytes (waiting_bytes from.outbox)
 abbrev pub carried_tokens : Core → Amounts → List ℕ
 carried_tokens from taken = take taken.tokens (waiting_tokens from.outbox)
 
--- What a carry leaves: just that is recorded.
+-- The pair after a carry: exactly this is recorded.
 abbrev pub after_carry_to_server : PairState → Amounts → PairState
 after_carry_to_server p taken = record p {
   client = client.with_core p.client (with_gone p.client.core taken.bytes);
@@ -146,8 +146,8 @@ after_post p object code text =
 
 -- ---- what a call returns and leaves
 
--- A write is accepted or refused as its answer says; where it opens an object, it may be out of
--- memory in place of being accepted. Only an accepted one changes the pair.
+-- A write is accepted or refused as the answer says; but if it opens an object, it may be out of
+-- memory instead of being accepted. Only acceptance changes the pair.
 pub data Writes (answer : Result (Option Object) SendError) (opens : Bool)
     (before after : PairState)
     : Result (Option Object) SendError → PairState → Type 0 where
@@ -157,7 +157,7 @@ pub data Writes (answer : Result (Option Object) SendError) (opens : Bool)
   no_memory : {new : Option Object} → answer ≡ Ok new → opens ≡ true
       → Writes answer opens before after (Err refusals.Memory) before
 
--- A call that returns no value is done, or refused as this says.
+-- A call that returns no value is accepted, or refused as this says.
 pub data Calls {E : Type 0} (refusal : Option E) (before after : PairState)
     : Result (Unit {0}) E → PairState → Type 0 where
   done : refusal ≡ None → Calls refusal before after (Ok tt) after
@@ -170,15 +170,15 @@ pub data Adds (refusal : Option GlobalError) (name : ℕ) (before after : PairSt
       → refusal ≡ Some why → Adds refusal name before after (Err why) before
   no_memory : refusal ≡ None → Adds refusal name before after (Err global_errors.Memory) before
 
--- The longest beginning of what is owed is written that fits.
+-- The longest part of what is owed, from the front, that fits is written.
 pub data Announces (p : PairState) : Result ℕ SendError → PairState → Type 0 where
   announced : {count : ℕ}
       → p.server.core.failed ≡ false → Fitting p.server count
       → Announces p (Ok count) (with_server p (after_announce p.server count))
   refused : p.server.core.failed ≡ true → Announces p (Err refusals.Failed) p
 
--- A read returns and leaves what it says. Or there is no memory for a report that needs some, or,
--- at a client, for an object that the message makes at an id that was never used; then nothing
+-- A read returns and leaves what it says; or there is no memory for a report that needs some, or,
+-- at a client, for an object that the message makes at an id that was never used, and then nothing
 -- changes.
 pub data Nexts {R : Type 0} (needs : R → Bool) (opens : Bool)
     (answer : Result (Option R) NextError) (before after : PairState)
@@ -189,8 +189,8 @@ pub data Nexts {R : Type 0} (needs : R → Bool) (opens : Bool)
   no_memory_to_open : IsOk answer → opens ≡ true
       → Nexts needs opens answer before after (Err errors.Memory) before
 
--- A carry moves so much; or, only where something would move, there is no memory to record it, and
--- nothing changes.
+-- A carry moves this much; or, if something would move, there may be no memory to record it, and
+-- then nothing changes.
 pub data Carries (taken : Amounts) (before after : PairState) : CarryOutcome → PairState
     → Type 0 where
   moved : Carries taken before after (Moved taken) after

@@ -1,4 +1,4 @@
--- Words for what is in flight.
+-- Terms for what is in flight.
 use Rattle.std.specs.Prelude.{◌≡◌, ◌≢◌, ◌⊎◌, ◌↔◌, ℕ, ◌<◌, ◌≤◌, true, List, [], ◌∷◌, ◌++◌}
 use Rattle.std.specs.Prelude.{zero, suc, ◌+◌, false, map, Option, Some, None}
 use Rattle.wl_object_map.specs.declared.object.Maker.{Maker}
@@ -13,7 +13,7 @@ use Rattle.theory_connection.specs.Flight.{all_asks, all_tells}
 use Rattle.theory_connection.specs.Pair.{PairState}
 use Rattle.theory_connection.specs.Stands.{Stands, StandsBy}
 
--- the id that an action is about
+-- the id of an action
 abbrev pub tell_id : Tell → ℕ
 tell_id (Name x) = x.id
 tell_id (Made x) = x.id
@@ -30,7 +30,7 @@ abbrev pub IsMaking : Tell → Type 0
 IsMaking (Made x) = Unit {0}
 IsMaking _ = ⊥
 
--- x stands among these
+-- x is among these
 abbrev pub In : {X : Type 0} → X → List X → Type 0
 In x [] = ⊥
 In x (y ∷ ys) = (x ≡ y) ⊎ In x ys
@@ -45,7 +45,7 @@ IsOfClient x = x.birth.maker ≡ Client
 abbrev pub IsOfServer : Born → Type 0
 IsOfServer x = x.birth.maker ≡ Server
 
--- the client holds it, open or ending
+-- the client has it, open or ending
 abbrev pub IsHeldAtClient : World → Born → Type 0
 IsHeldAtClient w x = IsOpen w.client x ⊎ IsEnding w.client x
 
@@ -84,7 +84,7 @@ abbrev pub NamesBirth : Born → Coming Born → Type 0
 NamesBirth x (Event m) = MessageNames x m
 NamesBirth x (delete_of y) = y ≡ x
 
--- nothing that comes behind its delete names it
+-- nothing that comes after its delete names it
 abbrev pub IsLast : World → Born → Type 0
 IsLast w x =
     (before after : List (Coming Born)) (coming : Coming Born)
@@ -96,20 +96,20 @@ pub record NameComes (w : World) (x : Born) : Type 0 where
   pub there : In request w.requests
   pub names : MessageNames x request
 
--- no request behind the one that destroys it names it or destroys it again
+-- no request after the one that destroys it names it or destroys it again
 abbrev pub IsLastAsked : World → Born → Type 0
 IsLastAsked w x =
     (before after : List (Message Born)) (request later : Message Born)
     → w.requests ≡ before ++ request ∷ after → request.ends ≡ Some x → In later after
     → MessageNames x later ⊎ (later.ends ≡ Some x) → ⊥
 
--- a registry that is told of globals
+-- a registry to which globals are announced
 abbrev pub IsToldOfGlobals : World → Born → Type 0
 IsToldOfGlobals w x = In x.birth (map marks_birth w.registries)
 
 -- ---- what is made on the way
 
--- a list of the object, or the empty list
+-- the object as a list, empty if there is none
 abbrev pub option_list : {X : Type 0} → Option X → List X
 option_list None = []
 option_list (Some x) = x ∷ []
@@ -140,7 +140,7 @@ pub record NamedToClient (w : World) (x : Born) : Type 0 where
 abbrev pub IsOnTheWay : World → Born → Type 0
 IsOnTheWay w x = MakeComes w x ⊎ EventMakes w x ⊎ NameComes w x ⊎ NamedToClient w x
 
--- each event on the way that names it comes behind one that makes it, or the client holds it
+-- each event on the way that names it comes after one that makes it, or the client has it
 abbrev pub IsNamedInTurn : World → Born → Type 0
 IsNamedInTurn w x =
     (before after : List (Coming Born)) (event : Message Born)
@@ -158,44 +158,44 @@ abbrev pub IsInOrder : Maker → ℕ → ℕ → List Birth → Type 0
 IsInOrder maker first next births =
     (count : ℕ) × ((first + count ≡ next) × (births ≡ births_from maker first count))
 
--- ---- of a pair that stands
+-- ---- for a pair that represents a world
 
--- the pair stands for a world in which no error was posted
+-- the pair represents a world in which no error was posted
 pub record StandsIn (pair : PairState) (world : World) : Type 0 where
   pub stands : Stands pair world
   pub goes_on : world.ended ≡ false
 
--- Of each pair that stands in a world, and each object.
+-- For each pair that represents a world, and each object.
 abbrev pub OfEach : (PairState → World → Born → Type 0) → Type 0
 OfEach P =
     (pair : PairState) (world : World) (object : Born) → StandsIn pair world → P pair world object
 
--- Of each pair that stands in a world, with these messages on the way.
+-- For each pair that represents a world, with these messages on the way.
 abbrev pub OnTheWay : (PairState → List (Message Known) → List (Coming Known) → Type 0) → Type 0
 OnTheWay P =
     (pair : PairState) (world : World) (asked : List (Message Known)) (told : List (Coming Known))
     → StandsBy pair world asked told → P pair asked told
 
--- nothing that comes is about the id
+-- nothing that comes concerns the id
 abbrev pub IsUnnamed : ℕ → List (Coming Known) → Type 0
 IsUnnamed id told = Each (λ t. tell_id t ≢ id) (all_tells told)
 
--- no request is about the id
+-- no request concerns the id
 abbrev pub IsUnasked : ℕ → List (Message Known) → Type 0
 IsUnasked id asked = Each (λ a. ask_id a ≢ id) (all_asks asked)
 
--- no request and nothing that comes is about the id
+-- no request and nothing that comes concerns the id
 abbrev pub IsNowhere : ℕ → List (Message Known) → List (Coming Known) → Type 0
 IsNowhere id asked told = IsUnnamed id told × IsUnasked id asked
 
--- The first of what comes that is about the id makes an object there.
+-- The first of what comes that concerns the id makes an object there.
 abbrev pub IsMadeFirst : ℕ → List (Coming Known) → Type 0
 IsMadeFirst id told =
     (before after : List Tell) (action : Tell) → all_tells told ≡ before ++ action ∷ after
     → Each (λ t. tell_id t ≢ id) before → tell_id action ≡ id → IsMaking action
 
--- x is the latest object at its id: it is the last of these, which were made one after another,
--- that has the id; or none of them has it, and the client's rows hold x there, open or ending.
+-- x is the latest object with its id: it is the last with this id among these, which were made one
+-- after another; or none of them has the id, and the client's rows have x there, open or ending.
 pub data IsLatest (v : Rows Row) (x : Known) (made : List Known) : Type 0 where
   made_last : (before after : List Known) → made ≡ before ++ x ∷ after
       → Each (λ y. y.id ≢ x.id) after → IsLatest v x made
@@ -209,7 +209,7 @@ IdsAreOf p asked =
     → (id ≤ p.client.core.view.client.used)
     ↔ ((id ≤ p.server.core.view.client.used) ⊎ In id (map known_id (news asked)))
 
--- the birth is one of this maker's, below this count
+-- the birth is one of this maker, below this count
 abbrev pub IsCountedBirth : Maker → ℕ → Birth → Type 0
 IsCountedBirth maker births b = (b.maker ≡ maker) × (b.number < births)
 
@@ -223,8 +223,8 @@ BirthsAreOf p w =
     ⊎ In birth (map birth_of (news w.requests)))
 
 -- The ids of the server's range that are used at the server are those used at the client and those
--- of the objects that these events make. `used` counts the table's row 1, which stands for nothing,
--- so the last id used is `wire_id used`.
+-- of the objects that these events make. `used` counts the table's row 1, which has no meaning, so
+-- the last id used is `wire_id used`.
 abbrev pub ServerIdsAreOf : PairState → List (Coming Known) → Type 0
 ServerIdsAreOf p told =
     (id : ℕ) → is_of_server id ≡ true

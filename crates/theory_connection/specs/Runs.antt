@@ -17,7 +17,7 @@ use Rattle.theory_connection.specs.Pair.{Does}
 use Rattle.theory_connection.specs.Answers.{Answers}
 use Rattle.theory_connection.specs.Stands.{Stands}
 
--- The run of these moves: each pair stands in its world, and each reply is one that the world
+-- The run of these moves: each pair represents its world, and each reply is one that the world
 -- allows.
 abbrev pub Runs : PairState → World → List Move → List Reply → PairState → Type 0
 Runs pair world [] [] last = pair ≡ last
@@ -27,7 +27,7 @@ Runs pair world (move ∷ moves) (reply ∷ replies) last =
     × Runs next world' moves replies last
 Runs pair world _ _ last = ⊥
 
--- What both ends do at these moves, one after another.
+-- What both ends do in these moves, one after another.
 abbrev pub DoesAll : PairState → List Move → List Reply → PairState → Type 0
 DoesAll pair [] [] last = pair ≡ last
 DoesAll pair (move ∷ moves) (reply ∷ replies) last =
@@ -49,7 +49,7 @@ IsMove (ServerSend target opcode given) = Each FitsWords given
 IsMove (AddGlobal iface version) = version < 2 ^ 32
 IsMove _ = Unit {0}
 
--- whether an id was used and is freed now
+-- whether an id was used and is now free
 abbrev pub is_freed : Objects → ℕ → Bool
 is_freed objects id = in_range (λ view place. ltb 0 (times place view.freed)) objects id
 
@@ -63,9 +63,9 @@ pub record AgreeByClient (client server : Objects) : Type 0 where
   pub live : (id : ℕ) (e : Entry) → is_of_server id ≡ false → look client id ≡ Some e
       → e.state ≡ states.Live
 
--- In the server's range the client's live rows are the server's, and its zombies have exactly the
--- ids that the server has freed: no delete_id tells the client of those. Both have used as many ids
--- there and counted as many births.
+-- In the server's range the client's live rows are the server's, and the client's zombies have
+-- exactly the ids that the server has freed: no delete_id informs the client of those. Both have
+-- used as many ids there and counted as many births.
 pub record AgreeByServer (client server : Objects) : Type 0 where
   pub same : (id : ℕ) (e : Entry) → is_of_server id ≡ true
       → (look server id ≡ Some e) ↔ ((look client id ≡ Some e) × (e.state ≡ states.Live))

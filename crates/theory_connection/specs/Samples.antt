@@ -1,5 +1,5 @@
 -- Four short histories of the world: a callback that is done, an event that names an object which
--- its reader has destroyed, a registry that is destroyed by wl_fixes, and objects that the server
+-- its reader has destroyed, a registry destroyed through wl_fixes, and objects that the server
 -- makes.
 use Rattle.std.specs.Prelude.{◌≡◌, ℕ, pos, codes, List, [], ◌∷◌, Some, None}
 use Rattle.wl_wire.specs.Argument.{Uint, Fixed, Str, Obj, New}
@@ -133,7 +133,7 @@ both_registered = record opening_world {
   registries = nothing_told registered ∷ [];
 }
 
--- the server tells the registry of a global
+-- the server announces a global to the registry
 abbrev pub tell : Message Born
 tell = record {
   target = registered;
@@ -166,8 +166,8 @@ registry_closed tables = request_read (global_dropped tables) destroy_registry [
 abbrev pub registry_gone : List Interface → World
 registry_gone tables = delete_read (registry_closed tables) registered []
 
--- each is a step: the event is discarded and teaches nothing, the closed registry is owed nothing,
--- and its delete follows
+-- each is a step: the event is discarded and the client learns nothing, the closed registry is owed
+-- nothing, and its delete follows
 pub record DeadRegistry (tables : List Interface) : Type 0 where
   pub tells : Steps tables both_registered (WriteEvent tell) global_told
   pub asks : Steps tables global_told (WriteRequest destroy_registry) registry_destroyed
@@ -184,8 +184,8 @@ pub record DeadRegistry (tables : List Interface) : Type 0 where
   pub not_at_client : (registry_gone tables).client registered.birth ≡ None
   pub not_at_server : (registry_gone tables).server registered.birth ≡ None
 
--- A device, birth 1 of the client, is open at both ends. By an event of opcode 0 it makes an offer,
--- by one of opcode 1 it shows one.
+-- A device, birth 1 of the client, is open at both ends. Its event with opcode 0 makes an offer,
+-- its event with opcode 1 shows one.
 abbrev pub sample_device : Born
 sample_device = record { birth = client_birth 1; iface = record { 0 = 5 }; version = 3 }
 
@@ -276,17 +276,17 @@ device_closed tables = request_read (third_opened tables) destroy_device []
 abbrev pub device_gone : List Interface → World
 device_gone tables = delete_read (device_closed tables) sample_device []
 
--- The client's report of what a device tells: this is its opcode, and this its argument.
+-- The client's report of an event of the device, with this opcode and this argument.
 abbrev pub offer_report : ℕ → Reported → events.Report
 offer_report opcode argument =
     events.Event (record { id = 3; birth = 1 }) opcode (argument ∷ [])
 
--- Each is a step. The client destroys the offer while the server shows it, so it is reported dead.
--- The server reads the destroying request and writes no delete, and makes the second offer. The
--- reports show both at one id; the world itself has no ids. Then the client destroys the device
--- while the server makes the third offer, so that event is discarded, and its offer opens all the
--- same. In the end nothing is in flight, the first offer is still ending at the client, and the
--- two others are open at both ends.
+-- Each is a step. The client destroys the offer while the server shows it, so the client's report
+-- has it dead. The server reads the destroying request, writes no delete, and makes the second
+-- offer. The reports show both with the same id; the world itself has no ids. Then the client
+-- destroys the device while the server makes the third offer, so that event is discarded, and its
+-- offer still opens. In the end nothing is in flight, the first offer is still ending at the
+-- client, and the other two are open at both ends.
 pub record ServerObjectLives (tables : List Interface) : Type 0 where
   pub makes : Steps tables device_open (WriteEvent (make_offer first_offer)) offer_made
   pub sees : Steps tables offer_made (ReadEvent (Event (make_offer first_offer)))

@@ -1,4 +1,4 @@
--- When a pair stands for a world.
+-- When a pair represents a world.
 use Rattle.std.specs.Prelude.{◌≡◌, ◌≢◌, ◌⊎◌, ◌↔◌, ℕ, ◌<◌, ◌≤◌, ◌^◌, Bool, true, false, List, []}
 use Rattle.std.specs.Prelude.{◌∷◌, ◌++◌, length, map, Option, Some, is_some}
 use Rattle.wl_wire.specs.declared.kind.Iface.{Iface}
@@ -51,8 +51,8 @@ use Rattle.wl_connection.specs.Core.{max_globals}
 
 -- ---- objects by id and by birth
 
--- An end's rows show this set of births: each birth has one id at most, and its maker has counted
--- it. A birth that may be gone needs no row: another object may have its id by now.
+-- An end's rows represent this set of births: each birth has at most one id, and its maker has
+-- counted it. A birth that may be gone needs no row: another object may have its id by now.
 pub record ShowsBirths {X : Type 0} (birth : X → Birth) (MayBeGone : X → Type 0)
     (rows : ℕ → Option X) (births : Maker → ℕ) (sets : Birth → Option X) : Type 0 where
   pub below : (id : ℕ) (x : X) → rows id ≡ Some x → IsAmongFirst births (birth x)
@@ -68,8 +68,8 @@ bare (Ending x) = x
 abbrev pub birth_in : Row → Birth
 birth_in r = (bare r).birth
 
--- What may be gone at the client is an object of the server that is ending there: an event may have
--- put another object in its place.
+-- An object of the server that is ending at the client may be gone there: an event may have
+-- replaced it.
 abbrev pub IsEndingOfServer : Row → Type 0
 IsEndingOfServer (Open x) = ⊥
 IsEndingOfServer (Ending x) = x.birth.maker ≡ Server
@@ -80,9 +80,9 @@ NoneIsGone x = ⊥
 
 -- ---- messages in flight
 
--- These messages are in flight from an outbox to an inbox: those begun, whose tokens are all in the
--- inbox and whose bytes are in the inbox but for what is left, and then those of the outbox that
--- are not begun.
+-- These messages are in flight from an outbox to an inbox: first those begun, whose tokens are all
+-- in the inbox, and whose bytes are too, except what is left in the outbox; then those of the
+-- outbox that are not begun.
 pub record InFlight (from : Outgoing) (to : Arrived) (messages : List boxes.QueuedMessage) : Type 0
   where
     pub begun : List boxes.QueuedMessage
@@ -91,8 +91,8 @@ pub record InFlight (from : Outgoing) (to : Arrived) (messages : List boxes.Queu
     pub tokens : to.tokens ≡ all_tokens begun
     pub whole : Each (λ m. IsMessage to.limit.bytes m.bytes) messages
 
--- An argument names its object as its kind asks: an object is of the interface of the kind, and a
--- new object is as its maker, of this version, makes it.
+-- An argument names its object as its kind requires: an object has the interface of the kind, and a
+-- new object is as its maker makes it, with this version.
 abbrev pub NamesRightly : List Interface → ℕ → Kind → Arg Known → Type 0
 NamesRightly tables version kind (Obj (Some x)) =
     (0 < x.id) × (is_of (iface_of kind) (live_entry x.born) ≡ true)
@@ -104,17 +104,17 @@ NamesRightly tables version kind (NewNamed name own x) =
     ≡ Some (record { id = x.id; iface = x.born.iface; version = x.born.version })
 NamesRightly tables version kind _ = Unit {0}
 
--- the arguments are as the kinds ask, one for each: values of their kinds, that name their objects
--- so
+-- the arguments are as the kinds require, one for each: values of their kinds that name their
+-- objects in this way
 abbrev pub SuitKinds : List Interface → ℕ → List Kind → List (Arg Known) → Type 0
 SuitKinds tables version [] [] = Unit {0}
 SuitKinds tables version (kind ∷ kinds) (a ∷ args) =
     (Suits kind (wire a) × NamesRightly tables version kind a) × SuitKinds tables version kinds args
 SuitKinds tables version _ _ = ⊥
 
--- A message in flight fits a signature of its target's interface and version, and is no
--- wl_display.error. A header can tell its size; that this is within the limit is said of the queues
--- (InFlight).
+-- A message in flight fits a signature of its target's interface and version, and is not
+-- wl_display.error. Its size fits in a header; InFlight says of the queues that it is within the
+-- limit.
 pub record FitsSignature (tables : List Interface) (side : Side) (m : Message Known) : Type 0 where
   pub signature : sigs.MessageSignature
   pub there : signature_at tables m.target.born.iface.0 side m.opcode ≡ Some signature
@@ -129,13 +129,13 @@ pub record FitsSignature (tables : List Interface) (side : Side) (m : Message Kn
   pub new_is : Each (λ a. IfThere (λ x. made_in m.args ≡ Some x) (new_object_in a)) m.args
   pub no_error : is_error side m.target.born.iface m.opcode ≡ false
 
--- these begin with the delete of an object
+-- the first of these is the delete of an object
 abbrev pub BeginsWithDelete : Known → List (Coming Known) → Type 0
 BeginsWithDelete x [] = ⊥
 BeginsWithDelete x (Event m ∷ coming) = ⊥
 BeginsWithDelete x (Delete y ∷ coming) = y ≡ x
 
--- each event that destroys an object is directly followed by that object's delete
+-- each event that destroys an object is immediately followed by that object's delete
 abbrev pub DeletesFollow : List (Coming Known) → Type 0
 DeletesFollow [] = Unit {0}
 DeletesFollow (Event m ∷ coming) =
@@ -144,7 +144,7 @@ DeletesFollow (Delete x ∷ coming) = DeletesFollow coming
 
 -- ---- globals
 
--- the server gave this name, with this interface and version
+-- the server added a global with this name, interface and version
 pub record WasGiven (given : List server.Global) (name : ℕ) (iface : Iface) (version : ℕ)
     : Type 0 where
   pub global : server.Global
@@ -152,7 +152,7 @@ pub record WasGiven (given : List server.Global) (name : ℕ) (iface : Iface) (v
   pub iface_is : global.iface ≡ iface
   pub version_is : global.version ≡ version
 
--- the arguments of wl_registry.global, of a global that was given
+-- the arguments of wl_registry.global for a global that was added
 pub record TellsGiven (tables : List Interface) (given : List server.Global)
     (args : List (Arg Known)) : Type 0 where
   pub name : ℕ
@@ -162,7 +162,7 @@ pub record TellsGiven (tables : List Interface) (given : List server.Global)
   pub was_given : WasGiven given name iface version
   pub known : place_of tables (name_at tables iface) ≡ Some iface
 
--- the arguments of wl_registry.bind, of a global that was given, at a version from 1 to its own
+-- the arguments of wl_registry.bind for a global that was added, at a version from 1 to its own
 pub record BindsGiven (tables : List Interface) (given : List server.Global)
     (args : List (Arg Known)) : Type 0 where
   pub name : ℕ
@@ -189,18 +189,18 @@ abbrev pub ComesFitly : List Interface → List server.Global → Coming Known �
 ComesFitly tables given (Event m) = TellsFitly tables given m
 ComesFitly tables given (Delete x) = x.id ≤ max_ids
 
--- what can have been given
+-- which globals can have been added
 pub record IsGlobal (tables : List Interface) (global : server.Global) : Type 0 where
   pub can_be : can_be_global tables global.iface global.version ≡ true
   pub word : global.version < 2 ^ 32
 
--- ---- standing
+-- ---- representing a world
 
 -- whether an object's interface has a destroying event
 abbrev pub by_event : List Interface → Born → Bool
 by_event tables x = is_ended_by_event (interface_at tables x.iface.0)
 
--- What an end goes by: its tables, and the limits of its queues.
+-- What an end is set up with: its tables, and the limits of its queues.
 pub record Terms : Type 0 where
   pub tables : List Interface
   pub out_limit : ℕ
@@ -218,19 +218,19 @@ pub record SameTerms (client server : Terms) : Type 0 where
   -- both ends have the same valid tables
   pub same_tables : client.tables ≡ server.tables
   pub valid : Valid server.tables
-  -- both ends go by one limit
+  -- both ends have the same limit
   pub up_limit : client.out_limit ≡ server.in_limit
   pub down_limit : server.out_limit ≡ client.in_limit
   pub one_limit : client.in_limit ≡ server.in_limit
 
--- Of the server's objects the client holds exactly those that it has counted, open or ending: an
--- event adds each, and no delete takes one away. The server's births begin at 1.
+-- Of the server's objects the client has exactly those that it has counted, open or ending: an
+-- event adds each, and no delete removes one. The server's births begin at 1.
 abbrev pub HoldsServerObjects : ℕ → (Birth → Option Row) → Type 0
 HoldsServerObjects births held =
     (number : ℕ)
     → (is_some (held (server_birth number)) ≡ true) ↔ ((0 < number) × (number < births))
 
--- The rows at the client are the births open and ending there.
+-- The rows at the client represent the births that are open and ending there.
 pub record ClientStands (view : Objects) (failed : Bool) (counted : ℕ) (held : Birth → Option Row)
     : Type 0 where
   pub sets : ShowsBirths birth_in IsEndingOfServer (client_rows view).rows
@@ -238,7 +238,7 @@ pub record ClientStands (view : Objects) (failed : Bool) (counted : ℕ) (held :
   pub births : counted ≡ view.client.births
   pub holds_counted : HoldsServerObjects view.server.births held
   pub sound : ObjectsAreSound view
-  -- the client frees no id of the server's range, since no delete is of one
+  -- the client frees no id of the server's range, since no delete has one
   pub never_freed : view.server.freed ≡ []
   pub display : look view 1 ≡ Some (live_entry display_born)
   pub versions : (id : ℕ) (e : Entry) → look view id ≡ Some e → 1 ≤ e.version
@@ -246,13 +246,13 @@ pub record ClientStands (view : Objects) (failed : Bool) (counted : ℕ) (held :
   pub lives : failed ≡ false
 
 -- No object that the server made and that is open there is a registry or has an interface with a
--- destroying event. Valid tables let no event make such an object (V11).
+-- destroying event: valid tables let no event make such an object (V11).
 abbrev pub MadePlain : (Born → Bool) → Rows Born → Type 0
 MadePlain test s =
     (id : ℕ) (x : Born) → is_of_server id ≡ true → s.rows id ≡ Some x
     → (test x ≡ false) × (x.iface ≢ registry)
 
--- The rows at the server are the births open there.
+-- The rows at the server represent the births that are open there.
 pub record ServerStands (view : Objects) (failed : Bool) (counted : ℕ)
     (there : Birth → Option Born) : Type 0 where
   pub sets : ShowsBirths birth_of NoneIsGone (server_rows view).rows (births_in (server_rows view))
@@ -265,17 +265,17 @@ pub record ServerStands (view : Objects) (failed : Bool) (counted : ℕ)
   -- it has not failed
   pub lives : failed ≡ false
 
--- These messages are in flight from an outbox to an inbox, each of them fit.
+-- These messages are in flight from an outbox to an inbox, and each fits.
 pub record Travel {M W : Type 0} (as_born : M → W) (as_sent : M → boxes.QueuedMessage)
     (Fitly : M → Type 0) (from : Outgoing) (to : Arrived) (births : List W) (messages : List M)
     : Type 0 where
-  -- the world has them in flight by births, and the queues in their canonical spellings, by ids
+  -- the world has them in flight by births; the queues have their canonical spellings, by ids
   pub in_world : births ≡ map as_born messages
   pub in_boxes : InFlight from to (map as_sent messages)
-  -- each fits a signature; each bind and each global told is of a global that was given
+  -- each fits a signature; each bind, and each global announced, is of a global that was added
   pub fit : Each Fitly messages
 
--- The ends' globals are the world's, and the client's were given by the server.
+-- The ends' globals are the world's, and those of the client were added by the server.
 pub record GlobalsStand (tables : List Interface) (client_knows : List Remembered)
     (server_gave : List server.Global) (world_remembered : List Remembered)
     (world_given : List server.Global) : Type 0 where
@@ -288,7 +288,7 @@ pub record GlobalsStand (tables : List Interface) (client_knows : List Remembere
 pub record RegistriesStand (view : Objects) (registries : List server.Registry) (marks : List Marks)
     : Type 0 where
   pub told : marks ≡ map marks_of registries
-  -- the open registries are the server's objects of interface wl_registry, by rising birth
+  -- the open registries are the server's objects of interface wl_registry, in order of birth
   pub open_registries : HasRegistries view registries
 
 -- The requests and events in flight are these, each object by its id and as it was meant.
@@ -298,7 +298,7 @@ pub record StandsBy (p : PairState) (w : World) (asked : List (Message Known))
   -- the objects at each end, and that neither end has failed
   pub client : ClientStands p.client.core.view p.client.core.failed w.births w.client
   pub server : ServerStands p.server.core.view p.server.core.failed w.server_births w.server
-  -- what the server made ends by no event, and is no registry
+  -- no event ends an object that the server made, and none is a registry
   pub plain : MadePlain (by_event p.server.core.tables) (server_rows p.server.core.view)
   -- if no event of the tables makes an object, the server has made none: its births begin at 1
   pub none_made : has_server_objects p.server.core.tables ≡ false → w.server_births ≡ 1
@@ -312,9 +312,9 @@ pub record StandsBy (p : PairState) (w : World) (asked : List (Message Known))
   -- the client has counted each object that a request on the way names, makes or destroys
   pub asks_counted : Each (IsAskedBelow (births_in (client_rows p.client.core.view)))
       (all_asks asked)
-  -- an event that destroys an object is directly followed by that object's delete
+  -- an event that destroys an object is immediately followed by that object's delete
   pub deletes_follow : DeletesFollow told
-  -- when its turn comes, each can be read, and when all is read the objects open at the client are
+  -- when its turn comes, each can be read; and when all is read, the objects open at the client are
   -- those open at the server
   pub meet : MeetInMiddle (by_event p.server.core.tables) (all_tells told) (all_asks asked)
       (client_rows p.client.core.view) (server_rows p.server.core.view)
@@ -322,7 +322,7 @@ pub record StandsBy (p : PairState) (w : World) (asked : List (Message Known))
       w.remembered w.given
   pub registries : RegistriesStand p.server.core.view p.server.registries w.registries
 
--- The pair stands for the world: an ended world stands with every pair.
+-- The pair represents the world; every pair represents an ended world.
 pub data Stands (p : PairState) (w : World) : Type 0 where
   ended : w.ended ≡ true → Stands p w
   stands : (asked : List (Message Known)) (told : List (Coming Known))

@@ -1,4 +1,4 @@
--- The world of births: what both ends mean, without ids, bytes and cuts.
+-- The world of births: what both ends mean, without ids, bytes and pieces.
 use Rattle.std.specs.Prelude.{◌≡◌, ℕ, ◌+◌, Bool, true, false, ◌&&◌, if◌then◌else◌, List, []}
 use Rattle.std.specs.Prelude.{◌∷◌, ◌++◌, map, replicate, Option, Some, None}
 use Rattle.wl_wire.specs.Argument.{Argument, reshaped}
@@ -22,7 +22,7 @@ pub data Row : Type 0 where
   Open : Born → Row
   Ending : Born → Row
 
--- an open registry: which globals it was told of, and which of them it was told are removed
+-- an open registry, the globals announced to it, and those whose removal was announced to it
 pub record Marks : Type 0 where
   pub birth : Birth
   pub told : List Bool
@@ -38,8 +38,8 @@ pub record World : Type 0 where
   -- by birth: what is open or ending at the client, and what is open at the server
   pub client : Birth → Option Row
   pub server : Birth → Option Born
-  -- globals: those that the client remembers, those that the server gave, and what each open
-  -- registry was told
+  -- globals: those that the client remembers, those that the server added, and what was announced
+  -- to each open registry
   pub remembered : List Remembered
   pub given : List Global
   pub registries : List Marks
@@ -65,12 +65,12 @@ IsEnding client x = client x.birth ≡ Some (Ending x)
 abbrev pub IsThere : (Birth → Option Born) → Born → Type 0
 IsThere server x = server x.birth ≡ Some x
 
--- P of each
+-- P holds for each
 abbrev pub Each : {X : Type 0} → (X → Type 0) → List X → Type 0
 Each P [] = Unit {0}
 Each P (x ∷ xs) = P x × Each P xs
 
--- P of the one that there is, if there is one
+-- P holds for the element, if there is one
 abbrev pub IfThere : {X : Type 0} → (X → Type 0) → Option X → Type 0
 IfThere P None = Unit {0}
 IfThere P (Some x) = P x
@@ -93,18 +93,18 @@ abbrev pub gone : {X : Type 0} → Option Born → (Birth → Option X) → Birt
 gone None sets = sets
 gone (Some x) sets = put sets x.birth None
 
--- the delete that goes with the end of an object
+-- the delete that accompanies the end of an object
 abbrev pub delete : {O : Type 0} → Option O → List (Coming O)
 delete None = []
 delete (Some x) = Delete x ∷ []
 
--- the delete of an object that the client made; of one that the server made there is none
+-- the delete of an object that the client made; none for one that the server made
 abbrev pub answer_by : {O : Type 0} → Maker → O → List (Coming O)
 answer_by Client x = Delete x ∷ []
 answer_by Server x = []
 
--- what the server writes when it reads a request that destroys an object: its delete, if the client
--- made the object, and else nothing
+-- what the server writes when it reads a request that destroys an object: its delete if the client
+-- made it, else nothing
 abbrev pub answer : {O : Type 0} → (O → Maker) → Option O → List (Coming O)
 answer maker None = []
 answer maker (Some x) = answer_by (maker x) x
@@ -113,7 +113,7 @@ answer maker (Some x) = answer_by (maker x) x
 abbrev pub born_maker : Born → Maker
 born_maker x = x.birth.maker
 
--- a count of births after a message that makes this
+-- a count of births after a message that makes this object, if any
 abbrev pub births_counted : {O : Type 0} → Option O → ℕ → ℕ
 births_counted None births = births
 births_counted (Some x) births = births + 1
@@ -123,7 +123,7 @@ births_counted (Some x) births = births + 1
 abbrev pub is_registry : Born → Bool
 is_registry x = same_iface x.iface registry
 
--- a new registry was told nothing
+-- nothing was announced to a new registry
 abbrev pub nothing_told : Born → Marks
 nothing_told x = record {
   birth = x.birth;
@@ -134,7 +134,7 @@ nothing_told x = record {
 abbrev pub marks_birth : Marks → Birth
 marks_birth r = r.birth
 
--- the open registries after a request that makes this
+-- the open registries after a request that makes this object, if any
 abbrev pub marks_after : Option Born → List Marks → List Marks
 marks_after None registries = registries
 marks_after (Some x) registries = with_registry x.iface (nothing_told x) registries
@@ -153,7 +153,7 @@ abbrev pub is_open_row : Option Row → Bool
 is_open_row (Some (Open x)) = true
 is_open_row _ = false
 
--- an event of a registry that is open teaches the client
+-- an event for an open registry informs the client
 abbrev pub learned : List Interface → (Birth → Option Row) → Message Born → List Remembered
     → List Remembered
 learned tables client m remembered =
@@ -163,7 +163,7 @@ learned tables client m remembered =
 
 -- ---- the steps
 
--- what happens in the world at one time
+-- a single event in the world
 pub data Action : Type 0 where
   WriteRequest : Message Born → Action
   ReadRequest : Message Born → Action
@@ -206,40 +206,41 @@ event_read tables w m rest = record w {
 abbrev pub delete_read : World → Born → List (Coming Born) → World
 delete_read w x rest = record w { events = rest; client = put w.client x.birth None }
 
--- What the world allows: by births alone.
+-- What the world allows, in terms of births alone.
 pub data Steps (tables : List Interface) (w : World) : Action → World → Type 0 where
   -- The target and the objects of a written request are open at the client, and a new object is the
-  -- client's next birth. The request goes to the end, and one that it destroys becomes ending.
+  -- client's next birth. The request is appended to those in flight, and an object that it destroys
+  -- becomes ending.
   writes_request : (m : Message Born) → IsOpen w.client m.target
       → Each (IsOpen w.client) (objects m.args)
       → IfThere (λ x. x.birth ≡ client_birth w.births) (made_in m.args)
       → Steps tables w (WriteRequest m) (request_written w m)
-  -- The first request is read: its new object becomes open at the server, and one that it destroys
-  -- is closed and, where the client made it, its delete written.
+  -- The first request is read: its new object becomes open at the server; one that it destroys is
+  -- closed and, if the client made it, its delete is written.
   reads_request : (m : Message Born) (rest : List (Message Born))
       → w.requests ≡ m ∷ rest → Steps tables w (ReadRequest m) (request_read w m rest)
   -- The target and the objects of a written event are open at the server, and a new object is the
-  -- server's next birth. Its interface and version are said where the pair stands (`NamesRightly`).
-  -- An object that the event destroys is closed, and its delete follows.
+  -- server's next birth. (Its interface and version are as `NamesRightly` says, if a pair
+  -- represents the world.) An object that the event destroys is closed, and its delete follows.
   writes_event : (m : Message Born) → IsThere w.server m.target
       → Each (IsThere w.server) (objects m.args)
       → IfThere (λ x. x.birth ≡ server_birth w.server_births) (made_in m.args)
       → Steps tables w (WriteEvent m) (event_written w m)
-  -- An object of an interface with a destroying event is closed without one.
+  -- An object whose interface has a destroying event is closed without one.
   drops : (x : Born) → IsThere w.server x → is_ended_by_event (interface_at tables x.iface.0) ≡ true
       → Steps tables w (Drop x) (dropped w x)
-  -- The first event is read: its new object becomes open at the client, also where its target is
+  -- The first event is read: its new object becomes open at the client, even if its target is
   -- ending there, and an object that it destroys becomes ending.
   reads_event : (m : Message Born) (rest : List (Coming Born)) → w.events ≡ Event m ∷ rest
       → Steps tables w (ReadEvent (Event m)) (event_read tables w m rest)
-  -- A delete is read: its object is neither open nor ending.
+  -- A delete is read: its object is then neither open nor ending.
   reads_delete : (x : Born) (rest : List (Coming Born)) → w.events ≡ Delete x ∷ rest
       → Steps tables w (ReadEvent (Delete x)) (delete_read w x rest)
 
 abbrev pub display_born : Born
 display_born = record { birth = client_birth 0; iface = display; version = 1 }
 
--- the world as it begins: wl_display is open at both ends
+-- the opening world: wl_display is open at both ends
 abbrev pub opening_world : World
 opening_world = record {
   births = 1;

@@ -1,4 +1,4 @@
-//! What the two ends keep, whatever is done with them.
+//! The invariants of the two ends, whatever is done with them.
 ghost use Rattle.std.specs.Prelude.{◌≡◌, ◌⊎◌, ◌↔◌, ◌<◌, ℕ, List, ◌++◌, ◌∷◌, [], true};
 ghost use Rattle.std.specs.Prelude.{false, map, option_map, Some, None, Ok, Err};
 ghost use Rattle.wl_sigs.specs.Tables.{Interface};
@@ -37,28 +37,28 @@ ghost use Rattle.theory_connection.specs.Plain.{MakeComes, DestroyComes, IsLast,
 ghost use Rattle.theory_connection.specs.Plain.{IdsAreOf, BirthsAreOf, ServerIdsAreOf};
 ghost use Rattle.theory_connection.specs.Plain.{ServerBirthsAreOf};
 
-/// A new pair with one limit stands for the opening world.
+/// A new pair with one limit represents the opening world.
 pub fn new_stands()
     ensures { (tables : List Interface) (client server : Sizes)
         → client.limit.bytes ≡ server.limit.bytes → Valid tables
         → Stands (new_pair tables client server) opening_world }
 {}
 
-/// An ended world stands with every pair.
+/// Every pair represents an ended world.
 pub fn ended_stands()
     ensures { (pair : PairState) (world : World) → world.ended ≡ true → Stands pair world }
 {}
 
-/// Whatever one move does with a standing pair, its reply is one that the world allows, and the
-/// pair stands again.
+/// Whatever one move does with a pair that represents a world, its reply is one that the world
+/// allows, and the pair then represents the next world.
 pub fn step_keeps()
     ensures { (pair : PairState) (world : World) → Stands pair world
         → (move : Move) (reply : Reply) (next : PairState)
         → IsMove move → Does pair move reply next → Keeps pair world move reply next }
 {}
 
-/// Whatever any list of moves does with a standing pair is a run: each pair stands in its world,
-/// and each reply is one that the world allows.
+/// Whatever any list of moves does with a pair that represents a world is a run: each pair
+/// represents its world, and each reply is one that the world allows.
 pub fn run_keeps()
     ensures { (pair : PairState) (world : World) (moves : List Move) (replies : List Reply)
         (last : PairState)
@@ -66,7 +66,7 @@ pub fn run_keeps()
         → Runs pair world moves replies last }
 {}
 
-/// A run can go on where it ended: by a step that its last pair and world allow.
+/// A run can continue from where it ended, with a step that its last pair and world allow.
 pub fn run_more()
     ensures { (pair : PairState) (world : World) (moves : List Move) (replies : List Reply)
         (last : PairState)
@@ -76,22 +76,22 @@ pub fn run_more()
         → Runs pair world (moves ++ move ∷ []) (replies ++ reply ∷ []) next) }
 {}
 
-/// Once nothing waits in any queue, both ends hold the same objects under the same ids. At the ids
-/// of the server's range that the server has freed the client still has zombies.
+/// When nothing waits in any queue, both ends have the same objects under the same ids. At the ids
+/// of the server's range that the server has freed, the client still has zombies.
 pub fn drained_agree()
     ensures { (pair : PairState) (world : World) → Stands pair world → world.ended ≡ false
         → drained pair
         → Agree pair.client.core.view pair.server.core.view }
 {}
 
-/// The client of a standing pair meets no fault.
+/// The client of a pair that represents a world meets no fault.
 pub fn client_meets_no_fault()
     ensures { (pair : PairState) (world : World) (fault : Fault) (offset : ℕ) → Stands pair world
         → world.ended ≡ false
         → client_reads.next_answer pair.client ≡ Err (errors.Fault fault offset) → ⊥ }
 {}
 
-/// The server of a standing pair meets no fault.
+/// The server of a pair that represents a world meets no fault.
 pub fn server_meets_no_fault()
     ensures { (pair : PairState) (world : World) (fault : Fault) (offset : ℕ) → Stands pair world
         → world.ended ≡ false
@@ -105,8 +105,8 @@ pub fn free_nowhere()
 {}
 
 /// If an id of the server's range has no row at the client, the first thing on the way to the
-/// client that is about the id makes an object there, so no event names it before. No request on
-/// the way is about it.
+/// client that concerns the id makes an object there, so no event names it before. No request on
+/// the way concerns it.
 pub fn free_is_made_first()
     ensures events { (id : ℕ) → is_of_server id ≡ true → OnTheWay (λ pair asked told.
         look pair.client.core.view id ≡ None → IsMadeFirst id told) }
@@ -114,21 +114,21 @@ pub fn free_is_made_first()
         look pair.client.core.view id ≡ None → IsUnasked id asked) }
 {}
 
-/// What the client made and holds has its delete on the way, is open at the server, or is made by a
-/// request on the way.
+/// If the client made an object and has it, its delete is on the way, or it is open at the server,
+/// or a request on the way makes it.
 pub fn held_where()
     ensures { OfEach (λ pair world object. IsOfClient object
         → IsHeldAtClient world object → IsSomewhere world object) }
 {}
 
-/// The client holds what it made if its delete is on the way, if it is open at the server, or if a
-/// request on the way makes it.
+/// The client has an object that it made if its delete is on the way, if it is open at the server,
+/// or if a request on the way makes it.
 pub fn held_back()
     ensures { OfEach (λ pair world object. IsOfClient object
         → IsSomewhere world object → IsHeldAtClient world object) }
 {}
 
-/// Only one of these holds of an object.
+/// Only one of these holds for an object.
 pub fn only_one()
     ensures open_or_deleted { OfEach (λ pair world object.
         IsThere world.server object → DeleteComes world object → ⊥) }
@@ -138,10 +138,11 @@ pub fn only_one()
         MakeComes world object → IsThere world.server object → ⊥) }
 {}
 
-/// What the client made and is ending there has its destroying request or its delete on the way,
-/// never both. What is open there has no destroying request on the way, and its delete only where
-/// its interface has a destroying event. What the server made and is ending at the client is open
-/// at the server exactly if its destroying request is on the way.
+/// If the client made an object and it is ending there, either its destroying request or its delete
+/// is on the way, never both. If it is open there, no destroying request is on the way, and its
+/// delete is only if its interface has a destroying event. If the server made an object and it is
+/// ending at the client, it is open at the server if and only if its destroying request is on the
+/// way.
 pub fn ending_where()
     ensures ending { OfEach (λ pair world object. IsOfClient object → IsEnding world.client object
         → DeleteComes world object ⊎ DestroyComes world object) }
@@ -164,10 +165,10 @@ pub fn made_by_whom()
     ensures deleted { OfEach (λ pair world object. DeleteComes world object → IsOfClient object) }
 {}
 
-/// What the server made is open there exactly if an event on the way makes it, or it is open at the
-/// client, or a request on the way destroys it. Only one of the three holds: for the last two
-/// `ending_where` says so. What a request on the way destroys is ending at the client, whoever made
-/// it.
+/// An object that the server made is open there if and only if an event on the way makes it, or it
+/// is open at the client, or a request on the way destroys it. Only one of the three holds (for the
+/// last two by `ending_where`). What a request on the way destroys is ending at the client, whoever
+/// made it.
 pub fn open_where()
     ensures there { OfEach (λ pair world object. IsOfServer object → IsThere world.server object
         ↔ (EventMakes world object ⊎ IsOpen world.client object ⊎ DestroyComes world object)) }
@@ -179,24 +180,23 @@ pub fn open_where()
         DestroyComes world object → IsEnding world.client object) }
 {}
 
-/// Of the server's objects the client holds exactly those that it has counted, open or ending.
-/// Their births begin at 1.
+/// Of the server's objects the client has exactly those that it has counted, open or ending. Their
+/// births begin at 1.
 pub fn counted_is_held()
     ensures { (pair : PairState) (world : World) → StandsIn pair world
         → HoldsServerObjects pair.client.core.view.server.births world.client }
 {}
 
-/// If an event on the way names an object, the client holds it, or an event before this one makes
-/// it. An object of the server's whose id was used again counts as held, since the world has no
-/// ids: `ids_are_named_in_turn` says that no event names it.
+/// If an event on the way names an object, the client has it, or an earlier event makes it. An
+/// object of the server whose id was used again counts as one that the client has, since the world
+/// has no ids; `ids_are_named_in_turn` says that no event names it.
 pub fn named_in_turn()
     ensures { OfEach (λ pair world object. IsNamedInTurn world object) }
 {}
 
 /// If an event on the way names an object, the client has that object at its id when the event's
-/// turn comes: it is the last one that an event before this one makes at the id or, if none does,
-/// the one that the client holds there. So no event names an object whose id was used again before
-/// the event.
+/// turn comes: it is the last one that an earlier event makes at the id or, if none does, the one
+/// that the client has there. So no event names an object whose id was used again before the event.
 pub fn ids_are_named_in_turn()
     ensures { (object : Known) (before after : List (Coming Known)) (event : Message Known)
         → OnTheWay (λ pair asked told. told ≡ before ++ Event event ∷ after
@@ -204,8 +204,8 @@ pub fn ids_are_named_in_turn()
         → IsLatest (client_rows pair.client.core.view) object (news_told before)) }
 {}
 
-/// What the client says that a message has made (`Client::made`) is what the server meant it to
-/// make, also where the report is `Discarded`. It takes the place of no live object.
+/// What the client says that a message made (`Client::made`) is what the server meant it to make,
+/// even if the report is `Discarded`. It replaces no live object.
 pub fn made_is_meant()
     ensures made { (pair : PairState) (world : World) (coming : Coming Born)
         (rest : List (Coming Born)) (report : client_reads.Report) → StandsIn pair world
@@ -219,30 +219,30 @@ pub fn made_is_meant()
 {}
 
 /// If a request on the way names an object that the server made, the object is open at the server,
-/// and the client holds it.
+/// and the client has it.
 pub fn named_is_open()
     ensures { OfEach (λ pair world object. IsOfServer object → NameComes world object
         → IsThere world.server object × IsHeldAtClient world object) }
 {}
 
-/// No request behind one that destroys an object names that object or destroys it again.
+/// No request after one that destroys an object names that object or destroys it again.
 pub fn destroyed_last()
     ensures { OfEach (λ pair world object. IsLastAsked world object) }
 {}
 
-/// No request behind one that destroys an object is about its id, not even for a later object.
+/// No request after one that destroys an object concerns its id, not even for a later object.
 pub fn ids_are_destroyed_last()
     ensures { (object : Known) (before after : List (Message Known)) (request : Message Known)
         → OnTheWay (λ pair asked told. asked ≡ before ++ request ∷ after
         → request.ends ≡ Some object → IsUnasked object.id after) }
 {}
 
-/// Nothing behind a delete on the way names its object.
+/// Nothing after a delete on the way names its object.
 pub fn deleted_last()
     ensures { OfEach (λ pair world object. IsLast world object) }
 {}
 
-/// Nothing behind a delete on the way names the id of its object, not even for a later object.
+/// Nothing after a delete on the way names the id of its object, not even for a later object.
 pub fn ids_are_deleted_last()
     ensures { (object : Known) (before after : List (Coming Known)) → OnTheWay (λ pair asked told.
         told ≡ before ++ Delete object ∷ after → IsUnnamed object.id after) }
@@ -260,10 +260,10 @@ pub fn told_is_not_counted()
         → object.birth.number < pair.client.core.view.server.births → ⊥) }
 {}
 
-/// In the client's range the ids used at the client are those used at the server and those of the
-/// objects that requests on the way make; so are the births that each has counted. In the server's
-/// range it is the other way round: the ids used at the server are those used at the client and
-/// those of the objects that events on the way make, and so are the births.
+/// In the client's range, the ids used at the client are those used at the server and those of the
+/// objects that requests on the way make; the same holds for the births counted. In the server's
+/// range the roles are reversed: the ids used at the server are those used at the client and those
+/// of the objects that events on the way make; the same holds for the births.
 pub fn counted_where()
     ensures ids { OnTheWay (λ pair asked told. IdsAreOf pair asked) }
     ensures births { (pair : PairState) (world : World)
@@ -273,9 +273,9 @@ pub fn counted_where()
         → StandsIn pair world → ServerBirthsAreOf pair world }
 {}
 
-/// The requests on the way make, in their order, the client's births from the server's count of
-/// them up to the client's. The events on the way make, in their order, the server's births from
-/// the client's count of them up to the server's.
+/// The requests on the way make, in order, the client's births from the server's count of them up
+/// to the client's. The events on the way make, in order, the server's births from the client's
+/// count of them up to the server's.
 pub fn made_in_order()
     ensures requests { (pair : PairState) (world : World) → StandsIn pair world
         → IsInOrder Client pair.server.core.view.client.births pair.client.core.view.client.births
@@ -285,8 +285,8 @@ pub fn made_in_order()
         (map birth_of (news_told world.events)) }
 {}
 
-/// The ids used at each end, in either range, are those that its births were given: each birth that
-/// was counted there got one of them, and each of them was given to such a birth.
+/// The ids used at each end, in either range, are those of its births: each birth counted there has
+/// one of them, and each of them belongs to such a birth.
 pub fn ids_are_of_births()
     ensures client { (pair : PairState) (world : World)
         → StandsIn pair world → IdsOfBirths pair.client.core.view.client }
@@ -298,9 +298,9 @@ pub fn ids_are_of_births()
         → StandsIn pair world → IdsOfBirths pair.server.core.view.server }
 {}
 
-/// If no event of the tables makes an object, no object of the server's is at either end, and no
+/// If no event of the tables makes an object, neither end has an object of the server, and no
 /// message on the way makes or names one. Then what `free_nowhere`, `held_where`, `held_back` and
-/// the clause `ending` of `ending_where` say of the client's ids and objects holds of all.
+/// the clause `ending` of `ending_where` say about the client's ids and objects holds for all.
 pub fn without_server_objects()
     ensures none_of_server { OfEach (λ pair world object.
         has_server_objects pair.server.core.tables ≡ false → IsOfServer object
@@ -320,41 +320,41 @@ pub fn without_server_objects()
         → IsEnding world.client object → DeleteComes world object ⊎ DestroyComes world object) }
 {}
 
-/// Each registry that is open at the server is one of those that hear of globals.
+/// Each registry that is open at the server is one to which globals are announced.
 pub fn registries_are_told()
     ensures { OfEach (λ pair world object.
         IsThere world.server object → object.iface ≡ registry → IsToldOfGlobals world object) }
 {}
 
-/// What a carry takes out of one end fits into the other, which takes all of it in.
+/// What a carry takes out of one end fits into the other end, which takes in all of it.
 pub fn carry_is_whole()
     ensures { (from to : Core) (most : ℕ)
         → feeds to (carried_bytes from (carries from to most))
         (carried_tokens from (carries from to most)) ≡ carries from to most }
 {}
 
-/// A history that there is: a callback is made, done with, and forgotten.
+/// An example history: a callback is made, done, and forgotten.
 pub fn callback_lives()
     ensures { (tables : List Interface) → CallbackLives tables }
 {}
 
-/// A history that there is: an event names an object that its reader has destroyed, and is reported
-/// with the object dead.
+/// An example history: an event names an object that its reader has destroyed, and is reported with
+/// the object dead.
 pub fn dead_argument()
     ensures { (tables : List Interface) → DeadArgument tables }
 {}
 
-/// A history that there is: a registry is destroyed by wl_fixes while a `global` is on its way to
-/// it. The event is discarded and teaches nothing, the registry is owed nothing any more, and its
-/// delete follows.
+/// An example history: a registry is destroyed through wl_fixes while a `global` is on its way to
+/// it. The event is discarded and the client learns nothing, the registry is then owed nothing, and
+/// its delete follows.
 pub fn dead_registry()
     ensures { (tables : List Interface) → DeadRegistry tables }
 {}
 
-/// A history that there is: an event makes an object, the client destroys it, and an event that
-/// names it is reported with the object dead. The server reads the destroying request, writes no
-/// delete, and makes another object. Last, an event is discarded because the client has destroyed
-/// its target, and the object that it makes opens all the same.
+/// An example history: an event makes an object, the client destroys it, and an event that names it
+/// is reported with the object dead. The server reads the destroying request, writes no delete, and
+/// makes another object. Last, an event is discarded because the client has destroyed its target,
+/// and the object that it makes still opens.
 pub fn server_object_lives()
     ensures { (tables : List Interface) → ServerObjectLives tables }
 {}

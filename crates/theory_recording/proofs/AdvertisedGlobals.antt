@@ -54,7 +54,7 @@ tells_one tables k k' grows (Event m) h = λ is name version text iface args pla
     (let l = h is name version text iface args place in let more = grows name iface.0 in omega (arith, l, more))
 tells_one tables k k' grows (Delete x) h = tt
 
--- each global that is told is still advertised
+-- each global that is announced is still advertised
 pub tells_on : (tables : List Interface) (k k' : Knows) → Grows k k' → (cs : List (Coming Known))
     → Each (TellsAdvertised tables k) cs → Each (TellsAdvertised tables k') cs
 tells_on tables k k' grows cs h = each_by (TellsAdvertised tables k) (TellsAdvertised tables k')

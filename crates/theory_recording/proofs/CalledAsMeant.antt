@@ -97,7 +97,7 @@ destroyed_as : (b : Bool) (id : ℕ) (o : Option Known) → b ≡ is_some o → 
 destroyed_as b id None f h = ap (λ (t : Bool). destroyed_id t id) f
 destroyed_as b id (Some x) f h = λ i. destroyed_id (f i) (sym h i)
 
--- what is known behind a call that makes this
+-- what is known after a call that makes this
 record BehindCall (tables : List Interface) (e : List Judged) (call : Call) (n o : Option Known) : Type 0 where
   objects : (id : ℕ) → (knowledge tables (e ++ Ok call ∷ [])).object id
       ≡ cond (is_made (option_map made_of n) id) (Some (made_entry (suc (length e)) Live (new_of (option_map made_of n))))
@@ -130,7 +130,7 @@ behind_call tables e here d m entry f n valid made_is deleted_is =
       places = places_behind tables e call ∙ ap (λ (o : Option NewObject). grown (birth_places tables e) o p) made_is;
     }
 
--- behind a request that fits, the checker knows the rows that it leaves
+-- after a request that fits, the checker knows the rows that it leaves
 pub known_call : (tables : List Interface) (e : List Judged) (here : Rows Row) (d : Direction) (m : Message Known)
     (entry : Entry) (f : FitsSignature tables (side_of d) m) (n : Option Known)
     → Valid tables → KnownAs (knowledge tables e) (birth_places tables e) here → IfThere (Fresh here) n
@@ -149,7 +149,7 @@ known_call tables e here d m entry f n valid a fresh target args made_is deleted
     (known_behind (knowledge tables e) (knowledge tables (e ++ Ok call ∷ [])) (birth_places tables e) (suc (length e))
     here n m.ends a fresh held c.objects c.used c.server_used)
 
--- and behind an event
+-- the same after an event
 pub known_told : (tables : List Interface) (e : List Judged) (here : Rows Row) (d : Direction) (m : Message Known)
     (entry : Entry) (f : FitsSignature tables (side_of d) m) (n : Option Known)
     → Valid tables → KnownAs (knowledge tables e) (birth_places tables e) here → IfThere (NextTold here) n

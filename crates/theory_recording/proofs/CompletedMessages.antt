@@ -21,7 +21,7 @@ use Rattle.theory_connection.proofs.Channels.{front_nil}
 use Rattle.theory_recording.specs.Follows.{knowledge}
 use Rattle.theory_recording.proofs.CalledAsMeant.{One}
 
--- ---- what stands in front
+-- ---- what is at the front
 
 -- a part of a message is not one
 part_front : (limit : ℕ) (x left more : List ℕ) (m : List ℕ) (f : Front) → front limit x ≡ f → x ++ left ≡ m ++ more
@@ -38,7 +38,7 @@ part_front limit x left more m (Whole n) e is whole h =
     let there = (front_stands limit x n e).there in
     absurd (omega (arith, size, there, h))
 
--- a whole one, and what stands behind it
+-- a whole one, and what follows it
 pub record Apart (x left m more : List ℕ) : Type 0 where
   pub rest : List ℕ
   pub is : x ≡ m ++ rest
@@ -83,7 +83,7 @@ module _ {M : Type 0} (sp : M → boxes.QueuedMessage) (limit : ℕ) (tables : L
         ≡ (knowledge tables e).taken y
     pub next : F (judged_after limit tables streams e (map (framed d t) c.marks)) (seen ++ fresh) still
 
-  -- only a part stands there
+  -- only a part is there
   stops : (e : List Judged) (seen later : List M) (p : ℕ) (x : List ℕ) → F e seen later → drop p (streams d) ≡ x
       → p ≤ length (streams d) → front limit x ≡ More
       → Walked e seen later x (cutting limit (length (streams d)) (streams d) p)

@@ -1,4 +1,4 @@
--- What a checker knows behind one message, by what it knew before it.
+-- What a checker knows after one message, from what it knew before it.
 use Rattle.std.proofs.Common.{◌≡◌, ℕ, zero, suc, ◌<◌, Bool, true, false, cond, None, Some, List, []}
 use Rattle.std.proofs.Common.{◌∷◌, ◌++◌, ◌⊎◌, inl, inr, length, length-append, get_or, refl, sym}
 use Rattle.std.proofs.Common.{ap, ◌∙◌, arith, ◌≢◌, append-nil, ◌+◌, ◌-◌, subst}
@@ -78,7 +78,7 @@ new_entry places p x n =
     ∙ ap (λ n. get_or (places by ++ p ∷ []) n 0) n.number ∙ get_or-append_seam (places by) p [] 0 in
     λ i. record (made_entry p Live (made_of x)) { birth = g i }
 
--- ---- one id, behind what makes an object, destroys one or deletes one
+-- ---- one id, after a message that makes an object, destroys one or deletes one
 
 at_made : (places : Maker → List ℕ) (p : ℕ) (x : Known) (here : Rows Row) → IsNext places x
     → Below places here
@@ -365,7 +365,7 @@ told_differ here n o f h y x e d =
     let l : OfClient x = subst (IfThere OfClient) d h in
     range_apart x.id y.id l g.range
 
--- The checker knew the rows before a request; it knows them behind it.
+-- The checker knew the rows before a request; it knows them after it.
 pub known_behind : (k k' : Knows) (places : Maker → List ℕ) (p : ℕ) (here : Rows Row) (n o : Option Known)
     → KnownAs k places here → IfThere (Fresh here) n → IfThere (IsHeldInRows here) o
     → ((id : ℕ) → k'.object id
@@ -391,7 +391,7 @@ known_behind k k' places p here n o a f h objects used server_used =
       made_by = by_made here n f a.made_by;
     }) objects
 
--- It knew them before an event; it knows them behind it.
+-- It knew them before an event; it knows them after it.
 pub known_event : (k k' : Knows) (places : Maker → List ℕ) (p : ℕ) (here : Rows Row) (n o : Option Known)
     → KnownAs k places here → IfThere (NextTold here) n → IfThere (IsHeldInRows here) o → IfThere OfClient o
     → ((id : ℕ) → k'.object id
@@ -444,7 +444,7 @@ by_deleted v i by = λ id r e. elim (put_row_tells v.rows i None id) [
   | inr p ↦ by id r (sym p.1 ∙ e)
 ]
 
--- behind the delete of an object the checker no longer knows it
+-- after the delete of an object the checker no longer knows it
 pub known_deleted : (k k' : Knows) (birth_places : Maker → List ℕ) (here : Rows Row) (x : Known) → KnownAs k birth_places here
     → x.id ≢ 1 → x.id ≤ 1048576
     → ((id : ℕ) → k'.object id ≡ unless_deleted (frees (Some x.id) id) false (k.object id)) → k'.used ≡ k.used
@@ -473,7 +473,7 @@ makers_same f g (suc n) by h =
     let last = h n (omega arith) in
     λ i. front i ++ place_of_making by (last i) n
 
--- behind one more message there is one more place where it makes an object
+-- after one more message there is one more place where it makes an object
 pub places_behind : (tables : List Interface) (e : List Judged) (call : Call)
     → birth_places tables (e ++ Ok call ∷ []) ≡ grown (birth_places tables e) (changes tables call).made (suc (length e))
 unfolding places_of_making

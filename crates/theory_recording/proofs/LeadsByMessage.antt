@@ -56,7 +56,7 @@ other_born {o} test x n (inr h) a b t = let q : Some (Ending x.born) ≡ Some (O
 abbrev pub Counted : Rows Row → Known → Type 0
 Counted v x = is_of_server x.id ≡ false → x.born.birth.number < v.births
 
--- it is so behind an event that makes an object
+-- the same holds after an event that makes an object
 told_first_if : (v : Rows Row) (n o : Option Known) → IfThere (Counted v) o → IfThere (Counted (client_told v n)) o
 told_first_if v None o l = l
 told_first_if v (Some y) None l = tt
@@ -99,7 +99,7 @@ module _ {test : Born → Bool} where
     reads = destroy_before x.id x.born m.reads h f;
   }
 
-  -- a request behind those not yet recorded: the rows join again
+  -- a request after those not yet recorded: the rows join again
   pub asks_more : {qs : List Ask} {es : List Tell} {here v : Rows Row} (x : Known) (xs : List Known)
       (n o : Option Known)
       → Joins test qs es here v → OpenRow v x → test x.born ≡ false → Each (OpenRow v) xs
@@ -136,7 +136,7 @@ module _ {test : Born → Bool} where
   new_off x xs (Some n) o h k (make g r) = let p = ends_off o r
       in record { target = h; args = k; new = g; mortal = p.1; rest = p.0 }
 
-  -- what the first of the requests that lead on names is open, and the others lead on behind it
+  -- what the first of the requests that lead on names is open, and the others lead on after it
   pub ask_recorded : {qs : List Ask} {v w : Rows Row} (x : Known) (xs : List Known) (n o : Option Known)
       → Leads test ((Use x ∷ (map Use xs ++ (make_ask n ++ destroy_ask o))) ++ qs) v w
       → RecordsAsk test qs v w x xs n o

@@ -106,7 +106,7 @@ carry_to_server_links p w asked told most l s =
 
 -- ---- to the client
 
--- the checker follows the ends, and what is told and not yet recorded fits
+-- the checker follows the ends, and what is written to the client and not yet recorded fits
 abbrev Telling : List Interface → List Global → List (Message Known) → List (Coming Known) → Rows Row → List Remembered
     → List Judged → List (Coming Known) → List (Coming Known) → Type 0
 Telling tables given asked_later told client remembered e seen later =

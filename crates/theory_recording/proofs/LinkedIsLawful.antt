@@ -45,7 +45,7 @@ pub check_says_lawful : (p : PairState) (w : World) → Linked p w → (verdict 
 check_says_lawful p w l verdict a = (exact_from p.server.core.tables
     (session_of (pair_limit p) (up_to p.ended_at p.recording)) verdict a).1 (linked_lawful p w l)
 
--- a linked pair stands for its world
+-- a linked pair represents its world
 pub linked_stands : (p : PairState) (w : World) → Linked p w → Stands p w
 linked_stands p w (ended e l) = stands_ended e
 linked_stands p w (linked asked told z l) = stands asked told z l.stands

@@ -85,7 +85,7 @@ step_links p w (linked asked told z l) move reply p' m d =
     let s = does_moves p w asked told l.stands z move reply p' m d in
     record { world = s.world; answers = s.answers; links = by_outcome p w asked told l p' s.world s.outcome }
 
--- so it is with each step of a run
+-- the same for each step of a run
 pub run_links : (p : PairState) (w : World) (moves : List Move) (replies : List Reply) (last : PairState) → Linked p w
     → Each IsMove moves → DoesAll p moves replies last → RunsLinked p w moves replies last
 run_links p w [] [] last l m d = d

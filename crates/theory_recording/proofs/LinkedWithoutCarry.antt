@@ -290,7 +290,7 @@ event_joins test m asked_later rest here v tables f j =
           (λ (x : Rows Row). ReadsInFlight test (all_tells rest) x j.common) (sym rows) t.rest;
     }
 
--- the client behind the first of what comes, with this view and these globals
+-- the client after the first of what comes, with this view and these globals
 abbrev read_client : client.State → Coming Known → ℕ → Objects → List Remembered → Option Object → Option Object
     → client.State
 read_client st c n view globals made replaced = record {

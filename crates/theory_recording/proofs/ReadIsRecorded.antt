@@ -57,7 +57,7 @@ read_on l d ps inbox taken n t first rest r size own there = record {
   );
 }
 
--- The first message in flight is read: it was recorded, and what was recorded behind it still is.
+-- The first message in flight is read: it was recorded, and what was recorded after it still is.
 pub record RestSeen {M : Type 0} (sp : M → boxes.QueuedMessage) (l : ℕ) (d : Direction) (ps : List Piece)
     (inbox : Arrived)
     (taken n : ℕ) (m : M) (ms seen later : List M) : Type 0 where

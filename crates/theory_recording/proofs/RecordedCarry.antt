@@ -24,7 +24,7 @@ use Rattle.theory_recording.specs.Follows.{knowledge}
 use Rattle.theory_recording.specs.Linked.{judgements}
 use Rattle.theory_recording.proofs.CompletedMessages.{KeepsOne, walk}
 
--- what stands behind the recorded messages is a part of one
+-- what follows the recorded messages is a part of one
 pub part_more : (limit : ℕ) (d : Direction) (ps : List Piece) (inbox : Arrived) (taken : ℕ)
     (seen : List boxes.QueuedMessage)
     (r : Recorded limit d ps inbox taken seen) → front limit r.part ≡ More
@@ -32,7 +32,7 @@ part_more limit d ps inbox taken seen r =
     let s = stream_of d ps in
     ap (front limit) (sym r.rest) ∙ why limit (length s) s 0 (omega arith) (omega arith) r.sound
 
--- ---- what is in flight, behind the recorded messages
+-- ---- what is in flight after the recorded messages
 
 same_rest : (xs ys zs : List ℕ) → xs ++ ys ≡ xs ++ zs → ys ≡ zs
 same_rest xs ys zs e = sym (drop_at xs ys (length xs) refl) ∙ ap (drop (length xs)) e ∙ drop_at xs zs (length xs) refl

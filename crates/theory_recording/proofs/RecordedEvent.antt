@@ -245,7 +245,7 @@ display_held tables e asked_later seen client remembered f valid there =
     held_here (record { id = 1; born = display_born }) f.joins.leads (inl there_still)
     (λ l. (let s = some_place tables e in let b = f.known_as.births Client in omega (arith, s, b)))
 
--- what is known behind a delete
+-- what is known after a delete
 known_delete : (tables : List Interface) (e : List Judged) (here : Rows Row) (x : Known) (entry : Entry)
     (signature : sigs.MessageSignature) → KnownAs (knowledge tables e) (birth_places tables e) here → x.id ≢ 1
     → x.id ≤ 1048576 → entry.iface ≡ display_born.iface → signature.destroys ≡ Nothing
@@ -338,7 +338,8 @@ delete_one limit tables asked_seen asked_later told client server remembered str
 
 -- ---- either
 
--- what comes to the client goes on once it is recorded, and the checker follows the ends behind it
+-- the session goes on after what comes to the client is recorded, and the checker then follows the
+-- ends
 pub tell_one : (limit : ℕ) (tables : List Interface) (given : List Global)
     (asked_seen asked_later : List (Message Known)) (told : List (Coming Known)) (client : Rows Row)
     (server : Rows Born) (remembered : List Remembered)

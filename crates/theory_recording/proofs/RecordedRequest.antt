@@ -28,7 +28,7 @@ use Rattle.theory_recording.proofs.AdvertisedGlobals.{no_bad_bind, remembers_on,
 use Rattle.theory_recording.proofs.CalledAsMeant.{One, go_on_more, goes_on_as, own_taken}
 use Rattle.theory_recording.proofs.CalledAsMeant.{other_taken, call_grows, known_call}
 
--- a request goes on once it is recorded, and the checker follows the ends behind it
+-- the session goes on after a request is recorded, and the checker then follows the ends
 pub ask_one : (limit : ℕ) (tables : List Interface) (given : List Global) (told_seen : List (Coming Known))
     (client : Rows Row) (remembered : List Remembered) (stream more : List ℕ) (t p : ℕ) (e : List Judged)
     (m : Message Known) (ms : List (Message Known))

@@ -1,4 +1,4 @@
--- What a checker knows behind the messages that it has judged, and how that fits the ends.
+-- What a checker knows after the messages that it has judged, and how that fits the ends.
 use Rattle.std.specs.Prelude.{◌≡◌, ℕ, zero, suc, ◌+◌, ◌≤◌, if◌then◌else◌, true, false, List, []}
 use Rattle.std.specs.Prelude.{◌∷◌, ◌++◌, length}
 use Rattle.std.specs.Prelude.{map, get_or, slice_get, Option, Some, None, option_map}
@@ -35,17 +35,17 @@ pub record GoesOn (judged : Judged) : Type 0 where
 abbrev pub AllGoOn : List Judged → Type 0
 AllGoOn judged = (k : ℕ) (one : Judged) → slice_get judged k ≡ Some one → GoesOn one
 
--- what is known behind messages, each judged at its place
+-- what is known after messages, each judged at its place
 abbrev pub knowledge : List Interface → List Judged → Knows
 knowledge tables judged = known (changes_at tables judged) (suc (length judged))
 
--- the place, if the message there makes an object of this maker; else nothing
+-- the place, if the message there makes an object of this maker; else none
 abbrev pub place_of_making : Maker → Option NewObject → ℕ → List ℕ
 place_of_making by None place = []
 place_of_making by (Some new) place =
     if same_maker (maker_of new.id) by then place ∷ [] else []
 
--- What comes before the first place: for the server one 0, since its births begin at 1.
+-- What comes before the first place: for the server a 0, since its births begin at 1.
 abbrev pub place_before : Maker → List ℕ
 place_before Client = []
 place_before Server = 0 ∷ []
@@ -58,7 +58,7 @@ places_of_making made zero by = place_before by
 places_of_making made (suc place) by =
     places_of_making made place by ++ place_of_making by (made place) place
 
--- the same behind these judged messages
+-- the same after these judged messages
 abbrev pub birth_places : List Interface → List Judged → Maker → List ℕ
 birth_places tables judged =
     places_of_making (λ place. (changes_at tables judged place).made) (suc (length judged))
@@ -78,7 +78,7 @@ entry_at birth_places (Ending x) = record {
   state = states.Zombie;
 }
 
--- The checker knows just these rows, in both ranges of ids, and what was counted there.
+-- The checker knows exactly these rows, in both ranges of ids, and what was counted there.
 pub record KnownAs (k : Knows) (birth_places : Maker → List ℕ) (here : Rows Row) : Type 0 where
   pub objects : (id : ℕ) → k.object id ≡ option_map (entry_at birth_places) (here.rows id)
   pub used : k.used ≡ here.used
@@ -94,7 +94,7 @@ pub record KnownAs (k : Knows) (birth_places : Maker → List ℕ) (here : Rows 
 abbrev pub IsAdvertised : Knows → ℕ → ℕ → ℕ → Type 0
 IsAdvertised k name iface version = version ≤ k.advertised_version name iface
 
--- so it is with what a `global` event tells, where its interface is in the tables
+-- the same for the global in a `global` event, if its interface is in the tables
 abbrev pub TellsAdvertised : List Interface → Knows → Coming Known → Type 0
 TellsAdvertised tables k (Event m) = is_global event_side m.target.born.iface m.opcode ≡ true
     → (name version : ℕ) (text : List ℕ) (iface : Iface)
@@ -102,7 +102,7 @@ TellsAdvertised tables k (Event m) = is_global event_side m.target.born.iface m.
     → place_of tables text ≡ Some iface → IsAdvertised k name iface.0 version
 TellsAdvertised tables k (Delete x) = Unit {0}
 
--- and with what a bind takes
+-- the same for the global of a bind
 abbrev pub BindsAdvertised : Knows → Message Known → Type 0
 BindsAdvertised k m = is_bind Request m.target.born.iface m.opcode ≡ true
     → (name : ℕ) (x : Known) → first_number (map wire m.args) ≡ Some name → made_in m.args ≡ Some x
@@ -110,9 +110,9 @@ BindsAdvertised k m = is_bind Request m.target.born.iface m.opcode ≡ true
 
 -- ---- all of it
 
--- These requests were asked and are not yet recorded; these events were recorded and are not yet
+-- These requests were written and are not yet recorded; these events were recorded and are not yet
 -- read by the client, which has these rows and remembers these globals. None of the judged messages
--- breaks a rule or is wl_display.error. The checker knows some rows; from them the requests lead to
+-- breaks a rule or is wl_display.error. From the rows that the checker knows, the requests lead to
 -- the rows to which the events lead the client. Each global that the client remembers, will read of
 -- or binds was advertised in a recorded event.
 pub record Follows (tables : List Interface) (judged : List Judged)

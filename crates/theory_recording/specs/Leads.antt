@@ -1,13 +1,13 @@
--- What the requests that are not yet recorded lead to.
+-- The rows to which the requests that are not yet recorded lead.
 use Rattle.std.specs.Prelude.{◌≡◌, ◌≢◌, Bool, false, List, [], ◌∷◌, Some}
 use Rattle.theory_connection.specs.Meant.{Born, Known}
 use Rattle.theory_connection.specs.World.{Row, Open, Ending}
 use Rattle.theory_connection.specs.Flight.{Rows, at, with_made, Ask, Use, Make, Destroy, Tell}
 use Rattle.theory_connection.specs.Flight.{Fresh, ReadsInFlight}
 
--- All of these requests may be recorded one after another where v is known: each object that one
--- uses is open when its turn comes, each new one has an id that is free or next, and is the next
--- birth. Then w is known.
+-- All of these requests may be recorded one after another if v is known: when each one's turn
+-- comes, each object that it uses is open, and a new one has an id that is free or next, and is the
+-- next birth. Then w is known.
 pub data Leads (by_event : Born → Bool) : List Ask → Rows Row → Rows Row → Type 0 where
   done : {v : Rows Row} → Leads by_event [] v v
   use_ : {qs : List Ask} {v w : Rows Row} {x : Known}
@@ -19,7 +19,7 @@ pub data Leads (by_event : Born → Bool) : List Ask → Rows Row → Rows Row �
       → x.id ≢ 1 → v.rows x.id ≡ Some (Open x.born) → by_event x.born ≡ false
       → Leads by_event qs (at v x.id (Some (Ending x.born))) w → Leads by_event (Destroy x ∷ qs) v w
 
--- There are rows to which both come: a checker of the recording by the requests that are not yet
+-- There are rows that both reach: a checker of the recording by the requests that are not yet
 -- recorded, and the client by the events that are recorded and that it has not yet read.
 pub record Joins (by_event : Born → Bool) (later : List Ask) (seen : List Tell)
     (here client : Rows Row) : Type 0 where

@@ -22,11 +22,11 @@ use Rattle.theory_recording.specs.Follows.{Follows, knowledge}
 abbrev pub judgements : ℕ → List Interface → List Piece → List Judged
 judgements limit tables pieces = messages tables (session_of limit pieces)
 
--- the limit by which both ends go
+-- the limit of both ends
 abbrev pub pair_limit : PairState → ℕ
 pair_limit p = p.server.core.inbox.limit.bytes
 
--- the messages of a pair's recording, and what the checker knows behind them
+-- the messages of a pair's recording, and what the checker knows after them
 abbrev pub judged_in : PairState → List Judged
 judged_in p = judgements (pair_limit p) p.server.core.tables p.recording
 
@@ -34,7 +34,7 @@ abbrev pub knows : PairState → Knows
 knows p = knowledge p.server.core.tables (judged_in p)
 
 -- Of these messages, which are in flight in one direction, the first were recorded and the others
--- not.
+-- were not.
 pub record RecordedOf {M : Type 0} (as_sent : M → boxes.QueuedMessage) (limit : ℕ)
     (direction : Direction)
     (pieces : List Piece) (inbox : Arrived) (taken : ℕ) (messages : List M) : Type 0 where
@@ -44,8 +44,8 @@ pub record RecordedOf {M : Type 0} (as_sent : M → boxes.QueuedMessage) (limit 
   -- the direction's stream, and its tokens
   pub recorded : Recorded limit direction pieces inbox taken (map as_sent seen)
 
--- These requests and events are in flight, and of each direction's the first were recorded and the
--- others not. What was recorded goes on lawfully, and a checker of it follows the ends.
+-- These requests and events are in flight, and in each direction the first were recorded and the
+-- others were not. What was recorded is lawful so far, and a checker of it follows the ends.
 pub record LinkedBy (p : PairState) (w : World) (asked : List (Message Known))
     (told : List (Coming Known)) : Type 0 where
   pub stands : StandsBy p w asked told
@@ -56,7 +56,7 @@ pub record LinkedBy (p : PairState) (w : World) (asked : List (Message Known))
   -- what the checker knows, and how the ends differ from it
   pub follows : Follows p.server.core.tables (judged_in p) requests.later events.seen
       (client_rows p.client.core.view) p.client.globals
-  -- what an event in flight is about was counted by the server
+  -- the server has counted what each event in flight concerns
   pub counted : Each (IsBelow (births_in (server_rows p.server.core.view))) (all_tells told)
 
 -- the pieces up to the mark
@@ -71,8 +71,8 @@ pub record EndedLawful (p : PairState) : Type 0 where
   pub there : count ≤ length p.recording
   pub lawful : IsLawful p.server.core.tables (session_of (pair_limit p) (take count p.recording))
 
--- The pair's recording is linked with its world. Once the world is ended this says only that what
--- was recorded before the end is lawful.
+-- The pair's recording is linked with its world. After the world has ended, this says only that
+-- what was recorded before the end is lawful.
 pub data Linked (p : PairState) (w : World) : Type 0 where
   ended : w.ended ≡ true → EndedLawful p → Linked p w
   linked : (asked : List (Message Known)) (told : List (Coming Known))

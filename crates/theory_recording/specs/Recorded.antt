@@ -1,4 +1,4 @@
--- What a recording has of the messages of one direction that are not yet read.
+-- What a recording contains of the messages of one direction that are not yet read.
 use Rattle.std.specs.Prelude.{◌≡◌, ℕ, ◌+◌, false, List, ◌++◌, length, drop}
 use Rattle.wl_message.specs.Outgoing as boxes
 use Rattle.wl_message.specs.Outgoing.{all_bytes, all_tokens}
@@ -7,10 +7,10 @@ use Rattle.wl_recording.specs.declared.piece.Direction.{Direction}
 use Rattle.wl_recording.specs.Piece.{Piece}
 use Rattle.wl_check.specs.Merged.{cut, stream_of, piece_tokens}
 
--- These messages were recorded whole and wait in the inbox. Behind them both the inbox and the
+-- These messages were recorded whole and wait in the inbox. After them, the inbox and the
 -- direction's stream end with the same part of the next message, which may be empty, and the stream
--- has no bad size: the inbox goes by the limit by which the stream is cut. The recorded messages
--- took this many tokens, those of the messages that wait among them; so the tokens that the pieces
+-- has no bad size. (The inbox has the limit with which the stream is cut.) The recorded messages
+-- took this many tokens, including those of the messages that wait; so the tokens that the pieces
 -- brought beyond these are those that wait for later messages.
 pub record Recorded (limit : ℕ) (direction : Direction) (pieces : List Piece)
     (inbox : Arrived) (taken : ℕ) (seen : List boxes.QueuedMessage) : Type 0 where

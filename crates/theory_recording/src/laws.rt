@@ -35,7 +35,7 @@ pub fn run_links()
         → RunsLinked pair world moves replies last }
 {}
 
-/// A linked pair stands for its world.
+/// A linked pair represents its world.
 pub fn linked_stands()
     ensures { (pair : PairState) (world : World) → Linked pair world → Stands pair world }
 {}
@@ -47,8 +47,8 @@ pub fn linked_lawful()
         (session_of (pair_limit pair) (up_to pair.ended_at pair.recording)) }
 {}
 
-/// Whatever a checker may answer of what a linked pair recorded, up to the first error that was
-/// posted, it says that the session is lawful.
+/// Whatever verdict a checker may give on what a linked pair recorded, up to the first error that
+/// was posted, it is that the session is lawful.
 pub fn check_says_lawful()
     ensures { (pair : PairState) (world : World) (verdict : Verdict) → Linked pair world
         → IsVerdictOf pair.server.core.tables

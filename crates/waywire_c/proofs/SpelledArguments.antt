@@ -29,7 +29,7 @@ spelled-count : {ks : List Kind} {vs : List Argument} {b : List ℕ} → SpellsA
 spelled-count (spelling.none e) = refl
 spelled-count (spelling.more h t e) = ap suc (spelled-count t)
 
--- What is spelled so far stands in the first slots, and the others are left.
+-- What is spelled so far is in the first slots, and the other slots stay.
 pub record So (kinds : List Kind) (body : List ℕ) (place len : ℕ) (before slots : List ReportArg) : Type 0 where
   pub values : List Argument
   pub front : SpellsAll (take place kinds) values (take len body)

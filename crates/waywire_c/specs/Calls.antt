@@ -1,4 +1,4 @@
--- What C is told of a call, and what the call leaves.
+-- What C learns about a call, and what the call leaves.
 use Rattle.std.specs.Prelude.{◌≡◌, ◌≢◌, ℕ, List, Option, Some, None, MatchOption}
 use Rattle.std.specs.declared.result.Result.{Result}
 use Rattle.std.specs.declared.result.Result.TheVariants.{Ok, Err}
@@ -12,7 +12,8 @@ use Rattle.wl_connection.specs.Sending.{send_answer, opens_object}
 use Rattle.waywire_c.specs.Statuses.{made_outcome, refused_place, OrMemory}
 use Rattle.waywire_c.specs.Values.{made_object}
 
--- what stands where the place of a refused argument goes: that place, where one is named
+-- what is left in the output for the index of a refused argument: that index, if the refusal names
+-- one
 abbrev pub place_or : ℕ → Option ℕ → ℕ
 place_or before None = before
 place_or before (Some place) = place
@@ -21,14 +22,14 @@ abbrev pub place_left : ℕ → Result (Option Object) SendError → ℕ
 place_left before (Ok new) = before
 place_left before (Err why) = place_or before (refused_place why)
 
--- what stands where a new object goes: it, or the object of id 0 where none is made; of a call that
--- is refused, what stood there
+-- what is left in the output for a new object: the object, or one with id 0 if none is made; what
+-- was there before, if the call is refused
 abbrev pub made_left : Object → Result (Option Object) SendError → Object
 made_left before (Ok new) = made_object new
 made_left before (Err why) = before
 
--- What C is told of a `send` of these arguments: the status of its answer, and as that is an
--- acceptance the object that it made, or the place of an argument that it refused.
+-- What C learns about a `send` with these arguments: the status of its result and, for an
+-- acceptance, the object that it made, or for a refusal, the index of the refused argument.
 pub record IsSent (core : Core) (side : Side) (target : Object) (opcode : ℕ) (given : List Given)
     (status : ℕ) (before made : Object) (place_before place : ℕ) : Type 0 where
   pub answer : OrMemory
@@ -39,8 +40,8 @@ pub record IsSent (core : Core) (side : Side) (target : Object) (opcode : ℕ) (
   pub not_made : status ≡ 11 → made ≡ before
   pub place_is : place ≡ place_left place_before (send_answer core side target opcode given)
 
--- What C is told of a `send`: that an argument is of a kind that no call takes, and nothing else;
--- or what is told of a `send` of its arguments.
+-- What C learns about a `send`: only that an argument has a kind that no call takes; or what it
+-- learns about a `send` with its arguments.
 abbrev pub SendTells : Core → Side → Object → ℕ → Option (List Given) → ℕ → Object → Object
     → ℕ → ℕ → Type 0
 SendTells core side target opcode given status before made place_before place =

@@ -1,4 +1,4 @@
--- One message taken apart by its signature, where nothing is known of objects and tokens.
+-- One message decoded by its signature, without knowledge of objects and tokens.
 use Rattle.std.specs.Prelude.{◌≡◌, ◌≢◌, ℕ, ◌-◌, Bool, true, false, nat_eq, nat_lt, nat_le}
 use Rattle.std.specs.Prelude.{if◌then◌else◌, List, [], ◌∷◌, ◌++◌, length, map, take, drop, Option}
 use Rattle.std.specs.Prelude.{Some, None, option_and_then}
@@ -32,25 +32,27 @@ bare_object id = record { id = id; birth = 0 }
 abbrev pub bare_named : ℕ → Named
 bare_named id = if nat_eq id 0 then named_as.Null else named_as.Live (bare_object id)
 
--- an argument that bytes spell, as it is reported: objects by their ids alone, a descriptor as 0
+-- an argument that bytes spell, as reported: objects by their ids alone, a descriptor as 0
 abbrev pub bare_argument : Argument → Reported
 bare_argument value = reshaped bare_named bare_object (λ _. 0) value
 
--- A body spells these values, one of each kind; or as many as it does, and the first fault.
+-- A body spells these values, one of each kind; or the values up to the first fault, and that
+-- fault.
 pub data Spelled (kinds : List Kind) (body : List ℕ) : List Argument → Option Fault → Type 0 where
   whole : {values : List Argument} → SpellsAll kinds values body → Spelled kinds body values None
   -- F7: bytes are left
   longer : {values : List Argument} {front : List ℕ} (behind : List ℕ)
       → SpellsAll kinds values front → behind ≢ [] → body ≡ front ++ behind
       → Spelled kinds body values (Some faults.TrailingBytes)
-  -- F4: all before it are spelled, and what is behind them begins with no spelling of its kind
+  -- F4: all arguments before it are spelled, and what follows does not begin with a spelling of its
+  -- kind
   broken : {before : List Kind} {values : List Argument} {front : List ℕ} {fault : ArgFault}
       (kind : Kind) (after : List Kind) (behind : List ℕ)
       → kinds ≡ before ++ kind ∷ after → SpellsAll before values front
       → IsFirstFault kind behind fault → body ≡ front ++ behind
       → Spelled kinds body values (Some (faults.BadArgument (length before) fault))
 
--- These are told in the first places, the others are left.
+-- These arguments are written to the first slots; the other slots stay.
 pub record TellsSpelled (kinds : List Kind) (body : List ℕ) (count : ℕ) (fault : Option Fault)
     (before after : List ReportArg) : Type 0 where
   pub values : List Argument
@@ -60,7 +62,7 @@ pub record TellsSpelled (kinds : List Kind) (body : List ℕ) (count : ℕ) (fau
 
 -- ---- the message
 
--- What is told of a message, but for its arguments and where its name lies.
+-- What is reported about a message, except its arguments and where its name lies.
 pub record ToldMessage : Type 0 where
   pub target : ℕ
   pub opcode : ℕ
@@ -111,7 +113,7 @@ abbrev pub spelled_outcome : Option Fault → ℕ
 spelled_outcome None = 0
 spelled_outcome (Some fault) = fault_status fault
 
--- a message of this signature, of which so many arguments are told
+-- a message with this signature, of which this many arguments are reported
 abbrev pub of_message : Header → MessageSignature → ℕ → Option Fault → ToldMessage
 of_message header message count fault = record (of_header header) {
   name_length = length message.name;
@@ -120,7 +122,7 @@ of_message header message count fault = record (of_header header) {
   spelling = spelling_of_fault fault;
 }
 
--- The status, and what is told where an interface has this message, or none.
+-- The status, and what is reported, if an interface has this message; or nothing.
 pub record TellsBody (header : Header) (message : MessageSignature) (body : List ℕ) (status : ℕ)
     (told : ToldMessage) (before after : List ReportArg) : Type 0 where
   pub count : ℕ
@@ -129,7 +131,7 @@ pub record TellsBody (header : Header) (message : MessageSignature) (body : List
   pub status_is : status ≡ spelled_outcome fault
   pub told_is : told ≡ of_message header message count fault
 
--- A refusal is told, and no argument.
+-- A refusal is reported, and no argument.
 pub record TellsNone (wanted : ℕ) (wanted_told : ToldMessage) (status : ℕ) (told : ToldMessage)
     (before after : List ReportArg) : Type 0 where
   pub status_is : status ≡ wanted
@@ -145,12 +147,12 @@ TellsKnown header (Some message) body = TellsBody header message body
 abbrev pub if_since : ℕ → MessageSignature → Option MessageSignature
 if_since version message = if nat_le message.since version then Some message else None
 
--- the message of an interface with this opcode, where this version has it
+-- the message of an interface with this opcode, if this version has it
 abbrev pub message_since : List Interface → ℕ → ℕ → Side → ℕ → Option MessageSignature
 message_since tables interface version side opcode =
     option_and_then (if_since version) (signature_at tables interface side opcode)
 
--- F1: whether all bytes are there that the header tells, and a message may have so many
+-- F1: whether all bytes of the header's size are there, and a message may have that size
 abbrev pub TellsWhole : Bool → List Interface → ℕ → ℕ → Side → Header → List ℕ → ℕ → ToldMessage
     → List ReportArg → List ReportArg → Type 0
 TellsWhole false tables interface version side header bytes = TellsNone 31 (of_header header)
@@ -165,7 +167,7 @@ TellsAtFront false tables interface version side bytes =
     TellsWhole (is_size (length bytes) (header_at bytes).size) tables interface version side
     (header_at bytes) bytes
 
--- whose messages, and the interface that is asked of
+-- whose messages these are, and the interface they are for
 abbrev pub TellsAsked : Option Side → Option Interface → List Interface → ℕ → ℕ → List ℕ
     → ToldMessage → ℕ → ToldMessage → List ReportArg → List ReportArg → Type 0
 TellsAsked None asked tables interface version bytes told_before = TellsNone 62 told_before
@@ -173,11 +175,11 @@ TellsAsked (Some side) None tables interface version bytes told_before = TellsNo
 TellsAsked (Some side) (Some i) tables interface version bytes told_before =
     TellsAtFront (nat_lt (length bytes) 8) tables interface version side bytes
 
--- whose messages a number means, where there is room for every argument that a message may have
+-- which side a number means, if there is room for every argument that a message may have
 abbrev pub side_with_room : ℕ → ℕ → Option Side
 side_with_room room sender = if nat_lt room max_args then None else side_of_sender sender
 
--- What C is told of the message at the front of bytes.
+-- What C learns about the message at the front of bytes.
 abbrev pub TellsDecoded : List Interface → ℕ → ℕ → ℕ → List ℕ → ToldMessage → ℕ → ToldMessage
     → List ReportArg → List ReportArg → Type 0
 TellsDecoded tables interface version sender bytes told_before status told before after =

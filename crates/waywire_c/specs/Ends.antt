@@ -1,5 +1,5 @@
--- What a handle of an end leads to: the state of a client or of a server. What both have is said
--- of either.
+-- What a handle of an end leads to: the state of a client or of a server. What both have is stated
+-- for either.
 use Rattle.std.specs.Prelude.{◌≡◌, refl, ℕ, Bool, false, not, List}
 use Rattle.wl_sigs.specs.declared.signature.Side.{Side}
 use Rattle.wl_sigs.specs.declared.signature.Side.TheVariants.{Request, Event}
@@ -42,14 +42,14 @@ core_again (Server state) core other = refl
 abbrev pub end_laws : IsCoreOf core_of end_with_core
 end_laws = record { kept = core_kept; new = core_new; again = core_again }
 
--- ---- what one end alone is asked
+-- ---- what only one end has
 
--- of a client this holds
+-- if it is a client, this holds
 abbrev pub IfClient : HeldEnd → (client.State → Type 0) → Type 0
 IfClient (Client state) holds = holds state
 IfClient (Server state) holds = Unit
 
--- of a server this holds
+-- if it is a server, this holds
 abbrev pub IfServer : HeldEnd → (server.State → Type 0) → Type 0
 IfServer (Client state) holds = Unit
 IfServer (Server state) holds = holds state
@@ -61,22 +61,22 @@ abbrev pub writes : HeldEnd → Side
 writes (Client state) = Request
 writes (Server state) = Event
 
--- whether what stands in front of its waiting bytes opens an object
+-- whether the message at the front of its waiting bytes opens an object
 abbrev pub front_opens : HeldEnd → Bool
 front_opens (Client state) = events.event_opens state.core (found state.core Event)
 front_opens (Server state) = requests.request_opens state.core (requests.request state)
 
--- whether its reading never needs memory
+-- whether reading it needs no memory
 abbrev pub takes_none : HeldEnd → Bool
 takes_none (Client state) = not (has_server_objects state.core.tables)
 takes_none (Server state) = false
 
--- how its reading ends
+-- the status of reading it
 abbrev pub read_status : HeldEnd → ℕ
 read_status (Client state) = read_outcome (events.next_answer state)
 read_status (Server state) = read_outcome (requests.next_answer state)
 
--- what is told of what it reads, where there is room for so many arguments
+-- what is reported about what it reads, with room for this many arguments
 abbrev pub told_next : ℕ → HeldEnd → ReportFields
 told_next room (Client state) = told_event room state
 told_next room (Server state) = told_request room (requests.next_answer state)

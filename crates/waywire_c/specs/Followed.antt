@@ -1,4 +1,4 @@
--- What C is told of the messages that an inspector follows, of objects, and of a verdict.
+-- What C learns about the messages that an inspector follows, about objects, and about a verdict.
 use Rattle.std.specs.Prelude.{◌≡◌, ◌⊎◌, ℕ, Bool, true, false, List, length, Option, Some, None}
 use Rattle.wl_sigs.specs.Tables.{Interface}
 use Rattle.wl_object_map.specs.declared.object.Entry.{Entry}
@@ -25,7 +25,7 @@ abbrev pub is_state_ending : State → Bool
 is_state_ending Live = false
 is_state_ending Zombie = true
 
--- what is told of an object, or of one that is not known
+-- what is reported about an object, known or not
 abbrev pub told_entry : Option Entry → CEntry
 told_entry None =
     record { birth = 0; version = 0; interface = 65535; is_known = false; is_ending = false }
@@ -37,7 +37,7 @@ told_entry (Some entry) = record {
   is_ending = is_state_ending entry.state;
 }
 
--- the id of an object that a message makes, its interface and its version; 0 where it makes none
+-- the id of an object that a message makes, its interface and its version; 0 if it makes none
 abbrev pub made_id : Option NewObject → ℕ
 made_id None = 0
 made_id (Some new) = new.id
@@ -56,7 +56,7 @@ id_or_none (Some id) = id
 
 -- ---- messages
 
--- What is told of a message, but for where its bytes lie.
+-- What is reported about a message, except where its bytes lie.
 pub record ToldFollowed : Type 0 where
   pub number : ℕ
   pub index : ℕ
@@ -112,12 +112,12 @@ of_followed m = record {
   deleted = id_or_none m.changes.deleted;
 }
 
--- a refusal, and nothing is told
+-- a refusal; nothing is reported
 pub record TellsNothing (wanted status : ℕ) (before after : ToldFollowed) : Type 0 where
   pub status_is : status ≡ wanted
   pub told_is : after ≡ before
 
--- The message in front of a direction is told.
+-- The next message of a direction is reported.
 pub record TellsFollowed {A : Type 0} (f : Follower A) (direction : Direction) (status : ℕ)
     (after : ToldFollowed) : Type 0 where
   pub message : Followed
@@ -125,7 +125,7 @@ pub record TellsFollowed {A : Type 0} (f : Follower A) (direction : Direction) (
   pub status_is : status ≡ 0
   pub told_is : after ≡ of_followed message
 
--- a direction, and the message in front of it, or that none is there
+-- the next message of a direction, or that there is none
 abbrev pub TellsNextFollowed : {A : Type 0} → Option Direction → Follower A → ℕ → ToldFollowed
     → ToldFollowed → Type 0
 TellsNextFollowed None f status before after = TellsNothing 62 status before after
@@ -135,7 +135,7 @@ TellsNextFollowed (Some direction) f status before after =
 
 -- ---- calls that change
 
--- how a call that names a sender ends: a number that is no sender is a bad value
+-- the status of a call that names a sender: a number that is no sender is a bad value
 abbrev pub EndsFor : Option Direction → ℕ → Type 0
 EndsFor None status = status ≡ 62
 EndsFor (Some direction) status = IsTried status
@@ -160,7 +160,7 @@ abbrev pub sender_of : Direction → ℕ
 sender_of ToServer = 0
 sender_of ToClient = 1
 
--- what is told of a verdict
+-- what is reported about a verdict
 abbrev pub told_verdict : Verdict → CVerdict
 told_verdict (Lawful requests events left_to_server left_to_client) = record no_verdict {
   requests = requests;
@@ -177,7 +177,7 @@ told_verdict (Broken direction index offset fault) = record no_verdict {
   sender = sender_of direction;
 }
 
--- The verdict on a session is told.
+-- The verdict on a session is reported.
 pub record TellsParts (tables : List Interface) (session : Session) (told : CVerdict) : Type 0
   where
     pub verdict : Verdict

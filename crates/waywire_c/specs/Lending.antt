@@ -1,4 +1,4 @@
--- What a handle leads to is lent, and the handle then leads to what was left there.
+-- A handle's target is borrowed, and the handle then leads to what the borrower left.
 use Rattle.std.specs.Borrow.{Lends, MutBor, Fml}
 use Rattle.waywire_c.specs.declared.end_handle.EndHandle.{EndHandle}
 use Rattle.waywire_c.specs.contracts.end_handle.EndHandle.{the_row as end_handle}

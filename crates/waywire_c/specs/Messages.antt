@@ -1,4 +1,4 @@
--- What C is told of a message of the tables.
+-- What C learns about a message of the tables.
 use Rattle.std.specs.Prelude.{◌≡◌, ℕ, Bool, true, false, nat_eq, if◌then◌else◌, List, length}
 use Rattle.std.specs.Prelude.{slice_get, Option, Some, None, option_and_then}
 use Rattle.wl_wire.specs.declared.kind.Iface.{Iface}
@@ -12,7 +12,7 @@ use Rattle.wl_sigs.specs.Tables.{Interface, MessageSignature, signature_at}
 use Rattle.waywire_c.specs.declared.messages.CMessage.{CMessage}
 use Rattle.waywire_c.specs.declared.messages.CKind.{CKind}
 
--- whose messages a number means: 0 the client's requests, 1 the server's events
+-- which side a number means: 0 the client's requests, 1 the server's events
 abbrev pub side_of_sender : ℕ → Option Side
 side_of_sender sender =
     if nat_eq sender 0 then Some Request else (if nat_eq sender 1 then Some Event else None)
@@ -33,7 +33,8 @@ abbrev pub kind_of_argument : List Interface → ℕ → ℕ → ℕ → ℕ →
 kind_of_argument tables interface sender opcode place =
     option_and_then (kind_in place) (message_at tables interface sender opcode)
 
--- what a message destroys: 0 nothing, 1 its target, 2 what the argument at a place names
+-- what a message destroys: 0 nothing, 1 its target, 2 the object that the argument at an index
+-- names
 abbrev pub destroys_number : Destroys → ℕ
 destroys_number Nothing = 0
 destroys_number Target = 1
@@ -43,7 +44,7 @@ abbrev pub destroyed_place : Destroys → ℕ
 destroyed_place (Arg place) = place
 destroyed_place _ = 0
 
--- A message is told.
+-- A message is reported.
 pub record TellsMessage (message : MessageSignature) (told : CMessage) (len : ℕ) : Type 0 where
   pub name : len ≡ length message.name
   pub since : told.since ≡ message.since
@@ -51,7 +52,7 @@ pub record TellsMessage (message : MessageSignature) (told : CMessage) (len : �
   pub destroyed : told.destroyed ≡ destroyed_place message.destroys
   pub arg_count : told.arg_count ≡ length message.kinds
 
--- the number of a kind, whether it may be null, and the interface that it asks for
+-- the number of a kind, whether it may be null, and the interface that it requires
 abbrev pub kind_number : Kind → ℕ
 kind_number kinds.Int = 1
 kind_number kinds.Uint = 2
@@ -74,12 +75,12 @@ asked_of (kinds.New iface) = iface
 asked_of (kinds.NewByServer iface) = Some iface
 asked_of _ = None
 
--- the place of an interface, and 65,535, at which none stands, of any
+-- the index of an interface, or 65,535, which no interface has, for any
 abbrev pub place_or_any : Option Iface → ℕ
 place_or_any None = 65535
 place_or_any (Some iface) = iface.0
 
--- A kind is told.
+-- A kind is reported.
 pub record TellsKind (kind : Kind) (told : CKind) : Type 0 where
   pub number : told.kind ≡ kind_number kind
   pub nullable : told.nullable ≡ may_be_null kind

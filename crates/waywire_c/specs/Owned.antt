@@ -1,4 +1,4 @@
--- What a handle owns: the block of a box, but for tables, which are only read.
+-- What a handle owns: the block of a box, except for tables, which are only read.
 use base.Fml.{Fml}
 use base.Stored.{Coded}
 use denote.RawPtr.{Ptr}
@@ -10,7 +10,7 @@ use Rattle.waywire_c.specs.contracts.held.HeldTables as tables
 use Rattle.waywire_c.specs.contracts.held.HeldEnd as end
 use Rattle.waywire_c.specs.contracts.held.HeldInspector as inspector
 
--- a handle of tables holds what a `&'static` to them does, so it can be copied
+-- a handle of tables holds what a `&'static` to them holds, so it can be copied
 abbrev pub lends_tables : Ptr → tables.the_row.Denot → Fml
 lends_tables = static_ref_at tables.the_row
 

@@ -1,12 +1,13 @@
--- What is told of a piece of a recording's text.
+-- What is reported about a piece of a recording's text.
 use Rattle.std.specs.Prelude.{◌≡◌, ℕ, List, Some}
 use Rattle.wl_recording.specs.Piece.{Piece}
 use Rattle.waywire_c.specs.Inspecting.{direction_of}
 use Rattle.waywire_c.specs.declared.recording.CPiece.{CPiece}
 
--- This is told of a piece, whose bytes are these, where so much of the text is left and so many lines
--- were read.
-pub record TellsPiece (piece : Piece) (left number : ℕ) (bytes : List ℕ) (told : CPiece) : Type 0 where
+-- This is reported about a piece with these bytes, with this much of the text left after this many
+-- lines.
+pub record TellsPiece (piece : Piece) (left number : ℕ) (bytes : List ℕ) (told : CPiece)
+    : Type 0 where
   pub sender : direction_of told.sender ≡ Some piece.direction
   pub tokens : told.tokens ≡ piece.tokens
   pub bytes_are : bytes ≡ piece.bytes

@@ -1,4 +1,4 @@
--- What C is told by a report, without where it lies in memory.
+-- What a report contains for C, apart from where it lies in memory.
 use Rattle.std.specs.Prelude.{◌≡◌, ℕ, ℤ, pos, min, Bool, false, ◌&&◌, not, nat_eq, if◌then◌else◌}
 use Rattle.std.specs.Prelude.{List, [], ◌∷◌, length, map, take, drop, Option, Some, None, is_some}
 use Rattle.std.specs.declared.result.Result.{Result}
@@ -27,7 +27,7 @@ no_object = made_object None
 
 -- ---- arguments
 
--- What an argument of a report tells.
+-- The contents of an argument of a report.
 pub record ToldArg : Type 0 where
   pub kind : ℕ
   pub int : ℤ
@@ -52,7 +52,7 @@ arg_named named_as.Null = arg_of_kind 7
 arg_named (named_as.Live object) = record (arg_of_kind 6) { object = object }
 arg_named (named_as.Dead object) = record (arg_of_kind 11) { object = object }
 
--- What is told of a reported argument.
+-- What is written for a reported argument.
 abbrev pub arg_told : Reported → ToldArg
 arg_told (Int z) = record (arg_of_kind 1) { int = z }
 arg_told (Uint n) = record (arg_of_kind 2) { uint = n }
@@ -69,7 +69,7 @@ arg_told (NewNamed iface version object) = record (arg_of_kind 12) {
 arg_told (Array bytes) = record (arg_of_kind 9) { length = length bytes }
 arg_told (Fd token) = record (arg_of_kind 10) { uint = token }
 
--- These arguments are told in the first places, as far as there are such, and the others are left.
+-- These arguments are written to the first slots, as far as there are slots; the other slots stay.
 pub record TellsArgs (args : List Reported) (before after : List ReportArg) : Type 0 where
   pub first : map arg_told_by (take (min (length args) (length before)) after)
       ≡ map arg_told (take (min (length args) (length before)) args)
@@ -78,7 +78,7 @@ pub record TellsArgs (args : List Reported) (before after : List ReportArg) : Ty
 
 -- ---- reports
 
--- What a report tells, but for its arguments.
+-- The contents of a report, except its arguments.
 pub record ReportFields : Type 0 where
   pub kind : ℕ
   pub opcode : ℕ
@@ -131,7 +131,7 @@ of_kind kind = record {
   forgotten = false;
 }
 
--- of why no message was read
+-- for the reason that no message was read
 abbrev pub told_unread : NextError → ReportFields
 told_unread (errors.Fault fault offset) = record (of_kind 6) {
   spelling = fault_spelling fault;
@@ -140,7 +140,7 @@ told_unread (errors.Fault fault offset) = record (of_kind 6) {
 }
 told_unread _ = of_kind 0
 
--- of a message for a live object, where there is room for so many arguments
+-- for a message to a live object, with room for this many arguments
 abbrev pub told_message : ℕ → Object → ℕ → List Reported → ReportFields
 told_message room target opcode args = record (of_kind 1) {
   opcode = opcode;
@@ -148,7 +148,7 @@ told_message room target opcode args = record (of_kind 1) {
   arg_count = min (length args) room;
 }
 
--- What is told of what a client read.
+-- What is reported about what a client read.
 abbrev pub told_incoming : ℕ → client.Report → ReportFields
 told_incoming room (client.Event target opcode args) = told_message room target opcode args
 told_incoming room (client.Discarded target opcode tokens) = record (of_kind 2) {
@@ -170,7 +170,7 @@ abbrev pub args_of_event : client.Report → List Reported
 args_of_event (client.Event target opcode args) = args
 args_of_event _ = []
 
--- The interface, by its place, and the version that a report tells of the object that it is about.
+-- The interface, by its index, and the version that a report gives for the object that it is about.
 pub record ToldEntry : Type 0 where
   pub interface : ℕ
   pub version : ℕ
@@ -178,17 +178,17 @@ pub record ToldEntry : Type 0 where
 abbrev pub entry_told_by : Report → ToldEntry
 entry_told_by report = record { interface = report.interface; version = report.version }
 
--- what is told of an entry; zeros of none
+-- what is reported about an entry; zeros if there is none
 abbrev pub entry_told : Option Entry → ToldEntry
 entry_told None = record { interface = 0; version = 0 }
 entry_told (Some entry) = record { interface = entry.iface.0; version = entry.version }
 
--- the entry of what a client's report is about, where these objects were there before it
+-- the entry of the object that a client's report is about, given the objects before it
 abbrev pub event_entry : Objects → Result (Option client.Report) NextError → Option Entry
 event_entry view (Ok (Some report)) = client.entry_of view report
 event_entry view _ = None
 
--- ---- a global that a client is told of
+-- ---- a global that is announced to a client
 
 abbrev pub is_registry_entry : Option Entry → Bool
 is_registry_entry None = false
@@ -198,19 +198,21 @@ abbrev pub name_told : List Reported → Option ℕ
 name_told (Uint name ∷ args) = Some name
 name_told _ = None
 
--- the name that wl_registry.global tells, where what the report is about has this entry
+-- the name in wl_registry.global, given the entry of the object that the report is about
 abbrev pub told_global_name : Option Entry → client.Report → Option ℕ
 told_global_name entry (client.Event target opcode args) =
     if is_registry_entry entry && nat_eq opcode 0 then name_told args else None
 told_global_name entry _ = None
 
--- whether a client in this state is told of a global under this name, and does not remember it
+-- whether a global with this name was announced to a client in this state, and the client does not
+-- remember it
 abbrev pub is_forgotten : State → Option ℕ → Bool
 is_forgotten state None = false
 is_forgotten state (Some name) = not (is_some (global_of state.globals name))
 
--- The fields of a client's report, from its states before and after: also which live object the new
--- one has replaced, and whether it tells of a global that the client then does not remember.
+-- The fields of a client's report, from its states before and after; they include the live object
+-- that a new one replaced, and whether a global was announced that the client then does not
+-- remember.
 abbrev pub told_event_by : ℕ → State → State → Result (Option client.Report) NextError
     → ReportFields
 told_event_by room before after (Err why) = told_unread why
@@ -221,7 +223,7 @@ told_event_by room before after (Ok (Some report)) = record (told_incoming room 
       report);
 }
 
--- What is told of what a client in this state reads.
+-- What is reported about what a client in this state reads.
 abbrev pub told_event : ℕ → State → ReportFields
 told_event room state =
     told_event_by room state (client.after_next state) (client.next_answer state)
@@ -230,7 +232,7 @@ abbrev pub event_args : Result (Option client.Report) NextError → List Reporte
 event_args (Ok (Some report)) = args_of_event report
 event_args _ = []
 
--- What is told of what a server read.
+-- What is reported about what a server read.
 abbrev pub told_request : ℕ → Result (Option server.Report) NextError → ReportFields
 told_request room (Err why) = told_unread why
 told_request room (Ok None) = of_kind 0

@@ -1,10 +1,10 @@
--- Which sizes of C an end can have.
+-- Which sizes given by C an end can have.
 use Rattle.std.specs.Prelude.{◌≡◌, ℕ, ◌≤◌, nat_eq, if◌then◌else◌}
 use Rattle.wl_message.specs.declared.amounts.Sizes.{Sizes}
 use Rattle.wl_message.specs.Cut.{usual_limit, IsLimit}
 use Rattle.waywire_c.specs.declared.values.CSizes.{CSizes}
 
--- the limit that a number stands for: 0 is the usual one
+-- the limit that a number means: 0 is the usual one
 abbrev pub limit_in_c : CSizes → ℕ
 limit_in_c sizes = if nat_eq sizes.limit 0 then usual_limit else sizes.limit
 
@@ -18,7 +18,7 @@ pub record AreAllowed (sizes : CSizes) : Type 0 where
   pub in_tokens_low : 20 ≤ sizes.in_tokens
   pub in_tokens : sizes.in_tokens ≤ 65536
 
--- These are the sizes that an end has by those of C.
+-- These are the sizes of an end for those given by C.
 pub record AreSizesOf (of : CSizes) (sizes : Sizes) : Type 0 where
   pub out_bytes : sizes.out_bytes ≡ of.out_bytes
   pub out_tokens : sizes.out_tokens ≡ of.out_tokens
@@ -26,8 +26,7 @@ pub record AreSizesOf (of : CSizes) (sizes : Sizes) : Type 0 where
   pub in_tokens : sizes.in_tokens ≡ of.in_tokens
   pub limit : sizes.limit.bytes ≡ limit_in_c of
 
--- An end is in the state of a new one with the sizes of C: `new` gives that state for the sizes that
--- an end has.
+-- An end is in the state of a new one with the sizes given by C, as `new` gives it.
 pub record IsNewBy {State : Type 0} (new : Sizes → State) (of : CSizes) (state : State) : Type 0
   where
     pub sizes : Sizes

@@ -1,4 +1,4 @@
--- What values of C stand for.
+-- What values given by C mean.
 use Rattle.std.specs.Prelude.{ℕ, nat_eq, if◌then◌else◌, List, [], ◌∷◌, take}
 use Rattle.std.specs.Prelude.{Option, Some, None}
 use Rattle.wl_wire.specs.declared.kind.Iface.{Iface}
@@ -16,18 +16,18 @@ object_from_c c = record { id = c.id; birth = c.birth }
 abbrev pub iface_at : ℕ → Iface
 iface_at place = record { 0 = place }
 
--- how much was taken in, or goes or went out
+-- how much was taken in, goes out or went out
 abbrev pub amounts_of : CAmounts → Amounts
 amounts_of c = record { bytes = c.bytes; tokens = c.tokens }
 
--- the object that stands where none is made
+-- the object that is written if none is made
 abbrev pub made_object : Option Object → Object
 made_object None = record { id = 0; birth = 0 }
 made_object (Some object) = object
 
 -- ---- the arguments of a call
 
--- What an argument is, by its kind; none of a kind that no call takes.
+-- The meaning of an argument, by its kind; none for a kind that no call takes.
 abbrev pub given_by : CallArg → Option Given
 given_by arg =
     if nat_eq arg.kind 1 then Some (Int arg.int)
@@ -46,11 +46,11 @@ abbrev pub given_before : Option Given → Option (List Given) → Option (List 
 given_before (Some given) (Some more) = Some (given ∷ more)
 given_before _ _ = None
 
--- what all arguments are; none where one of them is of a kind that no call takes
+-- the meaning of all arguments; none if one of them has a kind that no call takes
 abbrev pub all_given : List CallArg → Option (List Given)
 all_given [] = Some []
 all_given (arg ∷ args) = given_before (given_by arg) (all_given args)
 
--- The arguments of a call, of which one more is looked at than a message can have.
+-- The arguments of a call; one more is looked at than a message can have.
 abbrev pub given_in : List CallArg → Option (List Given)
 given_in args = all_given (take 21 args)

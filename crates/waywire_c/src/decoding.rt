@@ -1,4 +1,4 @@
-//! One message taken apart by its signature, where nothing is known of objects and tokens.
+//! One message decoded by its signature, without knowledge of objects and tokens.
 ghost use Rattle.std.specs.Prelude.{◌≡◌, ◌≤◌, length, nat_lt, option_copied, IfSome};
 ghost use Rattle.wl_wire.specs.Argument.{lent};
 ghost use Rattle.wl_message.specs.Cut.{is_size};
@@ -18,23 +18,23 @@ use wl_objects::{Fault, GotRef, MAX_ARGS, Named, Object};
 use wl_sigs::{Side, Signature, Tables};
 use wl_wire::{HEADER_LEN, Header, Iface, Kind, ValueRef, read_ref};
 
-/// What stands in front of a message's arguments, and how far these are spelled.
+/// The part of a message before its arguments, and how many of these are spelled.
 #[repr(C)]
 #[derive(Clone, Copy)]
 pub struct Decoded {
-    /// The id of the object that the message is for.
+    /// The id of the message's target.
     pub target: u32,
     pub opcode: u16,
     pub size: u16,
     pub name: *const u8,
     pub name_length: usize,
     pub arg_count: usize,
-    /// The place of an argument at fault, and which of A1 to A4 it has.
+    /// The index of an argument at fault, and which of A1 to A4 it has.
     pub place: usize,
     pub spelling: u32,
 }
 
-/// What is told where there is not even a header.
+/// The result if there is not even a header.
 fn no_message() -> Decoded
     ensures { decoded_by result ≡ no_message }
 {
@@ -50,7 +50,7 @@ fn no_message() -> Decoded
     }
 }
 
-/// What a header tells.
+/// The result for a header.
 fn of_header(header: Header) -> Decoded
     ensures { decoded_by result ≡ of_header header }
 {
@@ -79,7 +79,7 @@ fn bare_named(id: u32) -> Named
     }
 }
 
-/// An argument that bytes spell, as a report has it.
+/// An argument that bytes spell, as in a report.
 fn bare_argument(value: ValueRef<'_>) -> GotRef<'_>
     ensures { lent_got result ≡ bare_argument (lent value.entry) }
 {
@@ -100,8 +100,8 @@ fn bare_argument(value: ValueRef<'_>) -> GotRef<'_>
     }
 }
 
-/// Puts the arguments that a body spells into the first slots, one of each kind, and returns how
-/// many these are, and the first fault: F4 or F7.
+/// Writes the arguments that a body spells to the first slots, one of each kind, and returns their
+/// number and the first fault: F4 or F7.
 fn put_spelled(kinds: &[Kind], body: &[u8], slots: &mut [ReportArg]) -> (usize, Option<Fault>)
     requires room { length kinds.now ≤ length slots.old }
     ensures { TellsSpelled kinds.now body.now result.0 result.1 slots.old slots.new }
@@ -124,7 +124,7 @@ fn put_spelled(kinds: &[Kind], body: &[u8], slots: &mut [ReportArg]) -> (usize, 
     (kinds.len(), left)
 }
 
-/// The status of what was taken apart.
+/// The status of decoded arguments.
 fn spelled_outcome(fault: Option<Fault>) -> u32
     ensures { result ≡ spelled_outcome fault }
 {
@@ -152,7 +152,7 @@ fn spelling_of_fault(fault: Option<Fault>) -> u32
     }
 }
 
-/// A message of this signature, of which so many arguments are told.
+/// The result for a message with this signature, with this many arguments.
 fn of_message(
     header: Header,
     message: &Signature,
@@ -171,7 +171,7 @@ fn of_message(
     }
 }
 
-/// Writes a message of this signature. Returns the status.
+/// Decodes a message with this signature. Returns the status.
 fn put_body(
     header: Header,
     message: &Signature,
@@ -188,7 +188,7 @@ fn put_body(
     spelled_outcome(fault)
 }
 
-/// The messages that a side sends to, or of, an interface of this version.
+/// The messages that a side sends to, or of, an interface at this version.
 #[derive(Clone, Copy)]
 struct MessageSet<'t> {
     tables: &'t Tables,
@@ -197,7 +197,7 @@ struct MessageSet<'t> {
     side: Side,
 }
 
-/// The message with this opcode, where this version has it.
+/// The message with this opcode, if this version has it.
 fn message_since<'t>(set: &MessageSet<'t>, opcode: u16) -> Option<&'t Signature>
     ensures found { option_copied result
         ≡ message_since set.now.tables.now set.now.interface.0 set.now.version set.now.side
@@ -212,7 +212,7 @@ fn message_since<'t>(set: &MessageSet<'t>, opcode: u16) -> Option<&'t Signature>
     }
 }
 
-/// Writes the message of this header, where the version of its interface has it.
+/// Decodes the message with this header, if the version of its interface has it.
 fn put_message(
     set: &MessageSet<'_>,
     header: Header,
@@ -235,14 +235,14 @@ fn put_message(
     }
 }
 
-/// Whether all bytes are there that a header tells, and a message may have so many.
+/// Whether all bytes of a header's size are there, and a message may have that size.
 fn stands_whole(size: usize, bytes: &[u8]) -> bool
     ensures { result ≡ is_size (length bytes.now) size }
 {
     size >= HEADER_LEN && size % 4 == 0 && size <= bytes.len()
 }
 
-/// Writes the message at the front of bytes.
+/// Decodes the message at the front of bytes.
 fn put_front(
     set: &MessageSet<'_>,
     bytes: &[u8],
@@ -267,9 +267,9 @@ fn put_front(
     put_message(set, header, body, decoded, args)
 }
 
-/// Takes apart the message that stands at the front of bytes, one of those that a sender writes to,
-/// or of, an interface of this version. Writes what is in front of its arguments to `decoded`, and
-/// these to the first of `args`, which has room for as many as a message may have.
+/// Decodes the message at the front of bytes, which a sender writes to, or of, an interface at this
+/// version. Writes what precedes its arguments to `decoded`, and the arguments to the front of
+/// `args`, which has room for as many as a message may have.
 #[unsafe(no_mangle)]
 pub extern "C" fn waywire_c_tables_decode(
     tables: TablesHandle,
@@ -299,7 +299,7 @@ pub extern "C" fn waywire_c_tables_decode(
     put_front(&set, bytes, decoded, args)
 }
 
-/// Whose messages a number means, where there is room for every argument.
+/// Which side a number means, if there is room for every argument.
 fn side_with_room(room: usize, sender: u32) -> Option<Side>
     ensures { result ≡ side_with_room room sender }
 {

@@ -1,4 +1,4 @@
-//! What C calls of an end, whichever of the two it is.
+//! Calls for either end.
 ghost use Rattle.std.specs.Prelude.{◌≡◌, ◌≢◌, ◌+◌, ◌++◌, length, take, drop, true};
 ghost use Rattle.std.specs.Prelude.{min, slice_get, cond, IfSome, MatchOption, None};
 ghost use Rattle.wl_object_map.specs.declared.object.Maker.TheVariants.{Client, Server};
@@ -26,7 +26,7 @@ use crate::statuses::{NOT_FOUND, OK};
 use crate::values::{CAmounts, CObject, CParts, CallArg, ReportArg, maker};
 use wl_connection::End;
 
-/// Frees an end, and what it lent.
+/// Frees an end, and what it lends.
 #[unsafe(no_mangle)]
 pub extern "C" fn waywire_c_end_free(end: EndHandle) {
     drop(end.opened());
@@ -66,8 +66,8 @@ pub extern "C" fn waywire_c_end_live(
     }
 }
 
-/// How many objects the end has in a range of ids, the server's or the client's, with wl_display
-/// counted, and at a client those that it destroyed.
+/// How many objects the end has in a range of ids, the server's or the client's, including
+/// wl_display and, at a client, those that it destroyed.
 #[unsafe(no_mangle)]
 pub extern "C" fn waywire_c_end_object_count(end: &mut EndHandle, by_server: bool) -> u32
     ensures answer { result
@@ -77,8 +77,8 @@ pub extern "C" fn waywire_c_end_object_count(end: &mut EndHandle, by_server: boo
     end.get_mut().objects().len(maker(by_server))
 }
 
-/// How many ids of a range, the server's or the client's, were ever used. No object of the range
-/// has an id that is further from its first.
+/// How many ids of a range, the server's or the client's, were ever used. These are the first ids
+/// of the range, so all its objects have one of them.
 #[unsafe(no_mangle)]
 pub extern "C" fn waywire_c_end_ids_used(end: &mut EndHandle, by_server: bool) -> u32
     ensures answer { result
@@ -88,8 +88,7 @@ pub extern "C" fn waywire_c_end_ids_used(end: &mut EndHandle, by_server: bool) -
     end.get_mut().objects().used(maker(by_server))
 }
 
-/// Writes the birth of the object that has this id to `birth`, also of one that the end has
-/// destroyed.
+/// Writes the birth of the object with this id to `birth`, even if the end has destroyed it.
 #[unsafe(no_mangle)]
 pub extern "C" fn waywire_c_end_look(end: &mut EndHandle, id: u32, birth: &mut u64) -> u32
     ensures answer { result ≡ find_outcome (look (core_of end.old.held).view id) }
@@ -115,7 +114,7 @@ pub extern "C" fn waywire_c_end_has_failed(end: &mut EndHandle) -> bool
     end.get_mut().has_failed()
 }
 
-/// Writes the free bytes and tokens of the inbox to `room`; zeros at a failed end.
+/// Writes the free bytes and tokens of the inbox to `room`; zero at a failed end.
 #[unsafe(no_mangle)]
 pub extern "C" fn waywire_c_end_in_room(end: &mut EndHandle, room: &mut CAmounts)
     ensures room { amounts_of room.new ≡ in_room (core_of end.old.held) }
@@ -133,7 +132,7 @@ pub extern "C" fn waywire_c_end_is_drained(end: &mut EndHandle) -> bool
     end.get_mut().is_drained()
 }
 
-/// Takes in what came, and writes how much of it to `fed`.
+/// Takes in what arrived, and writes how much that was to `fed`.
 #[unsafe(no_mangle)]
 pub extern "C" fn waywire_c_end_feed(
     end: &mut EndHandle,
@@ -150,7 +149,7 @@ pub extern "C" fn waywire_c_end_feed(
     *fed = CAmounts::of(end.get_mut().feed(bytes, tokens));
 }
 
-/// Writes how much `take` into memory of these lengths would take to `amounts`.
+/// Writes to `amounts` how much `take` would move into memory of these lengths.
 #[unsafe(no_mangle)]
 pub extern "C" fn waywire_c_end_goes(
     end: &mut EndHandle,
@@ -164,7 +163,7 @@ pub extern "C" fn waywire_c_end_goes(
     *amounts = CAmounts::of(end.get_mut().goes(bytes, tokens));
 }
 
-/// Moves what waits to go into the caller's memory, and writes how much that was to `taken`.
+/// Moves what waits to be sent into the caller's memory, and writes how much that was to `taken`.
 #[unsafe(no_mangle)]
 pub extern "C" fn waywire_c_end_take(
     end: &mut EndHandle,
@@ -186,8 +185,8 @@ pub extern "C" fn waywire_c_end_take(
     *taken = CAmounts::of(end.get_mut().take(bytes, tokens));
 }
 
-/// Writes where the bytes lie that can go at one time to `parts`, and how many tokens go with the
-/// first of them to `tokens`.
+/// Writes to `parts` where the bytes lie that can go at one time, and to `tokens` how many tokens
+/// go with the first byte.
 #[unsafe(no_mangle)]
 pub extern "C" fn waywire_c_end_peek(end: &mut EndHandle, parts: &mut CParts, tokens: &mut usize)
     ensures peeked { Peeks (core_of end.old.held).outbox
@@ -200,7 +199,7 @@ pub extern "C" fn waywire_c_end_peek(end: &mut EndHandle, parts: &mut CParts, to
     *tokens = peek.tokens;
 }
 
-/// Writes the token at a place of those that wait to go to `token`.
+/// Writes to `token` the token at an index of those that wait to be sent.
 #[unsafe(no_mangle)]
 pub extern "C" fn waywire_c_end_token_to_go(
     end: &mut EndHandle,
@@ -223,7 +222,7 @@ pub extern "C" fn waywire_c_end_token_to_go(
     }
 }
 
-/// Takes out what went, and writes how much that was to `taken`.
+/// Removes what was sent, and writes how much that was to `taken`.
 #[unsafe(no_mangle)]
 pub extern "C" fn waywire_c_end_sent(end: &mut EndHandle, bytes: usize, taken: &mut CAmounts)
     ensures count { amounts_of taken.new
@@ -237,7 +236,7 @@ pub extern "C" fn waywire_c_end_sent(end: &mut EndHandle, bytes: usize, taken: &
     *taken = CAmounts::of(end.get_mut().sent(bytes));
 }
 
-/// Writes where the free bytes of the inbox lie to `parts`.
+/// Writes to `parts` where the free bytes of the inbox lie.
 #[unsafe(no_mangle)]
 pub extern "C" fn waywire_c_end_space(end: &mut EndHandle, parts: &mut CParts)
     ensures room { parts.new.front_length + parts.new.back_length
@@ -265,7 +264,7 @@ pub extern "C" fn waywire_c_end_received(
 }
 
 /// Gives an end up: moves the tokens that wait in its queues into the caller's memory, and writes
-/// how many these were to `taken`.
+/// their number to `taken`.
 #[unsafe(no_mangle)]
 pub extern "C" fn waywire_c_end_take_waiting_tokens(
     end: &mut EndHandle,
@@ -282,8 +281,8 @@ pub extern "C" fn waywire_c_end_take_waiting_tokens(
     *taken = end.get_mut().take_waiting_tokens(tokens);
 }
 
-/// Writes a message, and to `made` the object that it makes. Where an argument is refused, its
-/// place is written to `place`.
+/// Writes a message, and writes the object that it makes to `made`. If an argument is refused, its
+/// index is written to `place`.
 #[unsafe(no_mangle)]
 pub extern "C" fn waywire_c_end_send(
     end: &mut EndHandle,
@@ -312,7 +311,7 @@ pub extern "C" fn waywire_c_end_send(
     send(end.get_mut(), &call, made, place)
 }
 
-/// Reads the next message, and writes its report and, as far as they hold them, its arguments.
+/// Reads the next message, and writes its report and as many of its arguments as fit.
 #[unsafe(no_mangle)]
 pub extern "C" fn waywire_c_end_next(
     end: &mut EndHandle,

@@ -8,7 +8,7 @@ use crate::parts::Parts;
 use std::alloc::Global;
 use std::marker::Model;
 
-/// A pointer of C to an end.
+/// C's pointer to an end.
 #[repr(C)]
 pub struct EndHandle {
     ptr: *mut u8,
@@ -26,7 +26,7 @@ impl EndHandle {
     ghost use Rattle.std.specs.Borrow.{sem};
     ghost use Rattle.waywire_c.specs.Lending.{LendsEnd};
 
-    /// What the handle leads to, lent.
+    /// The handle's target, borrowed.
     pub fn get_mut(&mut self) -> &mut HeldEnd
         ensures* writes_back { sem 𝓛 (LendsEnd self.entry result) }
         ensures value { result.now ≡ self.old.held }
@@ -44,7 +44,7 @@ impl EndHandle {
         }
     }
 
-    /// What the handle leads to.
+    /// The handle's target.
     pub fn opened(self) -> Box<HeldEnd>
         ensures { result.value ≡ self.held }
     {

@@ -1,4 +1,4 @@
-//! What C calls of an inspector to follow the messages one by one.
+//! Calls of an inspector that follow the messages one by one.
 ghost use Rattle.std.specs.Prelude.{◌≡◌, ◌≢◌, ℕ, List, None, true, is_some, IfSome};
 ghost use Rattle.std.specs.Prelude.{if◌then◌else◌, length as len};
 ghost use Rattle.wl_recording.specs.Piece.{Piece};
@@ -24,17 +24,17 @@ use wl_objects::{Entry, NewObject, State};
 use wl_recording::Direction;
 use wl_wire::Iface;
 
-/// The place that stands for an interface that the tables lack.
+/// The index that means an interface that the tables lack.
 const NO_PLACE: u16 = 65_535;
 
-/// What is known of an id.
+/// What is known about an id.
 #[repr(C)]
 #[derive(Clone, Copy)]
 pub struct CEntry {
     /// The number of the message that made the object.
     pub birth: u64,
     pub version: u32,
-    /// The place of its interface.
+    /// The index of its interface.
     pub interface: u16,
     pub is_known: bool,
     /// Whether it was destroyed, and its id is not free yet.
@@ -73,15 +73,15 @@ pub struct CVerdict {
     pub left_to_client: usize,
     pub index: usize,
     pub offset: usize,
-    /// The place of the argument at fault, and which of A1 to A4 it has.
+    /// The index of the argument at fault, and which of A1 to A4 it has.
     pub place: usize,
-    /// The status of the rule that is broken; 0 where none is.
+    /// The status of the broken rule; 0 if none is broken.
     pub fault: u32,
     pub spelling: u32,
     pub sender: u32,
 }
 
-/// What is told of an object, or of one that is not known.
+/// What is reported about an object, known or not.
 fn told_entry(entry: Option<Entry>) -> CEntry
     ensures { result ≡ told_entry entry }
 {
@@ -139,7 +139,7 @@ fn id_or_none(id: Option<u32>) -> u32
     id.unwrap_or(0)
 }
 
-/// What is told of a message.
+/// What is reported about a message.
 fn of_followed(message: &Followed<'_>) -> CFollowed
     ensures { followed_by result ≡ of_followed message.now }
 {
@@ -164,7 +164,7 @@ fn of_followed(message: &Followed<'_>) -> CFollowed
     }
 }
 
-/// Gives the bytes of a piece to those that are followed.
+/// Adds the bytes of a piece to those that are followed.
 #[unsafe(no_mangle)]
 pub extern "C" fn waywire_c_inspector_follow(
     inspector: &mut InspectorHandle,
@@ -186,7 +186,7 @@ pub extern "C" fn waywire_c_inspector_follow(
     }
 }
 
-/// Writes the message in front of those that a sender wrote.
+/// Writes the next message of a sender.
 #[unsafe(no_mangle)]
 pub extern "C" fn waywire_c_inspector_ahead(
     inspector: &mut InspectorHandle,
@@ -209,7 +209,7 @@ pub extern "C" fn waywire_c_inspector_ahead(
     }
 }
 
-/// Goes past the message in front of those that a sender wrote, if one is there.
+/// Passes over the next message of a sender, if there is one.
 #[unsafe(no_mangle)]
 pub extern "C" fn waywire_c_inspector_go_past(inspector: &mut InspectorHandle, sender: u32) -> u32
     ensures answer { EndsFor (direction_of sender) result }
@@ -231,7 +231,7 @@ pub extern "C" fn waywire_c_inspector_go_past(inspector: &mut InspectorHandle, s
     }
 }
 
-/// Writes what is known of an id, before the messages that were not gone past.
+/// Writes what is known about an id, before the messages that were not passed over.
 #[unsafe(no_mangle)]
 pub extern "C" fn waywire_c_inspector_object(
     inspector: &mut InspectorHandle,
@@ -245,8 +245,8 @@ pub extern "C" fn waywire_c_inspector_object(
     *object = told_entry(inspector.get_mut().follower.object(id));
 }
 
-/// How many ids of the client's range there are, from 0 on, or of the server's, from its first on, of
-/// which any may name an object.
+/// How many ids of the client's range, from 0 on, or of the server's, from its first on, may name
+/// an object.
 #[unsafe(no_mangle)]
 pub extern "C" fn waywire_c_inspector_id_count(
     inspector: &mut InspectorHandle,
@@ -264,7 +264,7 @@ pub extern "C" fn waywire_c_inspector_id_count(
     }
 }
 
-/// The greatest version in which a global of this name and this interface was announced, or 0.
+/// The greatest version with which a global of this name and this interface was announced, or 0.
 #[unsafe(no_mangle)]
 pub extern "C" fn waywire_c_inspector_announced(
     inspector: &mut InspectorHandle,
@@ -280,7 +280,7 @@ pub extern "C" fn waywire_c_inspector_announced(
         .announced_version(name, Iface(interface))
 }
 
-/// How many messages were judged, all of them lawful: the first so many of both directions.
+/// How many messages were judged, all of them lawful: the first ones of both directions together.
 #[unsafe(no_mangle)]
 pub extern "C" fn waywire_c_inspector_judged(inspector: &mut InspectorHandle) -> u64
     ensures told { (limit : ℕ) (tables : List Interface) (ps : List Piece)
@@ -301,7 +301,7 @@ fn sender_of(direction: Direction) -> u32
     }
 }
 
-/// What is told of a verdict.
+/// What is reported about a verdict.
 fn told_verdict(verdict: &Verdict) -> CVerdict
     ensures { result ≡ told_verdict verdict.now }
 {

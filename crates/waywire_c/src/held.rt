@@ -1,4 +1,4 @@
-//! What a handle leads to. Each is a type of its own, so that a handle's proofs name it in a word.
+//! What handles lead to. Each is a type of its own, so that a handle's proofs name it in a word.
 use std::io::{Read, Write};
 use wl_check::{Follower, Inspector};
 use wl_client::Client;
@@ -8,21 +8,21 @@ use wl_objects::SlotTable;
 use wl_server::Server;
 use wl_sigs::Tables;
 
-/// Tables that are kept until the process ends, since ends that are freed later may lend them.
+/// Tables, which are kept until the process ends because ends that are freed later may still borrow
+/// them.
 #[derive(Drop)]
 pub struct HeldTables {
     pub tables: &'static Tables,
 }
 
-/// An end, whichever of the two it is.
+/// A client or a server.
 #[derive(Drop)]
 pub enum HeldEnd {
     Client(Client<'static, SlotTable>),
     Server(Server<'static, SlotTable>),
 }
 
-/// An inspector, what follows the messages beside it, and the line of the verdict that was asked for
-/// last.
+/// An inspector, the follower of the same messages, and the verdict line that was last asked for.
 #[derive(Drop)]
 pub struct HeldInspector {
     pub inspector: Inspector<'static>,

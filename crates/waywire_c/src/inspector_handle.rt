@@ -8,7 +8,7 @@ use crate::parts::Parts;
 use std::alloc::Global;
 use std::marker::Model;
 
-/// A pointer of C to an inspector.
+/// C's pointer to an inspector.
 #[repr(C)]
 pub struct InspectorHandle {
     ptr: *mut u8,
@@ -26,7 +26,7 @@ impl InspectorHandle {
     ghost use Rattle.std.specs.Borrow.{sem};
     ghost use Rattle.waywire_c.specs.Lending.{LendsInspector};
 
-    /// What the handle leads to, lent.
+    /// The handle's target, borrowed.
     pub fn get_mut(&mut self) -> &mut HeldInspector
         ensures* writes_back { sem 𝓛 (LendsInspector self.entry result) }
         ensures value { result.now ≡ self.old.held }
@@ -44,7 +44,7 @@ impl InspectorHandle {
         }
     }
 
-    /// What the handle leads to.
+    /// The handle's target.
     pub fn opened(self) -> Box<HeldInspector>
         ensures { result.value ≡ self.held }
     {

@@ -1,9 +1,9 @@
-//! The library for C: signature tables, the two ends and the inspector behind handles, and one
-//! export for each of their calls. The files of `c/` call these exports, tests first what C may pass
-//! wrongly, and gives them the names of `include/waywire.h`, which documents each call.
+//! The library for C: signature tables, the two ends and the inspector behind handles, with one
+//! export for each of their calls. The files of `c/` call these exports, after they test what C may
+//! pass wrongly, and give them the names of `include/waywire.h`, which documents each call.
 //!
-//! An export takes a handle by a `&mut`, so it has what the handle leads to for the call and no
-//! longer. It writes what a report or a name borrows as a pointer, which owns nothing.
+//! An export takes a handle as a `&mut`, so it has the handle's target only for the duration of the
+//! call. What a report or a name borrows is written as a pointer, which owns nothing.
 #![tactic(auto)]
 
 mod client;

@@ -1,4 +1,4 @@
-//! What C asks of the messages of the tables.
+//! What C can ask about the messages of the tables.
 ghost use Rattle.std.specs.Prelude.{◌≡◌, MatchOption};
 ghost use Rattle.waywire_c.specs.Messages.{destroyed_place, destroys_number, kind_of_argument};
 ghost use Rattle.waywire_c.specs.Messages.{message_at, place_or_any, side_of_sender, TellsKind};
@@ -11,29 +11,29 @@ use crate::values::{ARRAY, FD, FIXED, INT, NEW, NEW_BY_SERVER, OBJECT, STRING, U
 use wl_sigs::{Destroys, Side};
 use wl_wire::{Iface, Kind};
 
-/// The place that stands for any interface.
+/// The index that means any interface.
 const ANY: u16 = 65_535;
 
-/// What the tables say of a message.
+/// What the tables say about a message.
 #[repr(C)]
 #[derive(Clone, Copy)]
 pub struct CMessage {
     /// The first version of its interface that has it.
     pub since: u32,
-    /// 0 where it destroys nothing, 1 its target, 2 the object that the argument at `destroyed`
-    /// names.
+    /// 0 if it destroys nothing, 1 for its target, 2 for the object that the argument at
+    /// `destroyed` names.
     pub destroys: u32,
     pub destroyed: usize,
     pub arg_count: usize,
 }
 
-/// What the tables say of an argument.
+/// What the tables say about an argument.
 #[repr(C)]
 #[derive(Clone, Copy)]
 pub struct CKind {
     pub kind: u32,
     pub nullable: bool,
-    /// The place of the interface of its object, or the one that stands for any.
+    /// The index of its object's interface, or the one that means any.
     pub interface: u16,
 }
 
@@ -97,8 +97,8 @@ fn kind_told(kind: Kind) -> CKind
     }
 }
 
-/// Writes what the tables say of a message to `message`, where its name begins to `name`, and its
-/// length to `length`.
+/// Writes to `message` what the tables say about a message, to `name` where its name begins, and to
+/// `length` the name's length.
 #[unsafe(no_mangle)]
 pub extern "C" fn waywire_c_tables_message(
     tables: TablesHandle,
@@ -135,7 +135,7 @@ pub extern "C" fn waywire_c_tables_message(
     }
 }
 
-/// Writes what the tables say of the argument at a place of a message to `kind`.
+/// Writes to `kind` what the tables say about the argument at an index of a message.
 #[unsafe(no_mangle)]
 pub extern "C" fn waywire_c_tables_kind(
     tables: TablesHandle,

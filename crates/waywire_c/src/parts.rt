@@ -1,4 +1,4 @@
-//! A box as a pointer and its allocator.
+//! A box as a pointer and an allocator.
 ghost use Rattle.std.specs.Prelude.{◌≡◌};
 ghost use Rattle.std.specs.Box.Ownership.{box_owns};
 
@@ -6,7 +6,7 @@ use std::alloc::Allocator;
 use std::marker::Model;
 use std::ptr;
 
-/// What a box consists of.
+/// The parts of a box.
 pub struct Parts<T, A: Allocator> {
     pub ptr: *mut T,
     pub alloc: A,
@@ -27,12 +27,12 @@ impl<T, A: Allocator> Parts<T, A> {
     }
 }
 
-/// The address of a box, which is not freed.
+/// The address of a box, which stays allocated.
 pub fn address<T: Drop>(boxed: Box<T>) -> *mut u8 {
     Box::into_raw(boxed).cast::<u8>()
 }
 
-/// The address of what a box holds, which is lent for good.
+/// The address of a box's contents, which are lent forever.
 pub fn lent_address<T: Drop>(boxed: Box<T>) -> *const u8 {
     let lent: &T = Box::leak(boxed);
     ptr::from_ref(lent).cast::<u8>()

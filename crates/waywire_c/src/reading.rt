@@ -1,4 +1,4 @@
-//! An end reads a message, and what it reports is shown to C.
+//! An end reads a message, and C gets the report.
 ghost use Rattle.std.specs.Prelude.{◌≡◌, ◌≢◌, length, None, true, false};
 ghost use Rattle.wl_sigs.specs.declared.signature.Side.TheVariants.{Event};
 ghost use Rattle.wl_sigs.specs.Rules.{has_server_objects};

@@ -14,7 +14,7 @@ use wl_objects::{Args, Entry, GotRef, NextError, REGISTRY};
 use wl_server::RequestWithEntry;
 use wl_sigs::event::wl_registry::GLOBAL;
 
-/// What a report tells.
+/// What a report is about.
 const NOTHING: u32 = 0;
 
 const MESSAGE: u32 = 1;
@@ -29,8 +29,8 @@ const ERROR: u32 = 5;
 
 const FAULT: u32 = 6;
 
-/// A message that was read, or why none was. What it points to lies in the end, until the next
-/// call that may change that.
+/// A message that was read, or why none was. What it points to lies in the end, until the next call
+/// that may change it.
 #[repr(C)]
 #[derive(Clone, Copy)]
 pub struct Report {
@@ -42,27 +42,28 @@ pub struct Report {
     /// The tokens of a message that was discarded.
     pub tokens: *const u32,
     pub token_count: usize,
-    /// The id of a stray delete_id, and that of wl_display.error.
+    /// The id of a stray delete_id, or that of wl_display.error.
     pub id: u32,
     /// The code of wl_display.error, the kind of the object that it names, and its text.
     pub code: u32,
     pub named: u32,
-    /// Which of A1 to A4 a fault has, the place of its argument, and where its message begins.
+    /// Which of A1 to A4 a fault has, the index of its argument, and where its message begins.
     pub spelling: u32,
     pub text: *const u8,
     pub text_length: usize,
     pub place: usize,
     pub offset: u64,
-    /// The live object that an event's new object has replaced; zeros if it replaced none.
+    /// The live object that an event's new object replaced; zeros if it replaced none.
     pub replaced: CObject,
-    /// What the object that the report is about had before the message; zeros where there is none.
+    /// The interface and version, before the message, of the object that the report is about; zeros
+    /// if there is none.
     pub interface: u16,
     /// Whether it is wl_registry.global, and the client does not remember the global.
     pub forgotten: bool,
     pub version: u32,
 }
 
-/// A report of this kind and no more.
+/// A report of this kind with nothing else.
 #[inline(always)]
 fn plain(kind: u32) -> Report
     ensures report { told_by result ≡ of_kind kind }
@@ -90,7 +91,7 @@ fn plain(kind: u32) -> Report
     }
 }
 
-/// The report where no message is whole.
+/// The report if no message is whole.
 #[inline(always)]
 pub fn nothing() -> Report
     ensures report { told_by result ≡ of_kind 0 }
@@ -99,7 +100,7 @@ pub fn nothing() -> Report
     plain(NOTHING)
 }
 
-/// Puts arguments into the first slots, as many as there are slots, and returns their number.
+/// Writes arguments to the first slots, as many as there are slots, and returns their number.
 #[inline(always)]
 fn put_shown(args: &mut Args<'_>, slots: &mut [ReportArg]) -> usize
     ensures count { result ≡ min (length (seen_args args.old)) (length slots.old) }
@@ -150,7 +151,7 @@ pub fn request(read: &mut RequestWithEntry<'_>, slots: &mut [ReportArg]) -> Repo
     with_entry(report, Some(*entry))
 }
 
-/// The name of the global that a client is told of, where it reads wl_registry.global.
+/// The name of the global that is announced to a client, if it reads wl_registry.global.
 #[inline(always)]
 pub fn global_told(read: IncomingWithEntry<'_>) -> Option<u32>
     ensures { result ≡ told_global_name read.entry.entry (lent_event read.entry.incoming) }
@@ -172,7 +173,7 @@ pub fn global_told(read: IncomingWithEntry<'_>) -> Option<u32>
     }
 }
 
-/// The report of what a client read, with the entry of what it is about.
+/// The report of what a client read, with the entry of the object that it is about.
 #[inline(always)]
 pub fn incoming(read: IncomingWithEntry<'_>, slots: &mut [ReportArg]) -> Report
     ensures report { told_by result
@@ -237,7 +238,7 @@ fn event(read: Incoming<'_>, slots: &mut [ReportArg]) -> Report
     }
 }
 
-/// The report where no message can be read.
+/// The report if no message can be read.
 pub fn unread(why: NextError) -> Report
     ensures report { told_by result ≡ told_unread why }
     ensures entry { entry_told_by result ≡ entry_told None }

@@ -1,4 +1,4 @@
-//! An end writes a message, and C is told of it.
+//! An end writes a message, and C gets the result.
 ghost use Rattle.std.specs.Prelude.{◌≡◌, ◌≢◌, length, take, IfSome, OnOk, OnErr};
 ghost use Rattle.wl_objects.specs.Writing.{given};
 ghost use Rattle.wl_connection.specs.Sending.{after_send, IsSendAnswer};
@@ -12,10 +12,11 @@ use crate::statuses::{BAD_VALUE, OK, send_place, send_status};
 use crate::values::{CObject, CallArg, MAX_GIVEN, put_args};
 use wl_objects::{Arg, Object, SendError};
 
-/// The arguments of a call that has few, as most have: only so many slots are made ready for it.
+/// The number of arguments of a call with few, as most have: only this many slots are initialised
+/// for it.
 const FEW: usize = 6;
 
-/// What stands in a slot before an argument does.
+/// The contents of a slot before an argument is put in.
 const BLANK: Arg<'static> = Arg::Int(0);
 
 /// A call that C makes.
@@ -26,8 +27,8 @@ pub struct Call<'a, 'b> {
     pub args: &'a [CallArg<'b>],
 }
 
-/// Writes the object that was made to `made`, or the place of the argument that was refused to
-/// `place`. Returns the status.
+/// Writes the new object to `made`, or the index of the refused argument to `place`. Returns the
+/// status.
 #[inline(always)]
 fn put_made(answer: Result<Option<Object>, SendError>, made: &mut CObject, place: &mut usize) -> u32
     ensures status { result ≡ made_outcome answer }
@@ -86,7 +87,7 @@ pub fn send(end: &mut HeldEnd, call: &Call<'_, '_>, made: &mut CObject, place: &
     send_long(end, call, made, place)
 }
 
-/// As `send`, for a call of any number of arguments.
+/// As `send`, for a call with any number of arguments.
 #[inline(never)]
 fn send_long(end: &mut HeldEnd, call: &Call<'_, '_>, made: &mut CObject, place: &mut usize) -> u32
     ensures answer { SendTells (core_of end.old) (writes end.old) call.now.target
@@ -100,7 +101,7 @@ fn send_long(end: &mut HeldEnd, call: &Call<'_, '_>, made: &mut CObject, place: 
     put_call(end, call, &mut [BLANK; MAX_GIVEN], made, place)
 }
 
-/// As `send`, by these slots, in which arguments are put as far as there are slots.
+/// As `send`, using these slots for as many arguments as there are slots.
 #[inline(always)]
 fn put_call<'b>(
     end: &mut HeldEnd,

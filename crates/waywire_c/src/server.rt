@@ -1,4 +1,4 @@
-//! What C calls of a server alone. Of a client each call says so, and does nothing.
+//! Calls for servers only. With a client each returns `OTHER_END`, and does nothing.
 ghost use Rattle.std.specs.Prelude.{◌≡◌, ◌≢◌, ◌↔◌, true, Ok};
 ghost use Rattle.wl_server.specs.State.{with_core};
 ghost use Rattle.wl_server.specs.Announcing.{after_announce, Fitting};
@@ -22,7 +22,7 @@ use crate::values::{CObject, CSizes};
 use std::alloc::Global;
 use wl_wire::Iface;
 
-/// Makes a server with wl_display alone and empty queues, and writes where it is to `server`.
+/// Makes a server with wl_display alone and empty queues, and writes its address to `server`.
 #[unsafe(no_mangle)]
 pub extern "C" fn waywire_c_server_new(
     alloc: Global,
@@ -135,8 +135,8 @@ pub extern "C" fn waywire_c_server_withdraw(end: &mut EndHandle, name: u32) -> u
     }
 }
 
-/// Writes to the open registries what they are owed, as far as it fits, and the number of these
-/// events to `count`.
+/// Writes the events that the open registries still need, until one does not fit, and writes their
+/// number to `count`.
 #[unsafe(no_mangle)]
 pub extern "C" fn waywire_c_server_announce(end: &mut EndHandle, count: &mut usize) -> u32
     ensures answer { IfServer end.old.held (λ server. result ≡ failed_outcome server.core.failed) }

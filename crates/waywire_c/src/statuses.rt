@@ -1,7 +1,7 @@
-//! What a call says of itself: a number for each refusal and each fault.
+//! The status of a call: a number for each refusal and each fault.
 //!
-//! The numbers of the refusals S1 to S12 are 1 to 12, those of G2, G3 and G5 are 22, 23 and 25, and
-//! those of the faults F1 to F10 are 31 to 40.
+//! The refusals S1 to S12 have the numbers 1 to 12; G2, G3 and G5 have 22, 23 and 25; the faults F1
+//! to F10 have 31 to 40.
 ghost use Rattle.std.specs.Prelude.{◌≡◌};
 ghost use Rattle.waywire_c.specs.Statuses.{send_status, global_status, fault_status, next_status};
 ghost use Rattle.waywire_c.specs.Statuses.{refused_place, fault_place, fault_spelling};
@@ -21,7 +21,7 @@ pub const FULL: u32 = 9;
 /// S11, G4.
 pub const NO_MEMORY: u32 = 11;
 
-/// There is no room for the delete_id that a request asks for.
+/// There is no room for the delete_id that a request requires.
 pub const OUT_FULL: u32 = 51;
 
 /// A value that the call does not take.
@@ -36,14 +36,14 @@ pub const NOT_FOUND: u32 = 64;
 /// A client's call of a server, or a server's of a client.
 pub const OTHER_END: u32 = 66;
 
-/// TB1: a line of a text of tables has none of the forms.
+/// TB1: a line of a table text has none of the forms.
 pub const BAD_LINE: u32 = 71;
 
-/// TB2: a line of a text of tables breaks a rule.
+/// TB2: a line of a table text breaks a rule.
 pub const BAD_TABLE: u32 = 72;
 
-/// A text of tables has the first event by which the server makes an object, and the client that was
-/// to take it has none.
+/// A table text has the first event by which the server makes an object, and the tables of the
+/// client that was to take it have none.
 pub const FIRST_SERVER_OBJECT: u32 = 73;
 
 /// The status of a refusal to send.
@@ -66,7 +66,7 @@ pub fn send_status(error: SendError) -> u32
     }
 }
 
-/// The place of the argument that a refusal names, if it names one.
+/// The index of the argument that a refusal names, if it names one.
 pub fn send_place(error: SendError) -> Option<usize>
     ensures { result ≡ refused_place error }
 {
@@ -119,7 +119,7 @@ pub fn next_status(error: NextError) -> u32
     }
 }
 
-/// The place of the argument that a fault names; 0 where it names none.
+/// The index of the argument that a fault names; 0 if it names none.
 pub fn fault_place(fault: Fault) -> usize
     ensures { result ≡ fault_place fault }
 {
@@ -129,7 +129,7 @@ pub fn fault_place(fault: Fault) -> usize
     }
 }
 
-/// The number in the names A1 to A4 of what is wrong with a spelling; 0 of the other faults.
+/// The number in the names A1 to A4 of a misspelling; 0 for other faults.
 pub fn fault_spelling(fault: Fault) -> u32
     ensures { result ≡ fault_spelling fault }
 {

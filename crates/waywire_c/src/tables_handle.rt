@@ -6,8 +6,8 @@ ghost use Rattle.waywire_c.specs.declared.held.HeldTables.{HeldTables};
 use crate::held::HeldTables;
 use std::marker::Model;
 
-/// A pointer of C to the tables. It holds what a `&'static` to them does: any calls have it at one
-/// time, and each takes a copy.
+/// C's pointer to the tables. It holds what a `&'static` to them holds: any number of calls can
+/// have it at one time, and each takes a copy.
 #[repr(C)]
 pub struct TablesHandle {
     ptr: *const u8,
@@ -21,7 +21,7 @@ impl Model for TablesHandle {
 }
 
 impl TablesHandle {
-    /// What the handle leads to, lent.
+    /// The handle's target, borrowed.
     pub fn get<'a>(self) -> &'a HeldTables
         ensures { result.now ≡ self.held }
     {

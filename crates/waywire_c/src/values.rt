@@ -14,12 +14,12 @@ use wl_objects::{Arg, GotRef, Maker, Named, Object};
 use wl_wire::Fixed;
 
 /// The most arguments of a call that are looked at: one more than any message has, so that a call
-/// with too many is refused as such.
+/// with too many is refused for that.
 pub const MAX_GIVEN: usize = 21;
 
-/// What an argument is. A call takes those up to `FD`; `DEAD_OBJECT` and `BOUND` stand in reports
-/// alone, which have no `NEW` without an object, and `NEW_BY_SERVER` in what tables say. 0 is none
-/// of them.
+/// The kind of an argument. A call takes those up to `FD`. `DEAD_OBJECT` and `BOUND` occur only in
+/// reports, which have no `NEW` without an object, and `NEW_BY_SERVER` only in what tables say. 0
+/// is none of them.
 pub const INT: u32 = 1;
 
 pub const UINT: u32 = 2;
@@ -46,7 +46,7 @@ pub const BOUND: u32 = 12;
 
 pub const NEW_BY_SERVER: u32 = 13;
 
-/// An object: its id, and its birth, which tells it from every other object of that id.
+/// An object: its id, and its birth, which distinguishes it from every other object with that id.
 #[repr(C)]
 #[derive(Clone, Copy)]
 pub struct CObject {
@@ -54,14 +54,14 @@ pub struct CObject {
     pub id: u32,
 }
 
-/// One argument of a call. Which fields count depends on its kind.
+/// One argument of a call. Its kind says which fields count.
 #[repr(C)]
 #[derive(Clone, Copy)]
 pub struct CallArg<'a> {
     pub kind: u32,
-    /// A signed number, and a fixed-point number in 256ths.
+    /// A signed number, or a fixed-point number in 256ths.
     pub int: i32,
-    /// An unsigned number, and a token.
+    /// An unsigned number, or a token.
     pub uint: u32,
     pub object: CObject,
     /// A string or an array.
@@ -74,10 +74,10 @@ pub struct CallArg<'a> {
 pub struct ReportArg {
     pub kind: u32,
     pub int: i32,
-    /// An unsigned number, a token, and the version that a bind names.
+    /// An unsigned number, a token, or the version that a bind names.
     pub uint: u32,
     pub object: CObject,
-    /// A string, an array, and the interface that a bind names.
+    /// A string, an array, or the interface that a bind names.
     pub bytes: *const u8,
     pub length: usize,
 }
@@ -101,7 +101,7 @@ pub struct CAmounts {
     pub tokens: usize,
 }
 
-/// Bytes that lie in two parts, one after the other.
+/// Bytes in two parts, one after the other.
 #[repr(C)]
 #[derive(Clone, Copy)]
 pub struct CParts {
@@ -126,7 +126,7 @@ impl CParts {
         }
     }
 
-    /// What can go at one time, as an end lends it.
+    /// The bytes that can go at one time, borrowed from an end.
     pub fn of_peek(peek: &Peek<'_>) -> CParts
         ensures front { result.front_length ≡ length peek.now.front.now }
         ensures back { result.back_length ≡ length peek.now.back.now }
@@ -134,7 +134,7 @@ impl CParts {
         CParts::of(peek.front, peek.back)
     }
 
-    /// Free bytes, as an end lends them.
+    /// Free bytes, borrowed from an end.
     pub fn of_space(space: (&[u8], &[u8])) -> CParts
         ensures front { result.front_length ≡ length space.entry.0.now }
         ensures back { result.back_length ≡ length space.entry.1.now }
@@ -147,7 +147,7 @@ impl CParts {
 impl CObject {
     ghost use Rattle.waywire_c.specs.Values.{made_object, object_from_c};
 
-    /// What stands where there is no object.
+    /// The value if there is no object.
     pub const fn none() -> CObject
         ensures { object_from_c result ≡ made_object None }
     {
@@ -178,7 +178,7 @@ impl CSizes {
     ghost use Rattle.wl_message.specs.Cut.{IsLimit};
     ghost use Rattle.waywire_c.specs.Sizes.{limit_in_c, AreAllowed, AreSizesOf};
 
-    /// The limit, where messages can have it.
+    /// The limit, if messages can have it.
     fn limit(&self) -> Option<Limit>
         ensures some { IsSome result ↔ IsLimit (limit_in_c self.now) }
         ensures same { IfSome result (λ limit. limit.bytes ≡ limit_in_c self.now) }
@@ -189,7 +189,7 @@ impl CSizes {
         Limit::new(self.limit)
     }
 
-    /// The sizes, where an end can have them.
+    /// The sizes, if an end can have them.
     pub fn sizes(&self) -> Option<Sizes>
         ensures some { IsSome result ↔ AreAllowed self.now }
         ensures same { IfSome result (λ sizes. AreSizesOf self.now sizes) }
@@ -223,7 +223,7 @@ impl CAmounts {
     }
 }
 
-/// Who makes the objects of a range, the server's or the client's.
+/// The maker of a range's objects: the server or the client.
 pub const fn maker(by_server: bool) -> Maker
     ensures { result ≡ cond by_server Server Client }
 {
@@ -234,7 +234,7 @@ pub const fn maker(by_server: bool) -> Maker
     }
 }
 
-/// Where a slice begins; null where it is empty.
+/// Where a slice begins; null if it is empty.
 #[inline(always)]
 pub fn start_of(bytes: &[u8]) -> *const u8 {
     match bytes.first() {
@@ -243,7 +243,7 @@ pub fn start_of(bytes: &[u8]) -> *const u8 {
     }
 }
 
-/// Where a text begins: a NUL that lies elsewhere where it is empty, so never null.
+/// Where a text begins; if it is empty, a NUL elsewhere, so never null.
 #[inline(always)]
 pub fn start_of_text(text: &[u8]) -> *const u8 {
     match text.first() {
@@ -252,7 +252,7 @@ pub fn start_of_text(text: &[u8]) -> *const u8 {
     }
 }
 
-/// Where a slice begins, as `start_of` has it, and its length.
+/// Where a slice begins, as in `start_of`, and its length.
 #[inline(always)]
 pub fn extent(bytes: &[u8]) -> (*const u8, usize)
     ensures { result.1 ≡ length bytes.now }
@@ -260,7 +260,7 @@ pub fn extent(bytes: &[u8]) -> (*const u8, usize)
     (start_of(bytes), bytes.len())
 }
 
-/// Where a slice of tokens begins; null where it is empty.
+/// Where a slice of tokens begins; null if it is empty.
 pub fn start_of_tokens(tokens: &[u32]) -> *const u32 {
     match tokens.first() {
         Some(first) => ptr::from_ref(first),
@@ -268,7 +268,7 @@ pub fn start_of_tokens(tokens: &[u32]) -> *const u32 {
     }
 }
 
-/// Puts the argument of a call into a slot. None where its kind is one that no call takes.
+/// Writes the argument of a call to a slot. `None` if no call takes its kind.
 #[inline(always)]
 fn put_arg<'a>(arg: &CallArg<'a>, slot: &mut Arg<'a>) -> Option<()>
     ensures { MatchOption result (given_by arg.now ≡ None)
@@ -290,8 +290,8 @@ fn put_arg<'a>(arg: &CallArg<'a>, slot: &mut Arg<'a>) -> Option<()>
     Some(())
 }
 
-/// Puts the arguments of a call into the first slots, as many as there are slots, and returns their
-/// number. None where one is of a kind that no call takes.
+/// Writes the arguments of a call to the first slots, as many as there are slots, and returns their
+/// number. `None` if one has a kind that no call takes.
 #[inline(always)]
 pub fn put_args<'a>(args: &[CallArg<'a>], slots: &mut [Arg<'a>]) -> Option<usize>
     ensures given { MatchOption result (all_given (take (length slots.old) args.now) ≡ None)
@@ -307,7 +307,7 @@ pub fn put_args<'a>(args: &[CallArg<'a>], slots: &mut [Arg<'a>]) -> Option<usize
     Some(count)
 }
 
-/// An argument of this kind and no more.
+/// An argument of this kind with nothing else.
 #[inline(always)]
 fn plain(kind: u32) -> ReportArg
     ensures { arg_told_by result ≡ arg_of_kind kind }
@@ -334,7 +334,7 @@ fn with_bytes(kind: u32, bytes: &[u8]) -> ReportArg
     }
 }
 
-/// As `with_bytes`, of a text.
+/// As `with_bytes`, for a text.
 #[inline(always)]
 fn with_text(kind: u32, text: &[u8]) -> ReportArg
     ensures { arg_told_by result ≡ record (arg_of_kind kind) { length = length text.now } }
@@ -383,7 +383,7 @@ pub fn named(named: Named) -> ReportArg
     }
 }
 
-/// Writes the argument of a report to a slot, as C sees it.
+/// Writes the argument of a report to a slot, in C's form.
 #[inline(always)]
 pub fn show(got: GotRef<'_>, slot: &mut ReportArg)
     ensures { arg_told_by slot.new ≡ arg_told (lent_got got.entry) }

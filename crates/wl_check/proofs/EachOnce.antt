@@ -1,4 +1,4 @@
--- Each message of a direction stands once in the merged list, in the order of the stream.
+-- The merged list has each message of a direction once, in the order of the stream.
 use Rattle.std.proofs.Common.{◌≡◌, ℕ, zero, suc, ◌+◌, ◌<◌, ◌≤◌, Bool, true, false, cond, Some, None}
 use Rattle.std.proofs.Common.{List, [], ◌∷◌, ◌++◌, slice_get, length, take, drop, map, refl, sym}
 use Rattle.std.proofs.Common.{ap, ◌∙◌, arith, append-nil, append_assoc}

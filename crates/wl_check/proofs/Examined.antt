@@ -214,7 +214,7 @@ at_first tables s p k a b c d = record {
   taken_to_client = omega (arith, d);
 }
 
--- behind a message that keeps the rules
+-- after a message that keeps the rules
 pub at_next : {A : Type 0} (tables : List Interface) (s : Session) (k : ℕ) (f : FramedMessage) (call : Call)
     (d : MessageChanges) (p q : Progress A) → d ≡ changes tables call → slice_get s.frames k ≡ Some f
     → slice_get (messages tables s) k ≡ Some (Ok call)

@@ -1,4 +1,4 @@
--- Each message is judged by what stands at the places before it.
+-- Each message is judged with what is known from the places before it.
 use Rattle.std.proofs.Common.{◌≡◌, ℕ, zero, suc, ◌+◌, ◌<◌, Some, None, IfSome, List, [], ◌∷◌, ◌++◌}
 use Rattle.std.proofs.Common.{slice_get, length, refl, sym, ap, ◌∙◌, arith, append-nil}
 use Rattle.std.proofs.Common.{append_assoc, length-append}
@@ -14,7 +14,7 @@ use Rattle.wl_check.specs.Rules.{judged}
 use Rattle.wl_check.specs.Session.{Judged, changes_of, changes_at, judged_after, messages, Session}
 use Rattle.wl_check.proofs.KnownBehindMessage.{holder_before}
 
--- ---- what stands before a place fixes all that is known there
+-- ---- the places before a place determine all that is known there
 
 abbrev Agree : (ℕ → MessageChanges) → (ℕ → MessageChanges) → ℕ → Type 0
 Agree s t p = (q : ℕ) → q < p → s q ≡ t q

@@ -1,4 +1,4 @@
--- What is known behind a message, by what is known before it.
+-- What is known after a message, from what is known before it.
 use Rattle.std.proofs.Common.{◌≡◌, ℕ, zero, suc, ◌<◌, ◌≤◌, Bool, true, false, cond, Some, None}
 use Rattle.std.proofs.Common.{IfSome, refl, sym, ap, ◌∙◌, arith}
 use Rattle.std.specs.Prelude.{Option, option_map}
@@ -12,7 +12,7 @@ use Rattle.wl_check.specs.Places.{new_of, entry_made_at, object_named, unless_de
 use Rattle.wl_check.specs.Places.{used_after, server_used_after, advertised_after, taken_after, used, server_used}
 use Rattle.wl_check.specs.Places.{advertised_version, taken, KnownAtPlace, known, IsKnownBehind}
 
--- nothing stands between a place and the next
+-- nothing is between a place and the next
 is_ending_none : (s : ℕ → MessageChanges) (m p i : ℕ) → p ≤ suc m → is_ending s m p i ≡ false
 unfolding is_ending
 is_ending_none s m zero i below = refl
@@ -53,13 +53,13 @@ next : (s : ℕ → MessageChanges) (p i : ℕ) (made : Bool)
 next s p i true = ap (λ (e : Entry). Some e) (new s p i)
 next s p i false = kept s p i (deletes_id (s p) i) (destroys_id (s p) i) (holder s p i) refl (holder_before s p i)
 
--- what an id names behind a message
+-- what an id names after a message
 pub named_next : (s : ℕ → MessageChanges) (p i : ℕ) → object_named s (suc p) i
     ≡ object_after p (s p) i (object_named s p i)
 unfolding holder
 named_next s p i = next s p i (makes_id (s p) i)
 
--- ---- all that is known behind a message
+-- ---- all that is known after a message
 
 pub known_next : (s : ℕ → MessageChanges) (p : ℕ) (before after : KnownAtPlace) → before ≡ known s p
     → IsKnownBehind p (s p) before after → after ≡ known s (suc p)

@@ -71,7 +71,7 @@ why limit (suc n) s p within enough fine = why_step limit n s p (front limit (dr
 
 -- ---- what comes with a piece
 
--- where more bytes were needed, what stands in front with more of them is longer than what was there
+-- if more bytes were needed, what is at the front with more of them is longer than what was there
 longer_by : (limit : ℕ) (x y : List ℕ) (f : Front) → Seen limit x f → f ≡ More → (z : ℕ)
     → front limit (x ++ y) ≡ Whole z → length x < z
 longer_by limit x y f (short h) e z w = let s = front_stands limit (x ++ y) z w in let big = s.size.header

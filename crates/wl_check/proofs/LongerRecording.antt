@@ -1,4 +1,4 @@
--- A recording that goes on: what was judged before stays, and what is known behind one message more.
+-- A longer recording: what was judged before stays, and what is known after one more message.
 use Rattle.std.proofs.Common.{◌≡◌, ℕ, zero, suc, ◌+◌, ◌-◌, ◌*◌, ◌%◌, ◌/◌, ◌≤◌, Bool, true, false}
 use Rattle.std.proofs.Common.{cond, None, Some, List, [], ◌∷◌, ◌++◌, slice_get, length, take, drop}
 use Rattle.std.proofs.Common.{refl, sym, ap, ◌∙◌, arith, append-nil, append_assoc, length-append}
@@ -30,7 +30,7 @@ use Rattle.wl_check.proofs.JudgedByPlaces.{front_known, get_front}
 use Rattle.wl_check.proofs.MergedPiece.{own, own_tokens}
 use Rattle.wl_check.proofs.WithinStream.{LiesIn, merged_lies}
 
--- ---- a message is judged so whatever comes behind it in its stream
+-- ---- a message is judged in the same way whatever follows it in its stream
 
 number_more : (xs ys : List ℕ) → 4 ≤ length xs → number_at (xs ++ ys) ≡ number_at xs
 number_more xs ys h =

@@ -14,7 +14,7 @@ use Rattle.wl_wire.proofs.Headers.{header-size}
 use Rattle.wl_check.specs.Seen.{size_of}
 use Rattle.wl_check.specs.Merged.{Mark, mark, Cutting, cutting, then_cut, cut_at, cut}
 
--- ---- what stands in front, by the code's tests
+-- ---- what is at the front, according to the code's tests
 
 front_tests : (limit : ℕ) (bytes : List ℕ) (a b c : Bool) → ltb (length bytes) 8 ≡ a
     → is_size limit (told_size bytes) ≡ b → ltb (length bytes) (told_size bytes) ≡ c
@@ -55,7 +55,7 @@ front_good limit bytes z e h good there = rw e (ap size_of
 pub front_past : (limit : ℕ) (s : List ℕ) (p : ℕ) → length s ≤ p → front limit (drop p s) ≡ More
 front_past limit s p h = ap (front limit) (drop_all p s h) ∙ front_none limit
 
--- where a message stands, the next place is later and within the stream
+-- if there is a message at a place, the next place is later and within the stream
 pub next_within : (limit : ℕ) (s : List ℕ) (p z : ℕ) → front limit (drop p s) ≡ Whole z → p ≤ length s
     → (8 ≤ z) × (p + z ≤ length s)
 next_within limit s p z h within = let w = front_stands limit (drop p s) z h

@@ -49,7 +49,7 @@ prints_both tables s o x first then last old between new same one other earlier 
     subst (λ (y : Output). PrintsOn tables s y then last between new) same other in
     more earlier (one earlier old_is)
 
--- ---- behind the pieces, the lines of all judged messages are the trace
+-- ---- after the pieces, the lines of all judged messages are the trace
 
 lines_reach_as : {A : Type 0} (limit : ℕ) (tables : List Interface) (ps : List Piece) (s : Scanner A)
     (status : SessionStatus) → s.state.status ≡ status → IsAfter limit tables ps s

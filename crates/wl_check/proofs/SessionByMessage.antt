@@ -107,7 +107,7 @@ judged_broken {A} limit tables s c n f rest fault h is n_is =
       small_to_client = h.judged.small_to_client;
     })
 
--- ---- behind a message that keeps the rules
+-- ---- after a message that keeps the rules
 
 -- What the code has done then.
 pub record Goes {A : Type 0} (tables : List Interface) (c n : SessionState A) (f : FramedMessage)
@@ -234,7 +234,7 @@ get_at_drop (y ∷ xs) ys (suc k) x e = get_at_drop xs ys k x e
 drop_one_more : {X : Type 0} (xs ys : List X) (k : ℕ) (x : X) → drop k xs ≡ x ∷ ys → drop (k + 1) xs ≡ ys
 drop_one_more xs ys k x e = sym (drop-drop 1 k xs) ∙ ap (λ (l : List _). drop 1 l) e
 
--- what stands in front of the bytes from the place of the next message
+-- what is at the front of the bytes from the place of the next message
 pub record InFront (limit : ℕ) (w rest : List ℕ) (p z : ℕ) : Type 0 where
   pub header : 8 ≤ length rest
   pub whole : is_size limit z ≡ true → z ≤ length rest

@@ -390,7 +390,7 @@ length_mapped f (x ∷ xs) = ap suc (length_mapped f xs)
 pub take_mapped : {X Y : Type 0} (f : X → Y) (xs : List X) (k : ℕ) → length xs ≤ k → take k (map f xs) ≡ map f xs
 take_mapped f xs k h = take_all k (map f xs) (let l = length_mapped f xs in omega (arith, l, h))
 
--- ---- behind the last piece
+-- ---- after the last piece
 
 abbrev pub verdict_of : {A : Type 0} → SessionStatus → Scanner A → Verdict
 verdict_of Open s = Lawful s.state.progress.to_server.count s.state.progress.to_client.count

@@ -29,7 +29,7 @@ undone_more earlier now last old new is back =
 pub none_overwritten : (list : List Overwritten) (held : Held) → list ≡ [] → Some (undone list held) ≡ Some held
 none_overwritten list held none = ap (λ (l : List Overwritten). Some (undone l held)) none
 
--- ---- what stands at an id
+-- ---- the object at an id
 
 slot_same : {X : Type 0} (xs more : List (Option X)) (id : ℕ)
     → take (length xs) (set (xs ++ more) id (get_or xs id None)) ≡ xs

@@ -1,4 +1,4 @@
--- The greatest version that was advertised, behind one advertisement more.
+-- The greatest version that was advertised, after one more advertisement.
 use Rattle.std.proofs.Common.{◌≡◌, ℕ, Bool, true, false, cond, List, Some, max, ap, sym, ◌∙◌, refl, inl, inr, subst, ◌≤◌}
 use Rattle.std.proofs.Math.Nat.{max-eq_right}
 use Rattle.std.specs.Prelude.{nat_eq, nat_lt}

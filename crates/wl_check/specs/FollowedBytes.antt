@@ -1,8 +1,8 @@
 -- The bytes of a direction whose messages are followed.
 use Rattle.std.specs.Prelude.{ℕ, Bool, false, List, []}
 
--- those behind the messages that were gone past, the number of the next message, where the last one
--- ends, and whether it had a bad size
+-- the bytes after the messages that were passed over, the number of the next message, where the
+-- last one ends, and whether it had a bad size
 pub record FollowedBytes : Type 0 where
   pub waiting : List ℕ
   pub index : ℕ

@@ -1,5 +1,5 @@
--- Messages that are followed without being judged: what each says by the signature of the object
--- that it is for, and what an id names behind it.
+-- Messages that are followed without being judged: what each says by its target's signature, and
+-- what an id names after it.
 use Rattle.std.specs.Prelude.{◌≡◌, ℕ, ◌+◌, ◌-◌, Bool, true, false, not, ◌&&◌, ◌||◌, nat_eq, nat_le}
 use Rattle.std.specs.Prelude.{nat_lt, is_some, if◌then◌else◌, List, [], ◌∷◌, ◌++◌, drop, take}
 use Rattle.std.specs.Prelude.{Option, Some, None}
@@ -32,12 +32,12 @@ use Rattle.wl_check.specs.Held.{Held, held_object, held_version}
 use Rattle.wl_check.specs.Places.{advertised_after, object_after}
 use Rattle.wl_check.specs.Seen.{size_of}
 
--- ---- what an id names
+-- ---- which object an id names
 
--- Whether an id still names the object that is held with it, where the last message that could not
--- be read stands at this place. An id of the client's range does, until its delete_id. At an id of
--- the server's range that message may have made another object, unless the object was made behind
--- it, or is open and can be ended by a request.
+-- Whether an id still names the object held with it, if the last message that could not be read is
+-- at this place. In the client's range it does, until its delete_id. In the server's range that
+-- message may have made another object with the id, unless the object was made after the message,
+-- or is open and a request can end it.
 abbrev pub is_certain : List Interface → ℕ → ℕ → Entry → Bool
 is_certain tables unread id entry =
     not (is_of_server id) || nat_lt unread entry.birth || waits_for_request tables (Some entry)
@@ -49,8 +49,8 @@ if_certain tables unread id (Some entry) =
 
 -- ---- how a message is read
 
--- An id that a message at this place may give a new object of the client. It is not 0, and each
--- message before it has used one id at most.
+-- An id that a message at this place may give to a new object of the client: from 1 to `place + 1`,
+-- since each earlier message used at most one id.
 abbrev pub may_be_made : ℕ → ℕ → Bool
 may_be_made place id = not (nat_eq id 0) && nat_le (id - 1) place
 
@@ -58,7 +58,7 @@ may_be_made place id = not (nat_eq id 0) && nat_le (id - 1) place
 abbrev pub may_be_made_by_server : ℕ → ℕ → Bool
 may_be_made_by_server place id = is_of_server id && nat_lt (id - first_server_id) place
 
--- What the reader of a message at this place knows. Whether a new id is free is not asked.
+-- What the reader of a message at this place knows. It does not ask whether a new id is free.
 abbrev pub follower : List Interface → Held → ℕ → ℕ → Reader
 follower tables held unread place = record {
   object = λ id. if_certain tables unread id (held_object held id);
@@ -73,14 +73,14 @@ read_as_call direction opcode (Ok r) =
     Some (record { direction = direction; opcode = opcode; received = r })
 read_as_call direction opcode (Err fault) = None
 
--- What the message with this header and this body says, where it can be read. As many tokens wait
--- as it may take.
+-- What the message with this header and this body says, if it can be read. As many tokens wait as
+-- it may take.
 abbrev pub said : List Interface → Held → ℕ → ℕ → Direction → Header → List ℕ → Option Call
 said tables held unread place direction header body =
     read_as_call direction header.opcode
     (received tables (side_of direction) (follower tables held unread place) header body max_args)
 
--- the same of the message that begins these bytes; one of a bad size cannot be read
+-- the same for the message at the front of these bytes; one with a bad size cannot be read
 abbrev pub said_in : ℕ → List Interface → Held → ℕ → ℕ → Direction → List ℕ → Option Call
 said_in limit tables held unread place direction bytes =
     if is_size limit (header_at bytes).size
@@ -88,14 +88,14 @@ said_in limit tables held unread place direction bytes =
     (take ((header_at bytes).size - 8) (drop 8 bytes))
     else None
 
--- ---- what a message does
+-- ---- the changes by a message
 
--- the place of an interface; 65535 where the tables lack it
+-- the index of an interface; 65535 if the tables lack it
 abbrev pub place_or_none : List Interface → List ℕ → Iface
 place_or_none tables name =
     option_map_or (λ (place : Iface). place) (place_of tables name) (record { 0 = 65535 })
 
--- the global that a global event announces, also where the tables lack its interface
+-- the global that a global event announces, even if the tables lack its interface
 abbrev pub announced : List Interface → List Argument → Option AdvertisedGlobal
 announced tables (Uint name ∷ Str (Some iface) ∷ Uint version ∷ []) =
     Some (record { name = name; iface = place_or_none tables iface; version = version })
@@ -107,8 +107,8 @@ changes_of_call tables call = let r = call.received in record (changes tables ca
       then announced tables r.values else None;
 }
 
--- A message that could not be read makes nothing that is known. If its target is of the server's
--- range, it may have destroyed it.
+-- A message that could not be read makes nothing known. If its target is in the server's range, it
+-- may have destroyed it.
 abbrev pub changes_unread : Direction → ℕ → MessageChanges
 changes_unread direction target = record changes_nothing {
   direction = direction;
@@ -119,14 +119,14 @@ abbrev pub said_changes : List Interface → Direction → ℕ → Option Call �
 said_changes tables direction target (Some call) = changes_of_call tables call
 said_changes tables direction target None = changes_unread direction target
 
--- what is held behind a message at this place that does this
+-- what is held after a message at this place with these changes
 pub record IsBehind (place : ℕ) (done : MessageChanges) (before after : Held) : Type 0 where
   pub objects : (id : ℕ) → held_object after id
       ≡ object_after place done id (held_object before id)
   pub versions : (name iface : ℕ) → held_version after (name, iface)
       ≡ advertised_after done name iface (held_version before (name, iface))
 
--- before the first message: wl_display is there, with id 1 and version 1, and no global
+-- before the first message: wl_display exists, with id 1 and version 1, and no global
 pub record HoldsDisplayAlone (held : Held) : Type 0 where
   pub objects : (id : ℕ) → held_object held id ≡ (if nat_eq id 1
       then Some (record { birth = 0; iface = display; version = 1; state = Live }) else None)
@@ -138,7 +138,7 @@ abbrev pub bytes_in : {A : Type 0} → Follower A → Direction → FollowedByte
 bytes_in f ToServer = f.to_server
 bytes_in f ToClient = f.to_client
 
--- A follower by these tables and this limit, before the first byte.
+-- A follower with these tables and this limit, before the first byte.
 pub record IsNewFollower {A : Type 0} (tables : List Interface) (limit : ℕ) (f : Follower A)
     : Type 0 where
   pub tables_are : f.tables.now ≡ tables
@@ -149,11 +149,11 @@ pub record IsNewFollower {A : Type 0} (tables : List Interface) (limit : ℕ) (f
   pub to_server : f.to_server ≡ no_bytes
   pub to_client : f.to_client ≡ no_bytes
 
--- the size in the header of the message in front of a direction, if it is whole, or its size is bad
+-- the size in the header of a direction's next message, if the message is whole or the size is bad
 abbrev pub size_ahead : {A : Type 0} → Follower A → Direction → Option ℕ
 size_ahead f direction = size_of (front f.limit.bytes (bytes_in f direction).waiting)
 
--- what the message in front says
+-- what the next message says
 abbrev pub said_ahead : {A : Type 0} → Follower A → Direction → Option Call
 said_ahead f direction =
     said_in f.limit.bytes f.tables.now f.held f.unread f.number direction
@@ -162,7 +162,7 @@ said_ahead f direction =
 abbrev pub header_ahead : {A : Type 0} → Follower A → Direction → Header
 header_ahead f direction = header_at (bytes_in f direction).waiting
 
--- This is the message in front of a direction, by what is known before it.
+-- This is the next message of a direction, with what is known before it.
 pub record IsFollowed {A : Type 0} (f : Follower A) (direction : Direction) (m : Followed)
     : Type 0 where
   pub size : size_ahead f direction ≡ Some m.header.size
@@ -179,12 +179,12 @@ pub record IsFollowed {A : Type 0} (f : Follower A) (direction : Direction) (m :
   pub changes_are : m.changes
       ≡ said_changes f.tables.now direction m.header.object (said_ahead f direction)
 
--- the message in front, or that none is there
+-- the next message, or that there is none
 abbrev pub TellsAhead : {A : Type 0} → Follower A → Direction → Option Followed → Type 0
 TellsAhead f direction None = size_ahead f direction ≡ None
 TellsAhead f direction (Some m) = IsFollowed f direction m
 
--- the bytes of a direction behind a message: behind one of a bad size nothing is followed
+-- the bytes of a direction after a message; after one with a bad size nothing is followed
 abbrev pub bytes_behind : Bool → ℕ → FollowedBytes → FollowedBytes
 bytes_behind good size b = record {
   waiting = if good then drop size b.waiting else [];
@@ -193,12 +193,12 @@ bytes_behind good size b = record {
   is_lost = not good;
 }
 
--- the direction that is not this one
+-- the opposite direction
 abbrev pub other : Direction → Direction
 other ToServer = ToClient
 other ToClient = ToServer
 
--- A follower went past the message in front of a direction.
+-- A follower passed over the next message of a direction.
 pub record WentPast {A : Type 0} (direction : Direction) (before after : Follower A)
     : Type 0 where
   pub held : IsBehind before.number
@@ -214,7 +214,7 @@ pub record WentPast {A : Type 0} (direction : Direction) (before after : Followe
   pub tables : after.tables.now ≡ before.tables.now
   pub limit : after.limit ≡ before.limit
 
--- bytes of a direction behind those that wait
+-- bytes of a direction appended to those that wait
 abbrev pub with_bytes : List ℕ → FollowedBytes → FollowedBytes
 with_bytes bytes b = record b { waiting = if b.is_lost then b.waiting else b.waiting ++ bytes }
 

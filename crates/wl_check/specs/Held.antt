@@ -1,5 +1,5 @@
--- The objects that are held and the globals that were advertised, and how what was overwritten is
--- put back.
+-- The objects that are held, the globals that were advertised, and how what was overwritten is
+-- restored.
 use Rattle.std.specs.Prelude.{◌≡◌, ℕ, ◌+◌, ◌-◌, ◌≤◌, max, List, [], ◌∷◌, length, get_or, set}
 use Rattle.std.specs.Prelude.{take, if◌then◌else◌, Option, Some, None}
 use Rattle.std.specs.BTreeMap.{is_at}
@@ -14,30 +14,31 @@ use Rattle.wl_check.specs.declared.overwritten.Overwritten.TheVariants.{Object, 
 use Rattle.wl_check.specs.declared.overwritten.UndoList.{UndoList}
 use Rattle.wl_check.specs.declared.overwritten.UndoList.TheVariants.{Off, On}
 
--- what stands at each id of the client's range, and at each of the server's, from its first on; and
--- the greatest advertised version for each name and interface
+-- the object at each id of the client's range, and of the server's from its first on; and the
+-- greatest advertised version for each name and interface
 pub record Held : Type 0 where
   pub objects : List (Option Entry)
   pub server_objects : List (Option Entry)
   pub globals : List ((ℕ × ℕ) × ℕ)
 
--- the object that is held with an id
+-- the object held with an id
 abbrev pub held_object : Held → ℕ → Option Entry
 held_object held id =
     if is_of_server id then get_or held.server_objects (id - first_server_id) None
     else get_or held.objects id None
 
--- how many slots there are in the range of an id
+-- how many slots the range of an id has
 abbrev pub slots_in : Held → ℕ → ℕ
 slots_in held id = if is_of_server id then length held.server_objects else length held.objects
 
--- No more slots are kept than there were ids: behind slot 0 as many as the greatest of the client's
--- range that was used, and of the server's range as many as were used.
+-- No more slots are kept than there were ids: in the client's range slot 0 and one for each id up
+-- to the greatest used, in the server's range one for each id used.
 pub record HasFewSlots (held : Held) (used server_used : ℕ) : Type 0 where
   pub objects : length held.objects ≤ used + 1
   pub server_objects : length held.server_objects ≤ server_used
 
--- in the range of an id there are slots up to it, or as many as before; in the other as before
+-- the range of an id has slots up to the id, or as many as before; the other range as many as
+-- before
 pub record AreReached (id : ℕ) (before after : Held) : Type 0 where
   pub objects : length after.objects
       ≡ (if is_of_server id then length before.objects else max (length before.objects) (id + 1))
@@ -45,7 +46,7 @@ pub record AreReached (id : ℕ) (before after : Held) : Type 0 where
       then max (length before.server_objects) (id - first_server_id + 1)
       else length before.server_objects)
 
--- the number of slots is what it was
+-- both ranges have as many slots as before
 pub record HasSlotsOf (before after : Held) : Type 0 where
   pub objects : length after.objects ≡ length before.objects
   pub server_objects : length after.server_objects ≡ length before.server_objects
@@ -54,12 +55,12 @@ pub record HasSlotsOf (before after : Held) : Type 0 where
 abbrev pub pair_cmp : ℕ × ℕ → ℕ × ℕ → Ordering
 pair_cmp a b = ordering_then (nat_cmp a.0 b.0) (nat_cmp a.1 b.1)
 
--- the greatest version that was advertised for a name and an interface, or 0
+-- the greatest version advertised for a name and an interface; 0 if none
 abbrev pub held_version : Held → ℕ × ℕ → ℕ
 held_version held key = unwrap_or (lookup (is_at (pair_cmp key)) held.globals) 0
 
--- what was overwritten stands where it stood: an object, and of the slots of its range those that
--- there were; a version, or none
+-- what was overwritten is restored: an object, and the number of slots of its range; a version, or
+-- that there was none
 abbrev pub put_back : Overwritten → Held → Held
 put_back (Object id entry slots) held =
     if is_of_server id then record held {
@@ -70,12 +71,12 @@ put_back (Global key None) held =
 put_back (Global key (Some version)) held =
     record held { globals = set_value (is_at (pair_cmp key)) held.globals version }
 
--- all that was overwritten is put back, the last first
+-- all that was overwritten is restored, the last first
 abbrev pub undone : List Overwritten → Held → Held
 undone [] held = held
 undone (one ∷ later) held = put_back one (undone later held)
 
--- the same by a list that may be off
+-- the same with a list that may be off
 abbrev pub undone_by : {A : Type 0} → UndoList A → Held → Option Held
 undone_by Off held = None
 undone_by (On list) held = Some (undone list.items held)

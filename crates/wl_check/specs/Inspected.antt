@@ -1,4 +1,4 @@
--- What an inspector makes of the pieces that pass.
+-- The output of an inspector for the pieces that pass.
 use Rattle.std.specs.Prelude.{◌≡◌, ℕ, List, [], ◌∷◌, ◌++◌}
 use Rattle.wl_sigs.specs.Tables.{Interface}
 use Rattle.wl_recording.specs.Piece.{Piece}
@@ -10,15 +10,16 @@ use Rattle.wl_check.specs.Printed.{AreOwnLines}
 abbrev pub printed : {A : Type 0} → Inspector A → List ℕ
 printed i = i.lines.items
 
--- These pieces passed an inspector of this limit and these tables, one by one and no others.
+-- These pieces, and no others, passed one by one through an inspector with this limit and these
+-- tables.
 pub record HasPassed {A : Type 0} (limit : ℕ) (tables : List Interface) (ps : List Piece)
     (i : Inspector A) : Type 0 where
   pub limit_is : i.limit.bytes ≡ limit
   pub tables_are : i.tables.now ≡ tables
   pub after : IsAfter limit tables ps i.scanner
 
--- What a call does: the piece passed behind the others, and what it printed is what the trace of
--- their recording has more with it.
+-- The effect of a call: the piece is the next one that passed, and the lines printed are those that
+-- the trace gains with it.
 abbrev pub PassesPiece : {A : Type 0} → ℕ → List Interface → Piece → Inspector A → Inspector A
     → Type 0
 PassesPiece limit tables piece before after =
@@ -26,8 +27,7 @@ PassesPiece limit tables piece before after =
     → HasPassed limit tables (ps ++ piece ∷ []) after
     × AreOwnLines limit tables ps piece (printed after)
 
--- An inspector that these pieces passed one by one, and what the calls printed, put one behind the
--- other.
+-- An inspector after these pieces passed one by one, and what the calls printed, joined.
 pub data Inspected {A : Type 0} (limit : ℕ) (tables : List Interface) : List Piece → List ℕ
     → Inspector A → Type 0 where
   begun : {i : Inspector A} → HasPassed limit tables [] i → Inspected limit tables [] [] i

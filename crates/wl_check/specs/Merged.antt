@@ -15,8 +15,8 @@ pub record Mark : Type 0 where
 abbrev pub mark : ℕ → ℕ → Mark
 mark start size = record { start = start; size = size }
 
--- the messages of a stream from a place on, the place where the cutting stops, and whether a bad
--- size stands there
+-- the messages of a stream from a place on, the place where the cutting stops, and whether there is
+-- a bad size there
 pub record Cutting : Type 0 where
   pub marks : List Mark
   pub place : ℕ
@@ -32,20 +32,20 @@ abbrev pub then_cut : Mark → Cutting → Cutting
 then_cut m others =
     record { marks = m ∷ others.marks; place = others.place; has_bad_size = others.has_bad_size }
 
--- what stands at a place, and then the others
+-- what is at a place, followed by the rest
 abbrev pub cut_at : ℕ → Front → (ℕ → Cutting) → Cutting
 cut_at place More others = stopped place
 cut_at place (Bad size) others = bad_at place size
 cut_at place (Whole size) others = then_cut (mark place size) (others (place + size))
 
--- at most so many messages of a stream, from a place on
+-- at most `count` messages of a stream, from a place on
 unfoldable pub cutting : ℕ → ℕ → List ℕ → ℕ → Cutting
 cutting limit zero stream place = stopped place
 cutting limit (suc count) stream place =
     cut_at place (front limit (drop place stream)) (cutting limit count stream)
 
--- The messages of a stream: they are cut off by the sizes in their headers, each as soon as it is
--- whole. A message of a bad size stands there as soon as its header does, and is the last.
+-- The messages of a stream: they are cut by the sizes in their headers, each as soon as it is
+-- whole. A message with a bad size is found as soon as its header is whole, and is the last.
 abbrev pub cut : ℕ → List ℕ → Cutting
 cut limit stream = cutting limit (length stream) stream 0
 
@@ -68,14 +68,14 @@ piece_tokens direction (piece ∷ pieces) =
     (if same_direction piece.direction direction then piece.tokens else 0)
     + piece_tokens direction pieces
 
--- a message in the merged list: the tokens are those that its direction brought with the pieces up
+-- a message in the merged list; its tokens are those that its direction brought with the pieces up
 -- to its own
 abbrev pub framed : Direction → ℕ → Mark → FramedMessage
 framed direction tokens m =
     record { direction = direction; start = m.start; size = m.size; tokens = tokens }
 
--- The messages that a piece completes, where these pieces came before it: those of its direction's
--- bytes with it that were not there without it.
+-- The messages that a piece completes, given the pieces before it: those in its direction's bytes
+-- with it that were not there without it.
 abbrev pub completed : ℕ → List Piece → Piece → List FramedMessage
 completed limit before piece =
     map (framed piece.direction (piece_tokens piece.direction before + piece.tokens))
@@ -86,8 +86,8 @@ abbrev pub completed_at : ℕ → List Piece → ℕ → Option Piece → List F
 completed_at limit pieces k None = []
 completed_at limit pieces k (Some piece) = completed limit (take k pieces) piece
 
--- the messages that the first pieces complete, in the order of the pieces, and those of one piece
--- in the order of the stream
+-- the messages that the first pieces complete, in the order of the pieces; those of one piece in
+-- the order of the stream
 unfoldable pub merged_within : ℕ → List Piece → ℕ → List FramedMessage
 merged_within limit pieces zero = []
 merged_within limit pieces (suc k) =
@@ -97,6 +97,6 @@ merged_within limit pieces (suc k) =
 abbrev pub merged : ℕ → List Piece → List FramedMessage
 merged limit pieces = merged_within limit pieces (length pieces)
 
--- where the last byte of a message stands, or that of its header where the size is bad
+-- where the last byte of a message is, or that of its header if the size is bad
 abbrev pub finish : ℕ → Mark → ℕ
 finish limit m = if is_size limit m.size then m.start + m.size else m.start + 8

@@ -1,6 +1,6 @@
--- What is known at a place of a session, by what stands at the places before it. wl_display stands
--- at place 0, and the messages of the merged list at 1, 2, ..; an object is named by the place of
--- the message that made it, which is its birth.
+-- What is known at a place of a session, from the places before it. wl_display is at place 0, and
+-- the messages of the merged list are at 1, 2, ..; an object is identified by its birth, the place
+-- of the message that made it.
 use Rattle.std.specs.Prelude.{◌≡◌, ℕ, zero, suc, ◌+◌, ◌-◌, max, Bool, true, false, not, ◌&&◌}
 use Rattle.std.specs.Prelude.{◌||◌, nat_lt, nat_eq, if◌then◌else◌, Option, Some, None, option_map}
 use Rattle.wl_object_map.specs.declared.object.Entry.{Entry}
@@ -18,7 +18,7 @@ abbrev pub is_id : Option ℕ → ℕ → Bool
 is_id None id = false
 is_id (Some other) id = nat_eq other id
 
--- the delete_id of 1 changes nothing, nor does that of an id of the server's range
+-- the delete_id of 1 changes nothing; neither does that of an id of the server's range
 abbrev pub frees : Option ℕ → ℕ → Bool
 frees deleted id = not (nat_eq id 1) && not (is_of_server id) && is_id deleted id
 
@@ -26,28 +26,28 @@ abbrev pub is_made : Option NewObject → ℕ → Bool
 is_made None id = false
 is_made (Some new) id = nat_eq new.id id
 
--- it makes an object with this id
+-- the message makes an object with this id
 abbrev pub makes_id : MessageChanges → ℕ → Bool
 makes_id changes id = is_made changes.made id
 
--- it is the delete_id of this id, and one that changes something
+-- the message is the delete_id of this id, and one that changes something
 abbrev pub deletes_id : MessageChanges → ℕ → Bool
 deletes_id changes id = frees changes.deleted id
 
--- it destroys the object with this id
+-- the message destroys the object with this id
 abbrev pub destroys_id : MessageChanges → ℕ → Bool
 destroys_id changes id = is_id changes.destroyed id
 
--- The object that is held at a place with this id: the last that was made, unless a delete_id
--- that frees the id stands between.
+-- The object held at a place with this id: the last one made, unless a delete_id that frees the id
+-- comes in between.
 unfoldable pub holder : (ℕ → MessageChanges) → ℕ → ℕ → Option ℕ
 holder session zero id = None
 holder session (suc place) id =
     if makes_id (session place) id then Some place
     else (if deletes_id (session place) id then None else holder session place id)
 
--- whether a message that destroys the object with this id stands between the place of its making
--- and another
+-- whether a message that destroys the object with this id comes after the place where it was made,
+-- and before another place
 unfoldable pub is_ending : (ℕ → MessageChanges) → ℕ → ℕ → ℕ → Bool
 is_ending session birth zero id = false
 is_ending session birth (suc place) id =
@@ -76,8 +76,8 @@ object_named session place id =
     (live_or_zombie (is_ending session birth place id)))
     (holder session place id)
 
--- the counts behind a message: the greatest id used of the client's range, and how many ids were
--- used of the server's
+-- the counts after a message: the greatest id used in the client's range, and how many ids were
+-- used in the server's
 abbrev pub used_by : Option NewObject → ℕ → ℕ
 used_by None count = count
 used_by (Some new) count = if is_of_server new.id then count else max new.id count
@@ -116,14 +116,14 @@ unfoldable pub used : (ℕ → MessageChanges) → ℕ → ℕ
 used session zero = 0
 used session (suc place) = used_after (session place) (used session place)
 
--- how many ids of the server's range were used before a place: the first so many
+-- how many ids of the server's range were used before a place; these are the first ones
 unfoldable pub server_used : (ℕ → MessageChanges) → ℕ → ℕ
 server_used session zero = 0
 server_used session (suc place) =
     server_used_after (session place) (server_used session place)
 
 -- the greatest version that an event before a place advertised for this name and this interface; 0
--- where none did
+-- if none did
 unfoldable pub advertised_version : (ℕ → MessageChanges) → ℕ → ℕ → ℕ → ℕ
 advertised_version session zero name iface = 0
 advertised_version session (suc place) name iface =
@@ -152,7 +152,7 @@ known session place = record {
   taken = taken session place;
 }
 
--- ---- one message more
+-- ---- one more message
 
 abbrev pub as_zombie : Entry → Entry
 as_zombie entry = record entry { state = Zombie }
@@ -161,13 +161,13 @@ abbrev pub unless_deleted : Bool → Bool → Option Entry → Option Entry
 unless_deleted deleted destroyed entry =
     if deleted then None else (if destroyed then option_map as_zombie entry else entry)
 
--- what an id names behind a message that stands at a place
+-- what an id names after a message at a place
 abbrev pub object_after : ℕ → MessageChanges → ℕ → Option Entry → Option Entry
 object_after place changes id entry =
     if makes_id changes id then Some (made_entry place Live (new_of changes.made))
     else unless_deleted (deletes_id changes id) (destroys_id changes id) entry
 
--- all that is known behind a message that stands at a place
+-- all that is known after a message at a place
 pub record IsKnownBehind (p : ℕ) (changes : MessageChanges) (before after : KnownAtPlace) : Type 0
   where
     pub objects : (id : ℕ) → after.object id ≡ object_after p changes id (before.object id)

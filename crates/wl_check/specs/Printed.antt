@@ -1,4 +1,4 @@
--- What is printed of a piece as it passes.
+-- What is printed for a piece as it passes.
 use Rattle.std.specs.Prelude.{◌≡◌, ℕ, List, [], ◌∷◌, ◌++◌}
 use Rattle.wl_sigs.specs.Tables.{Interface}
 use Rattle.wl_recording.specs.declared.piece.Direction.{Direction}
@@ -7,27 +7,27 @@ use Rattle.wl_check.specs.Session.{Session, session_of}
 use Rattle.wl_check.specs.declared.session_state.Output.{Output}
 use Rattle.wl_check.specs.Trace.{lines_within, trace_of, wanted}
 
--- a piece of these bytes and tokens
+-- a piece with these bytes and tokens
 abbrev pub piece_of : Direction → List ℕ → ℕ → Piece
 piece_of direction bytes tokens = record { direction = direction; bytes = bytes; tokens = tokens }
 
--- The lines that a piece has of its own, where others came before it: the trace of all of them is
--- that of the others and then these.
+-- The lines of a piece that others precede: the trace of all of them is that of the others followed
+-- by these lines.
 abbrev pub AreOwnLines : ℕ → List Interface → List Piece → Piece → List ℕ → Type 0
 AreOwnLines limit tables ps piece lines =
     trace_of tables (session_of limit (ps ++ piece ∷ []))
     ≡ trace_of tables (session_of limit ps) ++ lines
 
--- Writing went on from one number of messages to another: whatever stands before what was written,
--- if all together were what is wanted of so many messages, then they are what is wanted of as many
--- as there are now.
+-- Writing continued from one number of messages to another: if some text, followed by what was
+-- there, was the wanted output for the first number, then the same text, followed by what is there
+-- now, is the wanted output for the second.
 abbrev pub PrintsOn : List Interface → Session → Output → ℕ → ℕ → List ℕ → List ℕ → Type 0
 PrintsOn tables s output before after old new =
     (earlier : List ℕ) → earlier ++ old ≡ wanted output (lines_within tables s before)
     → earlier ++ new ≡ wanted output (lines_within tables s after)
 
--- It went on over a piece behind others: from what is wanted of the messages of these to what is
--- wanted with those of the piece.
+-- Writing continued over a piece after others: from the wanted output for the messages of these to
+-- that including the piece's messages.
 abbrev pub PrintsPiece : ℕ → List Interface → Output → List Piece → Piece → List ℕ → List ℕ → Type 0
 PrintsPiece limit tables output ps piece old new =
     (earlier : List ℕ) → earlier ++ old ≡ wanted output (trace_of tables (session_of limit ps))

@@ -1,4 +1,4 @@
--- The rules that a message of a session keeps, by what is known at its place.
+-- The rules that a message of a session keeps, given what is known at its place.
 use Rattle.std.specs.Prelude.{ℕ, ◌+◌, ◌-◌, Bool, false, not, ◌&&◌, nat_le, nat_eq, is_none, List}
 use Rattle.std.specs.Prelude.{drop, take, if◌then◌else◌, Option, Some, None}
 use Rattle.std.specs.Option.{option_map_or}
@@ -34,18 +34,19 @@ abbrev pub nameable : Direction → Option Entry → Option Entry
 nameable ToServer entry = if_open entry
 nameable ToClient entry = entry
 
--- An id for a new object of the client: not 0, of no held object, and used before or the next one.
+-- An id for a new object of the client: not 0, not that of a held object, and used before or the
+-- next one.
 abbrev pub is_free_id : KnownAtPlace → ℕ → Bool
 is_free_id k id = not (nat_eq id 0) && is_none (k.object id) && nat_le id (k.used + 1)
 
--- An id for a new object of the server: one of its range, of no open object that a request can
--- end, and used before or the next one.
+-- An id for a new object of the server: in the server's range, not that of an open object that a
+-- request can end, and used before or the next one.
 abbrev pub is_free_server_id : List Interface → KnownAtPlace → ℕ → Bool
 is_free_server_id tables k id =
     is_of_server id && not (waits_for_request tables (k.object id))
     && nat_le id (first_server_id + k.server_used)
 
--- What the reader of a message knows; births play no part.
+-- What the reader of a message knows; births do not matter.
 abbrev pub reader_by : List Interface → KnownAtPlace → Direction → Reader
 reader_by tables k direction = record {
   object = λ id. nameable direction (k.object id);
@@ -60,8 +61,8 @@ abbrev pub version_of : List Interface → Iface → ℕ
 version_of tables iface =
     option_map_or (λ (i : Interface). i.version) (interface_at tables iface.0) 0
 
--- A bind of this name may make this object: its interface is in the tables, its version is at least
--- 1, at most that of the tables, and at most one that an event advertised for this name and
+-- A bind of this name may make this object: its interface is in the tables, and its version is at
+-- least 1, at most that of the tables, and at most one that an event advertised for this name and
 -- interface.
 abbrev pub allows_bind : List Interface → KnownAtPlace → Option ℕ → Option NewObject → Bool
 allows_bind tables k (Some name) (Some new) =
@@ -75,7 +76,7 @@ is_disallowed_bind tables k side opcode r =
     && not (allows_bind tables k (first_number r.values)
     (made tables r.entry.version r.signature.kinds r.values))
 
--- F9 comes last
+-- F9 is tested last
 abbrev pub called : List Interface → KnownAtPlace → Direction → ℕ → Result Received Fault
     → Result Call Fault
 called tables k direction opcode (Err fault) = Err fault
@@ -83,7 +84,7 @@ called tables k direction opcode (Ok r) =
     if is_disallowed_bind tables k (side_of direction) opcode r then Err BadBind
     else Ok (record { direction = direction; opcode = opcode; received = r })
 
--- the message with this header, and what stands behind it
+-- the message with this header, followed by these bytes
 abbrev pub judged_message : List Interface → KnownAtPlace → FramedMessage → Header → List ℕ
     → Result Call Fault
 judged_message tables k frame header body =
@@ -91,8 +92,8 @@ judged_message tables k frame header body =
     (received tables (side_of frame.direction) (reader_by tables k frame.direction) header body
     (frame.tokens - k.taken frame.direction))
 
--- A message of a direction's stream, judged by what is known at its place: what it is, or the first
--- rule that it breaks.
+-- A message of a direction's stream, judged with what is known at its place: its meaning, or the
+-- first rule that it breaks.
 abbrev pub judged : ℕ → List Interface → KnownAtPlace → List ℕ → FramedMessage → Result Call Fault
 judged limit tables k stream frame =
     if is_size limit frame.size
@@ -100,7 +101,7 @@ judged limit tables k stream frame =
     (take (frame.size - 8) (drop (frame.start + 8) stream))
     else Err BadSize
 
--- the same, where these are the bytes of the stream from the message on
+-- the same, given the bytes of the stream from the message on
 abbrev pub judged_front : ℕ → List Interface → KnownAtPlace → List ℕ → FramedMessage
     → Result Call Fault
 judged_front limit tables k bytes frame =

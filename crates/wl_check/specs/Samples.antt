@@ -1,4 +1,4 @@
--- Sessions with objects that the server makes, worked out by hand.
+-- Sessions with server-created objects, worked out by hand.
 use Rattle.std.specs.Prelude.{ℕ, zero, suc, ◌+◌, ◌*◌, List, [], ◌∷◌, ◌++◌, get_or, length, codes}
 use Rattle.std.specs.Prelude.{Option, Some}
 use Rattle.std.specs.declared.result.Result.{Result}
@@ -22,7 +22,7 @@ use Rattle.wl_check.specs.Seen.{changes_in}
 use Rattle.wl_check.specs.Session.{Judged}
 use Rattle.wl_check.specs.Trace.{judged_line}
 
--- the places of the interfaces behind the core ones, and of wl_buffer; the first id of the server
+-- the indices of the interfaces after the core ones, and of wl_buffer; the first id of the server
 abbrev device_place : Iface
 device_place = record { 0 = 19 }
 
@@ -41,7 +41,7 @@ buffer_place = record { 0 = 6 }
 abbrev pub first_id : ℕ
 first_id = 4278190080
 
--- It makes offers, shows one of them, and makes modes.
+-- An interface that makes offers, shows one of them, and makes modes.
 abbrev device : Interface
 device = record {
   name = codes "device";
@@ -54,7 +54,7 @@ device = record {
       [];
 }
 
--- An offer, which a request ends.
+-- An offer, which a request can end.
 abbrev offer : Interface
 offer = record {
   name = codes "offer";
@@ -63,7 +63,7 @@ offer = record {
   events = message (codes "says") 1 (uint ∷ []) Nothing ∷ [];
 }
 
--- Buffers, made by a request and by an event.
+-- Buffers, which a request and an event can make.
 abbrev params : Interface
 params = record {
   name = codes "params";
@@ -75,7 +75,7 @@ params = record {
   events = message (codes "created") 1 (kinds.NewByServer buffer_place ∷ []) Nothing ∷ [];
 }
 
--- A mode, which a request ends from version 3 on.
+-- A mode, which a request can end from version 3 on.
 abbrev output_mode : Interface
 output_mode = record {
   name = codes "mode";
@@ -87,12 +87,12 @@ output_mode = record {
 abbrev pub sample_tables : List Interface
 sample_tables = core_tables ++ device ∷ offer ∷ params ∷ output_mode ∷ []
 
--- the bytes of a message: its object, its opcode, and its body
+-- the bytes of a message: its target, its opcode, and its body
 abbrev pub spelled_message : ℕ → ℕ → List ℕ → List ℕ
 spelled_message object opcode body =
     word object ++ word ((8 + length body) * 65536 + opcode) ++ body
 
--- ---- what messages did
+-- ---- the changes by earlier messages
 
 abbrev pub did_make : Direction → ℕ → Iface → ℕ → MessageChanges
 did_make direction id iface version = record changes_nothing {
@@ -110,7 +110,7 @@ did_delete id = record changes_nothing { direction = ToClient; deleted = Some id
 abbrev pub did_nothing : Direction → MessageChanges
 did_nothing direction = record changes_nothing { direction = direction }
 
--- An event made an offer, a buffer or a mode, with the first id; and a request destroyed it.
+-- An event made an offer, a buffer or a mode, with the first id; or a request destroyed it.
 abbrev pub an_offer : MessageChanges
 an_offer = did_make ToClient first_id offer_place 3
 
@@ -127,17 +127,17 @@ its_destruction = did_destroy ToServer first_id
 abbrev pub own_buffer : MessageChanges
 own_buffer = did_make ToServer 4 buffer_place 1
 
--- A registry and a device of a version stand at ids 2 and 3.
+-- There are a registry at id 2 and a device of a version at id 3.
 abbrev pub with_device : ℕ → List MessageChanges
 with_device version = did_make ToServer 2 registry 1 ∷ did_make ToServer 3 device_place version ∷ []
 
--- Or params at id 3.
+-- There are params at id 3.
 abbrev pub with_params : List MessageChanges
 with_params = did_make ToServer 2 registry 1 ∷ did_make ToServer 3 params_place 1 ∷ []
 
--- ---- what comes behind them
+-- ---- what comes after them
 
--- what stands at each place, where messages did this, in order
+-- the changes at each place, given the messages' changes in order
 abbrev placed : List MessageChanges → ℕ → MessageChanges
 placed done zero = beginning
 placed done (suc k) = get_or done k changes_nothing
@@ -145,17 +145,17 @@ placed done (suc k) = get_or done k changes_nothing
 abbrev known_behind : List MessageChanges → KnownAtPlace
 known_behind done = known (placed done) (suc (length done))
 
--- the object that an id names behind them
+-- the object that an id names after them
 abbrev pub named_behind : List MessageChanges → ℕ → Option Entry
 named_behind done id = (known_behind done).object id
 
--- a message behind them, judged
+-- a message after them, judged
 abbrev judged_behind : List MessageChanges → Direction → List ℕ → Judged
 judged_behind done direction bytes =
     judged_front 4096 sample_tables (known_behind done) bytes
     (record { direction = direction; start = 0; size = length bytes; tokens = 0 })
 
--- what the message does, or the first rule that it breaks
+-- the changes by that message, or the first rule that it breaks
 abbrev pub comes_behind : List MessageChanges → Direction → List ℕ → Result MessageChanges Fault
 comes_behind done direction bytes = changes_in sample_tables (judged_behind done direction bytes)
 
@@ -164,8 +164,8 @@ abbrev pub line_behind : List MessageChanges → Direction → List ℕ → List
 line_behind done direction bytes =
     judged_line sample_tables (known_behind done) (Some (judged_behind done direction bytes))
 
--- what an id is as that of a new object of the server, where so many of its ids were used, and
--- nothing is held but wl_display
+-- the result for an id as that of a new object of the server, if this many of the server's ids were
+-- used and only wl_display is held
 abbrev pub new_server_id : ℕ → ℕ → NewId
 new_server_id count id =
     let k = record (known_behind []) { server_used = count } in

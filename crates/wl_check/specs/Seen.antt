@@ -1,4 +1,4 @@
--- What the code's own types stand for.
+-- The values of the code's types.
 use Rattle.std.specs.Prelude.{ℕ, ◌+◌, if◌then◌else◌, Option, Some, None, List}
 use Rattle.std.specs.declared.result.Result.{Result}
 use Rattle.std.specs.declared.result.Result.TheVariants.{Ok, Err}
@@ -19,7 +19,7 @@ use Rattle.wl_check.specs.declared.progress.Progress.{Progress}
 use Rattle.wl_check.specs.declared.progress.Tally.{Tally}
 use Rattle.wl_check.specs.Merged.{same_direction}
 
--- the size of the message in front, if it is there
+-- the size of the message at the front, if there is one
 abbrev pub size_of : Front → Option ℕ
 size_of More = None
 size_of (Bad size) = Some size
@@ -43,12 +43,12 @@ abbrev pub call_of : Direction → ℕ → Received → Call
 call_of direction opcode received =
     record { direction = direction; opcode = opcode; received = received_of received }
 
--- what a judged message does, or the first rule that it breaks
+-- the changes by a judged message, or the first rule that it breaks
 abbrev pub changes_in : List Interface → Result Call Fault → Result MessageChanges Fault
 changes_in tables (Err fault) = Err fault
 changes_in tables (Ok call) = Ok (changes tables call)
 
--- what is counted of a direction behind a message
+-- the counts of a direction after a message
 abbrev pub tally_after : Direction → FramedMessage → Tally → Tally
 tally_after direction frame tally =
     if same_direction frame.direction direction

@@ -1,4 +1,4 @@
--- Lawful sessions, and what a checker answers.
+-- Lawful sessions, and the verdict of a checker.
 use Rattle.std.specs.Prelude.{◌≡◌, ℕ, zero, suc, ◌+◌, ◌-◌, ◌<◌, ◌≤◌, Bool, true, false, nat_lt}
 use Rattle.std.specs.Prelude.{List, [], ◌∷◌, ◌++◌, length, take, slice_get, if◌then◌else◌, Option}
 use Rattle.std.specs.Prelude.{Some, None, count_by}
@@ -34,7 +34,7 @@ session_of limit pieces = record {
   streams = λ direction. stream_of direction pieces;
 }
 
--- a message judged at its place: what it is, or the first rule that it breaks
+-- a message judged at its place: its meaning, or the first rule that it breaks
 abbrev pub Judged : Type 0
 Judged = Result Call Fault
 
@@ -42,12 +42,12 @@ abbrev pub changes_of : List Interface → Option Judged → MessageChanges
 changes_of tables (Some (Ok call)) = changes tables call
 changes_of tables _ = changes_nothing
 
--- What stands at each place. A message that breaks a rule does nothing.
+-- The changes at each place. A message that breaks a rule changes nothing.
 abbrev pub changes_at : List Interface → List Judged → ℕ → MessageChanges
 changes_at tables messages zero = beginning
 changes_at tables messages (suc k) = changes_of tables (slice_get messages k)
 
--- these messages, and behind them those of the frames, each judged by what stands at the places
+-- these messages, followed by those of the frames, each judged with what is known from the places
 -- before it
 unfoldable pub judged_after : ℕ → List Interface → (Direction → List ℕ) → List Judged
     → List FramedMessage
@@ -67,17 +67,17 @@ abbrev pub ends_session : Judged → Bool
 ends_session (Err fault) = false
 ends_session (Ok call) = is_error (side_of call.direction) call.received.entry.iface call.opcode
 
--- a message that was read, and the session goes on
+-- a message that was read and after which the session goes on
 pub record Passed (ms : List Judged) (j : ℕ) : Type 0 where
   pub call : Call
   pub is : slice_get ms j ≡ Some (Ok call)
   pub goes_on : ends_session (Ok call) ≡ false
 
--- so do all of the first messages
+-- all of the first messages were read, and the session goes on
 abbrev pub ArePassed : List Judged → ℕ → Type 0
 ArePassed ms k = (j : ℕ) → j < k → Passed ms j
 
--- How many messages are examined: those up to the first wl_display.error, itself among them.
+-- How many messages are examined: those up to and including the first wl_display.error.
 abbrev pub examined : List Judged → ℕ
 examined [] = 0
 examined (message ∷ others) = if ends_session message then 1 else suc (examined others)
@@ -86,14 +86,14 @@ abbrev pub fault_of : Option Judged → Option Fault
 fault_of (Some (Err fault)) = Some fault
 fault_of _ = None
 
--- the first rule that a message breaks, if it is examined and breaks one; the messages are counted
+-- the first rule that a message breaks, if it is examined and breaks one; messages are numbered
 -- from 0
 abbrev pub breaks : List Interface → Session → ℕ → Option Fault
 breaks tables session k =
     if nat_lt k (examined (messages tables session))
     then fault_of (slice_get (messages tables session) k) else None
 
--- the message at a place of the merged list breaks a rule, and this is the first that it breaks
+-- the message at a place of the merged list breaks this rule, and no earlier-tested one
 abbrev pub Breaks : List Interface → Session → ℕ → Fault → Type 0
 Breaks tables session k fault = breaks tables session k ≡ Some fault
 
@@ -101,7 +101,7 @@ Breaks tables session k fault = breaks tables session k ≡ Some fault
 abbrev pub IsLawful : List Interface → Session → Type 0
 IsLawful tables session = (k : ℕ) → breaks tables session k ≡ None
 
--- the messages that are counted
+-- the messages that count
 abbrev pub counted_frames : List Interface → Session → List FramedMessage
 counted_frames tables session = take (examined (messages tables session)) session.frames
 
@@ -110,7 +110,7 @@ abbrev pub count_in : Direction → List FramedMessage → ℕ
 count_in direction frames =
     count_by (λ (frame : FramedMessage). same_direction frame.direction direction) frames
 
--- where the last message of a direction ends; without one, at this place
+-- where the last message of a direction ends; this place if there is none
 abbrev pub end_after : Direction → ℕ → List FramedMessage → ℕ
 end_after direction place [] = place
 end_after direction place (frame ∷ frames) =
@@ -122,7 +122,7 @@ abbrev pub left_in : List Interface → Session → Direction → ℕ
 left_in tables session direction =
     length (session.streams direction) - end_after direction 0 (counted_frames tables session)
 
--- The numbers of a lawful session.
+-- The numbers in the verdict on a lawful session.
 pub record IsCounted (tables : List Interface) (session : Session)
     (requests events left_to_server left_to_client : ℕ) : Type 0 where
   pub requests_are : requests ≡ count_in ToServer (counted_frames tables session)
@@ -130,7 +130,7 @@ pub record IsCounted (tables : List Interface) (session : Session)
   pub to_server : left_to_server ≡ left_in tables session ToServer
   pub to_client : left_to_client ≡ left_in tables session ToClient
 
--- This is the least message that breaks a rule: its direction, its number and its place within the
+-- This is the first message that breaks a rule: its direction, its number and position in that
 -- direction, and the first rule that it breaks.
 pub record IsFirstBrokenMessage (tables : List Interface) (session : Session)
     (direction : Direction)
@@ -146,7 +146,8 @@ pub record IsFirstBrokenMessage (tables : List Interface) (session : Session)
   -- counted from 0
   pub offset_is : offset ≡ frame.start
 
--- What a checker answers: the numbers of a lawful session, or the least message that breaks a rule.
+-- The verdict of a checker: the numbers of a lawful session, or the first message that breaks a
+-- rule.
 abbrev pub IsVerdictOf : List Interface → Session → Verdict → Type 0
 IsVerdictOf tables session (Lawful requests events left_to_server left_to_client) =
     IsLawful tables session × IsCounted tables session requests events left_to_server left_to_client
@@ -157,7 +158,7 @@ abbrev pub SaysLawful : Verdict → Type 0
 SaysLawful (Lawful requests events left_to_server left_to_client) = Unit {0}
 SaysLawful (Broken direction index offset fault) = ⊥
 
--- A message lies within its stream; where its size is bad, its header does.
+-- A message is within its stream; if its size is bad, its header is.
 pub record IsWithin (limit len : ℕ) (frame : FramedMessage) : Type 0 where
   pub header : frame.start + 8 ≤ len
   pub whole : is_size limit frame.size ≡ true → frame.start + frame.size ≤ len

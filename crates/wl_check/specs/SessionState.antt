@@ -29,13 +29,13 @@ use Rattle.wl_check.specs.Session.{ends_session, messages, session_of}
 
 -- ---- the messages before a place
 
--- what was counted of a direction before a message
+-- the counts of a direction before a message
 pub record IsTallied (s : Session) (k : ℕ) (d : Direction) (t : Tally) : Type 0 where
   pub count_is : t.count ≡ count_in d (take k s.frames)
   pub end_is : t.end ≡ end_after d 0 (take k s.frames)
   pub within : t.end ≤ length (s.streams d)
 
--- a place of the session: what is known there, and what was counted before it
+-- a place of the session: what is known there, and the counts before it
 pub record IsAt {A : Type 0} (tables : List Interface) (s : Session) (k : ℕ) (p : Progress A)
     : Type 0 where
   pub known_is : known_in p.known ≡ known (changes_at tables (messages tables s)) (suc k)
@@ -51,7 +51,7 @@ is_going Open = true
 is_going Ended = false
 is_going (Broken frame fault) = false
 
--- the last of so many messages is the first wl_display.error, and none breaks a rule
+-- the last of k messages is the first wl_display.error, and none of them breaks a rule
 pub record IsEnd (ms : List Judged) (k : ℕ) : Type 0 where
   pub before : ℕ
   pub last : k ≡ before + 1
@@ -60,7 +60,7 @@ pub record IsEnd (ms : List Judged) (k : ℕ) : Type 0 where
   pub ends : ends_session (Ok call) ≡ true
   pub passed : ArePassed ms before
 
--- the message behind so many is this one, and the first that breaks a rule
+-- this message follows k messages, and is the first that breaks a rule
 pub record IsFault (tables : List Interface) (s : Session) (k : ℕ) (frame : FramedMessage)
     (fault : Fault)
     : Type 0 where
@@ -73,16 +73,16 @@ StatusIs tables s k Open = ArePassed (messages tables s) k
 StatusIs tables s k Ended = IsEnd (messages tables s) k
 StatusIs tables s k (Broken frame fault) = IsFault tables s k frame fault
 
--- where the last message of a direction ends that was counted
+-- where the last counted message of a direction ends
 abbrev pub end_in : {A : Type 0} → SessionState A → Direction → ℕ
 end_in c d = (tally_in c.progress d).end
 
--- nothing was counted of the other direction
+-- nothing was counted in the other direction
 abbrev pub OthersStay : {A : Type 0} → Direction → SessionState A → SessionState A → Type 0
 OthersStay d before after =
     (other : Direction) → same_direction d other ≡ false → end_in after other ≡ end_in before other
 
--- The first messages of the session were judged, and this is what they come to.
+-- The first messages of the session were judged, and this is the resulting state.
 pub record IsJudged {A : Type 0} (tables : List Interface) (s : Session)
     (c : SessionState A)
     : Type 0 where
@@ -103,7 +103,7 @@ pub record IsUnread {A : Type 0} (c : SessionState A) : Type 0 where
   pub count : c.count ≡ 0
   pub status : c.status ≡ Open
 
--- This frame is the next of the session, and these are the bytes of its direction from there on.
+-- This frame is the session's next, and these are the bytes of its direction from there on.
 pub record Comes {A : Type 0} (limit : ℕ) (tables : List Interface) (s : Session)
     (c : SessionState A) (frame : FramedMessage) (rest : List ℕ) : Type 0 where
   pub limit_is : s.limit ≡ limit
@@ -116,18 +116,18 @@ pub record Comes {A : Type 0} (limit : ℕ) (tables : List Interface) (s : Sessi
   pub header : 8 ≤ length rest
   pub whole : is_size limit frame.size ≡ true → frame.size ≤ length rest
 
--- it kept the rules, and the session goes on
+-- the message kept the rules, and the session goes on
 pub record WentOn {A : Type 0} (limit : ℕ) (frame : FramedMessage) (before after : SessionState A)
     : Type 0 where
   pub size : is_size limit frame.size ≡ true
   pub count : after.count ≡ before.count + 1
   pub end : end_in after frame.direction ≡ frame.start + frame.size
 
--- the messages that a direction has from where its last judged one ends
+-- the messages of a direction after its last judged one
 abbrev pub cut_from : {A : Type 0} → (limit : ℕ) → Session → SessionState A → Direction → Cutting
 cut_from limit s c d = cutting limit (length (s.streams d)) (s.streams d) (end_in c d)
 
--- Behind the judged messages the session has just those that are cut off these bytes.
+-- After the judged messages, the session has exactly those that are cut off these bytes.
 pub record CutFollows {A : Type 0} (limit : ℕ) (tables : List Interface) (s : Session)
     (c : SessionState A) (d : Direction) (tokens : ℕ) (rest : List ℕ) : Type 0 where
   pub limit_is : s.limit ≡ limit
@@ -139,7 +139,7 @@ pub record CutFollows {A : Type 0} (limit : ℕ) (tables : List Interface) (s : 
   pub place : (cut_from limit s c d).place ≡ (cut limit (s.streams d)).place
   pub has_bad_size : (cut_from limit s c d).has_bad_size ≡ (cut limit (s.streams d)).has_bad_size
 
--- these bytes are all behind the last message of a stream, and no bad size stands there
+-- these are all bytes after the last message of a stream, and there is no bad size
 pub record IsLeft (limit : ℕ) (stream : List ℕ) (end : ℕ) (rest : List ℕ) : Type 0 where
   pub rest_is : drop end stream ≡ rest
   pub place : end ≡ (cut limit stream).place
@@ -154,7 +154,7 @@ pub record AllJudged {A : Type 0} (limit : ℕ) (tables : List Interface) (s : S
 
 -- ---- pieces
 
--- What these pieces brought in a direction.
+-- What these pieces brought in one direction.
 pub record IsStream {A : Type 0} (limit : ℕ) (d : Direction) (ps : List Piece) (c : SessionState A)
     (stream : Stream A) : Type 0 where
   pub len : stream.len ≡ length (stream_of d ps)
@@ -162,14 +162,14 @@ pub record IsStream {A : Type 0} (limit : ℕ) (d : Direction) (ps : List Piece)
   pub left : is_going c.status ≡ true → IsLeft limit (stream_of d ps) (end_in c d)
       stream.bytes
 
--- The messages of these pieces were judged, and this is what they brought in one direction.
+-- The messages of these pieces were judged, and this is what the pieces brought in one direction.
 pub record Along {A : Type 0} (limit : ℕ) (tables : List Interface) (d : Direction)
     (ps : List Piece) (c : SessionState A) (brought : Stream A) : Type 0 where
   pub judged : IsJudged tables (session_of limit ps) c
   pub all : is_going c.status ≡ true → length (merged limit ps) ≡ c.count
   pub stream : IsStream limit d ps c brought
 
--- and this in both
+-- and in both directions
 pub record IsAfter {A : Type 0} (limit : ℕ) (tables : List Interface) (ps : List Piece)
     (s : Scanner A) : Type 0 where
   pub judged : IsJudged tables (session_of limit ps) s.state
@@ -177,8 +177,8 @@ pub record IsAfter {A : Type 0} (limit : ℕ) (tables : List Interface) (ps : Li
   pub to_server : IsStream limit ToServer ps s.state s.to_server
   pub to_client : IsStream limit ToClient ps s.state s.to_client
 
--- These pieces were judged, and one more has come: its bytes stand behind those that were left in
--- its direction, but it is not counted yet.
+-- These pieces were judged, and one more has come: its bytes are appended to those left in its
+-- direction, but it is not counted yet.
 pub record HasCome {A : Type 0} (limit : ℕ) (tables : List Interface) (ps : List Piece) (p : Piece)
     (appended : Appended) (c : SessionState A) (stream : Stream A)
     : Type 0 where
@@ -191,7 +191,7 @@ pub record HasCome {A : Type 0} (limit : ℕ) (tables : List Interface) (ps : Li
   pub len_is : appended.len ≡ length p.bytes
   pub tokens_are : appended.tokens ≡ p.tokens
 
--- the same, in both directions
+-- the same for both directions
 pub record IsReady {A : Type 0} (limit : ℕ) (tables : List Interface) (ps : List Piece) (p : Piece)
     (appended : Appended) (s : Scanner A) : Type 0 where
   pub before : Scanner A
@@ -204,9 +204,9 @@ pub record IsReady {A : Type 0} (limit : ℕ) (tables : List Interface) (ps : Li
   pub appended_is : IsAppended p appended before.to_server.bytes s.to_server.bytes
       before.to_client.bytes s.to_client.bytes
 
--- ---- a state that memory running out goes back to
+-- ---- restoring a state when memory runs out
 
--- all of a state but what is held
+-- all of a state except what is held
 abbrev pub numbers_in : {A : Type 0} → SessionState A → Numbers
 numbers_in c = record {
   used = c.progress.known.used;
@@ -219,7 +219,7 @@ numbers_in c = record {
   status = c.status;
 }
 
--- a state in which this is held instead, and these are the numbers
+-- the state with what is held, and the numbers, replaced by these
 abbrev pub gone_back : {A : Type 0} → Held → Numbers → SessionState A → SessionState A
 gone_back held n c = record c {
   progress = record {

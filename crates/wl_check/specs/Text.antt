@@ -1,5 +1,5 @@
--- What is held, open, used and advertised at a place of a session, in words: by the messages that
--- stand before it.
+-- What is held, open, used and advertised at a place of a session, in words about the messages
+-- before it.
 use Rattle.std.specs.Prelude.{◌≡◌, ◌≢◌, ℕ, suc, ◌<◌, ◌≤◌, true, false, List, [], ◌∷◌, ◌++◌}
 use Rattle.std.specs.Prelude.{if◌then◌else◌, length, slice_get, drop, take, Some}
 use Rattle.std.specs.declared.result.Result.TheVariants.{Ok}
@@ -16,8 +16,9 @@ use Rattle.wl_check.specs.Places.{makes_id, deletes_id, destroys_id}
 use Rattle.wl_check.specs.Changes.{Call}
 use Rattle.wl_check.specs.Session.{ArePassed, Judged, ends_session}
 
--- The object that was made at a place, its birth, is held at a later one: no delete_id that frees
--- its id stands between; and where the id is of the server's range, nothing that makes it again.
+-- The object made at a place (its birth) is held at a later place: no delete_id that frees its id
+-- comes in between, and, if the id is in the server's range, no message makes the id again in
+-- between.
 pub record StaysHeld (session : ℕ → MessageChanges) (place birth id : ℕ) : Type 0 where
   pub before : birth < place
   pub made : makes_id (session birth) id ≡ true
@@ -26,7 +27,7 @@ pub record StaysHeld (session : ℕ → MessageChanges) (place birth id : ℕ) :
   pub latest : is_of_server id ≡ true → (between : ℕ) → birth < between → between < place
       → makes_id (session between) id ≡ false
 
--- It is open where no message that destroys it stands between.
+-- It is open if no message in between destroys it.
 abbrev pub StaysOpen : (ℕ → MessageChanges) → ℕ → ℕ → ℕ → Type 0
 StaysOpen session place birth id =
     (between : ℕ) → birth < between → between < place → destroys_id (session between) id ≡ false
@@ -52,15 +53,15 @@ pub record WasAdvertised (session : ℕ → MessageChanges) (place name iface ve
 abbrev pub part_of : List ℕ → Mark → List ℕ
 part_of stream m = take m.size (drop m.start stream)
 
--- those that are no bad size
+-- the marks without a bad size
 abbrev pub sound : ℕ → List Mark → List Mark
 sound limit marks = filter (λ (m : Mark). is_size limit m.size) marks
 
 abbrev pub AreSound : ℕ → List Mark → Type 0
 AreSound limit marks = AllByRecursion (λ (m : Mark). is_size limit m.size ≡ true) marks
 
--- A stream whose messages leave this rest has these marks: those of the messages, and a bad size
--- last, where the rest begins with one.
+-- A stream that leaves this rest has these marks: those of its messages, then a bad size if the
+-- rest begins with one.
 pub data EndsWith (limit : ℕ) (stream rest : List ℕ) (marks : List Mark) : Type 0 where
   messages : AreSound limit marks → ((size : ℕ) → front limit rest ≢ Bad size)
       → EndsWith limit stream rest marks
@@ -68,33 +69,33 @@ pub data EndsWith (limit : ℕ) (stream rest : List ℕ) (marks : List Mark) : T
       → AreSound limit before → drop place stream ≡ rest → front limit rest ≡ Bad size
       → EndsWith limit stream rest marks
 
--- each of these messages ends behind the first `before` bytes of its direction, and within the
--- first `after`
+-- each of these messages ends after the first `before` bytes of its direction, and within the first
+-- `after`
 abbrev pub Brings : ℕ → ℕ → ℕ → List Mark → Type 0
 Brings limit before after marks =
     AllByRecursion (λ (m : Mark). (before < finish limit m) × (finish limit m ≤ after)) marks
 
--- a message of the session, before which none is wl_display.error
+-- a message of the session with no wl_display.error before it
 pub record IsExamined (messages : List Judged) (k : ℕ) : Type 0 where
   pub within : k < length messages
   pub goes_on : (earlier : ℕ) (message : Judged) → earlier < k
       → slice_get messages earlier ≡ Some message → ends_session message ≡ false
 
--- A message of which a trace has a line: it keeps the rules, and so does each before it, none of
+-- A message with a line in a trace: it keeps the rules, and so does each message before it, none of
 -- which is wl_display.error.
 pub record IsPrinted (messages : List Judged) (k : ℕ) : Type 0 where
   pub call : Call
   pub is : slice_get messages k ≡ Some (Ok call)
   pub passed : ArePassed messages k
 
--- the messages of one direction in a merged list, in its order
+-- the messages of one direction in a merged list, in order
 abbrev pub marks_in : Direction → List FramedMessage → List Mark
 marks_in direction [] = []
 marks_in direction (frame ∷ frames) =
     (if same_direction frame.direction direction then mark frame.start frame.size ∷ [] else [])
     ++ marks_in direction frames
 
--- A message comes with the piece of its direction that brings its last byte, and counts the tokens
+-- A message belongs to the piece of its direction that brings its last byte, and counts the tokens
 -- that its direction brought with the pieces up to that one.
 pub record ComesWith (limit : ℕ) (pieces : List Piece) (k : ℕ) (frame : FramedMessage) : Type 0
   where
@@ -107,7 +108,7 @@ pub record ComesWith (limit : ℕ) (pieces : List Piece) (k : ℕ) (frame : Fram
         ≤ length (stream_of frame.direction (take (suc k) pieces))
     pub tokens : frame.tokens ≡ piece_tokens frame.direction (take (suc k) pieces)
 
--- These messages come with the pieces in their order, from one piece on and before another.
+-- These messages belong to the pieces in order, from one piece on and before another.
 abbrev pub ComeInOrder : ℕ → List Piece → ℕ → ℕ → List FramedMessage → Type 0
 ComeInOrder limit pieces from to [] = Unit {0}
 ComeInOrder limit pieces from to (frame ∷ frames) =

@@ -11,7 +11,7 @@ use Rattle.wl_check.specs.Places.{KnownAtPlace, known}
 use Rattle.wl_check.specs.Rules.{reader_by}
 use Rattle.wl_check.specs.Session.{Session, Judged, messages, changes_at, ends_session}
 
--- the line of a message, by what is known at its place
+-- the line of a message, given what is known at its place
 abbrev pub call_line : List Interface → KnownAtPlace → Call → List ℕ
 call_line tables k call =
     line tables (side_of call.direction) (reader_by tables k call.direction).object call.received
@@ -21,7 +21,7 @@ abbrev pub judged_line : List Interface → KnownAtPlace → Option Judged → L
 judged_line tables k (Some (Ok call)) = call_line tables k call
 judged_line tables k _ = []
 
--- what is written of a session, where it has these lines
+-- the wanted output for a session with these lines
 abbrev pub wanted : Output → List ℕ → List ℕ
 wanted Nothing lines = []
 wanted Lines lines = lines
@@ -34,8 +34,8 @@ lines_within tables session (suc k) =
     ++ judged_line tables (known (changes_at tables (messages tables session)) (suc k))
     (slice_get (messages tables session) k)
 
--- How many messages stand before the verdict's end: all before the first that breaks a rule, or up
--- to the first wl_display.error, itself among them.
+-- How many messages come before the verdict's end: all before the first that breaks a rule, or up
+-- to and including the first wl_display.error.
 abbrev pub lasting : List Judged → ℕ
 lasting [] = 0
 lasting (Err fault ∷ others) = 0

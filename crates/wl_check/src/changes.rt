@@ -1,4 +1,4 @@
-//! What a message does.
+//! The changes by a message.
 use wl_objects::NewObject;
 use wl_recording::Direction;
 use wl_wire::Iface;
@@ -11,13 +11,13 @@ pub struct AdvertisedGlobal {
     pub version: u32,
 }
 
-/// What a message does to what is known of a session.
+/// How a message changes what is known about a session.
 #[derive(Clone, Copy, Debug)]
 pub struct MessageChanges {
     pub direction: Direction,
     /// The object that it makes.
     pub made: Option<NewObject>,
-    /// The id of which it is the delete_id.
+    /// The id that it frees, if it is a delete_id.
     pub deleted: Option<u32>,
     /// The id of the object that it destroys.
     pub destroyed: Option<u32>,

@@ -13,11 +13,11 @@ use wl_message::Limit;
 use wl_recording::{Recording, RecordingError};
 use wl_sigs::Tables;
 
-/// Whether a recorded session is lawful; else the first message that breaks a rule.
+/// Whether a recorded session is lawful; if not, the first message that breaks a rule.
 ///
-/// The messages of both directions form one list: each stands at the piece that brings its last
-/// byte, those of one piece in their order. A wl_display.error ends the session, and is counted.
-/// Messages may be as long as the limit says.
+/// The messages of both directions form one list: each is at the piece that brings its last byte,
+/// and those of one piece are in stream order. A wl_display.error ends the session, and is counted.
+/// `limit` is the longest message.
 pub fn check<A: Allocator + Clone>(
     alloc: A,
     recording: &Recording<A>,
@@ -34,11 +34,11 @@ pub fn check<A: Allocator + Clone>(
     Ok(verdict)
 }
 
-/// Whether the session of a recording's text is lawful, as `check` says it of the recording; or the
-/// first line that is none of a recording's, as `Recording::parse` says it.
+/// Whether the session in a recording's text is lawful, as `check` of the recording says; or the
+/// first line that a recording cannot have, as `Recording::parse` says.
 ///
-/// Each message is judged as its line completes it, and of the text no more than one piece and the
-/// started messages are kept. All lines are read, also behind a message that breaks a rule.
+/// Each message is judged when its line completes it, and at most one piece of the text and the
+/// started messages are kept. All lines are read, also after a message that breaks a rule.
 pub fn check_text<A: Allocator + Clone>(
     alloc: A,
     text: &[u8],
@@ -50,7 +50,7 @@ pub fn check_text<A: Allocator + Clone>(
     ensures bad { IfErr result
         (λ e. (e ≡ Memory) ⊎ ((n : ℕ) × (e ≡ BadLine n) × IsFirstBad text.now n)) }
 
-    // and where the text is a recording, the result is the verdict on it
+    // and if the text is a recording, the result is the verdict on it
     ensures only { (pieces : List Piece) → TextRecords text.now pieces
         → MatchResult result
         (λ verdict. IsVerdictOf tables.now (session_of limit.bytes pieces) verdict)

@@ -7,17 +7,17 @@ use crate::frames::WaitingBytes;
 use std::alloc::{AllocError, Allocator, Global};
 use std::marker::Model;
 
-/// The bytes of a direction, from those of its messages on that were not gone past.
+/// The bytes of a direction, without those of messages that were passed over.
 #[derive(Debug, Drop)]
 pub(crate) struct FollowedStream<A: Allocator = Global> {
     bytes: WaitingBytes<A>,
-    /// How many of the bytes are of messages that were gone past. They are taken out together.
+    /// How many of the bytes belong to messages that were passed over. They are removed together.
     gone: usize,
     /// The number of the next message, from 1.
     index: usize,
-    /// Where the last message ends that was gone past.
+    /// Where the last message that was passed over ends.
     end: usize,
-    /// Whether it had a bad size, behind which no message can be found.
+    /// Whether it had a bad size, after which no message can be found.
     is_lost: bool,
 }
 
@@ -49,7 +49,7 @@ impl<A: Allocator> FollowedStream<A> {
         }
     }
 
-    /// The bytes behind the messages that were gone past.
+    /// The bytes after the messages that were passed over.
     pub(crate) fn waiting(&self) -> &[u8]
         ensures { result.now ≡ self.now.waiting }
     {
@@ -64,7 +64,7 @@ impl<A: Allocator> FollowedStream<A> {
         self.index
     }
 
-    /// Where the last message ends that was gone past.
+    /// Where the last message that was passed over ends.
     pub(crate) fn end(&self) -> usize
         ensures { result ≡ self.now.end }
     {
@@ -85,12 +85,12 @@ impl<A: Allocator> FollowedStream<A> {
         self.bytes.append(bytes)
     }
 
-    /// Goes past the message in front, which has this size, or past all bytes where that is bad.
+    /// Passes over the next message, which has this size, or over all bytes if the size is bad.
     pub(crate) fn go_past(&mut self, size: u16, is_good: bool) -> Result<(), AllocError>
         ensures ok { OnOk result (self.new ≡ bytes_behind is_good size self.old) }
         ensures err { OnErr result (self.new ≡ self.old) }
     {
-        // More than these numbers count does not fit into any memory.
+        // No memory can hold more than these numbers can count.
         let Some(index) = self.index.checked_add(1) else {
             return Err(AllocError);
         };

@@ -1,4 +1,4 @@
-//! A session's messages, followed without being judged.
+//! Following a session's messages without judging them.
 ghost use Rattle.std.specs.Prelude.{◌≡◌, ◌≤◌, true, length, is_some, None, OnErr, OnOk, IfOk};
 ghost use Rattle.wl_message.specs.Cut.{is_size};
 ghost use Rattle.wl_wire.specs.Word.{header_at};
@@ -25,36 +25,36 @@ use wl_recording::Direction;
 use wl_sigs::Tables;
 use wl_wire::{Header, Iface, ValueRef};
 
-/// What stands in place of an interface that the tables lack.
+/// Replaces an interface that the tables lack.
 pub const NO_INTERFACE: Iface = Iface(u16::MAX);
 
-/// A message of a session, as it is known without being judged.
+/// A message of a session that is followed, not judged.
 #[derive(Clone, Copy, Debug)]
 pub struct Followed<'a> {
-    /// Its place among the messages of both directions, from 1.
+    /// Its number among the messages of both directions, from 1.
     pub number: u64,
-    /// Its place among those of its own, from 1.
+    /// Its number among those of its direction, from 1.
     pub index: usize,
     /// Where it begins in its direction.
     pub offset: usize,
     pub header: Header,
-    /// Its bytes; where the size in its header is none that a message may have, all that came.
+    /// Its bytes; if the size in its header is one that no message may have, all bytes that came.
     pub bytes: &'a [u8],
-    /// What is known of the object that it is for, before it.
+    /// What is known about its target, before it.
     pub target: Option<Entry>,
-    /// Whether it could be read: its object is known, the tables have the message, and it names no
-    /// object that is not known.
+    /// Whether it could be read: its target is known, the tables have the message, and it names no
+    /// unknown object.
     pub is_read: bool,
-    /// What it does to what is known.
+    /// How it changes what is known.
     pub changes: MessageChanges,
 }
 
-/// Follows a session while it goes on, and judges nothing: which object each message is for, and
-/// what it makes, destroys and frees. It goes past whatever it cannot read, as messages of
-/// interfaces that the tables lack, and those that break a rule. Of what such a message may have
-/// changed nothing is said: an id whose object is not certain names none.
+/// Follows a session while it goes on, and judges nothing: it finds the target of each message, and
+/// what the message makes, destroys and frees. It passes over whatever it cannot read, such as
+/// messages of interfaces that the tables lack, and messages that break a rule. Nothing is claimed
+/// about what such a message may have changed: an id whose object is not certain names none.
 ///
-/// It keeps the objects that are held, the globals that were announced and the bytes behind the last
+/// It keeps the objects that are held, the globals that were announced and the bytes after the last
 /// message. Its memory grows with what passed, whatever the ids are.
 #[derive(Drop)]
 pub struct Follower<'t, A: Allocator = Global> {
@@ -70,7 +70,7 @@ pub struct Follower<'t, A: Allocator = Global> {
     to_client: FollowedStream<A>,
 }
 
-/// A message that is gone past.
+/// A message that is being passed over.
 #[derive(Clone, Copy)]
 struct Step {
     number: u64,
@@ -80,7 +80,7 @@ struct Step {
     changes: MessageChanges,
 }
 
-/// What the reader of a message knows that is not judged.
+/// What the reader of a message knows when messages are not judged.
 #[derive(Drop)]
 struct FollowerLookup<'a, A: Allocator = Global> {
     tables: &'a Tables,
@@ -118,8 +118,8 @@ impl<'a, A: Allocator> Lookup for FollowerLookup<'a, A> {
     }
 }
 
-/// The object of an id, if the id still names it, where `unread` is the number of the last message
-/// that could not be read.
+/// The object of an id, if the id still names it; `unread` is the number of the last message that
+/// could not be read.
 fn if_certain(tables: &Tables, unread: u64, id: u32, entry: Option<Entry>) -> Option<Entry>
     ensures { result ≡ if_certain tables.now unread id entry }
 {
@@ -131,7 +131,7 @@ fn if_certain(tables: &Tables, unread: u64, id: u32, entry: Option<Entry>) -> Op
     }
 }
 
-/// The global that a `global` event announces, also where the tables lack its interface.
+/// The global that a `global` event announces, even if the tables lack its interface.
 fn announced(tables: &Tables, values: &Values<'_>) -> Option<AdvertisedGlobal>
     ensures { result ≡ announced tables.now values.now }
 {
@@ -151,7 +151,7 @@ fn announced(tables: &Tables, values: &Values<'_>) -> Option<AdvertisedGlobal>
     }
 }
 
-/// What a message does that could not be read.
+/// The changes by a message that could not be read.
 fn changes_unread(direction: Direction, target: u32) -> MessageChanges
     ensures { result ≡ changes_unread direction target }
 {
@@ -171,7 +171,7 @@ fn changes_unread(direction: Direction, target: u32) -> MessageChanges
 }
 
 impl<'a, A: Allocator> FollowerLookup<'a, A> {
-    /// What the message with this header and this body does, and whether it could be read.
+    /// The changes by the message with this header and this body, and whether it could be read.
     fn said(&self, direction: Direction, header: Header, body: &[u8]) -> (MessageChanges, bool)
         ensures changes { result.0 ≡ said_changes self.now.tables.now direction header.object
             (said self.now.tables.now self.now.held.now self.now.unread self.now.place direction
@@ -201,7 +201,7 @@ impl<'a, A: Allocator> FollowerLookup<'a, A> {
         }
     }
 
-    /// The same of the message that begins these bytes.
+    /// The same for the message at the front of these bytes.
     fn said_in(&self, limit: Limit, direction: Direction, bytes: &[u8]) -> (MessageChanges, bool)
         requires header { 8 ≤ length bytes.now }
         requires whole { is_size limit.bytes (header_at bytes.now).size ≡ true
@@ -221,8 +221,8 @@ impl<'a, A: Allocator> FollowerLookup<'a, A> {
     }
 }
 
-/// Changes what is held as a message at this place does. Where memory runs out, a part of the
-/// changes may have been applied, as the undo list says.
+/// Makes the changes of a message at this place to what is held. Without memory, some of the
+/// changes may have been made; the undo list has these.
 fn apply<A: Allocator + Clone>(
     held: &mut Holdings<A>,
     place: u64,
@@ -241,8 +241,8 @@ fn apply<A: Allocator + Clone>(
     Ok(())
 }
 
-/// Changes what is held as a message does that was read so far, and goes past its bytes. Where
-/// memory runs out, what is held may have changed, as the undo list says.
+/// Makes the changes of a message that was read so far, and passes over its bytes. Without memory,
+/// what is held may have changed; the undo list has these changes.
 fn change<A: Allocator + Clone>(
     held: &mut Holdings<A>,
     stream: &mut FollowedStream<A>,
@@ -259,7 +259,7 @@ fn change<A: Allocator + Clone>(
     stream.go_past(step.size, step.is_good)
 }
 
-/// The same, but where memory runs out, nothing has changed.
+/// The same, but without memory nothing changes.
 fn change_or_go_back<A: Allocator + Clone>(
     alloc: &A,
     held: &mut Holdings<A>,
@@ -284,8 +284,7 @@ fn change_or_go_back<A: Allocator + Clone>(
 }
 
 impl<'t, A: Allocator + Clone> Follower<'t, A> {
-    /// Before the first byte: wl_display is there, with id 1. Messages may be as long as the limit
-    /// says.
+    /// Before the first byte: wl_display exists, with id 1. `limit` is the longest message.
     pub fn new(alloc: A, tables: &'t Tables, limit: Limit) -> Result<Self, AllocError>
         ensures { IfOk result (IsNewFollower tables.now limit.bytes) }
     {
@@ -310,7 +309,7 @@ impl<'t, A: Allocator + Clone> Follower<'t, A> {
         })
     }
 
-    /// Takes bytes of a direction, cut anywhere. Where memory runs out, nothing has changed.
+    /// Takes bytes of a direction, split anywhere. Without memory nothing changes.
     pub fn feed(&mut self, direction: Direction, bytes: &[u8]) -> Result<(), AllocError>
         ensures ok { OnOk result (WasFed direction bytes.now self.old self.new) }
         ensures err { OnErr result (self.new ≡ self.old) }
@@ -321,8 +320,8 @@ impl<'t, A: Allocator + Clone> Follower<'t, A> {
         }
     }
 
-    /// Goes past the message in front of a direction, if one is there. Where memory runs out,
-    /// nothing has changed.
+    /// Passes over the next message of a direction, if there is one. Without memory nothing
+    /// changes.
     pub fn go_past(&mut self, direction: Direction) -> Result<(), AllocError>
         ensures past { OnOk result (is_some (size_ahead self.old direction) ≡ true
             → WentPast direction self.old self.new) }
@@ -339,7 +338,7 @@ impl<'t, A: Allocator + Clone> Follower<'t, A> {
             changes: message.changes,
         };
         let is_read = message.is_read;
-        // More than these numbers count does not fit into any memory.
+        // No memory can hold more than these numbers can count.
         let Some(next) = step.number.checked_add(1) else {
             return Err(AllocError);
         };
@@ -373,8 +372,8 @@ impl<'t, A: Allocator> Follower<'t, A> {
         }
     }
 
-    /// The message in front of a direction, as soon as it is whole, or its size is bad. It stays
-    /// there until it is gone past.
+    /// The next message of a direction, as soon as it is whole or its size is known to be bad. It
+    /// stays until it is passed over.
     pub fn ahead(&self, direction: Direction) -> Option<Followed<'_>>
         ensures { TellsAhead self.now direction result }
     {
@@ -406,7 +405,7 @@ impl<'t, A: Allocator> Follower<'t, A> {
         })
     }
 
-    /// The object that an id names, before the messages that were not gone past.
+    /// The object that an id names, before the messages that were not passed over.
     pub fn object(&self, id: u32) -> Option<Entry>
         ensures { result ≡ if_certain self.now.tables.now self.now.unread id
             (held_object self.now.held id) }
@@ -414,22 +413,22 @@ impl<'t, A: Allocator> Follower<'t, A> {
         if_certain(self.tables, self.unread, id, self.held.object(id))
     }
 
-    /// How many ids of the client's range there are, from 0 on, of which any may name an object.
+    /// How many ids of the client's range, from 0 on, may name an object.
     pub fn client_id_count(&self) -> usize
         ensures { result ≡ length self.now.held.objects }
     {
         self.held.slots_in(0)
     }
 
-    /// How many ids of the server's range there are, from its first on, of which any may.
+    /// How many ids of the server's range, from its first on, may name an object.
     pub fn server_id_count(&self) -> usize
         ensures { result ≡ length self.now.held.server_objects }
     {
         self.held.slots_in(FIRST_SERVER_ID)
     }
 
-    /// The greatest version in which a global of this name was announced with this interface, or 0;
-    /// `NO_INTERFACE` stands for all that the tables lack.
+    /// The greatest version with which a global of this name was announced with this interface, or
+    /// 0; `NO_INTERFACE` means all interfaces that the tables lack.
     pub fn announced_version(&self, name: u32, interface: Iface) -> u32
         ensures { result ≡ held_version self.now.held (name, interface.0) }
     {

@@ -20,15 +20,15 @@ use std::marker::Model;
 use wl_object_map::{DISPLAY_ID, FIRST_SERVER_ID};
 use wl_objects::{Entry, NewObject, State};
 
-/// The objects that are held, where those that are ending are zombies, and the globals that were
-/// advertised. Whatever changes them writes down what it overwrites, so that `undo` can put all
-/// back, also where memory runs out in the midst of it.
+/// The objects that are held (ending ones as zombies), and the globals that were advertised.
+/// Whatever changes them records what it overwrites, so that `undo` can restore all, also if memory
+/// runs out halfway.
 #[derive(Drop)]
 pub(crate) struct Holdings<A: Allocator = Global> {
-    /// What stands at each id of the client's range. Ids are used in their order, so behind slot 0 no
-    /// more are kept than were used.
+    /// The object at each id of the client's range. Ids are used in order, so besides slot 0 no
+    /// more slots are kept than ids were used.
     objects: Vec<Option<Entry>, A>,
-    /// What stands at each id of the server's range, from its first id on, as many as were used.
+    /// The object at each id of the server's range, from its first id on, for as many as were used.
     server_objects: Vec<Option<Entry>, A>,
     /// For each name and each interface of the tables, the greatest advertised version.
     globals: BTreeMap<(u32, u16), u32, A>,
@@ -46,7 +46,7 @@ impl<A: Allocator> Model for Holdings<A> {
     } };
 }
 
-/// What stands at a place of the slots.
+/// The object at a place of the slots.
 fn slot_of(slots: &[Option<Entry>], place: u32) -> Option<Entry>
     ensures { result ≡ get_or slots.now place None }
 {
@@ -56,7 +56,7 @@ fn slot_of(slots: &[Option<Entry>], place: u32) -> Option<Entry>
     }
 }
 
-/// Makes slots up to a place, if they are not there.
+/// Adds slots up to a place, if they are missing.
 #[inline(always)]
 fn reach<A: Allocator>(slots: &mut Vec<Option<Entry>, A>, place: u32) -> Result<(), AllocError>
     ensures items { OnOk result (slots.new.items
@@ -73,7 +73,7 @@ fn reach<A: Allocator>(slots: &mut Vec<Option<Entry>, A>, place: u32) -> Result<
     Ok(())
 }
 
-/// Writes over what stands at a place of the slots, for which a slot is made if there is none.
+/// Overwrites a place of the slots; adds a slot if there is none.
 #[inline(always)]
 fn write_slot<A: Allocator>(
     slots: &mut Vec<Option<Entry>, A>,
@@ -92,7 +92,7 @@ fn write_slot<A: Allocator>(
     Ok(())
 }
 
-/// Puts back what stood at a place of the slots, and of these the first so many.
+/// Restores a place of the slots, and the number of slots.
 fn put_back_slot<A: Allocator>(
     slots: &mut Vec<Option<Entry>, A>,
     place: u32,
@@ -107,7 +107,7 @@ fn put_back_slot<A: Allocator>(
     slots.truncate(len);
 }
 
-/// Writes the version of a global that is there.
+/// Sets the version of a global, which must be there.
 fn set_version<A: Allocator>(
     globals: &mut BTreeMap<(u32, u16), u32, A>,
     key: (u32, u16),
@@ -137,7 +137,8 @@ impl<A: Allocator + Clone> Holdings<A> {
         })
     }
 
-    /// Remembers a global that an event advertises, if no event did with as great a version.
+    /// Remembers a global that an event advertises, unless an event advertised at least this
+    /// version.
     pub(crate) fn remember_global(
         &mut self,
         global: &AdvertisedGlobal,
@@ -172,7 +173,7 @@ impl<A: Allocator> Holdings<A> {
         }
     }
 
-    /// How many slots there are in the range of an id.
+    /// How many slots the range of an id has.
     pub(crate) fn slots_in(&self, id: u32) -> usize
         ensures { result ≡ slots_in self.now id }
     {
@@ -190,15 +191,15 @@ impl<A: Allocator> Holdings<A> {
         self.globals.get(&key).copied().unwrap_or(0)
     }
 
-    /// Writes over what stands at an id, for which a slot is made if there is none.
+    /// Overwrites the object at an id; adds a slot if there is none.
     #[inline(always)]
     fn write(&mut self, id: u32, entry: Option<Entry>) -> Result<(), AllocError>
         ensures entry { OnOk result ((other : ℕ) → held_object self.new other
             ≡ cond (nat_eq id other) entry (held_object self.old other)) }
         ensures slots { OnOk result (AreReached id self.old self.new) }
         ensures globals { self.new.globals ≡ self.old.globals }
-        ensures back { put_back (Object id (held_object self.old id) (slots_in self.old id)) self.new
-            ≡ self.old }
+        ensures back { put_back (Object id (held_object self.old id) (slots_in self.old id))
+            self.new ≡ self.old }
     {
         if id >= FIRST_SERVER_ID {
             write_slot(&mut self.server_objects, id - FIRST_SERVER_ID, entry)
@@ -207,7 +208,7 @@ impl<A: Allocator> Holdings<A> {
         }
     }
 
-    /// Writes over what stands at an id, as `write` does, and writes down what stood there.
+    /// Overwrites the object at an id, as `write` does, and records the old one.
     #[inline(always)]
     fn put(
         &mut self,
@@ -229,7 +230,7 @@ impl<A: Allocator> Holdings<A> {
         self.write(id, entry)
     }
 
-    /// Frees an id, unless it is that of wl_display or of the server's range.
+    /// Frees an id, except that of wl_display and those of the server's range.
     #[inline(always)]
     pub(crate) fn free(&mut self, id: Option<u32>, undo: &mut UndoList<A>) -> Result<(), AllocError>
         ensures freed { OnOk result ((other : ℕ) → held_object self.new other
@@ -302,7 +303,7 @@ impl<A: Allocator> Holdings<A> {
         self.put(new.id, Some(entry), undo)
     }
 
-    /// Puts back what was overwritten at one place.
+    /// Restores one place.
     fn put_back(&mut self, before: Overwritten)
         ensures { self.new ≡ put_back before self.old }
     {
@@ -323,7 +324,7 @@ impl<A: Allocator> Holdings<A> {
         }
     }
 
-    /// Puts back all of a list, the last first.
+    /// Restores all of a list, the last first.
     fn put_back_all(&mut self, list: &mut Vec<Overwritten, A>)
         ensures { self.new ≡ undone list.old.items self.old }
     {
@@ -332,8 +333,8 @@ impl<A: Allocator> Holdings<A> {
         }
     }
 
-    /// Puts back all that was written down. Room that was made for more objects is given back, where
-    /// there is memory to move the others to.
+    /// Restores all that was recorded. The room made for more objects is given back, if there is
+    /// memory to move the others.
     pub(crate) fn undo(&mut self, undo: &mut UndoList<A>)
         ensures { (held : Held) → undone_by undo.old self.old ≡ Some held → self.new ≡ held }
     {

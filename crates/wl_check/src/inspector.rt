@@ -15,15 +15,15 @@ use wl_objects::{DISPLAY, ParsedArgs};
 use wl_recording::Direction;
 use wl_sigs::Tables;
 
-/// Judges a session while it goes on: each piece as it passes, cut anywhere.
+/// Judges a session while it goes on, piece by piece; pieces may be split anywhere.
 ///
-/// It says of the pieces so far what [`check`](crate::check) and [`trace`](crate::trace) say of a
-/// recording of them. Behind a message that breaks a rule, and behind a wl_display.error, it judges
-/// and prints nothing more, and only counts.
+/// About the pieces so far it says what [`check`](crate::check) and [`trace`](crate::trace) say
+/// about a recording of them. After a message that breaks a rule, and after a wl_display.error, it
+/// judges and prints nothing more, and only counts.
 ///
 /// It keeps the objects that are held, the globals that were advertised, the bytes of started
-/// messages and the lines of the last piece. So its memory grows with open objects and started
-/// messages alone, however long the session lasts.
+/// messages and the lines of the last piece. So its memory grows only with open objects and started
+/// messages, however long the session lasts.
 #[derive(Drop)]
 pub struct Inspector<'t, A: Allocator = Global> {
     tables: &'t Tables,
@@ -38,7 +38,7 @@ impl<'t, A: Allocator + Clone> Inspector<'t, A> {
     ghost use Rattle.wl_check.specs.Inspected.{printed, HasPassed, PassesPiece};
     ghost use Rattle.wl_check.specs.Printed.{piece_of};
 
-    /// Before the first piece. Messages may be as long as the limit says.
+    /// Before the first piece. `limit` is the longest message.
     pub fn new(alloc: A, tables: &'t Tables, limit: Limit) -> Result<Self, AllocError>
         ensures passed { IfOk result (λ inspector. HasPassed limit.bytes tables.now [] inspector) }
         ensures lines { IfOk result (λ inspector. printed inspector ≡ []) }
@@ -53,7 +53,7 @@ impl<'t, A: Allocator + Clone> Inspector<'t, A> {
 
     /// Judges the messages that a piece completes, and prints their lines.
     ///
-    /// Where memory runs out, nothing has changed, and the piece can be passed again.
+    /// Without memory nothing changes, and the piece can be passed again.
     pub fn pass(
         &mut self,
         direction: Direction,
@@ -64,7 +64,7 @@ impl<'t, A: Allocator + Clone> Inspector<'t, A> {
             → PassesPiece limit tables (piece_of direction bytes.now tokens) self.old self.new) }
         ensures err { OnErr result (self.new ≡ self.old) }
     {
-        // That tables are valid is what each of their calls says.
+        // Every call on tables says that they are valid.
         let _version = self.tables.version(DISPLAY);
         let text = Vec::new(self.lines.allocator().clone()?);
         let overwritten = Vec::new(self.lines.allocator().clone()?);
@@ -103,7 +103,8 @@ impl<'t, A: Allocator> Inspector<'t, A> {
         self.lines.as_slice()
     }
 
-    /// How many messages were judged, all of them lawful: the first so many of both directions.
+    /// How many messages were judged, all of them lawful: the first ones of both directions
+    /// together.
     pub fn judged_count(&self) -> u64
         ensures { (limit : ℕ) (tables : List Interface) (ps : List Piece)
             → HasPassed limit tables ps self.now

@@ -17,9 +17,9 @@ use wl_recording::Direction;
 use wl_sigs::Tables;
 use wl_wire::Iface;
 
-/// What is known at a place: the objects that are held, where those that are ending are zombies;
-/// the greatest id of the client's range that was used, and how many were of the server's; the
-/// globals that were advertised; how many tokens were taken.
+/// What is known at a place: the objects that are held (ending ones as zombies); the greatest id
+/// used in the client's range, and how many ids were used in the server's; the globals that were
+/// advertised; how many tokens were taken.
 #[derive(Drop)]
 pub(crate) struct KnownState<A: Allocator = Global> {
     pub held: Holdings<A>,
@@ -30,7 +30,7 @@ pub(crate) struct KnownState<A: Allocator = Global> {
 }
 
 impl<A: Allocator + Clone> KnownState<A> {
-    /// What is known before the first message: wl_display is there, with id 1.
+    /// What is known before the first message: wl_display exists, with id 1.
     pub(crate) fn new(alloc: &A, tables: &Tables) -> Result<Self, AllocError>
         ensures valid { OnOk result (Valid tables.now) }
         ensures known { IfOk result (λ k. IsFirst (known_in k)) }
@@ -53,8 +53,8 @@ impl<A: Allocator + Clone> KnownState<A> {
         })
     }
 
-    /// What is known behind a message that stands at a place. Where memory runs out, a part of the
-    /// changes may have been applied to what is held, as the undo list says if there is one.
+    /// What is known after a message at a place. Without memory, some of the changes to what is
+    /// held may have been made; the undo list, if there is one, has these.
     #[inline(always)]
     pub(crate) fn apply(
         &mut self,
@@ -128,23 +128,23 @@ impl<A: Allocator> KnownState<A> {
         self.held.version((name, iface.0))
     }
 
-    /// The object that is held with this id.
+    /// The object held with this id.
     fn object(&self, id: u32) -> Option<Entry>
         ensures { result ≡ (known_in self.now).object id }
     {
         self.held.object(id)
     }
 
-    /// Whether an id can be that of a new object of the client: it is not 0, no object holds it, and
-    /// it was used before or is the next one.
+    /// Whether an id can be that of a new object of the client: it is not 0, no held object has it,
+    /// and it was used before or is the next one.
     fn is_free(&self, id: u32) -> bool
         ensures { result ≡ is_free_id (known_in self.now) id }
     {
         id != 0 && self.object(id).is_none() && u64::from(id) <= u64::from(self.used) + 1
     }
 
-    /// Whether an id can be that of a new object of the server: it is of the server's range, no open
-    /// object that a request can end holds it, and it was used before or is the next one.
+    /// Whether an id can be that of a new object of the server: it is in the server's range, no
+    /// open object that a request can end has it, and it was used before or is the next one.
     fn is_free_at_server(&self, tables: &Tables, id: u32) -> bool
         ensures { result ≡ is_free_server_id tables.now (known_in self.now) id }
     {
@@ -154,7 +154,7 @@ impl<A: Allocator> KnownState<A> {
     }
 }
 
-/// What the reader of a message knows: of a request, only the open objects.
+/// What the reader of a message knows; for a request, only the open objects.
 #[derive(Drop)]
 pub(crate) struct ReaderLookup<'a, A: Allocator = Global> {
     pub tables: &'a Tables,

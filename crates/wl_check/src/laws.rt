@@ -1,4 +1,4 @@
-//! Laws of sessions. Each is the contract of a function that does nothing: it says in words over
+//! Laws of sessions. Each is the contract of a function that does nothing: it says in words about
 //! places what the definitions compute.
 ghost use Rattle.std.specs.Prelude.{◌≡◌, ◌↔◌, ◌<◌, ◌≤◌, ◌+◌, ◌++◌, ℕ, List, Some, true, false};
 ghost use Rattle.std.specs.Prelude.{length, drop, map};
@@ -22,8 +22,8 @@ ghost use Rattle.wl_check.specs.Text.{WasUsed};
 
 use std::alloc::Allocator;
 
-/// The messages of a stream are those that its sizes cut off. A bad size, if one follows them,
-/// stands behind them and is the last.
+/// The messages of a stream are those that its sizes cut off. A bad size, if there is one, comes
+/// after them and is the last.
 pub fn a_stream_has_its_messages()
     ensures messages { (limit : ℕ) (stream : List ℕ)
         → map (part_of stream) (sound limit (cut limit stream).marks)
@@ -32,45 +32,46 @@ pub fn a_stream_has_its_messages()
         → EndsWith limit stream (rest_of limit stream) (cut limit stream).marks }
 {}
 
-/// In the merged list each message of a direction stands once, in the order of its stream.
+/// The merged list has each message of a direction once, in the order of its stream.
 pub fn each_message_stands_once()
     ensures { (limit : ℕ) (pieces : List Piece) (direction : Way)
         → marks_in direction (session_of limit pieces).frames
         ≡ (cut limit (stream_of direction pieces)).marks }
 {}
 
-/// The messages of both directions follow the pieces that bring their last bytes, a bad size the
-/// one that brings the last byte of its header; and tokens count up to a message's own piece.
+/// The messages of both directions are in the order of the pieces that bring their last bytes (for
+/// a bad size, the last byte of its header); and a message's tokens are counted up to its own
+/// piece.
 pub fn messages_follow_their_pieces()
     ensures { (limit : ℕ) (pieces : List Piece)
         → ComeInOrder limit pieces 0 (length pieces) (session_of limit pieces).frames }
 {}
 
-/// A piece brings the last byte of each message that it completes, and of a bad size the last byte
-/// of its header.
+/// A piece brings the last byte of each message that it completes; for a bad size, the last byte of
+/// its header.
 pub fn a_piece_brings_last_bytes()
     ensures { (limit : ℕ) (before piece : List ℕ)
         → Brings limit (length before) (length (before ++ piece))
         (drop (length (cut limit before).marks) (cut limit (before ++ piece)).marks) }
 {}
 
-/// An id names the object that was made with it: one of the client's range until its delete_id, one
-/// of the server's until an event makes it again.
+/// An id names the object that was made with it: in the client's range until its delete_id, in the
+/// server's until an event makes the id again.
 pub fn an_id_names_what_is_held()
     ensures { (tables : List Interface) (session : Session) (place birth id : ℕ)
         → (holder (changes_at tables (messages tables session)) place id ≡ Some birth)
         ↔ StaysHeld (changes_at tables (messages tables session)) place birth id }
 {}
 
-/// An object is ending where a message destroyed it.
+/// An object is ending if a message destroyed it.
 pub fn an_object_is_open_until_destroyed()
     ensures { (tables : List Interface) (session : Session) (place birth id : ℕ)
         → (is_ending (changes_at tables (messages tables session)) birth place id ≡ false)
         ↔ StaysOpen (changes_at tables (messages tables session)) place birth id }
 {}
 
-/// The ids used before a place are, of the client's range, those from 1 to the greatest, and of the
-/// server's range the first so many.
+/// The ids used before a place are, in the client's range, those from 1 to the greatest, and in the
+/// server's range the first ones.
 pub fn ids_are_used_in_order()
     ensures of_client { (tables : List Interface) (session : Session) (place id : ℕ)
         → is_of_server id ≡ false
@@ -82,7 +83,7 @@ pub fn ids_are_used_in_order()
         ↔ WasUsed (changes_at tables (messages tables session)) place id }
 {}
 
-/// A version of a global was advertised where one event advertised the name, the interface and at
+/// A version of a global was advertised if one event advertised the name, the interface and at
 /// least this version.
 pub fn one_event_advertises_a_version()
     ensures { (tables : List Interface) (session : Session) (place name iface version : ℕ)
@@ -92,18 +93,18 @@ pub fn one_event_advertises_a_version()
         ↔ WasAdvertised (changes_at tables (messages tables session)) place name iface version }
 {}
 
-/// A message lies within the bytes of its direction; where its size is bad, its header does.
+/// A message is within the bytes of its direction; if its size is bad, its header is.
 pub fn messages_lie_within_their_streams()
     ensures { (limit : ℕ) (pieces : List Piece) → AreWithin (session_of limit pieces) }
 {}
 
-/// A message is examined where no wl_display.error stands before it.
+/// A message is examined if no wl_display.error comes before it.
 pub fn an_error_ends_a_session()
     ensures { (tables : List Interface) (session : Session) (k : ℕ)
         → (k < examined (messages tables session)) ↔ IsExamined (messages tables session) k }
 {}
 
-/// A trace has a line of each message up to the verdict's end, and of no other.
+/// A trace has a line for each message up to the verdict's end, and for no other.
 pub fn a_trace_ends_with_the_verdict()
     ensures { (tables : List Interface) (session : Session) (k : ℕ)
         → (k < lasting (messages tables session)) ↔ IsPrinted (messages tables session) k }
@@ -115,8 +116,8 @@ pub fn a_session_has_one_verdict()
         → IsVerdictOf tables session one → IsVerdictOf tables session other → one ≡ other }
 {}
 
-/// Where the pieces of a recording pass an inspector one by one, what it prints of them, put one
-/// behind the other, is what `trace` prints of the recording, and its verdict is that of `check`.
+/// If the pieces of a recording pass through an inspector one by one, all that it prints, joined,
+/// is what `trace` prints for the recording, and its verdict is that of `check`.
 pub fn inspecting_is_checking<A: Allocator>()
     ensures lines { (limit : ℕ) (tables : List Interface) (pieces : List Piece) (text : List ℕ)
         (inspector : Inspectors A)

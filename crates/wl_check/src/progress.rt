@@ -1,4 +1,4 @@
-//! How far a session was gone through.
+//! How far a session was examined.
 ghost use Rattle.std.specs.Prelude.{◌≡◌, ◌+◌, ◌-◌, ◌^◌, ◌<◌, ◌≤◌, OnOk, IfOk};
 ghost use Rattle.wl_recording.specs.declared.piece.Direction.TheVariants.{ToServer, ToClient};
 ghost use Rattle.wl_check.specs.declared.verdict.Verdict.TheVariants.{Broken, Lawful};
@@ -17,7 +17,7 @@ use wl_objects::Fault;
 use wl_recording::Direction;
 use wl_sigs::Tables;
 
-/// What was counted of one direction.
+/// The counts of one direction.
 #[derive(Clone, Copy, Debug)]
 pub(crate) struct Tally {
     /// How many messages.
@@ -26,7 +26,7 @@ pub(crate) struct Tally {
     pub end: usize,
 }
 
-/// What is known at a place, and what was counted before it.
+/// What is known at a place, and the counts before it.
 #[derive(Drop)]
 pub(crate) struct Progress<A: Allocator = Global> {
     pub known: KnownState<A>,
@@ -66,7 +66,7 @@ impl<A: Allocator + Clone> Progress<A> {
         })
     }
 
-    /// Goes past a message that stands at a place.
+    /// Passes over a message at a place.
     #[inline(always)]
     pub(crate) fn advance(
         &mut self,
@@ -101,7 +101,7 @@ impl<A: Allocator + Clone> Progress<A> {
 }
 
 impl<A: Allocator> Progress<A> {
-    /// What was counted of a direction.
+    /// The counts of a direction.
     pub(crate) fn tally(&self, direction: Direction) -> Tally
         ensures { result ≡ tally_in self.now direction }
     {
@@ -111,7 +111,7 @@ impl<A: Allocator> Progress<A> {
         }
     }
 
-    /// The verdict where no message broke a rule, by the number of bytes of each direction.
+    /// The verdict if no message broke a rule, given the number of bytes of each direction.
     pub(crate) fn lawful(&self, len_to_server: usize, len_to_client: usize) -> Verdict
         requires to_server { self.now.to_server.end ≤ len_to_server }
         requires to_client { self.now.to_client.end ≤ len_to_client }
@@ -127,7 +127,7 @@ impl<A: Allocator> Progress<A> {
         }
     }
 
-    /// The verdict where this message breaks a rule.
+    /// The verdict if this message breaks a rule.
     pub(crate) fn broken(&self, frame: &FramedMessage, fault: Fault) -> Verdict
         requires { (tally_in self.now frame.now.direction).count + 1 < 2 ^ 64 }
         ensures { result ≡ Broken frame.now.direction

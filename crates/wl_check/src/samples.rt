@@ -1,4 +1,4 @@
-//! Messages by which the server makes objects, and what comes behind them, worked out by hand. Each
+//! Messages by which the server makes objects, and what comes after them, worked out by hand. Each
 //! is the contract of a function that does nothing.
 ghost use Rattle.std.specs.Prelude.{◌≡◌, ◌++◌, [], ◌∷◌, codes, Some, None, Ok, Err};
 ghost use Rattle.wl_object_map.specs.declared.object.State.TheVariants.{Live, Zombie};
@@ -14,7 +14,7 @@ ghost use Rattle.wl_check.specs.Samples.{new_server_id, offer_place, own_buffer,
 ghost use Rattle.wl_check.specs.Samples.{with_device, with_params};
 
 /// The bytes of an event that makes an offer, of the request that destroys it, and of an event that
-/// shows it; then the event of the same bytes makes the next offer of the same id.
+/// shows it; then an event with the same bytes makes the next offer, with the same id.
 pub fn an_offer_and_the_next()
     ensures made { comes_behind (with_device 3) ToClient
         (3 ∷ 0 ∷ 0 ∷ 0 ∷ 0 ∷ 0 ∷ 12 ∷ 0 ∷ 0 ∷ 0 ∷ 0 ∷ 255 ∷ [])
@@ -45,8 +45,8 @@ pub fn an_offer_and_the_next()
         ≡ codes "<- device@3.show(offer@4278190080)\n" }
 {}
 
-/// An event for an offer that has ended, before its id is used again and after that; a request for
-/// it; and its delete_id, which changes nothing.
+/// An event for an offer that has ended, before and after its id is used again; a request for it;
+/// and its delete_id, which changes nothing.
 pub fn offers_that_ended()
     ensures before { comes_behind (with_device 3 ++ an_offer ∷ its_destruction ∷ []) ToClient
         (spelled_message first_id 0 (word 9))
@@ -64,8 +64,8 @@ pub fn offers_that_ended()
         ≡ Some (record { birth = 3; iface = offer_place; version = 3; state = Live }) }
 {}
 
-/// A device that was destroyed makes an offer all the same: it can be shown and destroyed, and its
-/// id was used.
+/// A device that was destroyed still makes an offer: it can be shown and destroyed, and its id is
+/// used.
 pub fn an_offer_of_an_ended_device()
     ensures made { comes_behind (with_device 3 ++ did_destroy ToServer 3 ∷ []) ToClient
         (spelled_message 3 0 (word first_id))
@@ -83,8 +83,8 @@ pub fn an_offer_of_an_ended_device()
         ≡ Ok (did_make ToClient 4278190081 offer_place 3) }
 {}
 
-/// A buffer that a request makes, and one that an event makes: each is destroyed by the same
-/// request, and a delete_id frees the id of the first alone.
+/// A buffer made by a request, and one made by an event: the same request destroys either, and a
+/// delete_id frees only the id of the first.
 pub fn buffers_made_both_ways()
     ensures by_request { comes_behind with_params ToServer (spelled_message 3 1 (word 4))
         ≡ Ok own_buffer }
@@ -106,8 +106,8 @@ pub fn buffers_made_both_ways()
 {}
 
 /// F6: an id below the server's range, 0, one that is neither used nor next, and that of an open
-/// offer; and in a request an id of the server's range, be it next or used. F5: an offer that was
-/// not made.
+/// offer; and in a request an id of the server's range, next or used. F5: an offer that was not
+/// made.
 pub fn wrong_ids()
     ensures below { comes_behind (with_device 3) ToClient (spelled_message 3 0 (word 4))
         ≡ Err (BadNewId 0) }
@@ -128,16 +128,16 @@ pub fn wrong_ids()
         ≡ Err (BadObject 0) }
 {}
 
-/// F10 past the last id of the range, where as many as it has were used; F6 stands before it. The
-/// last id is free where it is the next.
+/// The last id of the server's range is free if it is the next. If all ids of the range were used,
+/// the id after the last is F10, and the one after that F6.
 pub fn the_last_id()
     ensures last { new_server_id 1048574 4279238654 ≡ Free }
     ensures past { new_server_id 1048575 4279238655 ≡ TooMany }
     ensures wrong { new_server_id 1048575 4279238656 ≡ Wrong }
 {}
 
-/// A mode that no request can end at its version gives its place to the next, and one that a
-/// request can end does not.
+/// A mode that no request can end at its version is replaced by the next one; a mode that a request
+/// can end is not.
 pub fn modes_that_end_alone()
     ensures replaced { comes_behind (with_device 2 ++ a_mode 2 ∷ []) ToClient
         (spelled_message 3 2 (word first_id))

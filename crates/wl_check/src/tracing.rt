@@ -15,8 +15,8 @@ use wl_recording::{Recording, RecordingError};
 use wl_sigs::Tables;
 
 /// The lines of a recorded session's messages, each ended by a line feed, and the verdict of
-/// `check`. Where a message breaks a rule, the lines are those of the messages before it; a
-/// wl_display.error is the last that is printed. Messages may be as long as the limit says.
+/// `check`. If a message breaks a rule, the lines are those of the messages before it; a
+/// wl_display.error is the last message printed. `limit` is the longest message.
 pub fn trace<A: Allocator + Clone>(
     alloc: A,
     recording: &Recording<A>,
@@ -31,11 +31,11 @@ pub fn trace<A: Allocator + Clone>(
     scan(&alloc, recording.pieces(), tables, limit, Output::Lines)
 }
 
-/// The trace of a recording's text, as `trace` gives it of the recording; or the first line that is
-/// none of a recording's, as `Recording::parse` says it.
+/// The trace of a recording's text, as `trace` of the recording gives it; or the first line that a
+/// recording cannot have, as `Recording::parse` says.
 ///
-/// Each message is judged as its line completes it, and of the text no more than one piece and the
-/// started messages are kept. All lines are read, also behind a message that breaks a rule.
+/// Each message is judged when its line completes it, and at most one piece of the text and the
+/// started messages are kept. All lines are read, also after a message that breaks a rule.
 pub fn trace_text<A: Allocator + Clone>(
     alloc: A,
     text: &[u8],
@@ -48,7 +48,7 @@ pub fn trace_text<A: Allocator + Clone>(
     ensures bad { IfErr result
         (λ e. (e ≡ Memory) ⊎ ((n : ℕ) × (e ≡ BadLine n) × IsFirstBad text.now n)) }
 
-    // and where the text is a recording, the result is its trace and the verdict on it
+    // and if the text is a recording, the result is its trace and the verdict on it
     ensures only { (pieces : List Piece) → TextRecords text.now pieces
         → MatchResult result
         (λ r. (r.0.items ≡ trace_of tables.now (session_of limit.bytes pieces))

@@ -1,4 +1,4 @@
--- As reading streams has it: out of memory stands only in place of some report.
+-- In the form that the reading of streams needs: only some report can be out of memory.
 use Rattle.std.proofs.Common.{◌≡◌, ◌≢◌, true, false, Some, None, refl, sym, ◌∙◌, inl, inr}
 use Rattle.std.specs.Prelude.{Option, ◌||◌, IsOk}
 use Rattle.std.specs.declared.result.Result.{Result}

@@ -1,4 +1,4 @@
--- What a client reads of what waits stays the same when more comes behind it.
+-- What a client reads of what waits stays the same when more follows it.
 use Rattle.std.proofs.Common.{◌≡◌, ℕ, Bool, true, false, cond, List, refl, sym, ap}
 use Rattle.std.specs.declared.option.Option.{Option}
 use Rattle.std.specs.declared.option.Option.TheVariants.{None, Some}

@@ -1,4 +1,4 @@
--- What is known of a bind that may be written.
+-- What a bind that may be written is known to satisfy.
 use Rattle.std.specs.Prelude.{◌≡◌, ◌<◌, ◌^◌, ◌≤◌, ℕ, List, Option, Some}
 use Rattle.std.specs.declared.result.Result.TheVariants.{Ok}
 use Rattle.wl_sigs.specs.declared.signature.Side.TheVariants.{Request}
@@ -13,13 +13,13 @@ use Rattle.wl_connection.specs.Spelled.{MessageSpells}
 use Rattle.wl_client.specs.State.{State}
 use Rattle.wl_client.specs.Calls.{bind_answer}
 
--- a bind of an interface of this name has a spelling, and is not too long
+-- a bind of an interface with this name has a spelling, and is not too long
 pub record FitsBind (iface : List ℕ) : Type 0 where
   pub fits : (name version id : ℕ) → EachFits (bind_values name iface version id)
   pub len : (name version id : ℕ) → message_len (bind_values name iface version id) ≤ usual_limit
 
--- A bind that is accepted is a spelling, by the tables' signature, of its values: the new object by
--- the next id.
+-- An accepted bind is a spelling of its values by the tables' signature; the new object has the
+-- next id.
 abbrev pub BindSpells : State → Object → ℕ → List ℕ → ℕ → Type 0
 BindSpells state target name iface version =
     Valid state.core.tables → ObjectsAreSound state.core.view → name < 2 ^ 32 → version < 2 ^ 32

@@ -24,8 +24,8 @@ version_fits version advertised (Some i) name =
     bytes_eq i.name name
     && (nat_le 1 version && (nat_le version advertised && nat_le version i.version))
 
--- whether a global that is remembered is of this interface, and was advertised with at least this
--- version, which the tables know
+-- whether a remembered global has this interface, and was advertised with at least this version,
+-- which the tables have
 abbrev pub can_bind : List Interface → List ℕ → ℕ → Option Global → Bool
 can_bind tables iface version None = false
 can_bind tables iface version (Some global) =
@@ -53,13 +53,13 @@ bind_at state name iface version (Some entry) =
     then opening_answer state.core Client (Some (bound_object state name version))
     else Err refusals.Full
 
--- What `bind` returns, where no memory is needed: S1, S2, S3, S7, S9, S10; else the new object.
+-- What `bind` returns, if no memory is needed: S1, S2, S3, S7, S9, S10; else the new object.
 abbrev pub bind_answer : State → Object → ℕ → List ℕ → ℕ → Result (Option Object) SendError
 bind_answer state target name iface version =
     if state.core.failed then Err refusals.Failed
     else bind_at state name iface version (live_row state.core.view target)
 
--- The client after a bind that was answered Ok.
+-- The client after `bind` returned Ok.
 abbrev pub after_bind : State → Object → ℕ → List ℕ → ℕ → State
 after_bind state target name iface version = record state {
   core =

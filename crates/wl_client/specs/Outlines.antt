@@ -1,4 +1,4 @@
--- What a report lends.
+-- What a report borrows.
 use Rattle.std.specs.Prelude.{ℕ, List, [], take, Option, Some, None}
 use Rattle.std.specs.Borrow.{RattleType}
 use mir.Syntax.{named}
@@ -21,7 +21,7 @@ use Rattle.wl_client.specs.Reports.{Report, Event, Discarded, Deleted, Stray, Er
 use Rattle.wl_client.specs.Reports.{entry_of, text_in}
 use Rattle.wl_client.specs.contracts.client.Client.{the_row}
 
--- what a lent report is
+-- the value of a borrowed report
 abbrev pub lent_report : Incoming → Report
 lent_report (incoming.Event target opcode args) = Event target opcode (seen_args args)
 lent_report (incoming.Discarded target opcode tokens) = Discarded target opcode tokens.now
@@ -29,13 +29,13 @@ lent_report (incoming.Deleted object) = Deleted object
 lent_report (incoming.Stray id) = Stray id
 lent_report (incoming.Error id object code text) = Error id object code text.now
 
--- what `next` returned
+-- the value that `next` returned
 abbrev pub lent_in : Result (Option Incoming) NextError → Result (Option Report) NextError
 lent_in (Err why) = Err why
 lent_in (Ok None) = Ok None
 lent_in (Ok (Some read)) = Ok (Some (lent_report read))
 
--- what an outline is with a message's body, its arguments as they were parsed, and its tokens
+-- the report that an outline gives with a message's body, its parsed arguments, and its tokens
 abbrev pub outlined : List ℕ → List ParsedArg → List ℕ → Outline → Report
 outlined body args tokens (outlines.Event target opcode birth) =
     Event target opcode (reported_in body birth tokens args)
@@ -50,14 +50,15 @@ outlined body args tokens (outlines.Error id object code) =
 abbrev pub outline_entry : Objects → Outline → Option Entry
 outline_entry view outline = entry_of view (outlined [] [] [] outline)
 
--- what was read with the entry of what it is about, and what is reported of it
+-- the value that `next_with_entry` returned: the report with the entry of the object that it is
+-- about
 abbrev pub incoming_in : Result (Option IncomingWithEntry) NextError
     → Result (Option Report) NextError
 incoming_in (Err why) = Err why
 incoming_in (Ok None) = Ok None
 incoming_in (Ok (Some read)) = Ok (Some (lent_report read.incoming))
 
--- The client's type as the logic holds it: `named 0` is the place of its lifetime in a signature.
+-- The client's type as the logic has it: `named 0` is the position of its lifetime in a signature.
 abbrev pub client_row : (T : RattleType) (A : RattleType) → table.Ghosts T.Denot A.Denot
     → allocator.Ghosts A.Denot → clone.Ghosts A.Denot → RattleType
 client_row T A t a c = the_row (record { mir = named 0; lft = [] }) T A t a c

@@ -1,4 +1,4 @@
--- What a client's reading of the message in front comes to.
+-- The result of a client's reading of the first message.
 use Rattle.std.specs.Prelude.{◌≡◌, ◌≤◌, ℕ, false, List, length, take, drop, Option, Some, None}
 use Rattle.std.specs.declared.result.Result.{Result}
 use Rattle.std.specs.declared.result.Result.TheVariants.{Ok, Err}
@@ -22,8 +22,8 @@ use Rattle.wl_client.specs.Outlines.{outline_entry, outlined}
 use Rattle.wl_client.specs.Steps.{report_by, made_by_found, view_by, globals_by, CanOpen, CanChange}
 use Rattle.wl_client.specs.Steps.{view_stepped, with_global_change}
 
--- A pending event is what this message, of this body and these parsed arguments, is and does where
--- these tables and objects are there.
+-- A pending event describes what this message, with this body and these parsed arguments, means and
+-- does, given these tables and objects.
 pub record IsPending (tables : List Interface) (view : Objects) (body : List ℕ)
     (args : List ParsedArg) (f : Found) (event : PendingEvent) : Type 0 where
   pub report : (tokens : List ℕ)
@@ -38,20 +38,21 @@ pub record IsPending (tables : List Interface) (view : Objects) (body : List ℕ
   pub last : event.change.last ≡ is_error_event f
   pub entry : event.entry ≡ outline_entry view event.outline
 
--- a message of this header
+-- a message with this header
 abbrev pub headed : Header → Received → Found
 headed header m = record { size = header.size; opcode = header.opcode; message = m }
 
--- What comes of a message in front, which its reader reads as this: a pending event, or its fault.
+-- The result for a message at the front that its reader reads in this way: a pending event, or the
+-- message's fault.
 abbrev pub IsPendingOf : List Interface → Objects → Header → List ℕ → List ParsedArg
     → Result Received Fault → Result PendingEvent Fault → Type 0
 IsPendingOf tables view header body args r (Err fault) = r ≡ Err fault
 IsPendingOf tables view header body args r (Ok event) =
     (m : Received) × (r ≡ Ok m) × IsPending tables view body args (headed header m) event
 
--- An event in front can be taken: its message is whole, its tokens wait, what it makes can be
--- opened and is destroyed by no event, what it changes is there then, and what it is about is
--- there. It makes something only if the tables have such messages.
+-- The first event can be taken: its message is whole, its tokens wait, what it makes can be opened
+-- and is destroyed by no event, what it then changes exists, and what it is about exists. It makes
+-- something only if the tables have such messages.
 pub record CanTake (core : Core) (event : PendingEvent) : Type 0 where
   pub message : in_front core.inbox ≡ Whole event.size
   pub few : event.tokens ≤ max_args
@@ -64,23 +65,23 @@ pub record CanTake (core : Core) (event : PendingEvent) : Type 0 where
   pub wants : event_opens core (found core event_side) ≡ opens_row core.view event.change.made
   pub none : has_server_objects core.tables ≡ false → event.change.made ≡ None
 
--- the body of a message in front
+-- the body of the first message
 abbrev pub body_of : Core → ℕ → List ℕ
 body_of core size = drop 8 (take size core.inbox.bytes)
 
--- what is reported of an event in front, by its arguments as they were parsed
+-- the report of the first event, from its parsed arguments
 abbrev pub front_report : Core → List ParsedArg → PendingEvent → Report
 front_report core args event =
     outlined (body_of core event.size) args (take event.tokens core.inbox.tokens) event.outline
 
--- the message in front, its event, and its report by the tokens that it takes
+-- the first message, its event, and its report with the tokens that it takes
 pub record IsAhead (core : Core) (args : List ParsedArg) (f : Found) (event : PendingEvent)
     : Type 0 where
   pub can_take : CanTake core event
   pub is_pending : IsPending core.tables core.view (body_of core f.size) args f event
   pub is_reported : front_report core args event ≡ report core f
 
--- What comes of what is found in front at an end.
+-- The result for what is found at the front of an end.
 abbrev pub IsFront : Core → List ParsedArg → Result (Option Found) Fault
     → Result (Option PendingEvent) Fault → Type 0
 IsFront core args r (Ok None) = r ≡ Ok None
@@ -88,14 +89,14 @@ IsFront core args r (Ok (Some event)) =
     (f : Found) × (r ≡ Ok (Some f)) × IsAhead core args f event
 IsFront core args r (Err fault) = r ≡ Err fault
 
--- This event stands in front of an end that has not failed.
+-- This event is the first at an end that has not failed.
 pub record IsNextEvent (core : Core) (args : List ParsedArg) (event : PendingEvent) : Type 0 where
   pub lives : core.failed ≡ false
   pub message : Found
   pub is_found : found core event_side ≡ Ok (Some message)
   pub ahead : IsAhead core args message event
 
--- what is reported of an event whose message an end took last
+-- the report of an event whose message the end took last
 abbrev pub taken_report : Core → List ParsedArg → PendingEvent → Report
 taken_report core args event =
     outlined core.inbox.last args core.inbox.last_tokens event.outline

@@ -1,4 +1,4 @@
--- What a client reads, and what it makes of it.
+-- What a client reads, and what state that leaves.
 use Rattle.std.specs.Prelude.{ℕ, ◌+◌, Bool, true, false, ◌&&◌, not, nat_eq, nat_lt}
 use Rattle.std.specs.Prelude.{if◌then◌else◌, List}
 use Rattle.std.specs.Prelude.{[], ◌∷◌, ◌++◌, length, map, filter, Option, Some, None, is_some}
@@ -37,14 +37,14 @@ use Rattle.wl_connection.specs.Core.{max_globals}
 pub data Report : Type 0 where
   -- an event for a live object
   Event : (target : Object) (opcode : ℕ) (args : List Reported) → Report
-  -- an event for a zombie, and the tokens that it had
+  -- an event for a zombie, and the tokens that came with it
   Discarded : (target : Object) (opcode : ℕ) (tokens : List ℕ) → Report
   -- delete_id of an object
   Deleted : Object → Report
-  -- delete_id of an id that names no object, or of wl_display's
+  -- delete_id of an id that has no object, or of wl_display's
   Stray : (id : ℕ) → Report
-  -- wl_display.error: the id that it gives, the object that the client has under it, the code and
-  -- the text
+  -- wl_display.error: the id in it, the object that the client has with that id, the code and the
+  -- text
   Error : (id : ℕ) (named : Named) (code : ℕ) (text : List ℕ) → Report
 
 -- ---- the report of a message
@@ -53,7 +53,7 @@ abbrev pub text_or_empty : Option (List ℕ) → List ℕ
 text_or_empty None = []
 text_or_empty (Some text) = text
 
--- an id, a number or a text among the arguments of a message that has them there
+-- an id, a number or a text among the arguments of a message that has one at that index
 abbrev pub id_in : Argument → ℕ
 id_in (Obj id) = id
 id_in _ = 0
@@ -66,11 +66,11 @@ abbrev pub text_in : Argument → List ℕ
 text_in (Str text) = text_or_empty text
 text_in _ = []
 
--- the argument at a place
+-- the argument at an index
 abbrev pub argument : List Argument → ℕ → Argument
 argument values place = unwrap_or (slice_get values place) (Uint 0)
 
--- wl_display.error names its object by an id alone, which may be null or unknown
+-- wl_display.error gives only an id, which may be null or unknown
 abbrev pub error_report : Core → List Argument → Report
 error_report core values =
     Error (id_in (argument values 0))
@@ -100,16 +100,15 @@ is_delete_event f = is_delete_id event_side f.message.entry.iface f.opcode
 abbrev pub deleted_id : Found → ℕ
 deleted_id f = number_in (argument f.message.values 0)
 
--- What is reported of a message.
+-- The report of a message.
 abbrev pub report : Core → Found → Report
 report core f =
     if is_error_event f then error_report core f.message.values
     else if is_delete_event f then delete_report core (deleted_id f)
     else plain_report core f.opcode f.message f.message.entry.state
 
--- The entry of the object that a report is about, where these objects are there: of an event's
--- target, of what delete_id has ended, of the object that wl_display.error names. None where there
--- is no such object.
+-- The entry, in these objects, of the object that a report is about: an event's target, the object
+-- that delete_id ended, or the one that wl_display.error names. None if there is no such object.
 abbrev pub entry_of : Objects → Report → Option Entry
 entry_of view (Event target opcode args) = look view target.id
 entry_of view (Discarded target opcode tokens) = look view target.id
@@ -123,14 +122,14 @@ needs_memory (Event target opcode args) = not (is_none args)
 needs_memory (Error id named code text) = true
 needs_memory _ = false
 
--- ---- what it leaves
+-- ---- the state after a message
 
--- whether an object is made at the next id of the server's range, which was never used
+-- whether an object is made at the next id of the server's range, one that was never used
 abbrev pub opens_row : Objects → Option NewObject → Bool
 opens_row view None = false
 opens_row view (Some m) = nat_eq m.id (first_server_id + ids_used Server view)
 
--- the object that an event makes, if it makes one: also an event for a zombie
+-- the object that an event makes, if it makes one; also for an event for a zombie
 abbrev pub made_by_event : Core → Received → Option NewObject
 made_by_event core message = made core.tables message.entry.version message.signature.kinds
     message.values
@@ -146,19 +145,19 @@ view_after core f =
 abbrev pub forgotten : ℕ → List Global → List Global
 forgotten name globals = filter (λ global. not (is_named name global)) globals
 
--- the globals with this one in the place of the other of its name
+-- the globals with this one replacing the one of its name
 abbrev pub with_replaced : Global → List Global → List Global
 with_replaced global globals =
     map (λ other. if is_named global.name other then global else other) globals
 
--- the globals with this one: in place of another of its name, else last, where there is room
+-- the globals with this one: it replaces another of its name, else it is last, if there is room
 abbrev pub remembered : Global → List Global → List Global
 remembered global globals =
     if is_some (global_of globals global.name) then with_replaced global globals
     else if nat_lt (length globals) max_globals then globals ++ global ∷ []
     else globals
 
--- one whose interface is not in the tables is not remembered, and its name is taken out
+-- a global whose interface is not in the tables is not remembered, and its name is removed
 abbrev pub remembered_as : ℕ → ℕ → Option Iface → List Global → List Global
 remembered_as name version None globals = forgotten name globals
 remembered_as name version (Some iface) globals =
@@ -173,25 +172,25 @@ globals_told tables globals opcode values =
     else if nat_eq opcode 1 then forgotten (number_in (argument values 0)) globals
     else globals
 
--- only events on a live registry teach
+-- only events for a live registry change the globals
 abbrev pub globals_after : State → Found → List Global
 globals_after state f =
     if same_iface f.message.entry.iface registry && lives f.message.entry.state
     then globals_told state.core.tables state.globals f.opcode f.message.values
     else state.globals
 
--- a new object with its birth, where it is opened in these objects
+-- a new object with its birth, if it is opened in these objects
 abbrev pub object_made : Objects → Option NewObject → Option Object
 object_made view made =
     option_map (λ (m : NewObject). record { id = m.id; birth = births view m.id }) made
 
--- the object of an id, by its row, if it is live
+-- the object with an id, from its row, if it is live
 abbrev pub live_object : ℕ → Option Entry → Option Object
 live_object id None = None
 live_object id (Some entry) =
     if lives entry.state then Some (record { id = id; birth = entry.birth }) else None
 
--- the live object that a new object replaces, which gets its id
+-- the live object that a new object with the same id replaces
 abbrev pub object_replaced : Objects → Option NewObject → Option Object
 object_replaced view None = None
 object_replaced view (Some m) = live_object m.id (look view m.id)
@@ -209,21 +208,21 @@ state_past state f = record {
   replaced = object_replaced state.core.view (made_by_event state.core f.message);
 }
 
--- ---- reading the next message, where no memory is needed
+-- ---- reading the next message, if no memory is needed
 
--- whether this is the report of wl_display.error, after which nothing is read
+-- whether this reports wl_display.error, after which nothing is read
 abbrev pub is_last : Report → Bool
 is_last (Error id named code text) = true
 is_last _ = false
 
--- Whether what stands in front opens an object at an id that was never used, which may need memory.
--- At an id that was used the new object takes the place of the one that is there, a zombie say.
+-- Whether the first message opens an object at an id that was never used, which may need memory. At
+-- a used id the new object replaces the one that is there, for example a zombie.
 abbrev pub event_opens : Core → Result (Option Found) Fault → Bool
 event_opens core (Ok (Some f)) = opens_row core.view (made_by_event core f.message)
 event_opens core _ = false
 
--- A client's reading waits for no room, and a fault makes it fail, as wl_display.error does once it
--- is reported.
+-- A client's reading never waits for room. A fault makes the client fail, and so does
+-- wl_display.error after it is reported.
 abbrev pub client_role : Role State Report
 client_role = record {
   core = λ state. state.core;
@@ -239,16 +238,16 @@ client_role = record {
   opens = λ state. event_opens state.core (found state.core event_side);
 }
 
--- What `next` returns: what the first message is, nothing where none is whole, or why it cannot be
--- read.
+-- What `next` returns: the report of the first message, nothing if it is not whole, or why it
+-- cannot be read.
 abbrev pub next_answer : State → Result (Option Report) NextError
 next_answer state = role_answer client_role state
 
--- What `next` leaves.
+-- The state that `next` leaves.
 abbrev pub after_next : State → State
 after_next state = role_after client_role state
 
--- What `next_owned` returns where memory can be refused: out of memory stands only in place of a
--- report that needs some, or of an event that opens an object at an id that was never used.
+-- What `next_owned` returns if memory can be refused: the same, except that it may be out of memory
+-- for a report that needs some, or for an event that opens an object at an id that was never used.
 abbrev pub IsClientNext : State → Result (Option Report) NextError → Type 0
 IsClientNext state result = IsNext client_role state result

@@ -1,4 +1,4 @@
--- What is printed of an event that a client has read.
+-- What is printed for an event that a client has read.
 use Rattle.std.specs.Prelude.{ℕ, List, ◌++◌, codes, Option, option_map}
 use Rattle.std.specs.Fmt.{decimal}
 use Rattle.wl_sigs.specs.declared.signature.Side.TheVariants.{Event as event_side}
@@ -14,18 +14,17 @@ use Rattle.wl_client.specs.Reports.{Report, Event, Discarded, Deleted, Stray, Er
 abbrev pub deleted_text : ℕ → List ℕ
 deleted_text id = codes "<- wl_display@1.delete_id(" ++ decimal id ++ codes ")"
 
--- an error, for an object of this interface or for none
+-- an error, about an object of this interface or about none
 abbrev pub error_text : List ℕ → ℕ → ℕ → List ℕ → List ℕ
 error_text interface id code text =
     codes "<- wl_display@1.error(" ++ argument_object interface id ++ codes ", " ++ decimal code
     ++ codes ", " ++ string_text text ++ codes ")"
 
--- the name of the interface of an object that the client may have
+-- the name of the interface of an object, if the client has that object
 abbrev pub interface_in : List Interface → Option Entry → List ℕ
 interface_in tables entry = known_name tables (option_map (λ (e : Entry). e.iface) entry)
 
--- a report, with the entry that came with it: that of the event's target, or of the object that
--- the event names
+-- a report with its entry: that of the event's target, or of the object that the event names
 abbrev pub shown_text : List Interface → Option Entry → Report → List ℕ
 shown_text tables entry (Event target opcode args) =
     report_line tables event_side target.id entry opcode args

@@ -1,4 +1,4 @@
--- What a client is: an end, and the globals that it was told.
+-- The state of a client: an end, and the globals that were announced to it.
 use Rattle.std.specs.Prelude.{◌≡◌, ℕ, Bool, nat_eq, List, [], Option, None}
 use Rattle.std.specs.List.{find}
 use Rattle.wl_sigs.specs.Tables.{Interface}
@@ -8,8 +8,9 @@ use Rattle.wl_connection.specs.Core.{Core, new_core}
 use Rattle.wl_connection.specs.ServerRange.{EventsMakeMade, NoEventEndsMade}
 pub use Rattle.wl_client.specs.declared.globals.Global.{Global}
 
--- The remembered globals, no name twice, in the order in which their names were told; the object
--- that the last message read made, or none; and the live object that this one replaced, or none.
+-- The remembered globals, no name twice, in the order in which their names were announced; the
+-- object that the last message read made, if any; and the live object that this one replaced, if
+-- any.
 pub record State : Type 0 where
   pub core : Core
   pub globals : List Global
@@ -20,7 +21,7 @@ pub record State : Type 0 where
 abbrev pub is_named : ℕ → Global → Bool
 is_named name global = nat_eq global.name name
 
--- the remembered global of a name
+-- the remembered global with a name
 abbrev pub global_of : List Global → ℕ → Option Global
 global_of globals name = find (is_named name) globals
 
@@ -31,9 +32,9 @@ new_state tables sizes =
 abbrev pub with_core : State → Core → State
 with_core state core = record state { core = core }
 
--- What holds of a client between calls: it frees no id of the server's range, no event destroys an
--- object that the server made, and events make objects of its interface. So the second still holds
--- over tables that extend the client's.
+-- What holds for a client between calls: it frees no id of the server's range, no event destroys an
+-- object that the server made, and for each such object some event makes objects of its interface.
+-- (Because of the last, the second still holds with tables that extend the client's.)
 pub record IsSound (core : Core) : Type 0 where
   pub frees_none : core.view.server.freed ≡ []
   pub lasting : NoEventEndsMade core.tables core.view

@@ -21,7 +21,7 @@ use Rattle.wl_client.specs.State.{State, Global}
 use Rattle.wl_client.specs.Reports.{Report, report, view_after, globals_after, forgotten}
 use Rattle.wl_client.specs.Reports.{remembered}
 
--- an end with these tables and objects, at which these tokens wait
+-- an end with these tables and objects, and with these tokens waiting
 abbrev pub end_with : List Interface → Objects → List ℕ → Core
 end_with tables view tokens = record {
   tables = tables;
@@ -40,7 +40,7 @@ end_with tables view tokens = record {
   read = 0;
 }
 
--- the message as it was found, where its size does not matter
+-- the message as it was found, apart from its size
 abbrev pub found_as : ℕ → Read → Found
 found_as opcode read = record { size = 0; opcode = opcode; message = received_of read }
 
@@ -52,13 +52,14 @@ client_state core globals made replaced = record {
   replaced = replaced;
 }
 
--- what is reported where these tables, objects and tokens are there
+-- the report of a message, given these tables, objects and tokens
 abbrev pub report_by : List Interface → Objects → List ℕ → Found → Report
 report_by tables view tokens f = report (end_with tables view tokens) f
 
 -- the object that a message makes, if it makes one
 abbrev pub made_by_found : List Interface → Found → Option NewObject
-made_by_found tables f = made tables f.message.entry.version f.message.signature.kinds f.message.values
+made_by_found tables f =
+    made tables f.message.entry.version f.message.signature.kinds f.message.values
 
 -- the objects after a message
 abbrev pub view_by : List Interface → Objects → Found → Objects
@@ -69,8 +70,8 @@ abbrev pub globals_by : List Interface → List Global → Found → List Global
 globals_by tables globals f =
     globals_after (client_state (end_with tables (opening display true) []) globals None None) f
 
--- what a message makes can be opened: at an id that is free for an object of the server, for which
--- the limits leave room
+-- what a message makes can be opened: at an id that is free for an object of the server, and within
+-- the limits
 abbrev pub CanOpen : List Interface → Objects → Option NewObject → Type 0
 CanOpen tables view None = Unit {0}
 CanOpen tables view (Some m) =
@@ -82,19 +83,19 @@ changed view object_changes.Nothing = view
 changed view (object_changes.Zombie id) = zombied view id
 changed view (object_changes.Close id) = closed view id
 
--- the objects after an event: what it makes is opened first
+-- the objects after an event; what it makes is opened first
 abbrev pub view_stepped : Objects → PendingEvent → Objects
 view_stepped view event = changed (opens view event.change.made) event.change.objects
 
--- the change can be made: of an object that is there, and is not wl_display; an id of the server's
--- is not freed
+-- the change can be made: its object exists and is not wl_display, and no id of the server's range
+-- is freed
 abbrev pub CanChange : Objects → ObjectChange → Type 0
 CanChange view object_changes.Nothing = Unit {0}
 CanChange view (object_changes.Zombie id) = IsTrue (is_held view id) × (id ≢ 1)
 CanChange view (object_changes.Close id) =
     IsTrue (is_held view id) × (id ≢ 1) × (is_of_server id ≡ false)
 
--- the globals after a change of them
+-- the globals after a change to them
 abbrev pub with_global_change : List Global → GlobalChange → List Global
 with_global_change globals global_changes.Nothing = globals
 with_global_change globals (global_changes.Forget name) = forgotten name globals

@@ -1,4 +1,4 @@
-//! The arguments of wl_display's and wl_registry's events, by their places.
+//! The arguments of wl_display's and wl_registry's events, by index.
 ghost use Rattle.std.specs.Prelude.{◌≡◌};
 ghost use Rattle.wl_objects.specs.Parsed.{spelled_in};
 ghost use Rattle.wl_client.specs.Reports.{argument, id_in, number_in, text_in};
@@ -6,7 +6,7 @@ ghost use Rattle.wl_client.specs.Reports.{argument, id_in, number_in, text_in};
 use wl_objects::ParsedArgs;
 use wl_wire::ValueRef;
 
-/// The id at a place; 0 where there is none.
+/// The id at an index; 0 if there is none.
 pub(crate) fn id_at(args: &ParsedArgs, body: &[u8], place: usize) -> u32
     ensures { result ≡ id_in (argument (spelled_in body.now args.now) place) }
 {
@@ -16,7 +16,7 @@ pub(crate) fn id_at(args: &ParsedArgs, body: &[u8], place: usize) -> u32
     }
 }
 
-/// The number at a place; 0 where there is none.
+/// The number at an index; 0 if there is none.
 pub(crate) fn number_at(args: &ParsedArgs, body: &[u8], place: usize) -> u32
     ensures { result ≡ number_in (argument (spelled_in body.now args.now) place) }
 {
@@ -26,7 +26,7 @@ pub(crate) fn number_at(args: &ParsedArgs, body: &[u8], place: usize) -> u32
     }
 }
 
-/// The text at a place; empty where there is none.
+/// The text at an index; empty if there is none.
 pub(crate) fn text_at<'a>(args: &ParsedArgs, body: &'a [u8], place: usize) -> &'a [u8]
     ensures { result.now ≡ text_in (argument (spelled_in body.now args.now) place) }
 {

@@ -11,20 +11,20 @@ use wl_objects::{BindMessage, Maker, Object, REGISTRY, SendError, Table, live_ro
 use wl_sigs::Tables;
 
 impl<'t, T: Table> Client<'t, T> {
-    /// Whether the client remembers a global of this name, so that `bind` can bind it. One that was
-    /// announced is not remembered if its interface was not in the tables then, or if 1,024 others
-    /// were remembered.
+    /// Whether the client remembers a global of this name, so that `bind` can bind it. An announced
+    /// global is not remembered if its interface was not in the tables at the time, or if 1,024
+    /// others were remembered.
     pub fn remembers(&self, name: u32) -> bool
         ensures { result ≡ is_some (global_of self.now.globals name) }
     {
         self.kept.globals.get(name).is_some()
     }
 
-    /// Binds a global that the client was told, of this name and interface, and returns the new
-    /// object, of this version.
+    /// Binds an announced global, by its name and interface, and returns the new object, which has
+    /// this version.
     ///
-    /// The refusals are tested in the order of their numbers: S1, S2, S3 where `registry` is no
-    /// wl_registry, S7, S9, S10, S11.
+    /// The refusals are tested in the order of their numbers: S1, S2, S3 (`registry` is no
+    /// wl_registry), S7, S9, S10, S11.
     pub fn bind(
         &mut self,
         registry: Object,
@@ -71,8 +71,8 @@ impl<'t, T: Table> Client<'t, T> {
     }
 }
 
-/// Whether a global is of this interface, and was advertised with at least this version, which
-/// the tables know.
+/// Whether a global has this interface, and was advertised with at least this version, which the
+/// tables have.
 pub(crate) fn can_bind(tables: &Tables, global: Global, iface: &[u8], version: u32) -> bool
     ensures answer { result ≡ can_bind tables.now iface.now version (Some global) }
     ensures fits { result ≡ true → FitsBind iface.now }

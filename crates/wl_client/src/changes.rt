@@ -1,4 +1,4 @@
-//! The changes that a message makes at a client: among its objects, and of the globals that it
+//! The changes that a message makes at a client: to its objects, and to the globals that it
 //! remembers.
 ghost use Rattle.std.specs.Prelude.{◌≡◌, ◌≢◌, List, [], IsTrue, IfOk, OnErr, OnOk, false, true};
 ghost use Rattle.wl_wire.specs.Argument.{Argument};
@@ -25,9 +25,9 @@ use wl_sigs::{Destroys, Tables};
 #[derive(Clone, Copy, Debug)]
 pub(crate) enum ObjectChange {
     Nothing,
-    /// The object of this id has ended: it becomes a zombie, or stays one.
+    /// The object with this id has ended: it becomes a zombie, or stays one.
     Zombie(u32),
-    /// The object of this id is gone, and its id free.
+    /// The object with this id is removed, and the id is free.
     Close(u32),
 }
 
@@ -35,7 +35,7 @@ pub(crate) enum ObjectChange {
 #[derive(Clone, Copy, Debug)]
 pub(crate) enum GlobalChange {
     Nothing,
-    /// The global of this name is gone, or of an interface that is not in the tables.
+    /// The global with this name was removed, or its interface is not in the tables.
     Forget(u32),
     Remember(Global),
 }
@@ -66,8 +66,8 @@ pub(crate) fn replaced_by<T: Table>(core: &Core<'_, T>, made: Option<NewObject>)
     }
 }
 
-/// Opens the object that a message makes, if it makes one, and returns it. Where there is no memory
-/// for it nothing changes; that can be only at an id that was never used.
+/// Opens the object that a message makes, if it makes one, and returns it. Without memory nothing
+/// changes; memory is needed only for an id that was never used.
 pub(crate) fn open_made<T: Table>(
     core: &mut Core<'_, T>,
     made: Option<NewObject>,
@@ -97,7 +97,7 @@ pub(crate) fn apply_object_change<T: Table>(core: &mut Core<'_, T>, change: Obje
     }
 }
 
-/// Makes an object a zombie; one that is a zombie stays as it is.
+/// Makes an object a zombie; a zombie stays one.
 fn end_object<T: Table>(core: &mut Core<'_, T>, id: u32)
     requires held { IsTrue (is_held core.old.view id) }
     requires not_display { id ≢ 1 }
@@ -118,7 +118,7 @@ fn is_live<T: Table>(core: &Core<'_, T>, id: u32) -> bool
     }
 }
 
-/// What an event changes that is not of wl_display.
+/// The changes of an event, other than those of wl_display.
 pub(crate) fn change_of(tables: &Tables, opcode: u16, message: &Received<'_, '_>) -> Change
     requires lasts { message.now.target.id ≡ 1
         → message.now.signature.now.destroys ≢ Destroys.Target }
@@ -145,7 +145,7 @@ pub(crate) fn change_of(tables: &Tables, opcode: u16, message: &Received<'_, '_>
     }
 }
 
-/// What an event changes of its target.
+/// How an event changes its target.
 fn object_change_of(what: Destroys, target: u32) -> ObjectChange
     requires lasts { target ≡ 1 → what ≢ Destroys.Target }
     requires argument { destroys_argument what ≡ false }
@@ -161,7 +161,7 @@ fn object_change_of(what: Destroys, target: u32) -> ObjectChange
     }
 }
 
-/// What an event changes of the remembered globals: only wl_registry's do, for a live registry.
+/// How an event changes the remembered globals: only events for a live registry change them.
 fn global_change_of(tables: &Tables, opcode: u16, message: &Received<'_, '_>) -> GlobalChange
     ensures { (globals : List Told)
         → with_global_change globals result
@@ -176,7 +176,7 @@ fn global_change_of(tables: &Tables, opcode: u16, message: &Received<'_, '_>) ->
     }
 }
 
-/// What an event of a live registry changes of the remembered globals.
+/// How an event for a live registry changes the remembered globals.
 fn told_by(tables: &Tables, opcode: u16, message: &Received<'_, '_>) -> GlobalChange
     ensures { (globals : List Told) → with_global_change globals result
         ≡ globals_told tables.now globals opcode (received_of message.now).values }

@@ -14,8 +14,8 @@ use wl_message::Sizes;
 use wl_objects::{Object, Table};
 use wl_sigs::Tables;
 
-/// A client's end of a connection: its objects, what came in and what goes out, the globals that it
-/// was told, and what the last message read has made and replaced.
+/// The client's end of a connection: its objects, its two queues, the announced globals, and what
+/// the last message read made and replaced.
 #[derive(Drop)]
 pub struct Client<'t, T: Table> {
     pub(crate) end: Endpoint<'t, T>,
@@ -63,35 +63,35 @@ impl<'t, T: Table> Client<'t, T> {
         })
     }
 
-    /// The object that the last message read has made: one of the server's, which an event makes,
-    /// also where it was `Discarded`. None where that message has made none, and before the first.
-    /// A call that reads no message leaves it. After `read_all` it is what the last of its messages
-    /// has made. Where it takes the place of a live object, `replaced` returns that one.
+    /// The object that the last message read made: one of the server's, made by an event, even if
+    /// that event was `Discarded`. `None` if that message made none, or before the first message. A
+    /// call that reads no message does not change it. After `read_all` it is the object that the
+    /// last of its messages made. If it replaced a live object, `replaced` returns that one.
     pub fn made(&self) -> Option<Object>
         ensures answer { result ≡ self.now.made }
-        // So an id of the server's range without an entry was never used.
+        // Hence an id of the server's range without an entry was never used.
         ensures frees_none { self.now.core.view.server.freed ≡ [] }
     {
         self.kept.made
     }
 
-    /// The live object that the object returned by `made` has replaced: it had the same id, and no
-    /// request could end it at its version (a zwlr_output_head_v1 of version 2). No later report
-    /// names it, so free here what belongs to it. None if the last message read replaced none. A
-    /// call that reads no message leaves it. After `read_all` it is what the last of its messages
-    /// replaced, so read one by one where you need each.
+    /// The live object that the object returned by `made` replaced: it had the same id, and no
+    /// request could end it at its version (for example a version-2 zwlr_output_head_v1). No later
+    /// report names it, so free here what belongs to it. `None` if the last message read replaced
+    /// none. A call that reads no message does not change it. After `read_all` it is what the last
+    /// of its messages replaced, so read one by one if you need each.
     pub fn replaced(&self) -> Option<Object>
         ensures { result ≡ self.now.replaced }
     {
         self.kept.replaced
     }
-    /// Takes tables in place of those that the client has, which they extend, as those do that
-    /// `Tables::read_more` makes of the client's. Nothing else changes: each object and each global
-    /// keeps the place of its interface, and each message its opcode. A global that was announced
-    /// while its interface was missing stays forgotten; `bind_unannounced` binds it.
+    /// Replaces the client's tables with these, which extend them, as the tables do that
+    /// `Tables::read_more` makes from the client's. Nothing else changes: the interface of each
+    /// object and each global keeps its index, and each message its opcode. A global that was
+    /// announced while its interface was missing stays forgotten; `bind_unannounced` binds it.
     ///
     /// Refused if these tables have the first event by which the server makes an object: a client
-    /// has a table of the server's range of ids from the beginning, or never.
+    /// has a table of the server's range of ids from the start, or never.
     pub fn more_tables(&mut self, tables: &'t Tables) -> Result<(), FirstServerObject>
         requires { Extend self.old.core.tables tables.now }
         ensures refused { is_err result

@@ -1,4 +1,4 @@
-//! The globals that a client was told.
+//! The globals that were announced to a client.
 ghost use Rattle.std.specs.Prelude.{◌≡◌, ◌<◌, ◌≤◌, [], ◌∷◌, ◌++◌, IfOk, length, map, if◌then◌else◌};
 ghost use Rattle.wl_client.specs.State.{global_of, is_named};
 ghost use Rattle.wl_client.specs.Reports.{forgotten, with_replaced, remembered};
@@ -14,18 +14,18 @@ use wl_wire::Iface;
 /// A global as it was advertised.
 #[derive(Clone, Copy, Debug, PartialEq, Eq)]
 pub struct Global {
-    /// The number that names it at this server.
+    /// The number by which this server names it.
     pub name: u32,
-    /// Its interface, a place in the tables.
+    /// Its interface, an index in the tables.
     pub iface: Iface,
     /// The greatest version that can be bound.
     pub version: u32,
 }
 
 /// The globals that a client remembers, no name twice, in the order in which their names were
-/// told.
+/// announced.
 ///
-/// All memory is taken by `new`.
+/// `new` allocates all memory.
 #[derive(Drop)]
 pub(crate) struct Remembered<A: Allocator> {
     items: Vec<Global, A>,
@@ -47,7 +47,7 @@ impl<A: Allocator> Model for Remembered<A> {
 }
 
 impl<A: Allocator> Remembered<A> {
-    /// No globals, with room for as many as are ever remembered.
+    /// No globals, with room for as many as can be remembered.
     pub(crate) fn new(alloc: A) -> Result<Self, AllocError>
         ensures { IfOk result (λ globals. globals ≡ []) }
     {
@@ -56,14 +56,14 @@ impl<A: Allocator> Remembered<A> {
         })
     }
 
-    /// The global of a name.
+    /// The global with a name.
     pub(crate) fn get(&self, name: u32) -> Option<Global>
         ensures { result ≡ global_of self.now name }
     {
         global_of(self.items.as_slice(), name)
     }
 
-    /// Takes out the global of a name.
+    /// Removes the global with a name.
     pub(crate) fn forget(&mut self, name: u32)
         ensures { self.new ≡ forgotten name self.old }
     {
@@ -81,8 +81,7 @@ impl<A: Allocator> Remembered<A> {
         }
     }
 
-    /// Puts a global in the place of the one of its name; where there is none, last, as long as
-    /// there is room.
+    /// Replaces the global of the same name; if there is none, appends the global if there is room.
     pub(crate) fn remember(&mut self, global: Global)
         ensures { self.new ≡ remembered global self.old }
     {
@@ -94,14 +93,14 @@ impl<A: Allocator> Remembered<A> {
     }
 }
 
-/// The first global of a name.
+/// The first global with a name.
 fn global_of(globals: &[Global], name: u32) -> Option<Global>
     ensures { result ≡ global_of globals.now name }
 {
     globals.iter().find(|global| global.name == name).copied()
 }
 
-/// Puts a global in the place of those of its name.
+/// Replaces the globals of the same name.
 fn replace(globals: &mut [Global], global: Global)
     ensures { globals.new ≡ with_replaced global globals.old }
 {

@@ -1,4 +1,4 @@
-//! The report of a message without its arguments, its body and its tokens, which it lends or
+//! The report of a message without its arguments, body and tokens, which a report borrows or
 //! copies.
 ghost use Rattle.std.specs.Prelude.{◌≡◌, IfOk, OnErr, ◌≤◌, true, length, take};
 ghost use Rattle.wl_sigs.specs.Tables.{max_args};
@@ -14,14 +14,14 @@ use std::alloc::{AllocError, Allocator};
 use wl_objects::{Args, Named, Object, ParsedArgs};
 use wl_wire::Bytes;
 
-/// What is reported of a message. Where its arguments and its tokens lie is said when the report is
-/// lent or copied.
+/// The report of a message. Its arguments and tokens are added when the report is borrowed or
+/// copied.
 #[derive(Clone, Copy, Debug)]
 pub(crate) enum Outline {
     Event {
         target: Object,
         opcode: u16,
-        /// The birth that an object got which the message made.
+        /// The birth of the object that the message made.
         birth: u64,
     },
     Discarded {
@@ -44,7 +44,7 @@ pub(crate) enum Outline {
 }
 
 impl Outline {
-    /// The report of a message with these arguments, this body and these tokens, which are lent.
+    /// The report of a message, borrowing these arguments, this body and these tokens.
     pub(crate) fn lend<'a>(
         &self,
         args: &'a ParsedArgs,
@@ -85,9 +85,8 @@ impl Outline {
         }
     }
 
-    /// The report of a message with these arguments, this body and these tokens, in memory of its
-    /// own. Memory is taken only for the arguments of an event, where there are some, and for the
-    /// text of an error.
+    /// The report of a message with these arguments, this body and these tokens, owned. Memory is
+    /// needed only for the arguments of an event that has some, and for the text of an error.
     pub(crate) fn to_owned<A: Allocator + Clone + Drop>(
         &self,
         alloc: &A,
@@ -134,7 +133,7 @@ impl Outline {
     }
 }
 
-/// The first `count` tokens, or all where there are fewer.
+/// The first `count` tokens, or all if there are fewer.
 fn first(tokens: &[u32], count: usize) -> &[u32]
     ensures { result.now ≡ take count tokens.now }
 {

@@ -1,4 +1,4 @@
-//! What stands in front of a client's inbox: an event that was read and not yet taken.
+//! The message at the front of a client's inbox: an event that was read and not yet taken.
 ghost use Rattle.std.specs.Prelude.{◌≡◌, IfOk};
 ghost use Rattle.wl_wire.specs.Word.{IsHeader};
 ghost use Rattle.wl_sigs.specs.declared.signature.Side.TheVariants.{Event as event_side};
@@ -16,21 +16,21 @@ use wl_message::Frame;
 use wl_objects::{Entry, Fault, Messages, Objects, ObjectsLookup, ParsedArgs, Table, receive};
 use wl_sigs::{Side, Tables};
 
-/// An event that was read and not yet taken: what is reported of it, and what it changes. It lends
-/// nothing; its arguments lie at the end that read it.
+/// An event that was read and not yet taken: its report and its changes. It borrows nothing; its
+/// arguments are at the end that read it.
 #[derive(Clone, Copy, Debug)]
 pub(crate) struct PendingEvent {
     pub(crate) outline: Outline,
     pub(crate) change: Change,
     /// The entry of the object that it is about.
     pub(crate) entry: Option<Entry>,
-    /// How many bytes the message has.
+    /// The length of the message in bytes.
     pub(crate) size: u16,
     /// How many tokens it takes.
     pub(crate) tokens: usize,
 }
 
-/// The event in front, once it is whole. Nothing changes but the arguments that were parsed last.
+/// The first event, if it is whole. Only the parsed arguments change.
 pub(crate) fn find<T: Table>(end: &mut Endpoint<'_, T>) -> Result<Option<PendingEvent>, Fault>
     ensures same { end.new.core ≡ end.old.core }
     ensures comes { IsFront end.old.core end.new.args (found end.old.core event_side) result }
@@ -47,7 +47,7 @@ pub(crate) fn find<T: Table>(end: &mut Endpoint<'_, T>) -> Result<Option<Pending
     }
 }
 
-/// What a message is and changes, with its arguments parsed.
+/// The meaning and the changes of a message, with its arguments parsed.
 fn pending_of<T: Table>(
     args: &mut ParsedArgs,
     tables: &Tables,

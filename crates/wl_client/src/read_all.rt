@@ -1,4 +1,4 @@
-//! Whole streams at a client, in pieces.
+//! Reading whole streams at a client, in pieces.
 ghost use Rattle.std.specs.Prelude.{◌≡◌, true, false, length, map, take, Some};
 ghost use Rattle.wl_message.specs.InStep.{part};
 ghost use Rattle.wl_connection.specs.Core.{no_room};
@@ -16,11 +16,11 @@ impl<'t, T: Table> Client<'t, T> {
     /// Reads pieces of a stream, in order, and appends what was read to the reports.
     ///
     /// All that waits is read before each piece and at the end. A piece is taken in as far as it
-    /// fits, and the rest of it after what waits was read again. Room for a report is made before
-    /// its message is read. `stop` is `Memory` if that room, the report's own memory or that of the
-    /// object that an event makes is refused, and then the message stands in front and can be read
-    /// again. The reading ends early where no message can be read, after wl_display.error, and
-    /// before a piece whose tokens do not all fit; what was read before stays read.
+    /// fits, and the rest of it after what waits was read again. Room for a report is reserved
+    /// before its message is read. `stop` is `Memory` if there is no memory for that room, for the
+    /// report, or for the object that an event makes; then the message stays at the front and can
+    /// be read again. The reading ends early when no message can be read, after wl_display.error,
+    /// and before a piece whose tokens do not all fit; what was read before stays read.
     pub fn read_all(
         &mut self,
         pieces: &[Piece<'_>],
@@ -31,7 +31,7 @@ impl<'t, T: Table> Client<'t, T> {
             → ReadsAll client_reading self.old (map part pieces.now)
             (appended report_of reports.old.items reports.new.items) result self.new }
 
-        // A client that has failed reads nothing, not even where there are no pieces.
+        // A client that has failed reads nothing, even if there are no pieces.
         ensures answer { self.old.core.failed ≡ true
             → result ≡ record { pieces = 0; part = no_room; stop = Some NextError.Failed } }
         ensures failed { self.old.core.failed ≡ true → self.new ≡ self.old }

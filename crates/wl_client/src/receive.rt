@@ -1,4 +1,4 @@
-//! How a client reads the events that come in.
+//! How a client reads the events that arrive.
 ghost use Rattle.std.specs.Prelude.{◌≡◌, IfOk, IfSome, false};
 ghost use Rattle.std.specs.Borrow.{sem};
 ghost use Rattle.std.specs.Io.BufRead.{Rests};
@@ -20,15 +20,14 @@ use wl_connection::{Endpoint, read, read_owned};
 use wl_objects::{NextError, Table};
 
 impl<'t, T: Table> Client<'t, T> {
-    /// Reads the next message, once it is whole; none before. An event by which the server makes an
-    /// object opens it: `made` returns it, and `replaced` the live object that it has replaced, if
-    /// there was one.
+    /// Reads the next message if it is whole; else returns `None`. If the message is an event by
+    /// which the server makes an object, that object is opened: `made` returns it, and `replaced`
+    /// the live object that it replaced, if there was one.
     ///
-    /// A fault makes the client fail for good, and so does wl_display.error once it is reported. If
-    /// there is no memory for the object that an event makes, the message stays and can be read
-    /// again. That can be only where the id of the new object is the next one of the server's range
-    /// that was never used: nothing else takes memory, so in tables without such events nothing
-    /// does.
+    /// The client fails for good with a fault, and after wl_display.error is reported. If there is
+    /// no memory for the object that an event makes, the message stays and can be read again. This
+    /// can happen only if the id of the new object is the next one of the server's range that was
+    /// never used. Nothing else needs memory, so with tables without such events nothing does.
     pub fn next(&mut self) -> Result<Option<Incoming<'_>>, NextError>
         ensures* state { sem 𝓛
             (Rests (client_row T.row T.Alloc.row T.Table T.Alloc.Allocator T.Alloc.Clone) self.entry
@@ -43,7 +42,7 @@ impl<'t, T: Table> Client<'t, T> {
         }
     }
 
-    /// Reads the next message as `next` does, and returns beside its report the entry that the
+    /// Reads the next message as `next` does; returns its report together with the entry that the
     /// object which it is about had before the message.
     pub fn next_with_entry(&mut self) -> Result<Option<IncomingWithEntry<'_>>, NextError>
         ensures* state { sem 𝓛
@@ -65,12 +64,12 @@ impl<'t, T: Table> Client<'t, T> {
         }
     }
 
-    /// Reads the next message as `next` does, and returns a report in memory of its own.
+    /// Reads the next message as `next` does, and returns an owned report.
     ///
-    /// Where there is no memory for the report, or for the object that an event makes, the message
-    /// stays and can be read again. For the report that can be only at an `Event` that has
-    /// arguments and at an `Error`: those of `Discarded`, `Deleted`, `Stray` and an event without
-    /// arguments take no memory. For the object it is as `next` says.
+    /// If there is no memory for the report, or for the object that an event makes, the message
+    /// stays and can be read again. For the report this can happen only with an `Event` that has
+    /// arguments and with an `Error`: `Discarded`, `Deleted`, `Stray` and an event without
+    /// arguments need no memory. For the object see `next`.
     pub fn next_owned(&mut self) -> Result<Option<OwnedIncoming<T::Alloc>>, NextError>
         ensures answer { IsClientNext self.old (report_in result) }
         ensures for_report { has_server_objects self.old.core.tables ≡ false
@@ -83,7 +82,7 @@ impl<'t, T: Table> Client<'t, T> {
         }
     }
 
-    /// Reads the next message as `next_owned` does, and returns beside its report the entry that
+    /// Reads the next message as `next_owned` does; returns its report together with the entry that
     /// the object which it is about had before the message.
     pub fn next_owned_with_entry(
         &mut self,

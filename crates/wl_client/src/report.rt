@@ -4,7 +4,7 @@ use std::alloc::{Allocator, Global};
 use wl_objects::{Args, Entry, Named, Object, OwnedArgs};
 use wl_wire::Bytes;
 
-/// A message that the client read. What it lends is lent from the client, until the client's next
+/// A message that the client read. What it borrows belongs to the client, until the client's next
 /// call of any kind.
 #[derive(Clone, Copy)]
 pub enum Incoming<'a> {
@@ -15,8 +15,8 @@ pub enum Incoming<'a> {
         args: Args<'a>,
     },
     /// An event for an object that the client has destroyed. The tokens that came with it are
-    /// returned, so that the caller can close what they stand for. The client's `made` returns what
-    /// it has made, and `replaced` what that has replaced.
+    /// returned, so that the caller can close their descriptors. The client's `made` returns what
+    /// the event made, and `replaced` what that replaced.
     Discarded {
         target: Object,
         opcode: u16,
@@ -26,13 +26,13 @@ pub enum Incoming<'a> {
     Deleted {
         object: Object,
     },
-    /// wl_display.delete_id of an id that names no object, of wl_display's own, or of one of the
-    /// server's. Nothing changed.
+    /// wl_display.delete_id of an id that has no object, of wl_display's own, or of an id of the
+    /// server's range. Nothing changed.
     Stray {
         id: u32,
     },
     /// wl_display.error, which is fatal: the client has failed. `named` is the object that the
-    /// client has under the id; null where that is 0 or unknown.
+    /// client has with this id; null if the id is 0 or unknown.
     Error {
         id: u32,
         named: Named,
@@ -41,7 +41,7 @@ pub enum Incoming<'a> {
     },
 }
 
-/// A message that the client read, in memory of its own. The cases are those of `Incoming`.
+/// A message that the client read, owned. The cases are those of `Incoming`.
 #[derive(Debug, Drop)]
 pub enum OwnedIncoming<A: Allocator = Global> {
     Event {
@@ -68,18 +68,18 @@ pub enum OwnedIncoming<A: Allocator = Global> {
     },
 }
 
-/// A message that the client read, and what its objects had, before the message, of the one that it
-/// is about.
+/// A message that the client read, and the entry, from before the message, of the object that it is
+/// about.
 #[derive(Clone, Copy)]
 pub struct IncomingWithEntry<'a> {
     pub incoming: Incoming<'a>,
-    /// The entry, with interface, version and state, of the target of an event, of the object that
-    /// delete_id has ended, or of the one that wl_display.error names. None at `Stray`, and where
-    /// an error names no object that the client has.
+    /// The entry (interface, version and state) of the target of an event, of the object that
+    /// delete_id ended, or of the one that wl_display.error names. `None` for `Stray`, and if an
+    /// error names no object that the client has.
     pub entry: Option<Entry>,
 }
 
-/// The same, in memory of its own.
+/// The same, owned.
 #[derive(Debug, Drop)]
 pub struct OwnedIncomingWithEntry<A: Allocator = Global> {
     pub incoming: OwnedIncoming<A>,

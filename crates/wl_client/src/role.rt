@@ -1,4 +1,4 @@
-//! What a client keeps beside its endpoint, and how it reads an event with that.
+//! What a client keeps besides its endpoint, and how it reads an event with it.
 ghost use Rattle.std.specs.Prelude.{◌≡◌};
 
 use crate::changes::{apply_object_change, open_made, replaced_by};
@@ -9,14 +9,14 @@ use std::alloc::{AllocError, Allocator};
 use wl_connection::{Endpoint, Role};
 use wl_objects::{NextError, Object, Table};
 
-/// What a client keeps beside its endpoint.
+/// What a client keeps besides its endpoint.
 #[derive(Drop)]
 pub(crate) struct Kept<A: Allocator> {
-    /// The globals that it was told.
+    /// The globals that were announced to it.
     pub(crate) globals: Remembered<A>,
-    /// What the last message read has made.
+    /// What the last message read made.
     pub(crate) made: Option<Object>,
-    /// The live object that this one has replaced.
+    /// The live object that this one replaced.
     pub(crate) replaced: Option<Object>,
 }
 

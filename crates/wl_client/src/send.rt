@@ -10,11 +10,11 @@ use wl_objects::{Arg, Object, SendError, Table};
 use wl_sigs::Side;
 
 impl<'t, T: Table> Client<'t, T> {
-    /// Writes a request with these arguments, `New` standing for the object that it makes, and
+    /// Writes a request with these arguments, in which `New` is the object that it makes, and
     /// returns that object. An object that the request destroys is a zombie afterwards.
     ///
     /// The refusals are tested in the order of their numbers: S1, S2, S3, S4, S5, S6, S8, S9, S10,
-    /// S11. wl_registry.bind is S3.
+    /// S11. wl_registry.bind is refused with S3.
     pub fn send(
         &mut self,
         target: Object,

@@ -1,4 +1,4 @@
-//! What a client has read, printed.
+//! Printing what a client has read.
 ghost use Rattle.std.specs.Prelude.{◌≡◌, Some};
 ghost use Rattle.std.specs.Fmt.{WritesOnOk};
 ghost use Rattle.wl_sigs.specs.declared.signature.Side.TheVariants.{Event as event_side};
@@ -9,9 +9,9 @@ use std::fmt::{self, Display, Formatter};
 use wl_sigs::{Side, Tables};
 use wl_trace_line::{MessageHead, ObjectName, Quoted, ReportLine};
 
-/// A report with the tables by which it was read. `{}` prints it as the line of its message in a
-/// trace, as far as the report has it (`ReportLine`). A report of an event for a dead object has no
-/// arguments: they are printed as two dots.
+/// A report with the tables with which it was read. `{}` prints it as the line of its message in a
+/// trace, as far as the report has what the line shows (`ReportLine`). The report of an event for a
+/// dead object has no arguments: they are printed as two dots.
 #[derive(Clone, Copy)]
 pub struct ShownIncoming<'t, 'a> {
     tables: &'t Tables,
@@ -19,7 +19,7 @@ pub struct ShownIncoming<'t, 'a> {
 }
 
 impl<'a> IncomingWithEntry<'a> {
-    /// The report, to be printed.
+    /// The report, for printing.
     pub fn shown<'t>(&self, tables: &'t Tables) -> ShownIncoming<'t, 'a>
         ensures { incoming_text result.tables.now result.read
             ≡ incoming_text tables.now self.now }
@@ -32,7 +32,7 @@ impl<'a> IncomingWithEntry<'a> {
 }
 
 impl<'t> ShownIncoming<'t, '_> {
-    /// The event of this opcode for this target.
+    /// The event with this opcode for this target.
     fn head(&self, target: u32, opcode: u16) -> MessageHead<'t>
         ensures tables { result.tables.now ≡ self.now.tables.now }
         ensures side { result.side ≡ event_side }

@@ -6,7 +6,7 @@ use std::fmt::{self, Debug, Formatter};
 use std::marker::Model;
 use wl_connection::MAX_TOKENS;
 
-/// Tokens of a message, in order. They take no memory.
+/// Tokens of a message, in order. They need no memory.
 #[derive(Drop)]
 pub struct Tokens {
     items: [u32; MAX_TOKENS],
@@ -25,7 +25,7 @@ impl Model for Tokens {
 }
 
 impl Tokens {
-    /// A copy of tokens, of which there are no more than a message can have.
+    /// A copy of tokens, at most as many as a message can have.
     pub(crate) fn copy_of(tokens: &[u32]) -> Self
         requires { length tokens.now ≤ max_args }
         ensures { result ≡ tokens.now }
@@ -36,7 +36,7 @@ impl Tokens {
         Self { items, count }
     }
 
-    /// The tokens, lent.
+    /// The tokens, borrowed.
     pub fn as_slice(&self) -> &[u32]
         ensures tokens { result.now ≡ self.now }
         ensures few { length result.now ≤ max_args }

@@ -11,15 +11,15 @@ use wl_sigs::Tables;
 
 impl<'t, T: Table> Client<'t, T> {
     /// Binds a global that need not have been announced: the server judges the bind. What was
-    /// announced is neither asked nor changed.
+    /// announced is neither consulted nor changed.
     ///
-    /// The message has this version. The object has the version that the tables at this end have now,
-    /// so no message of these tables is too new for it here; the server refuses what is too new for
-    /// its object. The two ends can then differ in the version of the object, and a pair has no such
-    /// move.
+    /// The message has this version. The object has the version that the tables at this end have
+    /// now, so no message of these tables is too new for it here; the server refuses what is too
+    /// new for its object. So the two ends can then differ in the version of the object, and a pair
+    /// has no such move.
     ///
-    /// The refusals are tested in the order of their numbers: S1, S2, S3 where `registry` is no
-    /// wl_registry, S7 where the tables have no such interface, or the version is 0 or above theirs,
+    /// The refusals are tested in the order of their numbers: S1, S2, S3 (`registry` is no
+    /// wl_registry), S7 (the tables have no such interface, or the version is 0 or above theirs),
     /// S9, S10, S11.
     pub fn bind_unannounced(
         &mut self,
@@ -68,7 +68,7 @@ impl<'t, T: Table> Client<'t, T> {
     }
 }
 
-/// The global of this name and interface, in the version that the tables have.
+/// The global with this name and interface, at the version that the tables have.
 fn any_global(tables: &Tables, name: u32, iface: &[u8]) -> Option<Global>
     ensures { result ≡ any_global tables.now name iface.now }
 {

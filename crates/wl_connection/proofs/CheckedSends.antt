@@ -45,7 +45,7 @@ use Rattle.wl_connection.proofs.Displays.{ends-another}
 use Rattle.wl_connection.proofs.Messages.{fits-after}
 use Rattle.wl_connection.proofs.Ends.{NamesRegistry, is_the_destroy, names_registry, the_destroy}
 
--- no argument of a call stands where the signature gives no interface
+-- a call has no argument at an index for which the signature gives no interface
 not-named : (x : Arg) → suits (kinds.New None) (given_of x) ≡ true → ⊥
 not-named (args.Int z) e = cc
 not-named (args.Uint n) e = cc
@@ -168,7 +168,7 @@ fits-known o list len more other count b whole m tokens e =
     ∙ (ap (λ (n : ℕ). fits o (message_len (on_wire 0 list) + n) count) m
     ∙ ap (fits o (message_len (on_wire 0 list) + other)) tokens))
 
--- what follows a message has room behind it
+-- there is room for what follows a message
 pub fits-behind : (core written : Core) (view : Objects) (list : List Arg) (target opcode id more : ℕ) (tokens : List ℕ)
     → fits core.outbox (message_len (on_wire 0 list) + more) (length tokens) ≡ true
     → written ≡ with_sent (with_view core view) target opcode (on_wire id list) tokens

@@ -59,7 +59,7 @@ one_free tables r version place kind value m f h = absurd (cc h)
 
 -- ---- all arguments
 
--- the first argument that was read, and those behind it
+-- the first argument that was read, and those after it
 record ReadsFirst (r : Reader) (place : ℕ) (kind : Kind) (ks : List Kind) (values : List Argument) (rest : List ℕ)
     : Type 0 where
   value : Argument

@@ -28,7 +28,7 @@ use Rattle.wl_connection.proofs.Pieces.{taken_bytes-at, taken_tokens-at, is_take
 use Rattle.wl_connection.proofs.Pieces.{part_bytes-next, part_tokens-next, is_taken_none}
 use Rattle.wl_connection.proofs.Pieces.{taken_bytes-none, taken_tokens-none}
 
--- ---- one reading behind another
+-- ---- one reading after another
 
 pub some_then : {S R : Type 0} {e : Reading S R} {state middle end : S} {reports others : List R}
     → ReadsSome e state reports middle → ReadsSome e middle others end → ReadsSome e state (reports ++ others) end
@@ -70,7 +70,7 @@ arrived_open : {S R : Type 0} (e : Reading S R) → IsCoreOf e.core e.with_core 
 arrived_open e laws state bytes tokens = ap (λ (c : Core). c.failed)
     (laws.new state (with_arrived (e.core state) bytes tokens))
 
--- ---- what is read whatever comes behind it
+-- ---- what is read whatever follows it
 
 pub on_none : {S R : Type 0} (e : Reading S R) (state : S) → ReadsOn e state [] state
 on_none e state bytes tokens = nothing
@@ -85,7 +85,7 @@ on_one e state end report h n bytes tokens =
     more (h.stays bytes tokens) n (subst (λ s. ReadsSome e s [] (with_arrivals e end bytes tokens))
     (sym (h.leaves_more bytes tokens)) nothing)
 
--- with more behind it that is there
+-- with more after it that is there
 on_more : {S R : Type 0} (e : Reading S R) → IsCoreOf e.core e.with_core
     → (state end : S) (reports : List R) (bytes tokens : List ℕ) → ReadsOn e state reports end
     → ReadsOn e (with_arrivals e state bytes tokens) reports (with_arrivals e end bytes tokens)
@@ -95,7 +95,7 @@ on_more e laws state end reports bytes tokens h others marks =
     (subst (λ s. ReadsSome e (with_arrivals e state (bytes ++ others) (tokens ++ marks)) reports s)
     (sym (arrived_again e laws end bytes tokens others marks)) (h (bytes ++ others) (tokens ++ marks)))
 
--- with nothing behind it
+-- with nothing after it
 pub on_alone : {S R : Type 0} (e : Reading S R) → IsCoreOf e.core e.with_core → (state end : S) (reports : List R)
     → ReadsOn e state reports end → ReadsSome e state reports end
 on_alone e laws state end reports h =

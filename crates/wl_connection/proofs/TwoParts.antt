@@ -23,7 +23,7 @@ two_parts unread unsent k d le (inr whole) =
     ∙ ap₂ (λ (l m : List ℕ). l ++ take d m) (take-append-le k unread unsent le)
     (drop-append-le k unread unsent le ∙ ap (λ (l : List ℕ). l ++ unsent) (drop_all k unread whole))
 
--- two parts that are written into a slice one behind the other
+-- two parts that are written into a slice one after the other
 pub written : (unread unsent old : List ℕ) (k d : ℕ) → k ≤ length unread → (d ≡ 0) ⊎ (length unread ≤ k)
     → take k unread ++ (take d unsent ++ drop d (drop k old)) ≡ take (k + d) (unread ++ unsent) ++ drop (k + d) old
 written unread unsent old k d le apart =
@@ -37,7 +37,7 @@ places n k d m is few = elim (side n m) [
   | inr h ↦ inr (omega (arith, is, h))
 ]
 
--- the same into the slice itself, of which the second part is what lies behind the first
+-- the same into the slice itself; the second part is what follows the first
 pub both_written : (unread unsent old first second : List ℕ) (k d : ℕ) → k ≡ min (length old) (length unread)
     → first ≡ take k unread ++ drop k old
     → d ≤ length (take (length first - k) (drop k first))

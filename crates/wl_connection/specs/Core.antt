@@ -1,5 +1,5 @@
--- What both ends have: signature tables, objects, what came in, what goes out, whether the end has
--- failed, and how many bytes it read.
+-- What both ends have: signature tables, objects, an inbox, an outbox, whether the end has failed,
+-- and how many bytes it read.
 use Rattle.std.specs.Prelude.{◌≡◌, ℕ, ◌+◌, ◌≤◌, Bool, true, false, ◌&&◌, min, List, if◌then◌else◌}
 use Rattle.std.specs.Prelude.{Option, Some, option_map}
 use Rattle.wl_wire.specs.declared.kind.Iface.{Iface}
@@ -25,17 +25,17 @@ pub record Core : Type 0 where
   pub inbox : Arrived
   pub outbox : Outgoing
   pub failed : Bool
-  -- the bytes of the messages that were read; it stays at the greatest number of 64 bits
+  -- the bytes of all messages read so far; saturates at 2 ^ 64 - 1
   pub read : ℕ
 
--- the most globals that a server adds in its life, and that a client remembers
+-- the most globals that a server adds in its lifetime, and that a client remembers
 abbrev pub max_globals : ℕ
 max_globals = 1024
 
 abbrev pub max_read : ℕ
 max_read = 18446744073709551615
 
--- an end as it begins: wl_display alone, and empty queues
+-- a new end: wl_display alone, and empty queues
 abbrev pub new_core : List Interface → Sizes → Core
 new_core tables sizes = record {
   tables = tables;
@@ -50,13 +50,13 @@ new_core tables sizes = record {
 abbrev pub display_object : Object
 display_object = record { id = 1; birth = 0 }
 
--- its row, which stays as it is for good
+-- its row, which never changes
 abbrev pub HasDisplay : Objects → Type 0
 HasDisplay view =
     look view 1 ≡ Some (record { birth = 0; iface = display; version = 1; state = Live })
 
--- The outbox of an end that has not failed: no error event was added to it, and its size is one
--- that an end has.
+-- The outbox of an end that has not failed: no error event was added, and its size is one that an
+-- end may have.
 abbrev pub IsOrdinary : Outgoing → Type 0
 IsOrdinary outbox =
     (outbox.has_error ≡ false) × (outbox.error_to ≡ 0) × (outbox.capacity ≤ max_queue_bytes)
@@ -71,7 +71,7 @@ live core object = option_map kind_and_version (live_row core.view object)
 abbrev pub no_room : Amounts
 no_room = record { bytes = 0; tokens = 0 }
 
--- how much the inbox takes; a failed end takes nothing
+-- how much the inbox can take; a failed end takes nothing
 abbrev pub in_room : Core → Amounts
 in_room core =
     if core.failed then no_room
@@ -81,15 +81,15 @@ in_room core =
 abbrev pub feeds : Core → List ℕ → List ℕ → Amounts
 feeds core bytes tokens = if core.failed then no_room else fed core.inbox bytes tokens
 
--- how much is taken in of n bytes and of these tokens
+-- how much of n bytes and of these tokens is taken in
 abbrev pub feeds_len : Core → ℕ → List ℕ → Amounts
 feeds_len core n tokens = if core.failed then no_room else fed_of_len core.inbox n tokens
 
--- the end with more that came in
+-- the end after more has come in
 abbrev pub with_arrived : Core → List ℕ → List ℕ → Core
 with_arrived core bytes tokens = record core { inbox = with_more core.inbox bytes tokens }
 
--- the end after this number of bytes has gone out, and the tokens that go with them
+-- the end after this number of bytes went out, with the tokens that go with them
 abbrev pub with_gone : Core → ℕ → Core
 with_gone core bytes = record core { outbox = after_taking core.outbox bytes }
 
@@ -99,17 +99,17 @@ is_drained core =
     (is_empty core.inbox.bytes && is_empty core.inbox.tokens)
     && (is_empty (waiting_bytes core.outbox) && is_empty (waiting_tokens core.outbox))
 
--- the end without the first message, which was read and had these numbers of bytes and tokens
+-- the end without the first message, which was read; these are its numbers of bytes and tokens
 abbrev pub past : Core → ℕ → ℕ → Core
 past core bytes tokens = record core {
   inbox = without_first core.inbox bytes tokens;
   read = min (core.read + bytes) max_read;
 }
 
--- the end with other objects
+-- the end with its objects replaced
 abbrev pub with_view : Core → Objects → Core
 with_view core view = record core { view = view }
 
--- the end for good
+-- the end, failed
 abbrev pub with_failure : Core → Core
 with_failure core = record core { failed = true }

@@ -1,4 +1,4 @@
--- What an end is to the other: what it reads, what it reports of that, and what that leaves.
+-- The role of an end: what it reads, how it reports that, and what state that leaves.
 use Rattle.std.specs.Prelude.{Bool, ◌||◌, if◌then◌else◌, Option, Some, None}
 use Rattle.std.specs.declared.result.Result.{Result}
 use Rattle.std.specs.declared.result.Result.TheVariants.{Ok, Err}
@@ -10,28 +10,28 @@ use Rattle.wl_connection.specs.Outcomes.{AnswersOrMemory, answers_with}
 use Rattle.wl_connection.specs.Receiving.{Found}
 use Rattle.wl_connection.specs.Reads.{Answer, Reading}
 
--- The end's core, and the end with another; the side whose messages come in.
+-- The end's core, how to replace it, and the side whose messages come in.
 pub record Role (S R : Type 0) : Type 0 where
   pub core : S → Core
   pub with_core : S → Core → S
   pub reads : Side
-  -- what stands in front of what waits: no whole message yet, a message, or its fault
+  -- what is at the front of what waits: no whole message yet, a message, or a fault
   pub in_front : S → Result (Option Found) Fault
-  -- whether a message waits until there is room in the outbox for what its reading writes
+  -- whether a message has to wait until the outbox has room for what reading it writes
   pub is_full : Core → Found → Bool
   pub report : Core → Found → R
-  -- what a message leaves, once it is read
+  -- the state after a message is read
   pub past : S → Found → S
-  -- what a fault leaves
+  -- the state after a fault
   pub failing : S → Fault → S
   -- the report after which nothing more is read
   pub is_last : R → Bool
-  -- whether the copy of a report may need memory
+  -- whether copying a report may need memory
   pub wants : R → Bool
-  -- whether taking what stands in front may need memory, for an object that it makes
+  -- whether taking the first message may need memory, for an object that it makes
   pub opens : S → Bool
 
--- ---- reading the next message, where no memory is needed
+-- ---- reading the next message, if no memory is needed
 
 abbrev pub front_answer : {S R : Type 0} → Role S R → Core → Result (Option Found) Fault → Answer R
 front_answer role core (Err fault) = Err (errors.Fault fault core.read)
@@ -39,8 +39,8 @@ front_answer role core (Ok None) = Ok None
 front_answer role core (Ok (Some f)) =
     if role.is_full core f then Err errors.OutFull else Ok (Some (role.report core f))
 
--- What a read returns: what the first message is, nothing where none is whole, or why it cannot be
--- read.
+-- What a read returns: the report of the first message, nothing if it is not whole, or why it
+-- cannot be read.
 abbrev pub role_answer : {S R : Type 0} → Role S R → S → Answer R
 role_answer role state =
     if (role.core state).failed then Err errors.Failed
@@ -52,7 +52,7 @@ front_left role state (Ok None) = state
 front_left role state (Ok (Some f)) =
     if role.is_full (role.core state) f then state else role.past state f
 
--- What it leaves: an end that has failed stays as it is.
+-- The state it leaves: a failed end stays as it is.
 abbrev pub role_after : {S R : Type 0} → Role S R → S → S
 role_after role state =
     if (role.core state).failed then state else front_left role state (role.in_front state)
@@ -66,24 +66,23 @@ role_reading role = record {
   is_last = role.is_last;
 }
 
--- ---- reading the next message, where memory can be refused
+-- ---- reading the next message, if memory can be refused
 
--- What a read returns whose report is copied: out of memory stands only in place of a report that
--- needs some, or of a message whose taking needs some.
+-- What a read that copies its report returns: the same, except that it may be out of memory for a
+-- report that needs some, or for a message whose taking needs some.
 abbrev pub IsNext : {S R : Type 0} → Role S R → S → Answer R → Type 0
 IsNext role state result =
     AnswersOrMemory errors.Memory
     (answers_with role.wants (role_answer role state) || role.opens state)
     (role_answer role state) result
 
--- The same where taking needs none: out of memory stands only in place of a report that needs some.
+-- The same if taking needs no memory: only a report that needs memory can be refused.
 abbrev pub IsReportNext : {S R : Type 0} → Role S R → S → Answer R → Type 0
 IsReportNext role state result =
     AnswersOrMemory errors.Memory (answers_with role.wants (role_answer role state))
     (role_answer role state) result
 
--- The same for a lent report: out of memory stands only in place of a message whose taking needs
--- some.
+-- The same for a borrowed report: only a message whose taking needs memory can be refused.
 abbrev pub IsLentNext : {S R : Type 0} → Role S R → S → Answer R → Type 0
 IsLentNext role state result =
     AnswersOrMemory errors.Memory (role.opens state) (role_answer role state) result

@@ -27,24 +27,24 @@ abbrev pub fits : Outgoing → ℕ → ℕ → Bool
 fits outbox bytes tokens =
     if nat_lt (room_of outbox) bytes || nat_lt (token_room_of outbox) tokens then false else true
 
--- the end with a message more to go out
+-- the end after a message was added to its outbox
 abbrev pub with_sent : Core → ℕ → ℕ → List Argument → List ℕ → Core
 with_sent core object opcode values tokens = record core {
   outbox = with_message core.outbox (message_bytes object opcode values) tokens;
 }
 
--- wl_display.delete_id, and its number of bytes
+-- wl_display.delete_id added, and its length in bytes
 abbrev pub with_delete_id : Core → ℕ → Core
 with_delete_id core id = with_sent core 1 1 (Uint id ∷ []) []
 
 abbrev pub delete_id_len : ℕ
 delete_id_len = 12
 
--- the most bytes that the text of an error has
+-- the longest text of an error in bytes
 abbrev pub max_error_text : ℕ
 max_error_text = 40
 
--- wl_display.error, from the room that is kept for it; the end has failed
+-- wl_display.error added, in the room reserved for it; the end has failed
 abbrev pub with_error_event : Core → ℕ → ℕ → List ℕ → Core
 with_error_event core object code text = record core {
   outbox = with_error core.outbox
@@ -52,7 +52,7 @@ with_error_event core object code text = record core {
   failed = true;
 }
 
--- the object of this interface and version that a maker opens next, if one is made
+-- the object of this interface and version that a maker opens next; none if the call makes none
 abbrev pub next_object : Maker → Objects → ℕ → Option Iface → Option NewObject
 next_object maker view version iface =
     option_map (λ i. record { id = next_id maker view; iface = i; version = version }) iface
@@ -62,7 +62,7 @@ abbrev pub made_by_call : Core → Maker → ℕ → MessageSignature → List G
 made_by_call core maker version signature given =
     made core.tables version signature.kinds (map (wired (next_id maker core.view)) given)
 
--- what a call with room returns that makes this: the maker's new object, or S10 where none can be
+-- what a call with room returns, given what it makes: the maker's new object, or S10 if none can be
 -- opened
 abbrev pub opening_answer : Core → Maker → Option NewObject → Result (Option Object) SendError
 opening_answer core maker None = Ok None
@@ -71,7 +71,7 @@ opening_answer core maker (Some m) =
     then Ok (Some (record { id = next_id maker core.view; birth = next_birth maker core.view }))
     else Err refusals.NoIds
 
--- the delete_id that directly follows a destroying event
+-- the delete_id that immediately follows a destroying event
 abbrev pub following : Side → Destroys → Bool
 following Request what = false
 following Event what = destroys_one what
@@ -83,7 +83,7 @@ abbrev pub version_at : Option Entry → ℕ
 version_at None = 0
 version_at (Some entry) = entry.version
 
--- the object that a call of this side makes at this target
+-- the object that a call of this side makes for this target
 abbrev pub made_at : Core → Side → Object → MessageSignature → List Given → Option NewObject
 made_at core side target signature given =
     made_by_call core (maker_by side) (version_at (look core.view target.id)) signature given
@@ -97,8 +97,8 @@ answer_of core side target given (Ok signature) =
     then opening_answer core (maker_by side) (made_at core side target signature given)
     else Err refusals.Full
 
--- What `send` returns at the end that writes this side, where no memory is needed: S1; S2, S3, S4,
--- S5, S6, S8; S9; S10; else the new object, if the message makes one.
+-- What `send` returns at the end that writes this side, if no memory is needed: S1; S2, S3, S4, S5,
+-- S6, S8; S9; S10; else the new object, if the message makes one.
 abbrev pub send_answer : Core → Side → Object → ℕ → List Given → Result (Option Object) SendError
 send_answer core side target opcode given =
     if core.failed then Err refusals.Failed
@@ -124,9 +124,9 @@ after_checked core side target opcode given (Err refusal) = core
 after_checked core side target opcode given (Ok signature) =
     sent core side target opcode given signature
 
--- The end after a `send` that was answered Ok: the message in its canonical spelling stands last in
--- the outbox, after it the delete_id of an object that it destroyed at the server, and the objects
--- are as the message leaves them.
+-- The end after `send` returned Ok: its outbox ends with the message in its canonical spelling,
+-- followed by the delete_id of an object that it destroyed at the server; and the objects are as
+-- the message leaves them.
 abbrev pub after_send : Core → Side → Object → ℕ → List Given → Core
 after_send core side target opcode given =
     after_checked core side target opcode given
@@ -137,14 +137,14 @@ abbrev pub opens_object : Result MessageSignature SendError → Bool
 opens_object (Err refusal) = false
 opens_object (Ok signature) = is_some (makes signature)
 
--- What a call that opens no object returns: none where it is accepted, and neither of the refusals
--- of an opening, S10 and S11.
+-- What a call that opens no object returns: no object if it is accepted, and neither S10 nor S11,
+-- the refusals of an opening.
 abbrev pub OpensNothing : Result (Option Object) SendError → Type 0
 OpensNothing (Ok new) = new ≡ None
 OpensNothing (Err why) = (why ≢ refusals.NoIds) × (why ≢ refusals.Memory)
 
--- What `send` returns where memory can be refused: out of memory stands only in place of the
--- acceptance of a message that opens an object.
+-- What `send` returns if memory can be refused: the same, except that a message that opens an
+-- object may be refused for lack of memory instead of being accepted.
 abbrev pub IsSendAnswer : Core → Side → Object → ℕ → List Given → Result (Option Object) SendError
     → Type 0
 IsSendAnswer core side target opcode given result =

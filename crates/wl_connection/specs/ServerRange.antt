@@ -1,4 +1,4 @@
--- What always holds of the server's range of ids, at either end.
+-- What always holds for the server's range of ids, at either end.
 use Rattle.std.specs.Prelude.{◌≡◌, ℕ, true, false, List, Option, Some, IfSome}
 use Rattle.std.specs.List.{Contains}
 use Rattle.wl_wire.specs.declared.kind.Kind.TheVariants as kinds
@@ -15,12 +15,12 @@ use Rattle.wl_objects.specs.Messages.{NewObject}
 abbrev pub NoEventEnds : List Interface → Iface → Type 0
 NoEventEnds tables iface = is_ended_by_event (interface_at tables iface.0) ≡ false
 
--- P holds of the interface of each object that the server made
+-- P holds for the interface of each object that the server made
 abbrev pub HoldsOfMade : (Iface → Type 0) → Objects → Type 0
 HoldsOfMade P view =
     (id : ℕ) (e : Entry) → is_of_server id ≡ true → look view id ≡ Some e → P e.iface
 
--- no event destroys an object that the server made
+-- no event destroys any object that the server made
 abbrev pub NoEventEndsMade : List Interface → Objects → Type 0
 NoEventEndsMade tables view = HoldsOfMade (NoEventEnds tables) view
 
@@ -32,7 +32,7 @@ pub record IsMadeBySome (tables : List Interface) (iface : Iface) : Type 0 where
   pub at : signature_at tables place Event opcode ≡ Some event
   pub has : Contains event.kinds (kinds.NewByServer iface)
 
--- each object that the server made is of an interface of which some event makes objects
+-- for each object that the server made, some event makes objects of its interface
 abbrev pub EventsMakeMade : List Interface → Objects → Type 0
 EventsMakeMade tables view = HoldsOfMade (IsMadeBySome tables) view
 
@@ -41,7 +41,7 @@ abbrev pub IsRangeNewUnlessMade : List Interface → Objects → Type 0
 IsRangeNewUnlessMade tables view =
     has_server_objects tables ≡ false → IsServerRangeNew view
 
--- if the object to be opened is the server's, P holds of its interface
+-- if the object to be opened is the server's, P holds for its interface
 abbrev pub OpensHolding : (Iface → Type 0) → Option NewObject → Type 0
 OpensHolding P new = IfSome new (λ m. is_of_server m.id ≡ true → P m.iface)
 

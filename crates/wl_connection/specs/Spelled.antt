@@ -19,8 +19,8 @@ use Rattle.wl_connection.specs.Core.{Core}
 use Rattle.wl_connection.specs.Receiving.{Found, found}
 
 -- The bytes are a message for the object, with this opcode and values of these kinds: a header,
--- which tells how many bytes there are, at most as many as the limit says, and then the spellings
--- of the values, in order, with nothing left.
+-- whose size is the number of bytes, at most the limit, and then the spellings of the values, in
+-- order, with nothing left.
 pub record MessageSpells (limit : ℕ) (kinds : List Kind) (object opcode : ℕ)
     (values : List Argument) (bytes : List ℕ) : Type 0 where
   pub arguments : List ℕ
@@ -29,8 +29,8 @@ pub record MessageSpells (limit : ℕ) (kinds : List Kind) (object opcode : ℕ)
   pub size : IsSize limit (length bytes)
   pub each : SpellsAll kinds values arguments
 
--- What a call that passed its checks writes is a spelling of its values, objects by their ids and
--- the new one by the next id.
+-- What a call writes after passing its checks is a spelling of its values: objects by their ids,
+-- and the new one by the next id.
 abbrev pub CallsSpell : Core → Side → Object → ℕ → List Given → MessageSignature → Type 0
 CallsSpell core side target opcode given signature =
     ObjectsAreSound core.view
@@ -41,12 +41,12 @@ CallsSpell core side target opcode given signature =
     (map (wired (next_id (maker_by side) core.view)) given)
     (message_bytes target.id opcode (map (wired (next_id (maker_by side) core.view)) given))
 
--- The kinds of a message that was found: the object of wl_display.error may be null.
+-- The kinds of a message that was found; the object of wl_display.error may be null.
 abbrev pub kinds_of : Side → Found → List Kind
 kinds_of side f =
     map (forgiving_kind (is_error side f.message.entry.iface f.opcode)) f.message.signature.kinds
 
--- What is found in front of the waiting bytes is a spelling of its values.
+-- What is found at the front of the waiting bytes is a spelling of its values.
 abbrev pub FoundSpells : Core → Side → Found → Type 0
 FoundSpells core side f =
     All (λ b. b < 256) core.inbox.bytes → found core side ≡ Ok (Some f)

@@ -1,4 +1,4 @@
--- Pieces of a stream that come to an end.
+-- Pieces of a stream that arrive at an end.
 use Rattle.std.specs.Prelude.{◌≡◌, ℕ, zero, suc, ◌<◌, ◌⊎◌, List, [], ◌∷◌, ◌++◌, length, take, drop}
 use Rattle.std.specs.Prelude.{Some}
 use Rattle.std.specs.List.{concat, AllByRecursion}
@@ -10,24 +10,24 @@ use Rattle.wl_message.specs.InStep.{Part, Need}
 use Rattle.wl_connection.specs.Core.{Core, with_arrived, no_room}
 use Rattle.wl_connection.specs.Receiving.{Found, found, takes}
 
--- what waits at an end, as a piece that came at one time
+-- what waits at an end, as one piece
 abbrev pub waiting_part : Core → Part
 waiting_part core = record { bytes = core.inbox.bytes; tokens = core.inbox.tokens }
 
--- how many bytes a message that stands in front has, and how many tokens it takes
+-- the length in bytes of the message at the front, and how many tokens it takes
 abbrev pub need_of : Found → Need
 need_of f = record { size = f.size; tokens = takes f.message }
 
--- A message with this need stands in front: it is found there, or would be if more tokens waited.
+-- A message with this need is at the front: it is found there, or would be if more tokens waited.
 pub record Wants (core : Core) (side : Side) (need : Need) : Type 0 where
   pub more : List ℕ
   pub message : Found
   pub there : found (with_arrived core [] more) side ≡ Ok (Some message)
   pub needed : need ≡ need_of message
 
--- ---- what was taken of pieces: a number of them whole, and some of the next
+-- ---- what was taken of pieces: some of them whole, and part of the next
 
--- Of the next piece nothing was taken, or all of its tokens and not all of its bytes.
+-- Of the next piece, nothing was taken, or all of its tokens and not all of its bytes.
 abbrev pub IsTaken : List Part → ℕ → Amounts → Type 0
 IsTaken [] count some = (count ≡ 0) × (some ≡ no_room)
 IsTaken (p ∷ ps) zero some =
@@ -51,18 +51,18 @@ untaken (p ∷ ps) zero some =
     record { bytes = drop some.bytes p.bytes; tokens = drop some.tokens p.tokens } ∷ ps
 untaken (p ∷ ps) (suc count) some = untaken ps count some
 
--- a piece with more behind it
+-- a piece with more appended
 abbrev pub longer : Part → List ℕ → List ℕ → Part
 longer p bytes tokens = record { bytes = p.bytes ++ bytes; tokens = p.tokens ++ tokens }
 
--- No piece is left, or not all tokens of the next find room.
+-- No piece is left, or not all tokens of the next one fit.
 abbrev pub NoneFits : ℕ → List Part → ℕ → Type 0
 NoneFits room [] count = Unit {0}
 NoneFits room (p ∷ ps) zero = room < length p.tokens
 NoneFits room (p ∷ ps) (suc count) = NoneFits room ps count
 
 -- The bytes begin with this number of whole messages within a limit, by the sizes in their headers,
--- and this is left behind them.
+-- and this rest follows.
 pub record BeginWith (limit : ℕ) (bytes : List ℕ) (count : ℕ) (rest : List ℕ) : Type 0 where
   pub messages : List (List ℕ)
   pub as_many : length messages ≡ count

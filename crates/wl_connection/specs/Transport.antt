@@ -1,11 +1,11 @@
--- What passes between an end and a stream.
+-- What is exchanged between an end and a stream.
 use Rattle.std.specs.Prelude.{◌≡◌, ℕ, true, false, List, length, Option, Result, Ok}
 use Rattle.wl_message.specs.declared.streams.FillError.{FillError}
 use Rattle.wl_message.specs.Arrived.{Arrived}
 use Rattle.wl_message.specs.Streams.{Fills}
 use Rattle.wl_connection.specs.Core.{Core, with_arrived}
 
--- the end with another inbox
+-- the end with its inbox replaced
 abbrev pub with_inbox : Core → Arrived → Core
 with_inbox core inbox = record core { inbox = inbox }
 
@@ -17,7 +17,7 @@ pub record EndFills (core : Core) (had : Option (List ℕ)) (result : Result ℕ
   pub others : core' ≡ with_inbox core core'.inbox
   pub failed : core.failed ≡ true → (result ≡ Ok 0) × (core' ≡ core)
 
--- n bytes and some tokens were taken in, whichever bytes these are
+-- some n bytes and these tokens were taken in
 pub record EndReceives (core : Core) (n : ℕ) (tokens : List ℕ) (core' : Core) : Type 0 where
   pub bytes : List ℕ
   pub count : length bytes ≡ n

@@ -1,4 +1,5 @@
--- The tokens of an end that is over: those that came and were not read, and those that did not go.
+-- The tokens of an end that is given up: those that came and were not read, and those that were not
+-- sent.
 use Rattle.std.specs.Prelude.{ℕ, ◌+◌, ◌-◌, min, true, List, ◌++◌, length}
 use Rattle.wl_message.specs.declared.amounts.Amounts.{Amounts}
 use Rattle.wl_message.specs.Arrived.{without_tokens}
@@ -13,8 +14,8 @@ waiting core = core.inbox.tokens ++ waiting_tokens core.outbox
 abbrev pub unread_count : Core → ℕ → ℕ
 unread_count core n = min n (length core.inbox.tokens)
 
--- What the places that are left take of the outbox, as it would go into them with all of its bytes:
--- the tokens of a message together.
+-- What goes out of the outbox into the remaining places, with all bytes: the tokens of a message go
+-- together.
 abbrev pub unsent : Core → ℕ → Amounts
 unsent core n = goes core.outbox (length (waiting_bytes core.outbox)) (n - unread_count core n)
 
@@ -22,8 +23,8 @@ unsent core n = goes core.outbox (length (waiting_bytes core.outbox)) (n - unrea
 abbrev pub waiting_count : Core → ℕ → ℕ
 waiting_count core n = unread_count core n + (unsent core n).tokens
 
--- The end after that. It has failed, so it reads and writes nothing more; and what it gave the
--- tokens of is gone from its outbox, bytes and all.
+-- The end after that. It has failed, so it reads and writes nothing more, and the part of its
+-- outbox that goes with the tokens taken is dropped.
 abbrev pub given_up : Core → ℕ → Core
 given_up core n = record core {
   inbox = without_tokens core.inbox (unread_count core n);

@@ -1,4 +1,4 @@
-//! An end of a connection, whichever of the two it is.
+//! An end of a connection, client or server.
 ghost use Rattle.std.specs.Prelude.{◌≡◌, ◌≤◌, ◌⊎◌, ◌+◌, ◌++◌, [], true, Err, length, take, drop};
 ghost use Rattle.std.specs.Prelude.{IfSome, min, slice_get};
 ghost use Rattle.wl_message.specs.Outgoing.{goes, Peeks, waiting_bytes, waiting_tokens};
@@ -24,7 +24,7 @@ use wl_wire::Iface;
 
 /// A client or a server: the calls that both have.
 pub trait End {
-    /// What keeps its objects.
+    /// The table that stores its objects.
     type Table: Table;
 
     ghost core: { Self → CoreState };
@@ -36,7 +36,7 @@ pub trait End {
         ensures core { result.now ≡ core self.now }
         ensures lasting { NoEventEndsMade (core self.now).tables (core self.now).view };
 
-    /// Takes in what comes: as many tokens as fit, and where these are all, as many bytes as fit.
+    /// Takes in what arrives: as many tokens as fit, and, if all of them fit, as many bytes as fit.
     /// A failed end takes nothing. Whatever waits, the inbox can hold the longest message.
     fn feed(&mut self, bytes: &[u8], tokens: &[u32]) -> Fed
         ensures fed { result ≡ feeds (core self.old) bytes.now tokens.now }
@@ -57,17 +57,18 @@ pub trait End {
         ensures state { self.new
             ≡ with_core self.old (with_gone (core self.old) result.bytes) };
 
-    /// Takes in tokens, and bytes that were written where `space` says, so many of them from the
-    /// first place on, as `feed` does. Where no room for tokens keeps the bytes out, they stay
-    /// there until this call takes them in. A failed end takes nothing.
+    /// Takes in tokens, and the first `bytes` bytes written to `space`, as `feed` does. If the
+    /// tokens do not all fit, no byte is taken in; what was written stays in `space` until this
+    /// call takes it in. A failed end takes nothing.
     fn received(&mut self, bytes: usize, tokens: &[u32]) -> Fed
         ensures fed { result ≡ feeds_len (core self.old) bytes tokens.now }
         ensures state { EndReceives (core self.old) result.bytes (take result.tokens tokens.now)
             (core self.new) }
         ensures others { self.new ≡ with_core self.old (core self.new) };
 
-    /// Takes out what went by other means: the first bytes, so many of them or all that wait, and
-    /// the tokens that go with them. Returns how many of each. At a failed end too.
+    /// Removes what was sent by other means: the first `bytes` bytes, or all that wait if these are
+    /// fewer, and the tokens that go with them. Returns how many of each. Works at a failed end
+    /// too.
     fn sent(&mut self, bytes: usize) -> Taken
         ensures taken { result
             ≡ goes (core self.old).outbox bytes (length (waiting_tokens (core self.old).outbox)) }
@@ -76,10 +77,10 @@ pub trait End {
         ensures state { self.new
             ≡ with_core self.old (with_gone (core self.old) result.bytes) };
 
-    /// Reads once, at most 4096 bytes and at most as many as are free in the inbox, and adds what
-    /// was read to the bytes that wait. Returns their number; 0 is the end of the input.
+    /// Reads once, at most 4096 bytes and at most as many as are free in the inbox, and appends
+    /// what was read to the bytes that wait. Returns their number; 0 is the end of the input.
     ///
-    /// Where the read fails, an interrupted one too, nothing is taken in, and the call can be made
+    /// If the read fails (also if it is interrupted), nothing is taken in, and the call can be made
     /// again. With `NoRoom` nothing is read. A failed end reads nothing and returns 0. Allocates
     /// nothing.
     fn fill<R: Read>(&mut self, reader: &mut R) -> Result<usize, FillError>
@@ -89,26 +90,26 @@ pub trait End {
         ensures unread { ((core self.old).failed ≡ true) ⊎ (result ≡ Err NoRoom)
             → reader.new ≡ reader.old };
 
-    /// Writes the bytes that wait to go, and returns their number. What was written is gone from
-    /// the outbox; also at a failed end.
+    /// Writes the bytes that wait to be sent, and returns their number. What was written is removed
+    /// from the outbox. Works at a failed end too.
     ///
     /// It sends no tokens: it stops with `NeedsTokens` before a message that is not begun and has
-    /// tokens. It stops with `Io` where a write fails, an interrupted one too, or takes no byte; it
-    /// can then be called again. What is left stays in the outbox. Allocates nothing.
+    /// tokens. It stops with `Io` if a write fails (also if it is interrupted) or takes no byte; it
+    /// can then be called again. What was not written stays in the outbox. Allocates nothing.
     fn flush<W: Write>(&mut self, writer: &mut W) -> Result<usize, FlushError>
         ensures flushes { Flushes (core self.old).outbox (W.contents writer.old) result
             (core self.new).outbox (W.contents writer.new) }
         ensures others { self.new
             ≡ with_core self.old (with_gone (core self.old) (bytes_written result)) };
 
-    /// Gives the end up, and takes the tokens out that wait in its queues, as many as the slice
-    /// holds: so no descriptor is lost where a connection ends.
+    /// Gives the end up, and takes out the tokens that wait in its queues, as many as the slice
+    /// holds, so that no descriptor is lost when a connection ends.
     ///
-    /// First come those of the inbox, a message at fault first; then those of the outbox, the
-    /// tokens of a message together. Repeat it until it returns 0, with room for those of the
-    /// longest message. The end has failed afterwards, and what waited to go is dropped with its
-    /// tokens: what is still to be sent, as the error of a failed server, is taken before.
-    /// Allocates nothing.
+    /// The inbox's tokens come first (those of a message at fault before the others), then the
+    /// outbox's; there the tokens of a message go together. Call it until it returns 0, with a
+    /// slice that holds the tokens of the longest message. Afterwards the end has failed, and what
+    /// waited to be sent is dropped together with its tokens: first send what must still go, such
+    /// as the error event of a failed server. Allocates nothing.
     fn take_waiting_tokens(&mut self, tokens: &mut [u32]) -> usize
         ensures count { result ≡ waiting_count (core self.old) (length tokens.old) }
         ensures tokens { tokens.new
@@ -138,18 +139,18 @@ pub trait End {
         }
     }
 
-    /// The interface and version of an object that is live. At a failed end too.
+    /// The interface and version of an object, if it is live. Works at a failed end too.
     final fn live(&self, object: Object) -> Option<(Iface, u32)>
         ensures answer { result ≡ live (core self.now) object }
-        // No event destroys what the server made.
+        // No event destroys an object that the server made.
         ensures lasting { is_of_server object.id ≡ true
             → IfSome result (λ found. NoEventEnds (core self.now).tables found.0) }
     {
         self.core().live(object)
     }
 
-    /// The objects, in both ranges of ids. They have a table of the server's range exactly if the
-    /// tables of messages have events by which the server makes an object. If not, that range stays
+    /// The objects, in both ranges of ids. They have a table of the server's range if and only if
+    /// the signature tables have events by which the server makes objects. If not, that range stays
     /// as at a new end: none of its ids has an entry.
     final fn objects(&self) -> &Objects<Self::Table>
         ensures objects { result.now ≡ (core self.now).view }
@@ -161,14 +162,14 @@ pub trait End {
         self.core().objects()
     }
 
-    /// The table of the client's range, in which the objects are that the client made.
+    /// The table of the client's range, with the objects that the client made.
     final fn table(&self) -> &Self::Table
         ensures { Self.Table.view result.now ≡ (core self.now).view.client }
     {
         self.core().objects.client()
     }
 
-    /// The free bytes and tokens of the inbox; zeros at a failed end.
+    /// The free bytes and tokens of the inbox; zero at a failed end.
     final fn in_room(&self) -> Fed
         ensures { result ≡ in_room (core self.now) }
     {
@@ -200,28 +201,27 @@ pub trait End {
         self.core().outbox.goes(bytes, tokens)
     }
 
-    /// The most bytes that can go at one time so that each token goes with the first of them, as
-    /// `take` has it, however many of them go; and how many of the waiting tokens these are. `sent`
-    /// takes out what went. At a failed end too.
+    /// The most bytes that can go at one time so that every token goes with the first byte, as in
+    /// `take`, however many of the bytes go; and how many of the waiting tokens these are. `sent`
+    /// removes what was sent. Works at a failed end too.
     final fn peek(&self) -> Peek<'_>
         ensures { Peeks (core self.now).outbox (result.front.now ++ result.back.now) result.tokens }
     {
         self.core().outbox.peek()
     }
 
-    /// The token at this place, counted from 0, of those that wait to go.
+    /// The token at this index, from 0, of those that wait to be sent.
     final fn token_to_go(&self, place: usize) -> Option<u32>
         ensures { result ≡ slice_get (waiting_tokens (core self.now).outbox) place }
     {
         self.core().outbox.token(place)
     }
 
-    /// Where the free bytes of the inbox lie, in two parts, for one who writes there by means of
-    /// another language: `received` takes in what was written, from the first part on. No bytes at
-    /// a failed end.
+    /// The free bytes of the inbox, in two parts, for a writer in another language: `received`
+    /// takes in what it wrote, starting with the first part. Empty at a failed end.
     final fn space(&self) -> (&[u8], &[u8])
         ensures free { length result.0.now + length result.1.now ≡ (in_room (core self.now)).bytes }
-        // All of them lie in the first part.
+        // Together they are all free bytes.
         ensures back { result.1.now ≡ [] }
     {
         let core = self.core();

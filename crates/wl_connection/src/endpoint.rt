@@ -1,11 +1,11 @@
-//! An end that reads messages, and what it keeps of the one that it read last.
+//! An end that reads messages, and what it keeps about the last one read.
 ghost use Rattle.std.specs.Prelude.{◌≡◌};
 
 use crate::shared::Core;
 use wl_objects::{ParsedArgs, Table};
 
-/// An end, and beside it the arguments of the message that was read last, as they were parsed.
-/// Reports lend them from here.
+/// An end, and the parsed arguments of the message that was read last. Reports borrow them from
+/// here.
 ///
 /// The fields are for the two ends built on it.
 #[derive(Drop)]
@@ -15,7 +15,7 @@ pub struct Endpoint<'t, T: Table> {
 }
 
 impl<'t, T: Table> Endpoint<'t, T> {
-    /// This end, with no message read.
+    /// This end, before any message is read.
     pub fn new(core: Core<'t, T>) -> Self
         ensures { result.core ≡ core.entry }
     {

@@ -1,4 +1,4 @@
-//! What an end does with a message in front, and with its objects.
+//! What an end does with the message at the front, and with its objects.
 ghost use Rattle.std.specs.Prelude.{◌≡◌, ◌≢◌, ◌≤◌, ◌<◌, ◌↔◌, ◌&&◌, not, ℕ, Err, IsTrue, IfOk, OnOk};
 ghost use Rattle.std.specs.Prelude.{None, OnErr, length, slice_index_or};
 ghost use Rattle.wl_sigs.specs.Tables.{max_args};
@@ -14,12 +14,11 @@ use crate::shared::Core;
 use std::alloc::AllocError;
 use wl_objects::{MAX_ARGS, NewObject, Object, Table, TableError};
 
-/// The most tokens that a message has, one for each argument.
+/// The most tokens of a message: one for each argument.
 pub const MAX_TOKENS: usize = MAX_ARGS;
 
 impl<'t, T: Table> Core<'t, T> {
-    /// The tokens that wait first, as many as a message takes that has this number of them, as far
-    /// as there are such; zeros behind them.
+    /// The first `count` waiting tokens, padded with zeros.
     pub fn first_tokens(&self, count: usize) -> [u32; MAX_TOKENS]
         ensures { (place : ℕ) → place < count → place < max_args
             → slice_index_or result place 0 ≡ slice_index_or self.now.inbox.tokens place 0 }
@@ -31,7 +30,7 @@ impl<'t, T: Table> Core<'t, T> {
         tokens
     }
 
-    /// Takes out the message in front, of `size` bytes, and this many of the first tokens.
+    /// Takes out the first message, of `size` bytes, and this many of the first tokens.
     pub fn pass(&mut self, size: u16, tokens: usize)
         requires message { in_front self.old.inbox ≡ Whole size }
         requires tokens { tokens ≤ length self.old.inbox.tokens }
@@ -41,8 +40,8 @@ impl<'t, T: Table> Core<'t, T> {
         self.read = self.read.saturating_add(u64::from(size));
     }
 
-    /// Opens the object that a message makes. O3 is tested first, then O2, O1 and O4, as by the
-    /// objects; what is refused changes nothing.
+    /// Opens the object that a message makes. O3 is tested first, then O2, O1 and O4, as in
+    /// `Objects::open_at`; a refusal changes nothing.
     pub fn open_at(&mut self, new: NewObject) -> Result<Object, TableError>
         ensures ok { OnOk result
             (self.new ≡ with_view self.old
@@ -62,9 +61,9 @@ impl<'t, T: Table> Core<'t, T> {
         self.objects.open_at(new.id, new.iface, new.version)
     }
 
-    /// Opens the object of the server's that an event makes: in place of the one that has its id, a
-    /// zombie or one that no request can end, which takes no memory; else at an id without an entry.
-    /// Where there is no memory nothing changes.
+    /// Opens the server's object that an event makes. If another object has its id (a zombie, or
+    /// one that no request can end), the new one replaces it, which needs no memory; else the id
+    /// has no entry. Without memory nothing changes.
     pub fn open_made(&mut self, new: NewObject) -> Result<Object, AllocError>
         requires free { IsTrue (server_may_use self.old.tables self.old.view new.id) }
         requires room { IsTrue (has_room self.old.view new.id) }

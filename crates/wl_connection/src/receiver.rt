@@ -7,15 +7,15 @@ use wl_objects::NextError;
 
 /// An end as `read_all` sees it.
 pub trait Receiver: End {
-    /// The report of a message, in memory of its own.
+    /// The report of a message, owned.
     type Report: Drop;
 
-    // What reports say, without where they lie in memory.
+    // What reports say, apart from where they lie in memory.
     ghost Seen: { Type 0 };
 
     ghost seen: { Self.Report → Seen };
 
-    // What `next_owned` returns and leaves where memory is not refused.
+    // What `next_owned` returns and leaves if memory is not refused.
     ghost answer: { Self → Answer Seen };
 
     ghost after: { Self → Self };
@@ -23,7 +23,7 @@ pub trait Receiver: End {
     // The report after which nothing more is read.
     ghost is_last: { Seen → Bool };
 
-    /// Whether a message stands in front that can be read and reported. Nothing changes.
+    /// Whether the first message can be read and reported. Nothing changes.
     fn has_report(&mut self) -> bool
         requires { (Self.core self.old).failed ≡ false }
         ensures same { self.new ≡ self.old }
@@ -32,7 +32,7 @@ pub trait Receiver: End {
         ensures no { result ≡ false
             → HasReport (reading_of Self.core Self.with_core answer after is_last) self.old → ⊥ };
 
-    /// Reads the next message, once it is whole; none before.
+    /// Reads the next message if it is whole; else returns `None`.
     fn next_owned(&mut self) -> Result<Option<Self::Report>, NextError>
         requires { (Self.core self.old).failed ≡ false }
         ensures { ReadsNext (reading_of Self.core Self.with_core answer after is_last) seen

@@ -1,4 +1,4 @@
-//! How an end reads the next message, whichever of the two it is.
+//! How an end reads the next message, client or server.
 ghost use Rattle.std.specs.Prelude.{◌≡◌, true, Err, List, IfOk, IfSome, OnOk, OnErr};
 ghost use Rattle.wl_objects.specs.declared.parsed.ParsedArg.{ParsedArg};
 ghost use Rattle.wl_connection.specs.Core.{Core as CoreState};
@@ -10,20 +10,20 @@ use crate::endpoint::Endpoint;
 use std::alloc::AllocError;
 use wl_objects::{NextError, Table};
 
-/// What an end is to the other: what it keeps beside its endpoint, and how it finds, copies and
-/// takes a message with that.
+/// The role of an end: what it keeps besides its endpoint, and how it finds, copies and takes a
+/// message.
 pub trait Role<T: Table>: Drop {
-    /// A message that was found and not yet taken. It lends nothing: its arguments lie at the end
+    /// A message that was found and not yet taken. It borrows nothing: its arguments are at the end
     /// that read it.
     type Pending: Copy;
 
-    /// The report of a message, in memory of its own.
+    /// The report of a message, owned.
     type Owned: Drop;
 
-    // What reports say, without where they lie in memory.
+    // What reports say, apart from where they lie in memory.
     ghost Report: { Type 0 };
 
-    // What an end is: its core, and what it keeps beside that.
+    // The state of an end: its core, and what it keeps besides that.
     ghost State: { Type 0 };
 
     ghost state: { CoreState → Self → State };
@@ -32,7 +32,7 @@ pub trait Role<T: Table>: Drop {
 
     ghost owned: { Self.Owned → Report };
 
-    // What is reported of a message that stands in front, and of the message that was taken last.
+    // What is reported about a message at the front, and about the message that was taken last.
     ghost fronts: { CoreState → List ParsedArg → Self.Pending → Report };
 
     ghost tells: { CoreState → List ParsedArg → Self.Pending → Report };
@@ -40,11 +40,11 @@ pub trait Role<T: Table>: Drop {
     // What holds between calls.
     ghost IsSound: { CoreState → Self → Type 0 };
 
-    // This message stands in front and can be taken.
+    // This message is at the front and can be taken.
     ghost IsAhead: { CoreState → Self → List ParsedArg → Self.Pending → Type 0 };
 
-    /// The message in front, once it is whole and if it can be taken. The end fails with a fault;
-    /// else nothing changes but the arguments that were parsed last.
+    /// The first message, if it is whole and can be taken. The end fails with a fault; otherwise
+    /// only the parsed arguments change.
     fn find(&self, end: &mut Endpoint<'_, T>) -> Result<Option<Self::Pending>, NextError>
         requires sound { IsSound end.old.core self.now }
         ensures answer { read_as (fronts end.old.core end.new.args) result
@@ -87,8 +87,8 @@ pub trait Role<T: Table>: Drop {
         ensures sound { IsSound end.new.core self.new };
 }
 
-/// Reads the next message at an end, and takes it. Its report lies in the message that was taken
-/// last.
+/// Reads the next message at an end, and takes it. Its report is borrowed from the message that was
+/// taken last.
 pub fn read<T: Table, R: Role<T>>(
     end: &mut Endpoint<'_, T>,
     role: &mut R,
@@ -101,7 +101,7 @@ pub fn read<T: Table, R: Role<T>>(
         (role_after R.role (R.state end.old.core role.old))
         (read_as (R.tells end.new.core end.new.args) result) }
     ensures sound { R.IsSound end.new.core role.new }
-    // What was taken had stood in front, and what no memory was for still does.
+    // A message that was taken was at the front; one for which there was no memory still is.
     ensures ahead { IfOk result (λ read. IfSome read
         (λ pending. R.IsAhead end.old.core role.old end.new.args pending)) }
     ensures refused { result ≡ Err NextError.Memory

@@ -32,10 +32,10 @@ use wl_sigs::event::wl_display::{DELETE_ID, ERROR};
 use wl_sigs::{Destroys, Side};
 use wl_wire::{HEADER_LEN, Iface};
 
-/// The number of bytes of wl_display.delete_id: a header and an id.
+/// The length of wl_display.delete_id in bytes: a header and an id.
 pub const DELETE_ID_LEN: usize = HEADER_LEN + 4;
 
-/// The id of the object that an argument names; 0 where it names none.
+/// The id of the object that an argument names; 0 if it names none.
 fn id_named(arg: &Arg<'_>) -> u32
     ensures { result ≡ id_named (Some (wired 0 (given_of arg.now))) }
 {
@@ -59,7 +59,8 @@ fn ended_id(what: Destroys, target: u32, args: &[Arg<'_>]) -> u32
     }
 }
 
-/// How many bytes directly follow a message of this side: a delete_id follows a destroying event.
+/// How many bytes immediately follow a message of this side: a delete_id follows a destroying
+/// event.
 fn following_len(side: Side, destroys: Destroys) -> usize
     ensures { result ≡ following_len side destroys }
 {
@@ -69,7 +70,7 @@ fn following_len(side: Side, destroys: Destroys) -> usize
     }
 }
 
-/// The id of the object that a message makes; 0 where it makes none.
+/// The id of the object that a message makes; 0 if it makes none.
 fn id_of(new: Option<Object>) -> u32
     ensures { result ≡ id_of new }
 {
@@ -84,8 +85,8 @@ impl<'t, T: Table> Core<'t, T> {
         bytes <= self.outbox.room() && tokens <= self.outbox.token_room()
     }
 
-    /// Closes an object, so that its id is free again, and tells the client by
-    /// wl_display.delete_id, for which 12 bytes must be free.
+    /// Closes an object, so that its id is free again, and writes wl_display.delete_id to the
+    /// client. 12 bytes must be free.
     pub fn delete_object(&mut self, id: u32)
         requires held { IsTrue (is_held self.old.view id) }
         requires not_display { id ≢ 1 }
@@ -96,7 +97,7 @@ impl<'t, T: Table> Core<'t, T> {
         self.write_delete_id(id);
     }
 
-    /// Writes wl_display.delete_id, for which 12 bytes must be free.
+    /// Writes wl_display.delete_id. 12 bytes must be free.
     fn write_delete_id(&mut self, id: u32)
         requires { IsTrue (fits self.old.outbox delete_id_len 0) }
         ensures { self.new ≡ with_delete_id self.old id }
@@ -105,15 +106,15 @@ impl<'t, T: Table> Core<'t, T> {
         self.write_call(&CallMessage::new(DISPLAY_ID, DELETE_ID, &args), 0);
     }
 
-    /// Writes wl_display.error, about an object of this id, into the room that is kept for it. The
-    /// end has failed afterwards.
+    /// Writes wl_display.error about an object with this id, into the room reserved for it. The end
+    /// has failed afterwards.
     pub fn write_error(&mut self, object: u32, code: u32, text: &[u8])
         requires open { self.old.failed ≡ false }
         requires text { IsTrue (has_no_nul text.now) }
         requires short { length text.now ≤ max_error_text }
         ensures { self.new ≡ with_error_event self.old object code text.now }
     {
-        // Of an object its id alone is written.
+        // Only the id of the object is written.
         let object = Object {
             id: object,
             birth: 0,
@@ -147,7 +148,7 @@ impl<'t, T: Table> Core<'t, T> {
         self.outbox.push_encoded(&message, &[], &mut self.store);
     }
 
-    /// Opens an object of this maker's at its next id. S10 is tested before S11.
+    /// Opens an object of this maker at its next id. S10 is tested before S11.
     pub fn open_next(
         &mut self,
         maker: Maker,
@@ -171,8 +172,8 @@ impl<'t, T: Table> Core<'t, T> {
         }
     }
 
-    /// Opens the object that a message of this side makes, if it makes one: of this interface and
-    /// version.
+    /// Opens the object that a message of this side makes, with this interface and version, if it
+    /// makes one.
     fn open_new(
         &mut self,
         side: Side,
@@ -196,7 +197,7 @@ impl<'t, T: Table> Core<'t, T> {
         }
     }
 
-    /// Writes the message that a call becomes, with which this number of tokens goes. It must fit.
+    /// Writes the message made from a call; this number of tokens goes with it. It must fit.
     pub fn write_call(&mut self, message: &CallMessage<'_>, tokens: usize)
         requires fits { CallFits message.now }
         requires few { length message.now.args.now ≤ max_args }
@@ -217,8 +218,8 @@ impl<'t, T: Table> Core<'t, T> {
             .push_encoded(message, &places[..count], &mut self.store);
     }
 
-    /// Ends the object that a message destroys, if it destroys one: at a client it is a zombie, at
-    /// a server it is closed, and delete_id follows.
+    /// Ends the object that a message destroys, if it destroys one: at a client it becomes a
+    /// zombie; at a server it is closed, and delete_id follows.
     fn end_object(&mut self, side: Side, what: Destroys, id: u32)
         requires live { IsTrue (is_live self.old.view id) }
         requires other { destroys_one what ≡ true → id ≢ 1 }
@@ -234,7 +235,7 @@ impl<'t, T: Table> Core<'t, T> {
         }
     }
 
-    /// Writes a call that passed its checks: S9, then as `open_new`.
+    /// Writes a call that passed its checks; tests S9, then opens as `open_new`.
     fn write_checked(
         &mut self,
         side: Side,
@@ -280,12 +281,12 @@ impl<'t, T: Table> Core<'t, T> {
         Ok(new)
     }
 
-    /// Writes a message with these arguments, `New` standing for the object that it makes, and
+    /// Writes a message with these arguments, in which `New` is the object that it makes, and
     /// returns that object. What the message destroys is ended at once; after an event that
     /// destroys, delete_id is written too.
     ///
     /// The refusals are tested in the order of their numbers: S1, S2, S3, S4, S5, S6, S8, S9, S10,
-    /// S11. The messages that other calls write are S3.
+    /// S11. A message that another call writes is refused with S3.
     pub fn send(
         &mut self,
         side: Side,
@@ -294,13 +295,13 @@ impl<'t, T: Table> Core<'t, T> {
         args: &[Arg<'_>],
     ) -> Result<Option<Object>, SendError>
         ensures answer { IsSendAnswer self.old side target opcode (given args.now) result }
-        // An event makes an object only where the tables have such events.
+        // An event makes an object only if the tables have such events.
         ensures event { side ≡ event_side → has_server_objects self.old.tables ≡ false
             → OpensNothing result }
         ensures ok { OnOk result
             (self.new ≡ after_send self.old side target opcode (given args.now)) }
         ensures err { OnErr result (self.new ≡ self.old) }
-        // Tables are always valid; a proof learns it from a call that looked into them.
+        // Tables are always valid; a proof learns this from a call that read them.
         ensures valid { IfOk result (λ _. Valid self.old.tables) }
         ensures sound { IfOk result (λ _. ObjectsAreSound self.old.view) }
     {

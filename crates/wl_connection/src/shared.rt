@@ -19,11 +19,11 @@ use wl_objects::{DISPLAY, Object, Objects, Table, live_row};
 use wl_sigs::Tables;
 use wl_wire::Iface;
 
-/// The most globals that a server advertises in its life, and the most that a client remembers.
+/// The most globals that a server advertises in its lifetime, and the most that a client remembers.
 pub const MAX_GLOBALS: usize = 1024;
 
-/// Tables have the first event by which the server makes an object, and the end that was to take
-/// them has no table of the server's range of ids.
+/// The new tables have the first event by which the server makes an object, but the end that was to
+/// take them has no table of the server's range of ids.
 #[derive(Clone, Copy, Debug, PartialEq, Eq)]
 pub struct FirstServerObject;
 
@@ -36,11 +36,11 @@ pub struct Core<'t, T: Table> {
     pub objects: Objects<T>,
     pub inbox: Inbox<T::Alloc>,
     pub outbox: Outbox<T::Alloc>,
-    /// Where a message is encoded before it goes to the outbox, as long as the longest.
+    /// Where a message is encoded before it goes to the outbox; as long as the longest message.
     pub store: Vec<u8, T::Alloc>,
-    /// Whether the end has failed. It stays so for good.
+    /// Whether the end has failed, which is final.
     pub failed: bool,
-    /// How many bytes the messages had that were read; no more than the greatest number.
+    /// Bytes of all messages read so far; saturates.
     pub read: u64,
 }
 
@@ -78,7 +78,7 @@ impl<'t, T: Table> Model for Core<'t, T> {
 
 impl<'t, T: Table> Core<'t, T> {
     /// An end with wl_display alone and empty queues of these sizes. It has a table of the server's
-    /// range of ids exactly if the tables have events by which the server makes objects.
+    /// range of ids if and only if the tables have events by which the server makes objects.
     pub fn new(alloc: T::Alloc, tables: &'t Tables, sizes: Sizes) -> Result<Self, AllocError>
         requires { AreSizes sizes }
         ensures { IfOk result (λ core. core ≡ new_core tables.now sizes) }
@@ -99,17 +99,17 @@ impl<'t, T: Table> Core<'t, T> {
         })
     }
 
-    /// Takes tables in place of those that the end has, which they extend. Nothing else changes: each
-    /// object keeps the place of its interface, and each message its opcode.
+    /// Replaces the end's tables with these, which extend them. Nothing else changes: the interface
+    /// of each object keeps its index, and each message its opcode.
     ///
     /// Refused if these tables have the first event by which the server makes an object: an end has
-    /// a table of the server's range of ids from the beginning, or never.
+    /// a table of the server's range of ids from the start, or never.
     pub fn more_tables(&mut self, tables: &'t Tables) -> Result<(), FirstServerObject>
         requires { Extend self.old.tables tables.now }
         ensures refused { is_err result ≡ has_first_server_object self.old.tables tables.now }
         ensures ok { OnOk result (self.new ≡ with_tables self.old tables.now) }
         ensures err { OnErr result (self.new ≡ self.old) }
-        // Tables are always valid; a proof learns it from a call that looked into them.
+        // Tables are always valid; a proof learns this from a call that read them.
         ensures valid { Valid tables.now }
     {
         if tables.has_server_objects() && !self.objects.has_server_range() {
@@ -125,12 +125,12 @@ impl<'t, T: Table> Core<'t, T> {
         ensures range { self.now.view.has_server_range ≡ has_server_objects self.now.tables }
         ensures stays_new { IsRangeNewUnlessMade self.now.tables self.now.view }
     {
-        // Called for what it ensures: without a table the range is that of a new end.
+        // Called for what it ensures: without a table, the range is that of a new end.
         let _range = self.objects.has_server_range();
         &self.objects
     }
 
-    /// The interface and version of an object that is live, as `End::live` says.
+    /// The interface and version of an object, if it is live; see `End::live`.
     pub fn live(&self, object: Object) -> Option<(Iface, u32)>
         ensures { result ≡ live self.now object }
     {
@@ -138,7 +138,7 @@ impl<'t, T: Table> Core<'t, T> {
         Some((entry.iface, entry.version))
     }
 
-    /// Takes in what comes, as `End::feed` says.
+    /// Takes in what arrives; see `End::feed`.
     pub fn feed(&mut self, bytes: &[u8], tokens: &[u32]) -> Fed
         ensures fed { result ≡ feeds self.old bytes.now tokens.now }
         ensures state { self.new
@@ -155,7 +155,7 @@ impl<'t, T: Table> Core<'t, T> {
     }
 }
 
-/// The objects of a new end that has these tables.
+/// The objects of a new end with these tables.
 fn new_objects<T: Table>(alloc: T::Alloc, tables: &Tables) -> Result<Objects<T>, AllocError>
     ensures { IfOk result
         (λ objects. objects ≡ opening display (has_server_objects tables.now)) }

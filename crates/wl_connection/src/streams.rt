@@ -1,4 +1,4 @@
-//! Whole streams at an end, in pieces.
+//! Reading whole streams at an end, in pieces.
 ghost use Rattle.std.specs.Prelude.{◌≡◌, ◌≤◌, true, false, [], length, map, take, Some};
 ghost use Rattle.wl_message.specs.Arrived.{free_tokens};
 ghost use Rattle.wl_message.specs.InStep.{part};
@@ -16,10 +16,10 @@ use wl_objects::NextError;
 pub struct ReadAll {
     /// How many of the pieces were taken whole.
     pub pieces: usize,
-    /// What was taken of the next one: nothing, or all of its tokens and some of its bytes.
+    /// What was taken of the next piece: nothing, or all of its tokens and some of its bytes.
     pub part: Fed,
-    /// Why the reading stopped; none where it went on to the end, to wl_display.error, or to a
-    /// piece whose tokens do not all find room.
+    /// Why reading stopped early. `None` if it reached the end, wl_display.error, or a piece whose
+    /// tokens do not all fit.
     pub stop: Option<NextError>,
 }
 
@@ -42,12 +42,12 @@ impl ReadAll {
 /// Reads pieces of a stream at an end, in order, and appends what was read to the reports.
 ///
 /// All that waits is read before each piece and at the end. A piece is taken in as far as it fits,
-/// and the rest of it after what waits was read again. Room for a report is made before its message
-/// is read. `stop` is `Memory` if that room, the report's own memory or that of the object which
-/// the message makes is refused, and then the message stands in front and can be read again. The
-/// reading ends early where no message can be read, after the last report, and before a piece whose
-/// tokens do not all fit; what was read before stays read. An end that has failed reads nothing,
-/// not even where there are no pieces.
+/// and the rest of it after what waits was read again. Room for a report is reserved before its
+/// message is read. `stop` is `Memory` if there is no memory for that room, for the report, or for
+/// the object that the message makes; then the message stays at the front and can be read again.
+/// The reading ends early when no message can be read, after the last report, and before a piece
+/// whose tokens do not all fit; what was read before stays read. An end that has failed reads
+/// nothing, even if there are no pieces.
 pub fn read_all<E: Receiver, A: Allocator>(
     end: &mut E,
     pieces: &[Piece<'_>],
@@ -113,8 +113,8 @@ fn read_waiting<E: Receiver, A: Allocator>(
     }
 }
 
-/// Reads where there is no room for a report: `Memory` where there would be one. A fault is found
-/// all the same, and so is that nothing waits.
+/// Reads without room for a report: `Memory` if there would be a report. A fault is still found,
+/// and so is an empty inbox.
 fn read_without_room<E: Receiver>(end: &mut E) -> Result<(), Option<NextError>>
     requires { (E.core end.old).failed ≡ false }
     ensures { WaitingIsRead (reading_of E.core E.with_core E.answer E.after E.is_last) end.old []
@@ -129,8 +129,8 @@ fn read_without_room<E: Receiver>(end: &mut E) -> Result<(), Option<NextError>>
     }
 }
 
-/// Takes in a piece whose tokens find room, and reads what waits as often as there is no room for
-/// the rest of its bytes. The end of an early stop has no whole pieces.
+/// Takes in a piece whose tokens fit, and reads what waits whenever there is no room for the rest
+/// of its bytes. If the reading stops early, the result counts no whole pieces.
 fn read_piece<E: Receiver, A: Allocator>(
     end: &mut E,
     piece: Piece<'_>,

@@ -1,4 +1,4 @@
-//! What an end reads of a stream, or takes in where it was written into its inbox.
+//! How an end reads from a stream, or takes in what was written into its inbox.
 ghost use Rattle.std.specs.Prelude.{◌≡◌, ◌⊎◌, true, Err, take};
 ghost use Rattle.wl_message.specs.declared.streams.FillError.TheVariants.{NoRoom};
 ghost use Rattle.wl_connection.specs.Core.{feeds_len};
@@ -24,7 +24,7 @@ impl<'t, T: Table> Core<'t, T> {
         wl_message::fill(&mut self.inbox, reader)
     }
 
-    /// Takes in what was written into the inbox, as `End::received` says.
+    /// Takes in what was written into the inbox; see `End::received`.
     pub fn received(&mut self, bytes: usize, tokens: &[u32]) -> Fed
         ensures fed { result ≡ feeds_len self.old bytes tokens.now }
         ensures state { EndReceives self.old result.bytes (take result.tokens tokens.now) self.new }

@@ -1,4 +1,4 @@
-//! What an end that is over gives back.
+//! The tokens that an end gives back when it is given up.
 ghost use Rattle.std.specs.Prelude.{◌≡◌, ◌≤◌, ◌++◌, [], length, take, drop};
 ghost use Rattle.wl_message.specs.Outgoing.{waiting_bytes};
 ghost use Rattle.wl_connection.specs.Waiting.{waiting, waiting_count, given_up};
@@ -7,7 +7,7 @@ use crate::shared::Core;
 use wl_objects::Table;
 
 impl<'t, T: Table> Core<'t, T> {
-    /// Takes tokens out of both queues, as `End::take_waiting_tokens` says.
+    /// Takes tokens out of both queues; see `End::take_waiting_tokens`.
     pub fn take_waiting_tokens(&mut self, tokens: &mut [u32]) -> usize
         ensures count { result ≡ waiting_count self.old (length tokens.old) }
         ensures tokens { tokens.new ≡ take result (waiting self.old) ++ drop result tokens.old }

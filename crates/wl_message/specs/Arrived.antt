@@ -1,4 +1,4 @@
--- Bytes and tokens that came in and wait.
+-- Bytes and tokens that were received and wait.
 use Rattle.std.specs.Prelude.{◌≡◌, ℕ, ◌-◌, ◌≤◌, nat_le, min, if◌then◌else◌, List, [], ◌++◌, length}
 use Rattle.std.specs.Prelude.{take, drop, Result, Ok, Err, Option, Some, None}
 use Rattle.wl_wire.specs.Word.{header_bytes}
@@ -11,8 +11,8 @@ use Rattle.wl_message.specs.declared.limit.Limit.{Limit}
 use Rattle.wl_message.specs.Bounds.{max_queue_bytes, max_queue_tokens, min_inbox_tokens}
 use Rattle.wl_message.specs.Cut.{front, Front, More, Bad, Whole, told_size}
 
--- An inbox: the bytes and the tokens that wait, how many of each may wait, how many bytes a message
--- may have, and the body and the tokens of the message that was taken out last.
+-- An inbox: the bytes and tokens that wait, how many of each may wait, how many bytes a message may
+-- have, and the body and tokens of the message that was taken out last.
 pub record Arrived : Type 0 where
   pub bytes : List ℕ
   pub tokens : List ℕ
@@ -22,7 +22,7 @@ pub record Arrived : Type 0 where
   pub last : List ℕ
   pub last_tokens : List ℕ
 
--- nothing waits, and no message was taken out
+-- nothing waits, and no message was taken out yet
 abbrev pub nothing_arrived : ℕ → ℕ → Limit → Arrived
 nothing_arrived bytes tokens limit = record {
   bytes = [];
@@ -34,7 +34,7 @@ nothing_arrived bytes tokens limit = record {
   last_tokens = [];
 }
 
--- what stands in front of the bytes that wait
+-- what is at the front of the waiting bytes
 abbrev pub in_front : Arrived → Front
 in_front a = front a.limit.bytes a.bytes
 
@@ -46,7 +46,7 @@ free_bytes a = a.capacity - length a.bytes
 abbrev pub free_tokens : Arrived → ℕ
 free_tokens a = a.token_capacity - length a.tokens
 
--- How much is taken in of these bytes and tokens: as many tokens as fit, and where these are all,
+-- How much of these bytes and tokens is taken in: as many tokens as fit, and, if all of them fit,
 -- as many bytes as fit.
 abbrev pub fed : Arrived → List ℕ → List ℕ → Amounts
 fed a bytes tokens = record {
@@ -54,24 +54,24 @@ fed a bytes tokens = record {
   tokens = min (length tokens) (free_tokens a);
 }
 
--- how much is taken in of n bytes and of these tokens, by the same rule
+-- how much of n bytes and of these tokens is taken in, by the same rule
 abbrev pub fed_of_len : Arrived → ℕ → List ℕ → Amounts
 fed_of_len a n tokens = record {
   bytes = if nat_le (length tokens) (free_tokens a) then min n (free_bytes a) else 0;
   tokens = min (length tokens) (free_tokens a);
 }
 
--- with these bytes and tokens behind the others
+-- these bytes and tokens are appended
 abbrev pub with_more : Arrived → List ℕ → List ℕ → Arrived
 with_more a bytes tokens = record a { bytes = a.bytes ++ bytes; tokens = a.tokens ++ tokens }
 
--- n bytes and some tokens were taken in, whichever bytes these are
+-- some n bytes and these tokens were taken in
 pub record HasReceived (a : Arrived) (n : ℕ) (tokens : List ℕ) (a' : Arrived) : Type 0 where
   pub bytes : List ℕ
   pub count : length bytes ≡ n
   pub behind : a' ≡ with_more a bytes tokens
 
--- without the message in front, of these numbers of bytes and tokens
+-- without the first message, given its numbers of bytes and tokens
 abbrev pub without_first : Arrived → ℕ → ℕ → Arrived
 without_first a bytes tokens = record a {
   bytes = drop bytes a.bytes;
@@ -80,31 +80,30 @@ without_first a bytes tokens = record a {
   last_tokens = take tokens a.tokens;
 }
 
--- without the first of the tokens, so many of them; no message goes with these
+-- without the first tokens, given their number; no message is removed
 abbrev pub without_tokens : Arrived → ℕ → Arrived
 without_tokens a tokens = record a { tokens = drop tokens a.tokens }
 
--- The store begins with a copy of the message in front, of this length.
+-- The store begins with a copy of the first message, of this length.
 pub record IsCopy (n : ℕ) (bytes store : List ℕ) : Type 0 where
   pub told : n ≡ told_size bytes
   pub same : take n store ≡ take n bytes
 
--- The header of the message in front, a bad size there, or nothing as long as more bytes are
--- needed.
+-- The result for the first message: its header, a bad size, or nothing if more bytes are needed.
 abbrev pub TellsHeader : ℕ → List ℕ → Result (Option Header) BadSize → Type 0
 TellsHeader limit bytes (Ok None) = front limit bytes ≡ More
 TellsHeader limit bytes (Ok (Some h)) =
     (front limit bytes ≡ Whole h.size) × (take 8 bytes ≡ header_bytes h)
 TellsHeader limit bytes (Err e) = front limit bytes ≡ Bad e.size
 
--- as many bytes are there as the header tells: the header, and what follows it
+-- the header and as many bytes as it says are there
 pub record HasParts (bytes : List ℕ) (h : Header) : Type 0 where
   pub header : 8 ≤ h.size
   pub there : h.size ≤ length bytes
   pub parts : take h.size bytes ≡ header_bytes h ++ take (h.size - 8) (drop 8 bytes)
 
--- What is told of the message in front: its header, the bytes behind that, and how many tokens
--- wait; a bad size; or nothing, as long as more bytes are needed.
+-- The result for the first message: its header, the bytes after the header, and how many tokens
+-- wait; a bad size; or nothing if more bytes are needed.
 abbrev pub TellsFront : Arrived → Result (Option Frame) BadSize → Type 0
 TellsFront a (Ok None) = in_front a ≡ More
 TellsFront a (Ok (Some f)) =
@@ -122,7 +121,7 @@ pub record AreSizes (sizes : Sizes) : Type 0 where
   pub in_tokens_low : min_inbox_tokens ≤ sizes.in_tokens
   pub in_tokens : sizes.in_tokens ≤ max_queue_tokens
 
--- The tokens that an inbox was fed since it was new, and those that it gave, with a message or
+-- The tokens that an inbox was fed since it was new, and those that it gave out, with a message or
 -- without one.
 pub data Gives : List ℕ → List ℕ → Arrived → Type 0 where
   starts : {bytes tokens : ℕ} {limit : Limit} → Gives [] [] (nothing_arrived bytes tokens limit)

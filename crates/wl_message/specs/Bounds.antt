@@ -8,10 +8,10 @@ max_queue_bytes = 16777216
 abbrev pub max_queue_tokens : ℕ
 max_queue_tokens = 65536
 
--- the fewest tokens that an inbox can hold: as many as one message can have
+-- the smallest token capacity of an inbox: the most tokens of one message
 abbrev pub min_inbox_tokens : ℕ
 min_inbox_tokens = 20
 
--- the most bytes of the error event, for which an outbox has room beyond what it can hold
+-- the longest error event in bytes, for which an outbox has room beyond its capacity
 abbrev pub max_error_len : ℕ
 max_error_len = 64

@@ -4,12 +4,11 @@ use Rattle.std.specs.Prelude.{nat_le, if◌then◌else◌, List, [], ◌∷◌, 
 use Rattle.std.specs.Prelude.{slice_index}
 use Rattle.std.specs.List.{concat, AllByRecursion}
 
--- the most bytes that a message has where no other limit is chosen
+-- the longest message in bytes if no other limit is chosen
 abbrev pub usual_limit : ℕ
 usual_limit = 4096
 
--- The most bytes that any limit allows: above it no multiple of 4 is a size that a header can tell
--- in its 16 bits.
+-- The greatest limit in bytes: no greater multiple of 4 fits in the 16 bits of a header's size.
 abbrev pub greatest_limit : ℕ
 greatest_limit = 65532
 
@@ -17,7 +16,7 @@ greatest_limit = 65532
 abbrev pub IsLimit : ℕ → Type 0
 IsLimit n = (usual_limit ≤ n) × (n ≤ greatest_limit) × (n % 4 ≡ 0)
 
--- A message may have n bytes: its header has 8, it is a row of words, and it is within the limit.
+-- A message may have n bytes: at least the 8 of its header, a multiple of 4, and within the limit.
 pub record IsSize (limit n : ℕ) : Type 0 where
   pub header : 8 ≤ n
   pub words : n % 4 ≡ 0
@@ -27,22 +26,22 @@ pub record IsSize (limit n : ℕ) : Type 0 where
 abbrev pub is_size : ℕ → ℕ → Bool
 is_size limit n = (nat_le 8 n && n % 4 == 0) && nat_le n limit
 
--- the size that a header tells: the upper half of its second word, header included
+-- the size in a header: the upper half of its second word; it includes the header
 abbrev pub told_size : List ℕ → ℕ
 told_size bytes = slice_index bytes 6 + 256 * slice_index bytes 7
 
--- a whole message: it has as many bytes as its header tells, and a message may have that many
+-- a whole message: its length is the size in its header, and a message may have that size
 pub record IsMessage (limit : ℕ) (bytes : List ℕ) : Type 0 where
   pub told : told_size bytes ≡ length bytes
   pub size : IsSize limit (length bytes)
 
--- what stands in front of bytes
+-- what is at the front of bytes
 pub data Front : Type 0 where
-  -- no whole header, or one that tells more bytes than there are
+  -- no whole header, or a header whose size is greater than the bytes there
   More : Front
-  -- a header that tells a size which no message has
+  -- a header with a size that no message may have
   Bad : ℕ → Front
-  -- a message of this number of bytes
+  -- a message of this many bytes
   Whole : ℕ → Front
 
 -- A header is judged as soon as its 8 bytes are there.
@@ -53,18 +52,18 @@ front limit bytes =
     then (if nat_lt (length bytes) (told_size bytes) then More else Whole (told_size bytes))
     else Bad (told_size bytes))
 
--- a whole message stands in front
+-- a whole message is at the front
 abbrev pub HasMessage : Front → Type 0
 HasMessage (Whole n) = Unit {0}
 HasMessage _ = ⊥
 
--- how many bytes it has
+-- its length in bytes
 abbrev pub message_size : Front → ℕ
 message_size (Whole n) = n
 message_size _ = 0
 
--- The stream is cut into these messages and this rest: it is the messages joined and then the rest,
--- each message is whole, and no whole message stands in front of the rest.
+-- The stream is cut into these messages and this rest: the stream is the messages joined, followed
+-- by the rest; each message is whole, and no whole message is at the front of the rest.
 pub record IsCut (limit : ℕ) (stream : List ℕ) (messages : List (List ℕ)) (rest : List ℕ)
     : Type 0 where
   pub joined : stream ≡ concat messages ++ rest
@@ -88,10 +87,10 @@ cut_within (suc count) limit bytes = elim (front limit bytes) [
   }
 ]
 
--- the messages of a stream, which has no more of them than bytes
+-- the messages of a stream; there are no more of them than bytes
 abbrev pub messages_in_stream : ℕ → List ℕ → List (List ℕ)
 messages_in_stream limit stream = (cut_within (length stream) limit stream).messages
 
--- what is left behind them: no whole message, or bytes that begin with a bad size
+-- the bytes after the messages: they begin with no whole message, or with a bad size
 abbrev pub rest_of : ℕ → List ℕ → List ℕ
 rest_of limit stream = (cut_within (length stream) limit stream).rest

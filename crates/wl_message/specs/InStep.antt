@@ -41,9 +41,9 @@ abbrev pub total_need : List Need → ℕ
 total_need [] = 0
 total_need (n ∷ ns) = n.tokens + total_need ns
 
--- The pieces bring the messages in step. For each message, let the piece with its first byte be the
--- one between these earlier and these later ones: then the tokens of the earlier pieces and this
--- one are enough for it and all messages before it, or no token comes later at all.
+-- The pieces bring the messages in step: for each message, when the piece with its first byte has
+-- come, all tokens of that message and of the messages before it have come too, or no later piece
+-- has a token.
 abbrev pub InStep : List Need → List Part → Type 0
 InStep needs parts =
     (before : List Need) (this : Need) (after : List Need) → needs ≡ before ++ this ∷ after
@@ -60,23 +60,23 @@ part_taken o taken = record {
   tokens = take taken.tokens (waiting_tokens o);
 }
 
--- What goes takes the messages newly begun out of those not begun, their tokens, and as many bytes
--- of what was left and of these.
+-- What is taken, from the front: the messages newly begun leave those not begun, with their tokens;
+-- the bytes come from what was left and from these messages.
 pub record TakesFromFront (o : Outgoing) (taken : Amounts) : Type 0 where
   pub rest : o.messages ≡ newly_begun o taken.bytes ++ (after_taking o taken.bytes).messages
   pub gone : o.left ++ all_bytes (newly_begun o taken.bytes)
       ≡ (part_taken o taken).bytes ++ (after_taking o taken.bytes).left
   pub with_tokens : (part_taken o taken).tokens ≡ all_tokens (newly_begun o taken.bytes)
 
--- The pieces so far have all of the messages that were begun, but for what is left of the last, and
--- their tokens.
+-- The pieces so far contain the begun messages and their tokens, except the bytes left of the last
+-- one.
 pub record HaveCarried (sent : List QueuedMessage) (left : List ℕ) (parts : List Part) : Type 0
   where
     pub bytes : part_bytes parts ++ left ≡ all_bytes sent
     pub tokens : part_tokens parts ≡ all_tokens sent
 
--- What an outbox gave since it was new: the messages that were begun, and the pieces that were
--- taken, one after another, while messages were added in between.
+-- What an outbox gave since it was new: the messages that were begun, and the pieces taken one
+-- after another; messages may be added in between.
 pub data Gave : List QueuedMessage → List Part → Outgoing → Type 0 where
   starts : {bytes tokens : ℕ} {limit : Limit} → Gave [] [] (no_messages bytes tokens limit)
   adds : {sent : List QueuedMessage} {parts : List Part} {o : Outgoing} (bytes tokens : List ℕ)

@@ -1,4 +1,4 @@
--- The limit where no other is chosen.
+-- The limit if no other is chosen.
 use Rattle.std.specs.Prelude.{refl}
 use Rattle.std.proofs.Common.{lit≤}
 use Rattle.wl_message.specs.declared.limit.Limit.{Limit}

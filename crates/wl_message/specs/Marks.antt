@@ -1,5 +1,4 @@
--- How an outbox keeps its messages: their bytes and tokens one after another, and marks that part
--- them.
+-- How an outbox stores its messages: their bytes and tokens joined, and marks that separate them.
 use Rattle.std.specs.Prelude.{◌≡◌, ℕ, ◌+◌, ◌-◌, ◌*◌, ◌/◌, ◌%◌, ◌≤◌, Bool, false, nat_lt, ◌==◌, if◌then◌else◌, List}
 use Rattle.std.specs.Prelude.{[], ◌∷◌, ◌++◌, length, take, drop}
 use Rattle.std.specs.List.{AllByRecursion}
@@ -11,11 +10,11 @@ use Rattle.wl_message.specs.Bounds.{max_error_len}
 use Rattle.wl_message.specs.Outgoing.{QueuedMessage, queued, Outgoing, all_bytes, all_tokens}
 use Rattle.wl_message.specs.Outgoing.{newly_begun, waiting_bytes}
 
--- the mark that a word keeps: the words of 4 bytes that the message has, and below them its tokens
+-- the mark in a word, which is `len / 4 * 131072 + tokens`
 abbrev pub mark_in_word : ℕ → Mark
 mark_in_word word = record { len = 4 * (word / 131072); tokens = word % 131072 }
 
--- bytes and tokens, parted into the messages that the marks tell
+-- bytes and tokens, separated into messages by the marks
 abbrev pub parted : List Mark → List ℕ → List ℕ → List QueuedMessage
 parted [] bytes tokens = []
 parted (k ∷ ks) bytes tokens =
@@ -55,7 +54,7 @@ outgoing h = record {
   error_to = h.error_to;
 }
 
--- the marks tell of all bytes and tokens, the error event is among the bytes, and all others are
+-- the marks cover all bytes and tokens, the error event is among the bytes, and all other bytes are
 -- within the capacity
 pub record IsKept (h : Kept) : Type 0 where
   pub bytes : h.left + lens h.marks ≡ length h.bytes
@@ -68,8 +67,8 @@ pub record IsKept (h : Kept) : Type 0 where
   pub error_len : h.error_to ≤ h.error_from + max_error_len
   pub no_error : h.has_error ≡ false → h.error_to ≤ h.error_from
 
--- How far messages go into a room for b bytes and t tokens, after n others that began: what is left
--- of the room, how many began, and how many bytes are left of the last.
+-- How far messages reach into a room for b bytes and t tokens, after n others that began: the room
+-- left, how many messages began, and how many bytes are left of the last one begun.
 abbrev pub reach : ℕ → ℕ → ℕ → List Mark → Reach
 reach b t n [] = record { bytes = b; tokens = t; begun = n; left = 0 }
 reach b t n (k ∷ ks) =
@@ -79,8 +78,8 @@ reach b t n (k ∷ ks) =
     then record { bytes = 0; tokens = t - k.tokens; begun = n + 1; left = k.len - b }
     else reach (b - k.len) (t - k.tokens) (n + 1) ks))
 
--- What leaves an outbox: the first of the waiting bytes, with the tokens of the messages that these
--- newly begin, how many messages that are, and how many bytes are then left of the last.
+-- What leaves an outbox: the first of the waiting bytes, the tokens of the messages that they newly
+-- begin, how many such messages there are, and how many bytes are then left of the last.
 pub record IsLeaving (o : Outgoing) (l : Leaving) : Type 0 where
   pub there : l.taken.bytes ≤ length (waiting_bytes o)
   pub tokens : l.taken.tokens ≡ length (all_tokens (newly_begun o l.taken.bytes))

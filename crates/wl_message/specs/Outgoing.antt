@@ -5,7 +5,7 @@ use Rattle.std.specs.Prelude.{drop}
 use Rattle.wl_message.specs.declared.amounts.Amounts.{Amounts}
 use Rattle.wl_message.specs.declared.limit.Limit.{Limit}
 
--- a message: its bytes, and the tokens that go with the first of them
+-- a message: its bytes, and the tokens that go with its first byte
 pub record QueuedMessage : Type 0 where
   pub bytes : List ℕ
   pub tokens : List ℕ
@@ -21,11 +21,10 @@ abbrev pub all_tokens : List QueuedMessage → List ℕ
 all_tokens [] = []
 all_tokens (m ∷ ms) = m.tokens ++ all_tokens ms
 
--- An outbox: what has not gone of the message that was begun last, whose tokens are gone; the
--- messages that are not begun; how many bytes and tokens of ordinary messages may wait; and how
--- many bytes a message may have. One error event may stand among the messages, beyond what may wait
--- of ordinary ones. Its bytes are those of the waiting ones from the place error_from up to
--- error_to, counted from 0; where both are 0 none of it waits.
+-- An outbox: the bytes left of the message that was begun last, whose tokens are gone; the messages
+-- not begun; how many bytes and tokens of ordinary messages may wait; and how many bytes a message
+-- may have. One error event may wait too, beyond these limits. Its bytes are those of the waiting
+-- bytes from error_from up to error_to, counted from 0; if both are 0, none of it waits.
 pub record Outgoing : Type 0 where
   pub left : List ℕ
   pub messages : List QueuedMessage
@@ -69,11 +68,11 @@ room_of o = o.capacity - ordinary_len o
 abbrev pub token_room_of : Outgoing → ℕ
 token_room_of o = o.token_capacity - length (waiting_tokens o)
 
--- one message more at the end
+-- a message was added at the end
 abbrev pub with_message : Outgoing → List ℕ → List ℕ → Outgoing
 with_message o bytes tokens = record o { messages = o.messages ++ queued bytes tokens ∷ [] }
 
--- the error event at the end; it has no tokens
+-- the error event, which has no tokens, was added at the end
 abbrev pub with_error : Outgoing → List ℕ → Outgoing
 with_error o bytes = record o {
   messages = o.messages ++ queued bytes [] ∷ [];
@@ -82,32 +81,32 @@ with_error o bytes = record o {
   error_to = length (waiting_bytes o) + length bytes;
 }
 
--- the messages of which a byte is among their first n
+-- the messages that have a byte among the first n bytes
 abbrev pub begun : ℕ → List QueuedMessage → List QueuedMessage
 begun n [] = []
 begun zero (m ∷ ms) = []
 begun (suc n) (m ∷ ms) = m ∷ begun (suc n - length m.bytes) ms
 
--- the messages that the first n of the waiting bytes newly begin
+-- the messages newly begun by the first n of the waiting bytes
 abbrev pub newly_begun : Outgoing → ℕ → List QueuedMessage
 newly_begun o n = begun (n - length o.left) o.messages
 
--- The first n of the waiting bytes may go where there is room for b bytes and t tokens.
+-- The first n of the waiting bytes may go if there is room for b bytes and t tokens.
 pub record MayGo (o : Outgoing) (b t n : ℕ) : Type 0 where
   pub there : n ≤ length (waiting_bytes o)
   pub within : n ≤ b
-  -- the messages newly begun have at most t tokens together
+  -- the messages newly begun have at most t tokens in total
   pub tokens_within : length (all_tokens (newly_begun o n)) ≤ t
 
--- What goes where there is room for b bytes and t tokens: the longest beginning of the waiting
--- bytes that may go, and with it exactly the tokens of the messages which it newly begins. These
--- are the first of the waiting tokens.
+-- What goes into a room for b bytes and t tokens: the longest front part of the waiting bytes that
+-- may go, with exactly the tokens of the messages that it newly begins. These are the first of the
+-- waiting tokens.
 pub record Goes (o : Outgoing) (b t : ℕ) (taken : Amounts) : Type 0 where
   pub may : MayGo o b t taken.bytes
   pub longest : (n : ℕ) → MayGo o b t n → n ≤ taken.bytes
   pub with_tokens : taken.tokens ≡ length (all_tokens (newly_begun o taken.bytes))
 
--- how many bytes of these messages, of which none is begun, go into a room for b bytes and t tokens
+-- how many bytes of these messages, none of them begun, go into a room for b bytes and t tokens
 abbrev pub going : ℕ → ℕ → List QueuedMessage → ℕ
 going b t [] = 0
 going b t (m ∷ ms) =
@@ -126,8 +125,8 @@ goes o b t = record {
   tokens = length (all_tokens (newly_begun o (going_bytes o b t)));
 }
 
--- the outbox once the first n of the waiting bytes are gone, with the tokens of the messages newly
--- begun
+-- the outbox after the first n of the waiting bytes have gone, with the tokens of the messages
+-- newly begun
 abbrev pub after_taking : Outgoing → ℕ → Outgoing
 after_taking o n = record o {
   left = drop n (o.left ++ all_bytes (newly_begun o n));
@@ -136,8 +135,8 @@ after_taking o n = record o {
   error_to = o.error_to - n;
 }
 
--- What can go at one time, so that no token goes with a later byte than the first, however many of
--- the bytes go: as many as can, and how many tokens go with them.
+-- What can go at one time so that every token goes with the first byte, however many of the bytes
+-- go: the most such bytes, and how many tokens go with them.
 pub record Peeks (o : Outgoing) (bytes : List ℕ) (tokens : ℕ) : Type 0 where
   pub front : bytes ≡ take (length bytes) (waiting_bytes o)
   pub with_first : tokens ≡ length (all_tokens (newly_begun o 1))

@@ -1,4 +1,4 @@
--- What passes between the queues and a stream.
+-- What is exchanged between the queues and a stream.
 use Rattle.std.specs.Prelude.{◌≡◌, ℕ, ◌<◌, ◌≤◌, ◌↔◌, List, [], ◌∷◌, ◌++◌, length, take, Option}
 use Rattle.std.specs.Prelude.{Result, Ok, Err, IsOk, codes}
 use Rattle.std.specs.Fmt.{decimal}
@@ -26,32 +26,32 @@ bytes_written (Ok n) = n
 bytes_written (Err (flush_error.Io n)) = n
 bytes_written (Err (flush_error.NeedsTokens n)) = n
 
--- it stopped before a message for its tokens
+-- it stopped because the next message has tokens
 abbrev pub IsNeedsTokens : Result ℕ FlushError → Type 0
 IsNeedsTokens (Err (flush_error.NeedsTokens n)) = Unit {0}
 IsNeedsTokens _ = ⊥
 
--- A flush of an outbox to a writer, which holds bytes that are known or not: what it returns, and
--- what both are then.
+-- A flush of an outbox to a writer whose bytes may be unknown: the result, and the outbox and the
+-- writer's bytes afterwards.
 pub record Flushes (o : Outgoing) (held : Option (List ℕ)) (result : Result ℕ FlushError)
     (o' : Outgoing) (holds : Option (List ℕ)) : Type 0 where
-  -- the bytes written are the first of those that waited, and these alone are gone
+  -- the bytes written are the first of the waiting bytes, and only they are gone
   pub there : bytes_written result ≤ length (waiting_bytes o)
   pub written : Appends held holds (take (bytes_written result) (waiting_bytes o))
   pub gone : o' ≡ after_taking o (bytes_written result)
   -- no token went with them
   pub without_tokens : all_tokens (newly_begun o (bytes_written result)) ≡ []
-  -- it is Ok exactly where no byte is left
+  -- the result is Ok if and only if no byte is left
   pub all : IsOk result ↔ (waiting_bytes o' ≡ [])
-  -- it needs tokens exactly where the next message is not begun and has tokens
+  -- the result is NeedsTokens if and only if the next message is not begun and has tokens
   pub needs_tokens : IsNeedsTokens result ↔ NextHasTokens o'
 
 -- the most bytes that one fill reads
 abbrev pub most_filled : ℕ
 most_filled = 4096
 
--- A read gave the reader's next n bytes, for which there was room. It gave none only at the end of
--- the input.
+-- A read gave the reader's next n bytes, for which there was room; n is 0 only at the end of the
+-- input.
 pub record TakesIn (a : Arrived) (had : Option (List ℕ)) (n : ℕ) (a' : Arrived)
     (has : Option (List ℕ)) : Type 0 where
   pub bytes : List ℕ
@@ -62,15 +62,15 @@ pub record TakesIn (a : Arrived) (had : Option (List ℕ)) (n : ℕ) (a' : Arriv
   pub added : a' ≡ with_more a bytes []
   pub end : n ≡ 0 → IsAtEnd has
 
--- A fill of an inbox from a reader, which has bytes left that are known or not: what it returns,
--- and what both are then. There is no room exactly where no byte is free.
+-- A fill of an inbox from a reader whose remaining bytes may be unknown: the result, and the inbox
+-- and those bytes afterwards. The result is NoRoom if and only if no byte is free.
 abbrev pub Fills : Arrived → Option (List ℕ) → Result ℕ FillError → Arrived → Option (List ℕ)
     → Type 0
 Fills a had (Ok n) a' has = (0 < free_bytes a) × TakesIn a had n a' has
 Fills a had (Err fill_error.Io) a' has = (0 < free_bytes a) × (a' ≡ a) × Keeps had has
 Fills a had (Err fill_error.NoRoom) a' has = (free_bytes a ≡ 0) × (a' ≡ a) × Keeps had has
 
--- how the errors print
+-- the text of the errors
 abbrev pub flush_error_text : FlushError → List ℕ
 flush_error_text (flush_error.Io n) = codes "writing failed after " ++ decimal n ++ codes " bytes"
 flush_error_text (flush_error.NeedsTokens n) =

@@ -1,4 +1,4 @@
-//! Numbers of bytes and tokens, and what comes at one time.
+//! Numbers of bytes and tokens, and bytes and tokens that come together.
 
 ghost use Rattle.std.specs.Prelude.{◌↔◌, IsTrue};
 ghost use Rattle.wl_message.specs.Arrived.{AreSizes};
@@ -13,13 +13,13 @@ pub const MAX_BOX_BYTES: usize = 16_777_216;
 /// The most tokens that an inbox or an outbox can hold.
 pub const MAX_BOX_TOKENS: usize = 65_536;
 
-/// The fewest tokens that an inbox can hold: as many as one message can have.
+/// The smallest token capacity of an inbox: the most tokens of one message.
 const MIN_INBOX_TOKENS: usize = 20;
 
 /// How large the queues of an end are, in bytes and in tokens, and how long its messages may be.
 ///
-/// An outbox has at most 16,777,216 bytes and 65,536 tokens, an inbox as many bytes as the limit to
-/// 16,777,216 and 20 to 65,536 tokens; `is_allowed` is the test.
+/// An outbox has at most 16,777,216 bytes and 65,536 tokens. An inbox has at least as many bytes as
+/// the limit, at most 16,777,216, and 20 to 65,536 tokens. `is_allowed` tests this.
 #[derive(Clone, Copy, Debug, PartialEq, Eq)]
 pub struct Sizes {
     pub out_bytes: usize,
@@ -43,7 +43,7 @@ impl Sizes {
     }
 }
 
-/// How many bytes and tokens.
+/// A number of bytes and a number of tokens.
 #[derive(Clone, Copy, Debug, PartialEq, Eq)]
 pub struct Amounts {
     pub bytes: usize,
@@ -60,15 +60,15 @@ pub type Taken = Amounts;
 #[derive(Clone, Copy, Debug, PartialEq, Eq)]
 pub struct Full;
 
-/// Bytes and tokens that came at one time.
+/// Bytes and tokens that came together.
 #[derive(Clone, Copy, Debug)]
 pub struct Piece<'a> {
     pub bytes: &'a [u8],
     pub tokens: &'a [u32],
 }
 
-/// What can go at one time, and need not go whole: bytes in two parts, one after the other, and how
-/// many of the waiting tokens go with the first of them.
+/// What can be sent at one time, in whole or in part: bytes in two parts, one after the other, and
+/// how many of the waiting tokens go with the first byte.
 #[derive(Clone, Copy, Debug)]
 pub struct Peek<'a> {
     pub front: &'a [u8],

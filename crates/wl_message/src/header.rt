@@ -1,4 +1,4 @@
-//! The header in front of bytes.
+//! The header at the front of bytes.
 ghost use Rattle.std.specs.Prelude.{◌≡◌, ◌<◌, ◌≤◌, IfOk, IfSome, length, take};
 ghost use Rattle.wl_wire.specs.Word.{header_at, header_bytes};
 ghost use Rattle.wl_message.specs.Cut.{told_size};
@@ -11,7 +11,7 @@ use circular_buffer::HeapCircularBuffer;
 use std::alloc::Allocator;
 use wl_wire::{HEADER_LEN, Header};
 
-/// The header that the first 8 bytes are.
+/// The header in the first 8 bytes.
 pub(crate) fn header_of(bytes: &[u8]) -> Header
     requires { 8 ≤ length bytes.now }
     ensures header { result ≡ header_at bytes.now }
@@ -21,7 +21,7 @@ pub(crate) fn header_of(bytes: &[u8]) -> Header
     Header::at_front_of(bytes)
 }
 
-/// The header in front of a ring.
+/// The header at the front of a ring.
 pub(crate) fn header_in<A: Allocator>(bytes: &HeapCircularBuffer<u8, A>) -> Header
     requires { 8 ≤ length bytes.now.items }
     ensures bytes { take 8 bytes.now.items ≡ header_bytes result }
@@ -36,7 +36,7 @@ pub(crate) fn header_in<A: Allocator>(bytes: &HeapCircularBuffer<u8, A>) -> Head
     header_of(&header)
 }
 
-/// The header of the whole message in front, if one is there.
+/// The header of the first message, if the message is whole.
 #[tactic(auto, using(crate::proofs::Fronts::size_is, crate::proofs::Fronts::parts_of), unfolding(crate::specs::Cut::front))]
 pub(crate) fn header_in_front<A: Allocator>(
     bytes: &HeapCircularBuffer<u8, A>,
@@ -60,8 +60,8 @@ pub(crate) fn header_in_front<A: Allocator>(
     Ok(Some(header))
 }
 
-/// Copies the whole message in front into the front of the store, unless it stands there, and
-/// returns its length.
+/// Copies the first message, which is whole, to the front of the store, unless it is there already,
+/// and returns its length.
 pub(crate) fn copy_message<A: Allocator>(
     bytes: &HeapCircularBuffer<u8, A>,
     store: &mut [u8],

@@ -1,4 +1,4 @@
-//! Bytes and tokens that came in.
+//! Bytes and tokens that were received.
 ghost use Rattle.std.specs.Prelude.{◌≡◌, ◌≤◌, ◌<◌, ◌↔◌, ◌+◌, ◌++◌, [], length, take, drop, min};
 ghost use Rattle.std.specs.Prelude.{slice_get, IfOk, OnErr, IsTrue};
 ghost use Rattle.std.specs.Borrow.{sem};
@@ -25,20 +25,20 @@ use std::marker::Model;
 use std::mem;
 use wl_wire::{HEADER_LEN, Header};
 
-/// The most bytes that are read at one time.
+/// The most bytes that one read takes.
 const MAX_READ_LEN: usize = 4096;
 
-/// A whole message in front of an inbox.
+/// A whole message at the front of an inbox.
 #[derive(Clone, Copy, Debug)]
 pub struct Frame<'a> {
     pub header: Header,
-    /// The bytes behind the header.
+    /// The bytes after the header.
     pub body: &'a [u8],
-    /// How many tokens wait, of this message and of later ones.
+    /// How many tokens wait, for this message and later ones.
     pub tokens: usize,
 }
 
-/// A header has a size that no message has: below 8, no multiple of 4, or above the limit.
+/// A header with a size that no message may have: below 8, not a multiple of 4, or above the limit.
 #[derive(Clone, Copy, Debug, PartialEq, Eq)]
 pub struct BadSize {
     /// The size in the header, in bytes.
@@ -59,23 +59,24 @@ impl Display for BadSize {
 
 impl Error for BadSize {}
 
-/// Bytes and tokens that came in and wait to be read, as messages.
+/// Received bytes and tokens that wait to be read as messages.
 ///
-/// All memory is taken by `new`.
+/// `new` allocates all memory.
 #[derive(Drop)]
 pub struct Inbox<A: Allocator = Global> {
     bytes: HeapCircularBuffer<u8, A>,
     tokens: HeapCircularBuffer<u32, A>,
     limit: Limit,
-    // Lent by `space`, for bytes that another language writes: `received` appends them. Nothing
+    // Lent by `space` as memory for another language to write to; `received` appends it. Nothing
     // else writes here.
     space: Vec<u8, A>,
-    // Room for one whole message, which is lent from here: in the ring it may stand in two parts.
+    // Room for one whole message, which is lent from here because it may lie in two parts of the
+    // ring.
     message: Vec<u8, A>,
-    // The length of the message in front once `message` begins with a copy of it; before, 0.
+    // The length of the first message if `message` begins with a copy of it, else 0.
     copied_len: usize,
-    // Begins with the message that was taken out last, of this length with its header, and its
-    // tokens; before the first one, with a header alone.
+    // The message that was taken out last, with its header, at the front, and its length and
+    // tokens. Before the first message, a header alone.
     last: Vec<u8, A>,
     last_len: usize,
     last_tokens: Vec<u32, A>,
@@ -109,8 +110,7 @@ impl<A: Allocator> Model for Inbox<A> {
 }
 
 impl<A: Allocator + Clone + Drop> Inbox<A> {
-    /// An inbox with room for this number of bytes and tokens, in which nothing waits, for messages
-    /// within this limit.
+    /// An empty inbox for this many bytes and tokens, and for messages within this limit.
     #[tactic(auto, using(crate::proofs::Fronts::header_alone))]
     pub fn new(alloc: A, bytes: usize, tokens: usize, limit: Limit) -> Result<Inbox<A>, AllocError>
         requires bytes { (limit.bytes ≤ bytes) × (bytes ≤ max_queue_bytes) }
@@ -154,8 +154,8 @@ impl<A: Allocator> Inbox<A> {
         self.bytes.is_empty() && self.tokens.is_empty()
     }
 
-    /// Takes in as many of the tokens as fit, from the first on, and where these are all of them,
-    /// as many of the bytes as fit. Returns how many of each.
+    /// Takes in as many of the tokens as fit, from the first on; if all of them fit, also as many
+    /// of the bytes as fit. Returns how many of each.
     pub fn feed(&mut self, bytes: &[u8], tokens: &[u32]) -> Fed
         ensures amount { result ≡ fed self.old bytes.now tokens.now }
         ensures waits { self.new
@@ -175,19 +175,19 @@ impl<A: Allocator> Inbox<A> {
         }
     }
 
-    /// Where the free bytes lie, in two parts, for one who writes there by means of another
-    /// language: `received` takes in what was written, from the first part on.
+    /// The free bytes, in two parts, for a writer in another language: `received` takes in what it
+    /// wrote, starting with the first part.
     pub fn space(&self) -> (&[u8], &[u8])
         ensures free { length result.0.now + length result.1.now ≡ free_bytes self.now }
-        // All of them lie in the first part.
+        // Together they are all free bytes.
         ensures back { result.1.now ≡ [] }
     {
         (&self.space[..self.room()], &self.space[..0])
     }
 
-    /// Takes in tokens, and bytes that were written where `space` says, so many of them from the
-    /// first place on, as `feed` does. Returns how many of each. Where no byte was taken because
-    /// tokens found no room, what was written stays there until this call takes it in.
+    /// Takes in tokens, and the first `bytes` bytes written to `space`, as `feed` does. Returns how
+    /// many of each. If the tokens do not all fit, no byte is taken in; what was written stays in
+    /// `space` until this call takes it in.
     pub fn received(&mut self, bytes: usize, tokens: &[u32]) -> Fed
         ensures amount { result ≡ fed_of_len self.old bytes tokens.now }
         ensures waits { HasReceived self.old result.bytes (take result.tokens tokens.now) self.new }
@@ -219,9 +219,9 @@ impl<A: Allocator> Inbox<A> {
         Ok(n)
     }
 
-    /// The first message, once it is whole; none before. It stays in the inbox.
+    /// The first message if it is whole. It stays in the inbox.
     ///
-    /// `BadSize` is answered as soon as the 8 bytes of its header are there.
+    /// Returns `BadSize` as soon as the 8 bytes of the header are there.
     #[inline(always)]
     pub fn frame(&mut self) -> Result<Option<Frame<'_>>, BadSize>
         ensures* stays { sem 𝓛 (Rests (the_row A.row A.Allocator) self.entry (λ i. i ≡ self.old)) }
@@ -243,8 +243,8 @@ impl<A: Allocator> Inbox<A> {
         }))
     }
 
-    /// The body of the first message, which is whole. It stays in the inbox. Behind `frame` it is
-    /// not copied again.
+    /// The body of the first message, which must be whole. It stays in the inbox. After `frame` it
+    /// is not copied again.
     #[tactic(auto, using(crate::proofs::Fronts::has_message))]
     pub fn body(&mut self) -> &[u8]
         requires { HasMessage (in_front self.old) }
@@ -256,15 +256,15 @@ impl<A: Allocator> Inbox<A> {
         &self.message[..size][HEADER_LEN..]
     }
 
-    /// The waiting token at this place, counted from 0.
+    /// The waiting token at this place, from 0.
     pub fn token(&self, place: usize) -> Option<u32>
         ensures { result ≡ slice_get self.now.tokens place }
     {
         self.tokens.get(place).copied()
     }
 
-    /// Takes the first message out, and as many of the first tokens as the slice has places, in
-    /// order. `last` and `last_tokens` lend them until the next message is taken out.
+    /// Takes out the first message and enough of the first tokens to fill the slice, in order.
+    /// `last` and `last_tokens` lend them until the next message is taken out.
     pub fn pop(&mut self, tokens: &mut [u32])
         requires message { HasMessage (in_front self.old) }
         requires tokens { length tokens.old ≤ length self.old.tokens }
@@ -277,8 +277,8 @@ impl<A: Allocator> Inbox<A> {
         tokens.copy_from_slice(&self.last_tokens);
     }
 
-    /// Takes the first message out, and this many of the first tokens, as `pop` does, for `last`
-    /// and `last_tokens` to lend.
+    /// Takes out the first message and this many of the first tokens, as `pop` does; `last` and
+    /// `last_tokens` lend them.
     #[tactic(auto, using(crate::proofs::Fronts::has_message))]
     #[inline(always)]
     pub fn pass(&mut self, tokens: usize)
@@ -295,7 +295,7 @@ impl<A: Allocator> Inbox<A> {
         mem::swap(&mut self.message, &mut self.last);
     }
 
-    /// Takes tokens out, the first ones that wait, as many as the slice holds. Their messages stay.
+    /// Takes out the first waiting tokens, as many as the slice holds. The messages stay.
     pub fn take_tokens(&mut self, tokens: &mut [u32]) -> usize
         ensures count { result ≡ min (length tokens.old) (length self.old.tokens) }
         ensures tokens { tokens.new ≡ take result self.old.tokens ++ drop result tokens.old }
@@ -306,7 +306,7 @@ impl<A: Allocator> Inbox<A> {
         count
     }
 
-    /// The body of the message that was taken out last; no bytes before the first one.
+    /// The body of the message that was taken out last; empty before the first.
     pub fn last(&self) -> &[u8]
         ensures { result.now ≡ self.now.last }
     {

@@ -1,5 +1,4 @@
-//! What holds of streams and queues as such. These functions do nothing: each is called for what
-//! it ensures.
+//! Laws of streams and queues. These functions do nothing; each is called for what it ensures.
 ghost use Rattle.std.specs.Prelude.{◌≡◌, ◌≢◌, ◌<◌, ◌≤◌, ◌⊎◌, ◌^◌, ℕ, List, [], ◌∷◌, ◌++◌, length};
 ghost use Rattle.std.specs.Prelude.{map, take, drop};
 ghost use Rattle.std.specs.List.{concat, AllByRecursion};
@@ -14,8 +13,8 @@ ghost use Rattle.wl_message.specs.Outgoing.{after_taking};
 ghost use Rattle.wl_message.specs.InStep.{Part, Need, need, part_tokens, InStep, TakesFromFront};
 ghost use Rattle.wl_message.specs.InStep.{HaveCarried, part_taken, Gave};
 
-/// A header whose size is the number of bytes makes a whole message, if a message may have that
-/// size.
+/// If a header's size is the number of bytes, the bytes are a whole message, provided that a
+/// message may have that size.
 pub fn headed_message()
     ensures { (limit : ℕ) (header : Header) (arguments : List ℕ)
         → header.size ≡ length (header_bytes header ++ arguments) → header.size < 2 ^ 16
@@ -23,8 +22,8 @@ pub fn headed_message()
         → IsSize limit header.size → IsMessage limit (header_bytes header ++ arguments) }
 {}
 
-/// What stands in front of bytes stays there when more bytes come, and a whole message is found in
-/// front whatever follows it.
+/// What is at the front of bytes stays there when more bytes come, and a whole message is found at
+/// the front whatever follows it.
 pub fn front_stays()
     ensures whole { (limit : ℕ) (bytes more : List ℕ) (n : ℕ) → front limit bytes ≡ Whole n
         → front limit (bytes ++ more) ≡ Whole n }
@@ -45,8 +44,8 @@ pub fn one_cut()
         → (messages_in_stream limit stream ≡ messages) × (rest_of limit stream ≡ rest) }
 {}
 
-/// The messages of a stream in two parts are those of the first part, and then those of its rest
-/// joined with the second part. So it does not matter where a stream is cut.
+/// The messages of a stream in two parts are those of the first part, then those of its rest joined
+/// with the second part. So it does not matter where a stream is split.
 pub fn any_cut()
     ensures messages { (limit : ℕ) (first second : List ℕ)
         → messages_in_stream limit (first ++ second) ≡ messages_in_stream limit first
@@ -55,7 +54,7 @@ pub fn any_cut()
         → rest_of limit (first ++ second) ≡ rest_of limit (rest_of limit first ++ second) }
 {}
 
-/// Whole messages that are joined are cut into these messages, with nothing left.
+/// Whole messages joined together are cut into these messages, and nothing is left.
 pub fn joined_messages()
     ensures messages { (limit : ℕ) (messages : List (List ℕ))
         → AllByRecursion (IsMessage limit) messages
@@ -64,7 +63,7 @@ pub fn joined_messages()
         → AllByRecursion (IsMessage limit) messages → rest_of limit (concat messages) ≡ [] }
 {}
 
-/// The messages of a stream one after another.
+/// The messages of a stream, one after another.
 pub fn next_message()
     ensures whole { (limit : ℕ) (bytes : List ℕ) (n : ℕ) → front limit bytes ≡ Whole n
         → (messages_in_stream limit bytes ≡ take n bytes ∷ messages_in_stream limit (drop n bytes))
@@ -73,8 +72,8 @@ pub fn next_message()
         → (messages_in_stream limit bytes ≡ []) × (rest_of limit bytes ≡ bytes) }
 {}
 
-/// Just one amount goes out of an outbox into a room, and it takes whole messages out of those not
-/// begun, with all of their tokens.
+/// Exactly one amount goes out of an outbox into a room, and it takes whole messages out of those
+/// not begun, with all of their tokens.
 pub fn one_amount()
     ensures exists { (o : Outgoing) (b t : ℕ) → Goes o b t (goes o b t) }
     ensures unique { (o : Outgoing) (b t : ℕ) (taken : Amounts) → Goes o b t taken
@@ -83,7 +82,7 @@ pub fn one_amount()
         → TakesFromFront o taken }
 {}
 
-/// Pieces that bring messages in step still do so with the piece that is taken next.
+/// If pieces bring messages in step, they still do with the next piece taken.
 pub fn take_keeps_step()
     ensures step { (sent : List QueuedMessage) (o : Outgoing) (parts : List Part) (b t : ℕ)
         (taken : Amounts) → Goes o b t taken → HaveCarried sent o.left parts
@@ -95,8 +94,8 @@ pub fn take_keeps_step()
         (parts ++ part_taken o taken ∷ []) }
 {}
 
-/// All pieces that are ever taken out of an outbox bring its messages in step, and no byte and no
-/// token is lost or changed.
+/// All pieces ever taken out of an outbox bring its messages in step, and no byte or token is lost
+/// or changed.
 pub fn pieces_in_step()
     ensures step { (sent : List QueuedMessage) (parts : List Part) (o : Outgoing)
         → Gave sent parts o
@@ -106,15 +105,14 @@ pub fn pieces_in_step()
         → HaveCarried sent o.left parts }
 {}
 
-/// Each token that an inbox was fed it gave once, in order, or it still waits.
+/// An inbox gave each token that it was fed exactly once, in order, or the token still waits.
 pub fn no_token_is_lost()
     ensures { (fed given : List ℕ) (a : Arrived) → Gives fed given a → fed ≡ given ++ a.tokens }
 {}
 
-/// A reader may go through pieces in step as it likes: once the first message was read with its
-/// tokens the others are still in step, two pieces that come one directly after the other count as
-/// one, and a piece of which only some of the bytes are taken at first, with all of its tokens,
-/// counts as two.
+/// A reader may go through pieces in step in any way. After the first message was read with its
+/// tokens, the others are still in step. Two adjacent pieces may count as one. A piece of which
+/// only some bytes are taken at first, with all of its tokens, may count as two.
 pub fn reading_in_step()
     ensures first { (n : Need) (needs : List Need) (p : Part) (parts : List Part)
         → InStep (n ∷ needs) (p ∷ parts) → 0 < length p.bytes

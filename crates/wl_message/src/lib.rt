@@ -1,9 +1,9 @@
-//! Queues of messages: bytes and tokens that come in and go out, cut anywhere.
+//! Queues of messages: bytes and tokens that are received and sent, split anywhere.
 //!
-//! A message is a header of two words and its arguments; the header has its size. File
-//! descriptors are not among the bytes: each is a token in a queue of its own, and the
-//! caller's transport carries it. (Chapter "Wayland Protocol and Model of Operation", section
-//! "Wire Format".)
+//! A message is a header of two words, which has the message's size, and its arguments. File
+//! descriptors are not among the bytes: each is a token in a separate queue, and the caller's
+//! transport carries it. (Chapter "Wayland Protocol and Model of Operation", section "Wire
+//! Format".)
 #![tactic(auto)]
 
 mod amounts;

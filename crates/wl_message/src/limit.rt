@@ -5,12 +5,12 @@ ghost use Rattle.wl_message.specs.Cut.{IsLimit, IsMessage, is_size};
 use crate::header::header_of;
 use wl_wire::{HEADER_LEN, MAX_MESSAGE_LEN};
 
-/// The most bytes that any limit allows, a multiple of 4.
+/// The greatest limit in bytes, a multiple of 4.
 const GREATEST_LIMIT: u32 = 65_532;
 
-/// The most bytes that a message has, its header counted: a multiple of 4 from 4096 to 65,532.
+/// The longest message in bytes, header included: a multiple of 4 from 4096 to 65,532.
 ///
-/// Both sides of a connection have to go by the same limit, for none is told on the wire.
+/// Both ends must be given the same limit: it is not negotiated.
 #[derive(Clone, Copy, Debug, PartialEq, Eq)]
 pub struct Limit {
     pub bytes: u16,
@@ -18,12 +18,12 @@ pub struct Limit {
 }
 
 impl Limit {
-    /// The limit where nobody chose another: 4096 bytes.
+    /// The default limit: 4096 bytes.
     pub const USUAL: Limit = Limit {
         bytes: MAX_MESSAGE_LEN,
     };
 
-    /// The limit of this number of bytes; none where no limit has it.
+    /// The limit with this number of bytes; `None` if no limit has it.
     pub fn new(bytes: u32) -> Option<Limit>
         ensures some { IsSome result ↔ IsLimit bytes }
         ensures bytes { IfSome result (λ limit. limit.bytes ≡ bytes) }
@@ -43,8 +43,8 @@ impl Limit {
         usize::from(size) >= HEADER_LEN && size % 4 == 0 && size <= self.bytes
     }
 
-    /// Whether these bytes are a whole message, which an outbox of this limit takes: as many as
-    /// their header says, and a message may have that many.
+    /// Whether these bytes are a whole message, which an outbox with this limit takes: their number
+    /// is the size in their header, and a message may have that size.
     pub fn is_message(self, bytes: &[u8]) -> bool
         ensures { IsTrue result ↔ IsMessage self.bytes bytes.now }
     {

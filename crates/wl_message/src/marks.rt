@@ -1,4 +1,4 @@
-//! Marks that part bytes and tokens into messages.
+//! Marks that separate bytes and tokens into messages.
 ghost use Rattle.std.specs.Prelude.{◌≡◌, ◌≤◌, ◌<◌, ◌%◌, ◌^◌, [], ◌∷◌, ◌++◌, length, drop, map};
 ghost use Rattle.std.specs.Prelude.{IfOk};
 ghost use Rattle.circular_buffer.specs.Buffer.{buffer};
@@ -11,8 +11,7 @@ use circular_buffer::HeapCircularBuffer;
 use std::alloc::{AllocError, Allocator};
 use std::marker::Model;
 
-/// What the length of a message, in words of 4 bytes, is multiplied by where a word keeps it beside
-/// a number of tokens.
+/// A mark is one word: `len / 4 * TOKENS_END + tokens`.
 const TOKENS_END: u32 = 131_072;
 
 /// How many bytes and tokens a message has.
@@ -22,29 +21,29 @@ pub(crate) struct Mark {
     pub tokens: usize,
 }
 
-/// How far messages go into a room for bytes and tokens.
+/// How far messages reach into a room for bytes and tokens.
 #[derive(Clone, Copy, Debug)]
 pub(crate) struct Reach {
-    /// How much of the room is left.
+    /// How much of the room is left, in bytes and in tokens.
     pub bytes: usize,
     pub tokens: usize,
     /// How many messages began.
     pub begun: usize,
-    /// How many bytes are left of the last of these.
+    /// How many bytes are left of the last one that began.
     pub left: usize,
 }
 
-/// What leaves an outbox, and how far the messages go with it.
+/// What leaves an outbox, and what it does to the messages.
 #[derive(Clone, Copy, Debug)]
 pub(crate) struct Leaving {
     pub taken: Taken,
-    /// How many messages begin.
+    /// How many messages it begins.
     pub begun: usize,
-    /// How many bytes are left of the message that was then begun last.
+    /// How many bytes are then left of the message begun last.
     pub left: usize,
 }
 
-/// The mark that a word keeps.
+/// The mark in a word.
 fn mark_in_word(word: u32) -> Mark
     ensures { result ≡ mark_in_word word }
 {
@@ -72,7 +71,7 @@ impl<A: Allocator> Model for Marks<A> {
 }
 
 impl<A: Allocator + Drop> Marks<A> {
-    /// No marks, and room for so many.
+    /// No marks, with room for `capacity` of them.
     pub fn with_capacity(alloc: A, capacity: usize) -> Result<Marks<A>, AllocError>
         ensures { IfOk result (λ marks. marks ≡ buffer [] capacity) }
     {
@@ -95,7 +94,7 @@ impl<A: Allocator> Marks<A> {
         let _ = self.words.try_push_back(word);
     }
 
-    /// Takes the first n marks out.
+    /// Removes the first n marks.
     pub fn remove_first(&mut self, n: usize)
         requires { n ≤ length self.old.items }
         ensures { self.new ≡ buffer (drop n self.old.items) self.old.capacity }
@@ -103,7 +102,7 @@ impl<A: Allocator> Marks<A> {
         remove_first(&mut self.words, n);
     }
 
-    /// How far messages of which none is begun go into a room. The tokens of a message go with
+    /// How far the messages, none of them begun, reach into a room. The tokens of a message go with
     /// its first byte.
     pub fn reach_into(&self, bytes: usize, tokens: usize) -> Reach
         requires { length self.now.items < 2 ^ 63 }

@@ -19,15 +19,15 @@ use std::alloc::{AllocError, Allocator, Global};
 use std::marker::Model;
 use wl_wire::{Encode, HEADER_LEN};
 
-/// How many bytes are kept for the error event.
+/// How many bytes are reserved for the error event.
 const MAX_ERROR_LEN: usize = 64;
 
 /// Messages that wait to go out, with their tokens.
 ///
-/// All memory is taken by `new`.
+/// `new` allocates all memory.
 #[derive(Drop)]
 pub struct Outbox<A: Allocator = Global> {
-    // With room for the error event beyond the ordinary messages.
+    // Its capacity includes room for the error event beyond the ordinary messages.
     bytes: HeapCircularBuffer<u8, A>,
     tokens: HeapCircularBuffer<u32, A>,
     // The messages that are not begun.
@@ -37,7 +37,7 @@ pub struct Outbox<A: Allocator = Global> {
     // How many bytes of ordinary messages may wait.
     capacity: usize,
     limit: Limit,
-    // Whether the error event was added, and where among the bytes it stands.
+    // Whether the error event was added, and which of the bytes are its.
     has_error: bool,
     error_from: usize,
     error_to: usize,
@@ -86,8 +86,8 @@ impl<A: Allocator> Model for Outbox<A> {
 }
 
 impl<A: Allocator + Clone + Drop> Outbox<A> {
-    /// An outbox with room for this number of bytes and tokens, and for an error event beyond
-    /// these, for messages within this limit. Nothing waits in it.
+    /// An empty outbox with room for this many bytes and tokens, and for an error event beyond
+    /// these, for messages within this limit.
     pub fn new(alloc: A, bytes: usize, tokens: usize, limit: Limit) -> Result<Outbox<A>, AllocError>
         requires bytes { bytes ≤ max_queue_bytes }
         requires tokens { tokens ≤ max_queue_tokens }
@@ -109,8 +109,8 @@ impl<A: Allocator + Clone + Drop> Outbox<A> {
 }
 
 impl<A: Allocator> Outbox<A> {
-    /// How many bytes are free for ordinary messages. The bytes kept for an error event and those
-    /// of the event itself are not counted.
+    /// How many bytes are free for ordinary messages. The bytes reserved for the error event, and
+    /// those of the event itself, do not count.
     pub fn room(&self) -> usize
         ensures room { result ≡ room_of self.now }
         ensures within { result + ordinary_len self.now ≡ self.now.capacity }
@@ -126,7 +126,7 @@ impl<A: Allocator> Outbox<A> {
         self.limit
     }
 
-    /// How many tokens are free. Those of a message that was begun are gone.
+    /// How many tokens are free. A message's tokens are gone once it is begun.
     pub fn token_room(&self) -> usize
         ensures room { result ≡ token_room_of self.now }
         ensures within { result + length (waiting_tokens self.now) ≡ self.now.token_capacity }
@@ -144,8 +144,8 @@ impl<A: Allocator> Outbox<A> {
         self.bytes.is_empty()
     }
 
-    /// Adds a whole message and its tokens at the end, or is `Full` where the bytes or the tokens
-    /// do not fit.
+    /// Appends a whole message and its tokens, or returns `Full` if the bytes or the tokens do not
+    /// fit.
     pub fn push(&mut self, message: &[u8], tokens: &[u32]) -> Result<(), Full>
         requires { IsMessage self.old.limit.bytes message.now }
         ensures ok { OnOk result (self.new ≡ with_message self.old message.now tokens.now) }
@@ -161,7 +161,7 @@ impl<A: Allocator> Outbox<A> {
         Ok(())
     }
 
-    /// Adds a whole message and its tokens at the end, for which there is room.
+    /// Appends a whole message and its tokens, which must fit.
     fn push_fitting(&mut self, message: &[u8], tokens: &[u32])
         requires whole { IsMessage self.old.limit.bytes message.now }
         requires bytes { length message.now ≤ room_of self.old }
@@ -177,7 +177,7 @@ impl<A: Allocator> Outbox<A> {
         append(&mut self.tokens, tokens);
     }
 
-    /// As `push_fitting`, of a message that is written into the front of the store first.
+    /// As `push_fitting`, for a message that is first written to the front of `store`.
     pub fn push_encoded<E: Encode>(&mut self, message: &E, tokens: &[u32], store: &mut [u8])
         requires fits { E.fits message.now }
         requires whole { IsMessage self.old.limit.bytes (E.message message.now) }
@@ -196,8 +196,8 @@ impl<A: Allocator> Outbox<A> {
         append(&mut self.tokens, tokens);
     }
 
-    /// Adds the error event, a whole message of at most 64 bytes without tokens, at the end. It
-    /// always fits. It is added once at most.
+    /// Appends the error event, a whole message of at most 64 bytes without tokens. It always fits.
+    /// It is added at most once.
     pub fn push_error(&mut self, message: &[u8])
         requires short { length message.now ≤ max_error_len }
         requires whole { IsMessage self.old.limit.bytes message.now }
@@ -215,7 +215,7 @@ impl<A: Allocator> Outbox<A> {
         append(&mut self.bytes, message);
     }
 
-    /// As `push_error`, of an event that is written into the front of the store first.
+    /// As `push_error`, for an event that is first written to the front of `store`.
     pub fn push_encoded_error<E: Encode>(&mut self, message: &E, store: &mut [u8])
         requires fits { E.fits message.now }
         requires short { length (E.message message.now) ≤ max_error_len }
@@ -251,7 +251,7 @@ impl<A: Allocator> Outbox<A> {
         }
     }
 
-    /// Takes out what goes, and returns how much that is.
+    /// Removes what goes, and returns how much that is.
     fn remove(&mut self, leaving: Leaving) -> Taken
         requires { IsLeaving self.old leaving }
         ensures taken { result ≡ leaving.taken }
@@ -267,7 +267,7 @@ impl<A: Allocator> Outbox<A> {
         taken
     }
 
-    /// How much `take` takes into slices of these lengths.
+    /// How much `take` moves into slices of these lengths.
     pub fn goes(&self, bytes: usize, tokens: usize) -> Taken
         ensures longest { Goes self.now bytes tokens result }
         ensures computed { result ≡ goes self.now bytes tokens }
@@ -275,11 +275,11 @@ impl<A: Allocator> Outbox<A> {
         self.leaving(bytes, tokens).taken
     }
 
-    /// Takes bytes and tokens out, from the front of the messages on, into the fronts of these
-    /// slices, and returns how many of each.
+    /// Moves bytes and tokens out, from the front of the messages, into the fronts of these slices,
+    /// and returns how many of each.
     ///
-    /// The tokens of a message go out with its first byte. It stops where the byte slice is full,
-    /// or before a message not yet begun whose tokens do not all fit in the rest of the token
+    /// The tokens of a message go out with its first byte. `take` stops when the byte slice is
+    /// full, or before a message not yet begun whose tokens do not all fit in the rest of the token
     /// slice.
     pub fn take(&mut self, bytes: &mut [u8], tokens: &mut [u32]) -> Taken
         ensures longest { Goes self.old (length bytes.old) (length tokens.old) result }
@@ -296,7 +296,7 @@ impl<A: Allocator> Outbox<A> {
         self.remove(leaving)
     }
 
-    /// Takes tokens out as `take` does where the byte slice holds all that waits, and drops the
+    /// Takes tokens out as `take` does if the byte slice has room for all that waits, and drops the
     /// bytes.
     pub fn take_tokens(&mut self, tokens: &mut [u32]) -> Taken
         ensures longest { Goes self.old (length (waiting_bytes self.old)) (length tokens.old)
@@ -314,8 +314,8 @@ impl<A: Allocator> Outbox<A> {
         self.remove(leaving)
     }
 
-    /// The most bytes that can go at one time so that each token goes with the first of them, as
-    /// `take` has it, however many of them go; and how many of the waiting tokens these are.
+    /// The most bytes that can go at one time so that every token goes with the first byte, as in
+    /// `take`, however many of the bytes go; and how many of the waiting tokens these are.
     pub fn peek(&self) -> Peek<'_>
         ensures { Peeks self.now (result.front.now ++ result.back.now) result.tokens }
     {
@@ -329,15 +329,15 @@ impl<A: Allocator> Outbox<A> {
         }
     }
 
-    /// The waiting token at this place, counted from 0.
+    /// The waiting token at this place, from 0.
     pub fn token(&self, place: usize) -> Option<u32>
         ensures { result ≡ slice_get (waiting_tokens self.now) place }
     {
         self.tokens.get(place).copied()
     }
 
-    /// Takes out what went by other means: the first bytes, so many of them or all that wait, and
-    /// the tokens that go with them. Returns how many of each.
+    /// Removes what was sent by other means: the first `bytes` bytes, or all that wait if these are
+    /// fewer, and the tokens that go with them. Returns how many of each.
     pub fn sent(&mut self, bytes: usize) -> Taken
         ensures longest { Goes self.old bytes (length (waiting_tokens self.old)) result }
         ensures computed { result ≡ goes self.old bytes (length (waiting_tokens self.old)) }
@@ -357,7 +357,7 @@ impl<A: Allocator> Outbox<A> {
         self.goes(self.bytes.len(), 0).bytes
     }
 
-    /// Some of the first bytes, at most `most`; none only where none wait.
+    /// Some of the first bytes, at most `most`; empty only if none wait.
     pub(crate) fn part(&self, most: usize) -> &[u8]
         ensures front { result.now ≡ take (length result.now) (waiting_bytes self.now) }
         ensures most { length result.now ≤ most }
@@ -366,7 +366,7 @@ impl<A: Allocator> Outbox<A> {
         first_part(&self.bytes, most)
     }
 
-    /// Takes out the first n bytes, with which no token goes.
+    /// Removes the first n bytes, with which no token goes.
     pub(crate) fn skip(&mut self, n: usize)
         requires { MayGo self.old n 0 n }
         ensures { self.new ≡ after_taking self.old n }

@@ -1,5 +1,4 @@
-//! Streams over memory, of which each call does what a script says. They show what becomes of a
-//! stream that fails.
+//! Streams in memory whose calls follow a script. They show what happens when a stream fails.
 ghost use Rattle.std.specs.Prelude.{◌≡◌, []};
 
 use std::alloc::{Allocator, Global};
@@ -14,8 +13,8 @@ pub enum Step {
     Fail(ErrorKind),
 }
 
-/// Returns what the next call does, and takes it out of the script. Once the script is done, all
-/// bytes pass.
+/// Returns what the next call does, and removes it from the script. After the script, all bytes
+/// pass.
 fn next_step(script: &mut &[Step]) -> Step {
     match script.split_first() {
         Some((step, rest)) => {
@@ -28,7 +27,7 @@ fn next_step(script: &mut &[Step]) -> Step {
 
 /// A reader of bytes in memory.
 ///
-/// It gives no bytes only at their end, so `Pass(0)` stands for `Pass(1)`.
+/// It returns no bytes only at their end, so `Pass(0)` means `Pass(1)`.
 #[derive(Clone, Copy, Debug)]
 pub struct ScriptReader<'a> {
     bytes: &'a [u8],
@@ -62,7 +61,7 @@ impl<'a> Read for ScriptReader<'a> {
     }
 }
 
-/// A writer that keeps in memory what it takes. A write fails also where there is no memory for it.
+/// A writer that keeps what it takes in memory. A write also fails if there is no memory for it.
 #[derive(Debug, Drop)]
 pub struct ScriptWriter<'a, A: Allocator = Global> {
     written: Vec<u8, A>,

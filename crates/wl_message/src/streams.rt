@@ -17,7 +17,7 @@ pub enum FlushError {
         /// The number of bytes that were written before.
         written: usize,
     },
-    /// FL2: the next message has tokens, which no writer takes.
+    /// FL2: the next message has tokens, and a writer takes none.
     NeedsTokens {
         /// The number of bytes that were written before.
         written: usize,
@@ -70,11 +70,12 @@ impl Display for FillError {
 
 impl Error for FillError {}
 
-/// Writes the bytes that wait, and returns their number. What was written is gone from the outbox.
+/// Writes the bytes that wait, and returns their number. What was written is removed from the
+/// outbox.
 ///
 /// It sends no tokens: it stops with `NeedsTokens` before a message that is not begun and has
-/// tokens. It stops with `Io` where a write fails, an interrupted one too, or takes no byte; it can
-/// then be called again. What is left stays in the outbox. Allocates nothing.
+/// tokens. It stops with `Io` if a write fails (also if it is interrupted) or takes no byte; it can
+/// then be called again. What was not written stays in the outbox. Allocates nothing.
 pub fn flush<A: Allocator, W: Write>(
     outbox: &mut Outbox<A>,
     writer: &mut W,
@@ -101,10 +102,10 @@ pub fn flush<A: Allocator, W: Write>(
     }
 }
 
-/// Reads once, at most 4096 bytes and at most as many as are free, and adds what was read to the
+/// Reads once, at most 4096 bytes and at most as many as are free, and appends what was read to the
 /// bytes that wait. Returns their number; 0 is the end of the input.
 ///
-/// Where the read fails, an interrupted one too, nothing is taken in, and the call can be made
+/// If the read fails (also if it is interrupted), nothing is taken in, and the call can be made
 /// again. With `NoRoom` nothing is read. Allocates nothing.
 pub fn fill<A: Allocator, R: Read>(inbox: &mut Inbox<A>, reader: &mut R) -> Result<usize, FillError>
     ensures fills { Fills inbox.old (R.remaining reader.old) result inbox.new

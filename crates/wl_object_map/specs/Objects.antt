@@ -1,6 +1,6 @@
--- What one end's objects are, in both ranges of ids, and what opening, closing and zombie-making
--- make of them. Each definition has the name of that of `View` for one table, and goes by the id on
--- the wire.
+-- The objects of one end, in both ranges of ids, and how opening, closing and zombie-making change
+-- them. Each definition has the name of its counterpart for one table in `View`, and takes the id
+-- on the wire.
 use Rattle.std.specs.Prelude.{◌≡◌, ℕ, ◌-◌, Bool, false, cond, refl, Option, Some, None, is_some}
 use Rattle.std.specs.FinMap.{len}
 use Rattle.std.specs.Coded.{Coded, code_by, coded×, coded_bool}
@@ -12,23 +12,23 @@ use Rattle.wl_object_map.specs.Ranges.{is_of_server, table_id, wire_id}
 use Rattle.wl_object_map.specs.View as table
 use Rattle.wl_object_map.specs.View.{View}
 
--- The table of the client's range and that of the server's range, and whether the end keeps the
--- second one. An end that does not keep it opens no object in the server's range.
+-- The tables of the client's and the server's range, and whether the end keeps the second one. An
+-- end that does not keep it opens no object in the server's range.
 pub record Objects : Type 0 where
   pub client : View
   pub server : View
   pub has_server_range : Bool
 
--- who makes the objects of an id
+-- who makes the objects at an id
 abbrev pub maker_of : ℕ → Maker
 maker_of id = cond (is_of_server id) Server Client
 
--- what is said of the table of an id's range, and of the id there
+-- f of the table for an id's range, and of the id in that table
 abbrev pub in_range : {X : Type 0} → (View → ℕ → X) → Objects → ℕ → X
 in_range says objects id =
     cond (is_of_server id) (says objects.server (table_id id)) (says objects.client id)
 
--- after a change of the table of an id's range, at the id there
+-- the objects after a change to the table for an id's range, at the id in that table
 abbrev pub changed_at : (View → ℕ → View) → Objects → ℕ → Objects
 changed_at change objects id = record objects {
   client = cond (is_of_server id) objects.client (change objects.client id);
@@ -47,11 +47,11 @@ is_held objects id = is_some (look objects id)
 abbrev pub is_live : Objects → ℕ → Bool
 is_live objects id = table.lives_in (look objects id)
 
--- how many objects were born in an id's range: the birth that the next object gets there
+-- how many objects were born in an id's range; the next object there gets this birth
 abbrev pub births : Objects → ℕ → ℕ
 births objects id = in_range (λ view place. view.births) objects id
 
--- the birth that a maker's next object gets
+-- the birth of a maker's next object
 abbrev pub next_birth : Maker → Objects → ℕ
 next_birth Client objects = objects.client.births
 next_birth Server objects = objects.server.births
@@ -74,22 +74,22 @@ free_or_next objects id = in_range table.free_or_next objects id
 abbrev pub has_room : Objects → ℕ → Bool
 has_room objects id = in_range table.has_room objects id
 
--- the id that a maker's next object gets: the one of its range that was freed last, or the next new
--- one where none is free
+-- the id of a maker's next object: the one of its range that was freed last, or the next new one if
+-- none is free
 abbrev pub next_id : Maker → Objects → ℕ
 next_id Client objects = table.next_id objects.client
 next_id Server objects = wire_id (table.next_id objects.server)
 
--- whether the limits leave room for one more object of a maker's
+-- whether the limits leave room for one more object of a maker
 abbrev pub can_open : Maker → Objects → Bool
 can_open Client objects = table.can_open objects.client
 can_open Server objects = table.can_open objects.server
 
--- the interface of row 1 of the server's table, which stands for nothing
+-- the interface of row 1 of the server's table, which has no meaning
 abbrev pub no_interface : Iface
 no_interface = record { 0 = 0 }
 
--- a new end's: wl_display alone, with id 1, birth 0 and version 1
+-- a new end has wl_display alone: id 1, birth 0, version 1
 abbrev pub opening : Iface → Bool → Objects
 opening display has_server_range = record {
   client = table.opening display;
@@ -97,7 +97,7 @@ opening display has_server_range = record {
   has_server_range = has_server_range;
 }
 
--- the server's range is that of a new end: no object was ever opened there
+-- no object was ever opened in the server's range
 abbrev pub IsServerRangeNew : Objects → Type 0
 IsServerRangeNew objects = objects.server ≡ table.opening no_interface
 
@@ -105,31 +105,31 @@ IsServerRangeNew objects = objects.server ≡ table.opening no_interface
 abbrev pub KeepsRangeNew : Objects → Type 0
 KeepsRangeNew objects = objects.has_server_range ≡ false → IsServerRangeNew objects
 
--- after an object was opened at an id, with the next birth of the id's range
+-- an object was opened at an id, with the next birth of the id's range
 abbrev pub opened_at : Objects → ℕ → Iface → ℕ → Objects
 opened_at objects id iface version =
     changed_at (λ view place. table.opened_at view place iface version) objects id
 
--- after a maker's object was opened at the next id
+-- a maker's object was opened at the next id
 abbrev pub opened : Maker → Objects → Iface → ℕ → Objects
 opened maker objects iface version = opened_at objects (next_id maker objects) iface version
 
--- after an object's row is gone and its id freed
+-- an object's row was removed and its id freed
 abbrev pub closed : Objects → ℕ → Objects
 closed objects id = changed_at table.closed objects id
 
--- after an object has become a zombie
+-- an object became a zombie
 abbrev pub zombied : Objects → ℕ → Objects
 zombied objects id = changed_at table.zombied objects id
 
--- What always holds of them.
+-- What always holds for objects.
 pub record ObjectsAreSound (objects : Objects) : Type 0 where
   pub client : table.Sound objects.client
   pub server : table.Sound objects.server
 
--- Objects as a value that both tables stand for.
+-- Objects as the value that two tables represent.
 
--- the table of the server's range, where there is one; else that of a new end
+-- the table of the server's range if there is one, else that of a new end
 abbrev pub server_view : {X : Type 0} → (X → View) → Option X → View
 server_view says None = table.opening no_interface
 server_view says (Some held) = says held

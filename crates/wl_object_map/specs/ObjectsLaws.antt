@@ -1,5 +1,5 @@
--- Laws of the objects in both ranges: what an id's row is after each change, and that each change
--- keeps both tables sound.
+-- Laws of the objects in both ranges: an id's row after each change, and that each change keeps
+-- both tables sound.
 use Rattle.std.proofs.Common.{◌≡◌, ◌≢◌, ℕ, ◌+◌, ◌<◌, ◌≤◌, refl, sym, ◌∙◌, ap, cond}
 use Rattle.std.proofs.Common.{Bool, true, false, arith, eqb, is_some, subst, ◌⊎◌, inl, inr, ⊎_elim}
 use Rattle.std.proofs.lemmas.Bool.{cases_Bool}
@@ -39,7 +39,7 @@ is_from id h = grind (arith, common_steps, nat_tests, h)
 pub is_below : (id : ℕ) → is_of_server id ≡ false → id < first_server_id
 is_below id h = grind (arith, common_steps, nat_tests, h)
 
--- an id of the server's range is at no place below 2
+-- the place of a server id is at least 2
 pub place_not_one : (id : ℕ) → is_of_server id ≡ true → table_id id ≢ 1
 place_not_one id h e = let l = is_from id h in absurd (omega (arith, l, e))
 
@@ -56,7 +56,7 @@ apart_too : (q id : ℕ) → is_of_server q ≡ false → is_of_server id ≡ tr
 apart_too q id a b =
     let l = is_below q a in let k = is_from id b in grind (arith, common_steps, nat_tests, l, k)
 
--- What an id's row is after each.
+-- An id's row after each change.
 
 pub in_range-server : {X : Type 0} (says : View → ℕ → X) (o : Objects) (id : ℕ)
     → is_of_server id ≡ true
@@ -82,7 +82,7 @@ changed_client change o id h = ap (λ b. record o {
   server = cond b (change o.server (table_id id)) o.server;
 }) h
 
--- a change of one table at one id: what the table says of the rows holds of ids on the wire
+-- what a change does to the rows of one table, it does to the rows by ids on the wire
 pub look-changed : (change : View → ℕ → View) (row : View → Option Entry → Option Entry)
     → ((view : View) (id q : ℕ) → table.look (change view id) q
     ≡ cond (eqb q id) (row view (table.look view q)) (table.look view q))
@@ -127,7 +127,7 @@ look-changed change row law o id q = elim (cases_Bool (is_of_server id)) [
       ])
 ]
 
--- wl_display's, and no other
+-- only wl_display has a row
 pub look-opening : (display : Iface) (range : Bool) (q : ℕ)
     → look (opening display range) q
     ≡ cond (eqb q 1) (Some (record { birth = 0; iface = display; version = 1; state = Live })) None
@@ -139,7 +139,7 @@ look-opening display range q = elim (cases_Bool (is_of_server q)) [
   | inr t ↦ in_range-client table.look (opening display range) q t ∙ rows.look-opening display q
 ]
 
--- no id of a server's range that is new has a row
+-- in a new server range no id has a row
 pub look-new_range : (o : Objects) (id : ℕ) → IsServerRangeNew o → is_of_server id ≡ true
     → look o id ≡ None
 look-new_range o id new h =
@@ -157,7 +157,7 @@ new_row birth iface version = record {
   state = Live;
 }
 
--- at the id the new object's, at others as before
+-- the id has the new object's row; other rows stay
 pub look-opened_at : (o : Objects) (id : ℕ) (iface : Iface) (version q : ℕ)
     → look (opened_at o id iface version) q
     ≡ cond (eqb q id)
@@ -176,7 +176,7 @@ look-opened_at o id iface version q =
           (sym (in_range-client (λ view place. view.births) o id s))
     ])
 
--- what every table says of an id without looking at the table is said of it
+-- a value that does not depend on the table does not depend on the range
 pub in_range-same : {X : Type 0} (x : X) (o : Objects) (id : ℕ)
     → in_range (λ view place. x) o id ≡ x
 in_range-same x o id = elim (cases_Bool (is_of_server id)) [
@@ -184,14 +184,14 @@ in_range-same x o id = elim (cases_Bool (is_of_server id)) [
   | inr s ↦ in_range-client (λ view place. x) o id s
 ]
 
--- at the id none, at others as before
+-- the id has no row; other rows stay
 pub look-closed : (o : Objects) (id q : ℕ)
     → look (closed o id) q ≡ cond (eqb q id) None (look o q)
 look-closed o id q =
     look-changed table.closed (λ view e. None) rows.look-closed o id q
     ∙ ap (λ (e : Option Entry). cond (eqb q id) e (look o q)) (in_range-same None o id)
 
--- at the id the same row as a zombie, at others as before
+-- the id has the same row as a zombie; other rows stay
 pub look-zombied : (o : Objects) (id q : ℕ)
     → look (zombied o id) q ≡ cond (eqb q id) (option_map zombie (look o q)) (look o q)
 look-zombied o id q =
@@ -201,7 +201,7 @@ look-zombied o id q =
 
 -- Each change keeps both tables sound.
 
--- where a change of the table of the id's range does
+-- if the change keeps the table of the id's range sound
 ObjectsAreSound-changed : (change : View → ℕ → View) (o : Objects) (id : ℕ) → ObjectsAreSound o
     → (is_of_server id ≡ true → Sound (change o.server (table_id id)))
     → (is_of_server id ≡ false → Sound (change o.client id))
@@ -220,7 +220,7 @@ ObjectsAreSound-opening display range = record {
   server = sounds.Sound-opening no_interface;
 }
 
--- an opening at an id that is freed or next
+-- an opening at a freed or the next id
 pub ObjectsAreSound-opened_at : (o : Objects) (id : ℕ) (iface : Iface) (version : ℕ)
     → ObjectsAreSound o
     → free_or_next o id ≡ true → has_room o id ≡ true
@@ -242,7 +242,7 @@ held_client : (o : Objects) (id : ℕ) → is_of_server id ≡ false → is_held
     → table.is_held o.client id ≡ true
 held_client o id h held = sym (ap is_some (in_range-client table.look o id h)) ∙ held
 
--- an opening at an id that has a row, in place of it
+-- an opening in place of an id's row
 pub ObjectsAreSound-reopened : (o : Objects) (id : ℕ) (iface : Iface) (version : ℕ)
     → ObjectsAreSound o
     → is_held o id ≡ true → id ≢ 1 → has_room o id ≡ true
@@ -273,7 +273,7 @@ ObjectsAreSound-zombied o id s other =
 
 -- The next id of each maker.
 
--- it is of the maker's range
+-- it is in the maker's range
 pub next_of_client : (o : Objects) → ObjectsAreSound o → is_of_server (next_id Client o) ≡ false
 next_of_client o s =
     let f = rows.free_is o.client (table.next_id o.client) s.client
@@ -289,11 +289,11 @@ next_of_server o s =
     of_server (wire_id (table.next_id o.server))
     (grind (arith, common_steps, nat_tests, null, other))
 
--- and the table of the range has it for its next
+-- it is the next id of that range's table
 pub table_id-wire_id : (place : ℕ) → table_id (wire_id place) ≡ place
 table_id-wire_id place = omega arith
 
--- and the next birth is that of the next id
+-- the next birth is that of the next id's range
 pub births-next : (maker : Maker) (o : Objects) → ObjectsAreSound o
     → births o (next_id maker o) ≡ next_birth maker o
 births-next Client o s =
@@ -301,7 +301,7 @@ births-next Client o s =
 births-next Server o s =
     in_range-server (λ view place. view.births) o (next_id Server o) (next_of_server o s)
 
--- the next id is free, in its range
+-- the next id is free in its range
 pub free-next : (maker : Maker) (o : Objects) → ObjectsAreSound o
     → free_or_next o (next_id maker o) ≡ true
 free-next Client o s =
@@ -312,7 +312,7 @@ free-next Server o s =
     ∙ ap (table.free_or_next o.server) (table_id-wire_id (table.next_id o.server))
     ∙ rows.free_or_next-next_id o.server
 
--- and it fits into a word
+-- it fits into a word
 pub next-low : (maker : Maker) (o : Objects) → ObjectsAreSound o → next_id maker o < 4294967296
 next-low Client o s =
     let f = rows.free_is o.client (table.next_id o.client) s.client
@@ -335,7 +335,7 @@ free-no_row o id s h = elim (cases_Bool (is_of_server id)) [
       (sym (in_range-client table.free_or_next o id t) ∙ h)).no_row
 ]
 
--- so an opening at the next id is one of the maker's table
+-- so an opening at the next id opens in the maker's table
 pub opened-client : (o : Objects) (iface : Iface) (version : ℕ) → ObjectsAreSound o
     → opened Client o iface version
     ≡ record o { client = table.opened o.client iface version }
@@ -369,7 +369,7 @@ ObjectsAreSound-opened Server o iface version s room =
       server = sounds.Sound-opened o.server iface version s.server room;
     })
 
--- What a table says of the client's range is said of an id there.
+-- What holds for the client's table holds for an id of the client's range.
 
 pub births_of_client : (o : Objects) (id : ℕ) → is_of_server id ≡ false
     → births o id ≡ o.client.births
@@ -383,8 +383,8 @@ pub room_of_client : (o : Objects) (id : ℕ) → is_of_server id ≡ false
     → has_room o id ≡ table.has_room o.client id
 room_of_client o id h = in_range-client table.has_room o id h
 
--- an id at which an object of the client's can be opened: it has no row, is from 1 to one past the
--- ids used, and is of the client's range
+-- an id at which a client object can be opened: it is in the client's range, has no row, and is
+-- from 1 to one past the ids used
 pub record IsFree (o : Objects) (id : ℕ) : Type 0 where
   pub no_row : look o id ≡ None
   pub above_null : 0 < id
@@ -425,8 +425,7 @@ look-opened_by_client o id iface version q h =
     ∙ ap (λ n. cond (eqb q id) (Some (new_row n iface version)) (look o q))
     (births_of_client o id h)
 
--- How many births are counted in the client's range and how many ids used there, after each change:
--- an ending leaves both.
+-- The births and the ids used of the client's range after each change; a closing changes neither.
 
 client-changed : {X : Type 0} (says : View → X) (change : View → ℕ → View)
     → ((view : View) (id : ℕ) → says (change view id) ≡ says view)
@@ -436,7 +435,7 @@ client-changed says change law o id = elim (cases_Bool (is_of_server id)) [
   | inr h ↦ ap (λ (x : Objects). says x.client) (changed_client change o id h) ∙ law o.client id
 ]
 
--- an opening counts no fewer
+-- an opening never lowers the births
 pub births-rise : (o : Objects) (id : ℕ) (iface : Iface) (version : ℕ)
     → o.client.births ≤ (opened_at o id iface version).client.births
 births-rise o id iface version =
@@ -460,7 +459,7 @@ births-zombied o id = client-changed (λ view. view.births) table.zombied (λ vi
 pub used-zombied : (o : Objects) (id : ℕ) → (zombied o id).client.used ≡ o.client.used
 used-zombied o id = client-changed (λ view. view.used) table.zombied (λ view place. refl) o id
 
--- An id with a row in the client's table is of the client's range.
+-- An id with a row in the client's table is in the client's range.
 
 pub held_by_client : (o : Objects) (id : ℕ) (e : Entry) → Sound o.client
     → table.look o.client id ≡ Some e → is_of_server id ≡ false
@@ -479,9 +478,9 @@ pub look-held_by_client : (o : Objects) (id : ℕ) (e : Entry) → Sound o.clien
 look-held_by_client o id e s row =
     in_range-client table.look o id (held_by_client o id e s row) ∙ row
 
--- What a row after a change was before it.
+-- Where a row after a change comes from.
 
--- after an opening it is the new object's, or another's that stood there before
+-- after an opening: it is the new object's, or it was there before, at another id
 pub row-opened_at : (o : Objects) (id : ℕ) (iface : Iface) (version q : ℕ) (e : Entry)
     → look (opened_at o id iface version) q ≡ Some e
     → ((q ≡ id)
@@ -503,7 +502,7 @@ row-opened_by_client o id iface version q e range h = ⊎_elim
     (λ p. inr p)
     (row-opened_at o id iface version q e h)
 
--- after a closing it is another's that stood there before
+-- after a closing: it was there before, at another id
 pub row-closed : (o : Objects) (id q : ℕ) (e : Entry) → look (closed o id) q ≡ Some e
     → (q ≢ id) × (look o q ≡ Some e)
 row-closed o id q e h = ⊎_elim
@@ -511,7 +510,7 @@ row-closed o id q e h = ⊎_elim
     (λ p. (rows.eqb_not q id p.0, p.1))
     (rows.cases_row (eqb q id) None (look o q) e (sym (look-closed o id q) ∙ h))
 
--- after a zombie-making it stood there before, and is a zombie's now where its id is the one
+-- after a zombie-making: it was there before, and it is now a zombie's if its id is this one
 pub row-zombied : (o : Objects) (id q : ℕ) (e : Entry) → look (zombied o id) q ≡ Some e
     → (d : Entry) × ((look o q ≡ Some d) × (e ≡ cond (eqb q id) (zombie d) d))
 row-zombied o id q e h =

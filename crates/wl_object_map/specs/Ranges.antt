@@ -1,24 +1,24 @@
--- The two ranges of ids: the client makes those from 1 on, the server those from 0xff000000 on.
+-- The two ranges of ids: the client makes ids from 1 on, the server from 0xff000000 on.
 use Rattle.std.specs.Prelude.{ℕ, ◌+◌, ◌-◌, Bool, nat_le}
 
 -- the first id of the server's range
 abbrev pub first_server_id : ℕ
 first_server_id = 4278190080
 
--- its last id: with its 1,048,575 ids it has as many as the client's range behind id 1
+-- the last server id: the range has 1,048,575 ids, as many as the client's without id 1
 abbrev pub max_server_id : ℕ
 max_server_id = 4279238654
 
--- whether an id is of the server's range
+-- whether an id is in the server's range
 abbrev pub is_of_server : ℕ → Bool
 is_of_server id = nat_le first_server_id id
 
--- The table of the server's range counts its ids from 2 on, so that its row 1 stands for nothing.
+-- The table of the server's range counts its ids from 2 on; its row 1 has no meaning.
 
--- the id that this table has for an id of the range
+-- the table's id for an id on the wire
 abbrev pub table_id : ℕ → ℕ
 table_id id = id - 4278190078
 
--- the id for which this table has one
+-- the id on the wire for the table's id
 abbrev pub wire_id : ℕ → ℕ
 wire_id place = place + 4278190078

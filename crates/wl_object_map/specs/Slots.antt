@@ -1,4 +1,4 @@
--- What a vector of slots stands for: the rows at its places, and the chain of the freed ids.
+-- What a vector of slots represents: rows by id, and the chain of freed ids.
 use Rattle.std.specs.Prelude.{◌≡◌, ℕ, zero, suc, ◌+◌, ◌<◌, ◌≤◌, cond, eqb, List, [], ◌∷◌, length}
 use Rattle.std.specs.Prelude.{Option, Some, None, slice_get}
 use Rattle.std.specs.Ordering.{nat_cmp}
@@ -23,7 +23,7 @@ new_row birth iface version = record {
   state = Live;
 }
 
--- the slot of an id: id 1 has the first, and id 0 has none
+-- the slot of an id: the first slot for id 1, none for id 0
 abbrev pub slot_at : List Slot → ℕ → Option Slot
 slot_at slots zero = None
 slot_at slots (suc n) = slice_get slots n
@@ -38,7 +38,7 @@ row_in (Some (Free newer older)) = None
 abbrev pub row_at : List Slot → ℕ → Option Entry
 row_at slots id = row_in (slot_at slots id)
 
--- the rows of slots whose first is that of an id
+-- the rows of slots, the first of which is for the given id
 abbrev pub rows_from : ℕ → List Slot → FinMap nat_cmp Entry
 rows_from id [] = empty
 rows_from id (Row birth version iface state ∷ slots) =
@@ -48,33 +48,32 @@ rows_from id (Free newer older ∷ slots) = rows_from (id + 1) slots
 
 -- The chain.
 
--- what stands after an id in a list, 0 where nothing does: of freed ids, latest first, the one that
--- was freed before it
+-- the element after an id in a list, 0 if there is none; among freed ids (latest first), the one
+-- freed before it
 abbrev pub older_of : ℕ → List ℕ → ℕ
 older_of id [] = 0
 older_of id (x ∷ xs) = cond (eqb x id) (first_or 0 xs) (older_of id xs)
 
--- what stands before an id in a list that comes after `head`
+-- the element before an id in a list that follows `head`
 abbrev pub newer_of : ℕ → ℕ → List ℕ → ℕ
 newer_of head id [] = 0
 newer_of head id (x ∷ xs) = cond (eqb x id) head (newer_of x id xs)
 
--- the last of a list, or what stands before it
+-- the last element of a list, or the given one if it is empty
 abbrev pub last_or : ℕ → List ℕ → ℕ
 last_or before [] = before
 last_or before (x ∷ xs) = last_or x xs
 
--- The slots hold a chain that begins at `first` and spells the ids in their order: the slot of each
--- id holds its neighbours both ways, 0 where it has none. (`neighbours` of proofs/Chain.antt is the
--- law: in ids that are split as `front ++ id ∷ rest` they are the last of `front` and the first of
--- `rest`.)
+-- The slots contain a chain that begins at `first` and lists the ids in order: the slot of each id
+-- holds both neighbours, 0 if it has none. (The law is `neighbours` in proofs/Chain.antt: if the
+-- ids are `front ++ id ∷ rest`, the neighbours are the last of `front` and the first of `rest`.)
 pub record IsChain (slots : List Slot) (first : ℕ) (ids : List ℕ) : Type 0 where
   pub begins : first ≡ first_or 0 ids
   pub once : (id : ℕ) → times id ids ≤ 1
   pub linked : (id : ℕ) → 0 < times id ids
       → slot_at slots id ≡ Some (Free (newer_of 0 id ids) (older_of id ids))
 
--- a free slot with another neighbour on either side; any other slot stays
+-- a free slot with its neighbour on one side replaced; any other slot stays
 abbrev pub with_older : ℕ → Option Slot → Option Slot
 with_older older None = None
 with_older older (Some (Row birth version iface state)) = Some (Row birth version iface state)
@@ -85,13 +84,13 @@ with_newer newer None = None
 with_newer newer (Some (Row birth version iface state)) = Some (Row birth version iface state)
 with_newer newer (Some (Free n o)) = Some (Free newer o)
 
--- What the steps of a call make of the slots. They speak of the slots before and after it.
+-- What the steps of a call do to the slots: relations between the slots before and after.
 
--- a slot was put at an id, and the others stayed
+-- a slot was put at an id, and the others stay
 abbrev pub IsPut : ℕ → Slot → List Slot → List Slot → Type 0
 IsPut id slot old new = (q : ℕ) → slot_at new q ≡ cond (eqb q id) (Some slot) (slot_at old q)
 
--- a freed id got another neighbour on either side
+-- the neighbour of a freed id on one side was replaced
 abbrev pub IsOlderSet : ℕ → ℕ → List Slot → List Slot → Type 0
 IsOlderSet id older old new =
     (q : ℕ) → slot_at new q ≡ cond (eqb q id) (with_older older (slot_at old q)) (slot_at old q)
@@ -100,25 +99,25 @@ abbrev pub IsNewerSet : ℕ → ℕ → List Slot → List Slot → Type 0
 IsNewerSet id newer old new =
     (q : ℕ) → slot_at new q ≡ cond (eqb q id) (with_newer newer (slot_at old q)) (slot_at old q)
 
--- whatever chain with the id began at `first`, it goes on without the id, and begins at `after`
+-- any chain from `first` that contained the id continues without it, and begins at `after`
 abbrev pub IsTakenOut : ℕ → List Slot → ℕ → List Slot → ℕ → Type 0
 IsTakenOut id old first new after =
     (ids : List ℕ) → IsChain old first ids → 0 < times id ids → IsChain new after (without id ids)
 
--- whatever chain without the id began at `first`, the id now stands before it
+-- any chain from `first` without the id now has the id in front
 abbrev pub IsPutFirst : ℕ → List Slot → ℕ → List Slot → ℕ → Type 0
 IsPutFirst id old first new after =
     (ids : List ℕ) → IsChain old first ids → times id ids ≡ 0 → IsChain new after (id ∷ ids)
 
--- each id has the row that it had
+-- every id kept its row
 abbrev pub HasSameRows : List Slot → List Slot → Type 0
 HasSameRows old new = (q : ℕ) → row_at new q ≡ row_at old q
 
--- an id has no row, and each other the row that it had
+-- an id has no row, and every other id kept its row
 abbrev pub HasNoRowAt : ℕ → List Slot → List Slot → Type 0
 HasNoRowAt id old new = (q : ℕ) → row_at new q ≡ cond (eqb q id) None (row_at old q)
 
--- the id to which a slot leads on
+-- the next id in the chain after a slot
 abbrev pub next_in : Option Slot → ℕ
 next_in None = 0
 next_in (Some (Row birth version iface state)) = 0
@@ -129,7 +128,7 @@ abbrev pub followed : ℕ → List Slot → ℕ → List ℕ
 followed zero slots id = []
 followed (suc n) slots id = id ∷ followed n slots (next_in (slot_at slots id))
 
--- What a table of slots stands for.
+-- The table that slots represent.
 abbrev pub view_of : List Slot → ℕ → ℕ → ℕ → View
 view_of slots first free births = record {
   rows = rows_from 1 slots;
@@ -138,7 +137,7 @@ view_of slots first free births = record {
   births = births;
 }
 
--- what always holds of one: the view is sound, and the chain spells all its freed ids
+-- what always holds: the view is sound, and the chain lists all its freed ids
 pub record IsSoundChain (slots : List Slot) (first free births : ℕ) : Type 0 where
   pub sound : Sound (view_of slots first free births)
   pub chain : IsChain slots first (followed free slots first)

@@ -1,5 +1,5 @@
--- Each function on views keeps a sound view sound; and what the freed ids and the count of ids used
--- are after each.
+-- Each function on views keeps a sound view sound; and the freed ids and the number of ids used
+-- after each.
 use Rattle.std.proofs.Common.{◌≡◌, ◌≢◌, ℕ, ◌+◌, ◌<◌, ◌≤◌, max, List, [], ◌∷◌, refl, sym, ◌∙◌, ap}
 use Rattle.std.proofs.Common.{cond, Bool, true, false, length, drop, arith, lit≤, eqb, is_some}
 use Rattle.std.proofs.Common.{⊎_elim, inl, inr}
@@ -35,7 +35,7 @@ used-opened_at view id iface version s h =
     let f = Views.free_is view id s h in let a = f.at_most_next in
     grind (arith, common_steps, nat_tests, a)
 
--- a freed id is one of those used
+-- a freed id is among the ids used
 pub used_of_freed : (view : View) (id : ℕ) → Sound view → 0 < times id view.freed → id ≤ view.used
 used_of_freed view id s h = elim (Views.place_of_id view s id) [
   | in_row e l t a b ↦ b
@@ -62,7 +62,7 @@ without_first used (x ∷ xs) h =
     let w = Views.without-absent x xs (fresh x xs (h x)) in
     grind (arith, common_steps, nat_tests, w)
 
--- the id that was freed last is taken out of the list
+-- the id that was freed last is removed from the list
 pub freed-opened : (view : View) (iface : Iface) (version : ℕ) → Sound view
     → (opened view iface version).freed ≡ drop 1 view.freed
 freed-opened view iface version s = without_first view.used view.freed (λ x. at_most_once view x s)
@@ -72,12 +72,12 @@ first_used : (used : ℕ) (xs : List ℕ) → ((x : ℕ) → 0 < times x xs → 
 first_used used [] h = grind (arith, common_steps, nat_tests)
 first_used used (x ∷ xs) h = let b = h x in grind (arith, common_steps, nat_tests, b)
 
--- one more id is used only where none was free
+-- a new id is used only if none was free
 pub used-opened : (view : View) (iface : Iface) (version : ℕ) → Sound view
     → (opened view iface version).used ≡ cond (eqb (length view.freed) 0) (view.used + 1) view.used
 used-opened view iface version s = first_used view.used view.freed (λ x. used_of_freed view x s)
 
--- the ids of births, with one more birth
+-- the ids of births, after one more birth
 abbrev id_with : (ℕ → ℕ) → ℕ → ℕ → ℕ → ℕ
 id_with id_of births id birth = cond (eqb birth births) id (id_of birth)
 
@@ -120,8 +120,8 @@ ids-opened_at view id iface version s null top =
           (Views.row-opened_at view id iface version q e at);
     }
 
--- an opening at an id other than 1, from 1 to one past the ids used, keeps a view sound, where the
--- rows and the freed ids come out as many as the ids used
+-- an opening at an id from 2 to one past the ids used keeps a view sound, if rows and freed ids
+-- together then number the ids used
 Sound-put : (view : View) (id : ℕ) (iface : Iface) (version : ℕ) → Sound view
     → 0 < id → id ≤ view.used + 1 → id ≢ 1 → has_room view id ≡ true
     → len (opened_at view id iface version).rows + length (without id view.freed)
@@ -168,7 +168,7 @@ Sound-put view id iface version s null top other room count =
       births_end = grind (arith, common_steps, nat_tests, room);
     }
 
--- an opening at an id that is freed or next keeps a view sound
+-- an opening at a freed or the next id keeps a view sound
 pub Sound-opened_at : (view : View) (id : ℕ) (iface : Iface) (version : ℕ) → Sound view
     → free_or_next view id ≡ true → has_room view id ≡ true
     → Sound (opened_at view id iface version)
@@ -184,7 +184,7 @@ Sound-opened_at view id iface version s free room =
     let w = Views.length-without id view.freed in
     grind (arith, common_steps, nat_tests, c, l, n, k, w, u, top))
 
--- an id that has a row is one of those used, and none of the freed
+-- an id with a row is among the ids used, and not freed
 pub held_place : (view : View) (id : ℕ) → Sound view → is_held view id ≡ true
     → (times id view.freed ≡ 0) × ((0 < id) × (id ≤ view.used))
 held_place view id s held = elim (Views.place_of_id view s id) [
@@ -194,7 +194,7 @@ held_place view id s held = elim (Views.place_of_id view s id) [
   | unused l t a ↦ let no : false ≡ true = sym (ap is_some l) ∙ held in cc
 ]
 
--- so an opening there leaves the freed ids and the number of ids used
+-- so an opening there changes neither the freed ids nor the number of ids used
 pub freed-reopened : (view : View) (id : ℕ) (iface : Iface) (version : ℕ) → Sound view
     → is_held view id ≡ true → (opened_at view id iface version).freed ≡ view.freed
 freed-reopened view id iface version s held =
@@ -205,7 +205,7 @@ pub used-reopened : (view : View) (id : ℕ) (iface : Iface) (version : ℕ) →
 used-reopened view id iface version s held =
     let b = (held_place view id s held).1.1 in grind (arith, common_steps, nat_tests, b)
 
--- an opening at an id that has a row, in place of it, keeps a view sound
+-- an opening in place of an id's row keeps a view sound
 pub Sound-reopened : (view : View) (id : ℕ) (iface : Iface) (version : ℕ) → Sound view
     → is_held view id ≡ true → id ≢ 1 → has_room view id ≡ true
     → Sound (opened_at view id iface version)
@@ -279,7 +279,7 @@ held_len m k h = ⊎_elim
     (λ ne. omega arith)
     (cases_eq (len m) 0)
 
--- there is always a row, that of id 1
+-- there is always a row: that of id 1
 pub some_row : (view : View) → Sound view → 0 < len view.rows
 some_row view s = held_len view.rows 1 (ap is_some s.display.1)
 
@@ -333,7 +333,7 @@ live_some : (o : Option Entry) → lives_in o ≡ true → is_some o ≡ true
 live_some None h = h
 live_some (Some e) h = refl
 
--- what lives has a row
+-- a live id has a row
 pub lives_held : (view : View) (id : ℕ) → is_live view id ≡ true → is_held view id ≡ true
 lives_held view id h = live_some (look view id) h
 

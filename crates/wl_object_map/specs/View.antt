@@ -1,4 +1,4 @@
--- What one end's table of objects holds, and what opening, closing and zombie-making make of it.
+-- One end's table of objects, and how opening, closing and zombie-making change it.
 use Rattle.std.specs.Prelude.{◌≡◌, ℕ, ◌+◌, ◌<◌, ◌≤◌, max, Bool, true, false, cond, ltb, leb, eqb}
 use Rattle.std.specs.Prelude.{not, ◌&&◌, ◌||◌, List, [], ◌∷◌, length, refl, Option, Some, None}
 use Rattle.std.specs.Prelude.{is_some}
@@ -11,18 +11,19 @@ use Rattle.wl_object_map.specs.declared.object.Entry.{Entry}
 use Rattle.wl_object_map.specs.declared.object.State.{State}
 use Rattle.wl_object_map.specs.declared.object.State.TheVariants.{Live, Zombie}
 
--- The rows by id; the freed ids, latest first; how many ids were used; how many objects were born.
+-- The rows by id; the freed ids, latest first; how many ids were ever used; how many objects were
+-- born.
 pub record View : Type 0 where
   pub rows : FinMap nat_cmp Entry
   pub freed : List ℕ
   pub used : ℕ
   pub births : ℕ
 
--- the most ids that a connection has, id 1 counted
+-- the most ids in a range, id 1 included
 abbrev pub max_ids : ℕ
 max_ids = 1048576
 
--- the most objects that are counted
+-- the greatest number of births
 abbrev pub max_births : ℕ
 max_births = 18446744073709551615
 
@@ -46,17 +47,17 @@ lives_in (Some e) = lives e.state
 abbrev pub is_live : View → ℕ → Bool
 is_live view id = lives_in (look view id)
 
--- how often an id stands in a list
+-- how often an id occurs in a list
 abbrev pub times : ℕ → List ℕ → ℕ
 times id [] = 0
 times id (x ∷ xs) = cond (eqb x id) 1 0 + times id xs
 
--- in how many places an id stands: in a row or not, and as often as it stands among the freed ids
+-- in how many places an id occurs: 1 if it has a row, plus its occurrences among the freed ids
 abbrev pub places : View → ℕ → ℕ
 places view id = cond (is_held view id) 1 0 + times id view.freed
 
--- The ids used are those that births were given: each birth that was counted got one of them, each
--- of them was given to such a birth, and a row has the id of its birth.
+-- The ids used are the ids of births: each counted birth has one of them, each of them belongs to
+-- such a birth, and a row's id is that of its birth.
 pub record IdsOfBirths (view : View) : Type 0 where
   pub id_of : ℕ → ℕ
   pub used : (birth : ℕ) → birth < view.births → (0 < id_of birth) × (id_of birth ≤ view.used)
@@ -64,29 +65,29 @@ pub record IdsOfBirths (view : View) : Type 0 where
       → (birth : ℕ) × ((birth < view.births) × (id_of birth ≡ id))
   pub rows : (id : ℕ) (e : Entry) → look view id ≡ Some e → id_of e.birth ≡ id
 
--- What always holds of a table.
+-- What always holds for a table.
 pub record Sound (view : View) : Type 0 where
-  -- every id from 1 to the number used is in a row or once among the freed ids
+  -- every id from 1 to the number used has a row, or is freed once
   pub once : (id : ℕ) → 0 < id → id ≤ view.used → places view id ≡ 1
-  -- no other id is in either
+  -- no other id has a row or is freed
   pub no_other : places view 0 ≡ 0
   pub no_further : (id : ℕ) → view.used < id → places view id ≡ 0
-  -- so the rows and the freed ids are together as many as the ids used
+  -- so rows and freed ids together number the ids used
   pub count : len view.rows + length view.freed ≡ view.used
-  -- no birth stands twice, and each is below the number of births
+  -- no two rows have the same birth, and each birth is below the number of births
   pub one_birth : (id other : ℕ) (e d : Entry) → look view id ≡ Some e → look view other ≡ Some d
       → e.birth ≡ d.birth → id ≡ other
   pub born : (id : ℕ) (e : Entry) → look view id ≡ Some e → e.birth < view.births
-  -- the ids used are those that these births were given
+  -- the ids used are the ids of these births
   pub ids : IdsOfBirths view
-  -- id 1 is wl_display, the first object, for good
+  -- id 1 is always wl_display, the first object
   pub display : (iface : Iface)
       × (look view 1 ≡ Some (record { birth = 0; iface = iface; version = 1; state = Live }))
   -- the limits
   pub ids_end : view.used ≤ max_ids
   pub births_end : view.births ≤ max_births
 
--- a list without an id, wherever it stands
+-- a list without any occurrence of an id
 abbrev pub without : ℕ → List ℕ → List ℕ
 without id xs = filter (λ x. not (eqb x id)) xs
 
@@ -94,7 +95,7 @@ abbrev pub first_or : ℕ → List ℕ → ℕ
 first_or next [] = next
 first_or next (x ∷ xs) = x
 
--- the id that is opened next: the one freed last, or the next new one where none is free
+-- the next id to be opened: the one freed last, or the next new one if none is free
 abbrev pub next_id : View → ℕ
 next_id view = first_or (view.used + 1) view.freed
 
@@ -102,8 +103,8 @@ next_id view = first_or (view.used + 1) view.freed
 abbrev pub free_or_next : View → ℕ → Bool
 free_or_next view id = ltb 0 (times id view.freed) || eqb id (view.used + 1)
 
--- whether the limits leave room for an object at an id: the id is not above the last one, and a
--- birth is left to count
+-- whether the limits leave room for an object at an id: the id is not above the last one, and
+-- another birth can be counted
 abbrev pub has_room : View → ℕ → Bool
 has_room view id = leb id max_ids && ltb view.births max_births
 
@@ -120,7 +121,7 @@ opening display = record {
   births = 1;
 }
 
--- after an object was opened at an id, with the next birth
+-- an object was opened at an id, with the next birth
 abbrev pub opened_at : View → ℕ → Iface → ℕ → View
 opened_at view id iface version = record {
   rows =
@@ -131,11 +132,11 @@ opened_at view id iface version = record {
   births = view.births + 1;
 }
 
--- after an object was opened at the next id
+-- an object was opened at the next id
 abbrev pub opened : View → Iface → ℕ → View
 opened view iface version = opened_at view (next_id view) iface version
 
--- after an object's row is gone and its id freed
+-- an object's row was removed and its id freed
 abbrev pub closed : View → ℕ → View
 closed view id = record {
   rows = remove view.rows id;
@@ -144,7 +145,7 @@ closed view id = record {
   births = view.births;
 }
 
--- the row of an object that has ended
+-- the row of an object, as a zombie
 abbrev pub zombie : Entry → Entry
 zombie e = record e { state = Zombie }
 
@@ -152,11 +153,11 @@ abbrev pub with_zombie : FinMap nat_cmp Entry → ℕ → Option Entry → FinMa
 with_zombie rows id None = rows
 with_zombie rows id (Some e) = insert rows id (zombie e)
 
--- after an object has become a zombie
+-- an object became a zombie
 abbrev pub zombied : View → ℕ → View
 zombied view id = record view { rows = with_zombie view.rows id (look view id) }
 
--- A view as a value that a table stands for.
+-- A view as the value that a table represents.
 
 abbrev pub bit_state : Bool → State
 bit_state true = Live

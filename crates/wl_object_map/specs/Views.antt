@@ -1,5 +1,4 @@
--- Laws of the functions on views: what an id's row is after each, and in how many places the id
--- stands then.
+-- Laws of the functions on views: an id's row after each, and the places where the id then occurs.
 use Rattle.std.proofs.Common.{◌≡◌, ◌≢◌, ◌⊎◌, inl, inr, ℕ, ◌+◌, ◌<◌, ◌≤◌, List, [], ◌∷◌, refl, sym}
 use Rattle.std.proofs.Common.{◌∙◌, ap, cond, Bool, true, false, not, ◌&&◌, ◌||◌, length, arith, eqb}
 use Rattle.std.proofs.Common.{ltb, leb, is_some, ⊎_elim}
@@ -36,15 +35,15 @@ get_gone m k q = get-remove nat_cmp_total m k q ∙ ap (λ b. cond b None (get m
 ruleset steps =
     (get_put, get_gone, len-insert, len-remove, nat_cmp_total, nat_tests, common_steps, arith)
 
--- What an id's row is after each.
+-- An id's row after each change.
 
--- wl_display's, and no other
+-- only wl_display has a row
 pub look-opening : (display : Iface) (q : ℕ)
     → look (opening display) q
     ≡ cond (eqb q 1) (Some (record { birth = 0; iface = display; version = 1; state = Live })) None
 look-opening display q = get_put empty 1 _ q ∙ ap (cond (eqb q 1) _) (get-empty nat_cmp q)
 
--- at the id the new object's, at others as before
+-- the id has the new object's row; other rows stay
 pub look-opened_at : (view : View) (id : ℕ) (iface : Iface) (version q : ℕ)
     → look (opened_at view id iface version) q
     ≡ cond (eqb q id)
@@ -52,7 +51,7 @@ pub look-opened_at : (view : View) (id : ℕ) (iface : Iface) (version q : ℕ)
     (look view q)
 look-opened_at view id iface version q = get_put view.rows id _ q
 
--- at the id none, at others as before
+-- the id has no row; other rows stay
 pub look-closed : (view : View) (id q : ℕ)
     → look (closed view id) q ≡ cond (eqb q id) None (look view q)
 look-closed view id q = get_gone view.rows id q
@@ -62,12 +61,12 @@ look-with_zombie : (rows : FinMap nat_cmp Entry) (id q : ℕ) (o : Option Entry)
 look-with_zombie rows id q None e = grind (steps, e)
 look-with_zombie rows id q (Some d) e = grind (steps, e)
 
--- at the id the same row as a zombie, at others as before
+-- the id has the same row as a zombie; other rows stay
 pub look-zombied : (view : View) (id q : ℕ)
     → look (zombied view id) q ≡ cond (eqb q id) (option_map zombie (look view q)) (look view q)
 look-zombied view id q = look-with_zombie view.rows id q (look view id) refl
 
--- How often an id stands in a list.
+-- How often an id occurs in a list.
 
 pub times-without : (id q : ℕ) (xs : List ℕ)
     → times q (without id xs) ≡ cond (eqb q id) 0 (times q xs)
@@ -80,15 +79,15 @@ length-without id [] = refl
 length-without id (x ∷ xs) =
     let h = length-without id xs in grind (arith, common_steps, nat_tests, h)
 
--- a list in which an id does not stand is the same without the id
+-- removing an absent id changes nothing
 pub without-absent : (id : ℕ) (xs : List ℕ) → times id xs ≡ 0 → without id xs ≡ xs
 without-absent id [] e = refl
 without-absent id (x ∷ xs) e =
     let h = without-absent id xs in grind (arith, common_steps, nat_tests, h, e)
 
--- Where an id stands.
+-- The places of an id.
 
--- in a row, once among the freed ids, or nowhere
+-- it has a row, or is freed once, or neither
 pub data Place (view : View) (id : ℕ) : Type 0 where
   in_row : (e : Entry) → look view id ≡ Some e → times id view.freed ≡ 0
       → 0 < id → id ≤ view.used → Place view id
@@ -122,14 +121,14 @@ place_of_id view s id = ⊎_elim
 -- Freed or next.
 
 -- an id at which an object can be opened: it has no row, is from 1 to one past the ids used, and
--- stands once among the freed ids where it was used
+-- occurs once among the freed ids if it was used
 pub record IsFree (view : View) (id : ℕ) : Type 0 where
   pub no_row : look view id ≡ None
   pub above_null : 0 < id
   pub at_most_next : id ≤ view.used + 1
   pub listed : times id view.freed ≡ cond (leb id view.used) 1 0
 
--- an id is freed or next exactly where it has no row and is from 1 to one past the ids used
+-- an id is freed or next if and only if it has no row and is from 1 to one past the ids used
 pub free_or_next-rows : (view : View) (id : ℕ) → Sound view
     → free_or_next view id ≡ (not (is_held view id) && (ltb 0 id && leb id (view.used + 1)))
 free_or_next-rows view id s = elim (place_of_id view s id) [
@@ -181,14 +180,14 @@ free_not_display view id s h e =
     let f = (free_is view id s h).no_row in
     let l = sym (ap (look view) e ∙ s.display.1) ∙ f in cc
 
--- In how many places an id stands after each.
+-- In how many places an id occurs after each change.
 
 is_held-opened_at : (view : View) (id : ℕ) (iface : Iface) (version q : ℕ)
     → is_held (opened_at view id iface version) q ≡ (eqb q id || is_held view q)
 is_held-opened_at view id iface version q =
     let h = ap is_some (look-opened_at view id iface version q) in grind (common_steps, arith, h)
 
--- the id opened stands in one place, the others where they stood
+-- the opened id is in one place; other ids stay where they were
 pub places-opened_at : (view : View) (id : ℕ) (iface : Iface) (version q : ℕ)
     → places (opened_at view id iface version) q ≡ cond (eqb q id) 1 (places view q)
 places-opened_at view id iface version q =
@@ -196,20 +195,20 @@ places-opened_at view id iface version q =
     let t = times-without id q view.freed in
     grind (common_steps, arith, h, t)
 
--- an id that was held has gone from the rows to the list
+-- an id with a row moved from the rows to the freed ids
 pub places-closed : (view : View) (id q : ℕ) → is_held view id ≡ true
     → places (closed view id) q ≡ places view q
 places-closed view id q held =
     let h = ap is_some (look-closed view id q) in
     grind (common_steps, arith, nat_tests, h, held)
 
--- every id stands where it stood
+-- every id stays where it was
 pub places-zombied : (view : View) (id q : ℕ) → places (zombied view id) q ≡ places view q
 places-zombied view id q =
     let h = ap is_some (look-zombied view id q) in
     grind (common_steps, arith, nat_tests, h)
 
--- The rows after each, seen from the row.
+-- Where a row after a change comes from.
 
 pub cases_row : {X : Type 0} (b : Bool) (o p : Option X) (e : X) → cond b o p ≡ Some e
     → ((b ≡ true) × (o ≡ Some e)) ⊎ ((b ≡ false) × (p ≡ Some e))
@@ -225,7 +224,7 @@ eqb_not a b h e = let no : true ≡ false = grind (arith, nat_tests, h, e) in cc
 pub some_is : {X : Type 0} (x y : X) → Some x ≡ Some y → x ≡ y
 some_is x y h = cc
 
--- a row after an opening is the new one, or another that stood there before
+-- a row after an opening is the new one, or was there before, at another id
 pub row-opened_at : (view : View) (id : ℕ) (iface : Iface) (version q : ℕ) (e : Entry)
     → look (opened_at view id iface version) q ≡ Some e
     → ((q ≡ id)
@@ -238,7 +237,7 @@ row-opened_at view id iface version q e h = ⊎_elim
     (Some (record { birth = view.births; iface = iface; version = version; state = Live }))
     (look view q) e (sym (look-opened_at view id iface version q) ∙ h))
 
--- a row after a closing is another that stood there before
+-- a row after a closing was there before, at another id
 pub row-closed : (view : View) (id q : ℕ) (e : Entry) → look (closed view id) q ≡ Some e
     → (q ≢ id) × (look view q ≡ Some e)
 row-closed view id q e h = ⊎_elim
@@ -253,7 +252,7 @@ of_zombie true (Some d) e h = (d, (refl, sym (some_is _ e h)))
 of_zombie false None e h = cc
 of_zombie false (Some d) e h = (d, (refl, sym (some_is _ e h)))
 
--- a row after a zombie-making stood there before, and is a zombie now where its id is the one
+-- a row after a zombie-making was there before, and is now a zombie's if its id is this one
 pub row-zombied : (view : View) (id q : ℕ) (e : Entry) → look (zombied view id) q ≡ Some e
     → (d : Entry) × ((look view q ≡ Some d) × (e ≡ cond (eqb q id) (zombie d) d))
 row-zombied view id q e h = of_zombie (eqb q id) (look view q) e (sym (look-zombied view id q) ∙ h)

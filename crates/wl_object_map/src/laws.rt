@@ -11,7 +11,7 @@ ghost use Rattle.wl_object_map.specs.Ranges.{is_of_server};
 ghost use Rattle.wl_object_map.specs.Objects as objects;
 ghost use Rattle.wl_object_map.specs.Objects.{Objects, ObjectsAreSound, IsServerRangeNew};
 
-/// What each call makes of a sound table is sound.
+/// Every call turns a sound table into a sound one.
 pub fn tables_stay_sound()
     ensures opening { (display : Iface) → Sound (opening display) }
     ensures opened_at { (table : View) (id : ℕ) (iface : Iface) (version : ℕ) → Sound table
@@ -27,9 +27,9 @@ pub fn tables_stay_sound()
         → Sound (closed table id) }
 {}
 
-/// An id is freed or the next new one exactly where it has no row and is from 1 to one past the
-/// ids used. The id that is opened next is such an id: the one freed last, which is then taken
-/// from the freed ids, or the next new one.
+/// An id is freed or the next new one if and only if it has no row and is from 1 to one past the
+/// ids used. The next id to be opened is such an id: the one freed last, which then leaves the
+/// freed ids, or the next new one.
 pub fn free_ids_have_no_row()
     ensures free { (table : View) (id : ℕ) → Sound table
         → free_or_next table id
@@ -42,7 +42,7 @@ pub fn free_ids_have_no_row()
         ≡ (if eqb (length table.freed) 0 then table.used + 1 else table.used) }
 {}
 
-/// An opening at an id that has a row leaves the freed ids and the number of ids used.
+/// An opening at an id that has a row changes neither the freed ids nor the number of ids used.
 pub fn reopening_uses_no_id()
     ensures freed { (table : View) (id : ℕ) (iface : Iface) (version : ℕ) → Sound table
         → is_held table id ≡ true → (opened_at table id iface version).freed ≡ table.freed }
@@ -50,7 +50,7 @@ pub fn reopening_uses_no_id()
         → is_held table id ≡ true → (opened_at table id iface version).used ≡ table.used }
 {}
 
-/// What each call makes of both tables of an end is sound.
+/// Every call keeps both tables of an end sound.
 pub fn objects_stay_sound()
     ensures opening { (display : Iface) (has_server_range : Bool)
         → ObjectsAreSound (objects.opening display has_server_range) }
@@ -69,8 +69,8 @@ pub fn objects_stay_sound()
         → ObjectsAreSound (objects.closed o id) }
 {}
 
-/// A server's range that is new is empty: no id of it has a row or was used, and its first object
-/// will have birth 1.
+/// A new server range is empty: no id in it has a row or was used, and its first object will have
+/// birth 1.
 pub fn new_ranges_are_empty()
     ensures rows { (o : Objects) (id : ℕ) → IsServerRangeNew o → is_of_server id ≡ true
         → objects.look o id ≡ None }

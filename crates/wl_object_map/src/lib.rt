@@ -1,9 +1,8 @@
 //! The objects of one end of a Wayland connection, by id.
 //!
-//! The client makes ids from 1 on, the server from 0xff000000 on, and both use them again after
-//! they were freed. A birth is the number of an object in its range; each end counts its own, and
-//! never uses one again. (Chapter "Wayland Protocol and Model of Operation", section "Creating
-//! Objects".)
+//! The client makes ids from 1 on, the server from 0xff000000 on; freed ids are used again. A birth
+//! is the number of an object in its range. Each end counts births on its own and never uses one
+//! again. (Chapter "Wayland Protocol and Model of Operation", section "Creating Objects".)
 #![tactic(auto)]
 
 pub mod laws;

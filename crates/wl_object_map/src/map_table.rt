@@ -16,7 +16,7 @@ use wl_wire::Iface;
 #[derive(Drop)]
 pub struct MapTable<A: Allocator = Global> {
     rows: BTreeMap<u32, Entry, A>,
-    // The id freed last stands at the end. There is room for every id that is used.
+    // Freed ids, the latest at the end. The capacity suffices for every id that is used.
     freed: Vec<u32, A>,
     used: u32,
     births: u64,
@@ -46,7 +46,7 @@ impl<A: Allocator> Model for MapTable<A> {
     }) × (t.used ≤ vec_capacity t.freed) };
 }
 
-/// Puts a row into the map, and makes room among the freed ids for every id up to that of the row.
+/// Inserts a row into the map, and reserves room among the freed ids for every id up to the row's.
 fn insert_row<A: Allocator + Clone>(
     rows: &mut BTreeMap<u32, Entry, A>,
     freed: &mut Vec<u32, A>,
@@ -72,13 +72,13 @@ fn insert_row<A: Allocator + Clone>(
     }
 }
 
-/// Removes an id from the freed ids, wherever it stands.
+/// Removes an id from the freed ids, wherever it is in the list.
 fn take_out<A: Allocator>(freed: &mut Vec<u32, A>, id: u32)
     requires { times id freed.old.items ≤ 1 }
     ensures items { freed.new.items ≡ without id freed.old.items }
     ensures capacity { vec_capacity freed.new ≡ vec_capacity freed.old }
 {
-    // The id that was freed last goes without a walk.
+    // Fast path: the id that was freed last.
     if let Some(last) = freed.pop() {
         if last != id {
             freed.push_reserved(last);
@@ -88,7 +88,7 @@ fn take_out<A: Allocator>(freed: &mut Vec<u32, A>, id: u32)
 }
 
 impl<A: Allocator> MapTable<A> {
-    /// The id that is opened next.
+    /// The next id to be opened.
     fn next_id(&self) -> u32
         ensures { result ≡ next_id self.now }
     {
@@ -100,8 +100,8 @@ impl<A: Allocator> MapTable<A> {
 }
 
 impl<A: Allocator + Clone> MapTable<A> {
-    /// Opens an object at an id that is freed or the next new one, and for which the limits leave
-    /// room. The only refusal is O4.
+    /// Opens an object at a freed id or the next new one; the limits must leave room for it. The
+    /// only refusal is O4.
     fn open(&mut self, id: u32, iface: Iface, version: u32) -> Result<Object, TableError>
         requires free { IsTrue (free_or_next self.old id) }
         requires room { IsTrue (has_room self.old id) }

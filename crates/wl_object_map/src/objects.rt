@@ -14,29 +14,28 @@ use std::alloc::AllocError;
 use std::marker::Model;
 use wl_wire::Iface;
 
-/// The interface of row 1 of the server's table, which stands for nothing.
+/// The interface of row 1 of the server's table, which has no meaning.
 const NO_INTERFACE: Iface = Iface(0);
 
-/// How far an id of the server's range is above the one that its table has for it: the first of the
-/// range is 2 there.
+/// An id of the server's range minus its place in the server's table: the first id has place 2.
 const ABOVE_PLACE: u32 = FIRST_SERVER_ID - 2;
 
-/// The objects of one end, in both ranges of ids: the client makes those from 1 on, the server
-/// those from 0xff000000 on.
+/// The objects of one end, in both ranges of ids: the client makes ids from 1 on, the server from
+/// 0xff000000 on.
 ///
-/// Each range has a table, with freed ids and a count of births of its own, so an id and a birth
-/// together tell an object. Calls take and return ids as they stand on the wire. The last id of the
-/// client's range is 1,048,576. The last of the server's is 0xff0ffffe, its 1,048,575th.
+/// Each range has a table with its own freed ids and its own count of births. Only id and birth
+/// together identify an object. Calls take and return ids as they are on the wire. The last id of
+/// the client's range is 1,048,576. The last of the server's is 0xff0ffffe, its 1,048,575th.
 ///
-/// An end whose tables of signatures have no message by which the server makes an object has the
-/// table of the client's range alone. Then no id of the server's range has an entry, and an opening
-/// there is refused: at 0xff000000 with O4, at any other id with O2.
+/// If no message in an end's signature tables lets the server make an object, the end has the table
+/// of the client's range alone. Then no id of the server's range has an entry, and an opening there
+/// is refused: at 0xff000000 with O4, at any other id with O2.
 ///
-/// Id 1 is wl_display for good. Every call that is refused leaves the objects as they were.
+/// Id 1 is always wl_display. A call that is refused leaves the objects unchanged.
 #[derive(Drop)]
 pub struct Objects<T: Table> {
     client: T,
-    // None where the server makes no objects.
+    // `None` if the server makes no objects.
     server: Option<T>,
 }
 
@@ -62,7 +61,7 @@ impl<T: Table> Model for Objects<T> {
     }) };
 }
 
-/// The id that the server's table has for an id of its range.
+/// The place in the server's table for an id of its range.
 fn table_id(id: u32) -> u32
     requires { IsTrue (is_of_server id) }
     ensures { result ≡ table_id id }
@@ -93,8 +92,8 @@ impl<T: Table> Objects<T> {
         })
     }
 
-    /// The objects of an end whose server makes some too: wl_display alone, as `new` has it, and an
-    /// empty range of the server's, for which memory is taken at once.
+    /// The objects of an end whose server makes some too: wl_display alone, as with `new`, and an
+    /// empty server range, for which memory is allocated at once.
     pub fn with_server_range(alloc: T::Alloc, display: Iface) -> Result<Self, AllocError>
         ensures { IfOk result (λ objects. objects ≡ opening display true) }
     {
@@ -110,7 +109,8 @@ impl<T: Table> Objects<T> {
         &self.client
     }
 
-    /// Whether there is a table of the server's range. Without one no object was ever opened there.
+    /// Whether there is a table for the server's range. Without one, no object was ever opened
+    /// there.
     pub fn has_server_range(&self) -> bool
         ensures answer { result ≡ self.now.has_server_range }
         ensures new { KeepsRangeNew self.now }
@@ -123,7 +123,7 @@ impl<T: Table> Objects<T> {
         ensures entry { result ≡ look self.now id }
         ensures sound { ObjectsAreSound self.now }
     {
-        // Most ids are the client's, and its table has none of the other range.
+        // Most ids are the client's, and its table has no id of the other range.
         if let Some(entry) = self.client.look(id) {
             return Some(entry);
         }
@@ -150,7 +150,7 @@ impl<T: Table> Objects<T> {
         table.is_free(table_id(id))
     }
 
-    /// Whether the limits of O1 leave room for an object at this id, in the id's range.
+    /// Whether the limits of O1 leave room for an object at this id, in its range.
     pub fn has_room(&self, id: u32) -> bool
         ensures { result ≡ has_room self.now id }
     {
@@ -163,7 +163,7 @@ impl<T: Table> Objects<T> {
         table.has_room(table_id(id))
     }
 
-    /// Whether the limits leave room for one more object of this maker's, so that `open_next` does
+    /// Whether the limits leave room for one more object of this maker, so that `open_next` does
     /// not return O1.
     pub fn can_open(&self, maker: Maker) -> bool
         ensures { result ≡ can_open maker self.now }
@@ -203,8 +203,8 @@ impl<T: Table> Objects<T> {
         }
     }
 
-    /// The birth that the next object gets at this id: how many objects were opened in the id's
-    /// range, with one counted that every range begins with.
+    /// The birth that the next object at this id gets: the number of objects opened in the id's
+    /// range (wl_display included), plus 1 in the server's range, whose births start at 1.
     pub fn births(&self, id: u32) -> u64
         ensures { result ≡ births self.now id }
     {
@@ -217,8 +217,8 @@ impl<T: Table> Objects<T> {
         table.births()
     }
 
-    /// Opens an object of this maker's: at the id of its range that was freed last, or at the next
-    /// new one where none is free. O1 is tested before O4.
+    /// Opens an object of this maker: at the id of its range that was freed last, or at the next
+    /// new one if none is free. O1 is tested before O4.
     pub fn open_next(
         &mut self,
         maker: Maker,
@@ -243,7 +243,7 @@ impl<T: Table> Objects<T> {
         }
     }
 
-    /// Opens an object of the server's, as `open_next` does.
+    /// Opens an object of the server, as `open_next` does.
     fn open_next_of_server(&mut self, iface: Iface, version: u32) -> Result<Object, TableError>
         ensures ok { OnOk result (self.new ≡ opened Maker.Server self.old iface version) }
         ensures object { IfOk result
@@ -265,8 +265,8 @@ impl<T: Table> Objects<T> {
         Ok(on_wire(object))
     }
 
-    /// Opens an object at a given id: a freed one, wherever it stands in the list of its range, or
-    /// the next new one of the range. O3 is tested first, then O2, O1 and O4.
+    /// Opens an object at a given id: a freed one, wherever it is in the list of its range, or the
+    /// next new one of the range. O3 is tested first, then O2, O1 and O4.
     pub fn open_at(&mut self, id: u32, iface: Iface, version: u32) -> Result<Object, TableError>
         ensures ok { OnOk result (self.new ≡ opened_at self.old id iface version) }
         ensures object { IfOk result
@@ -278,7 +278,7 @@ impl<T: Table> Objects<T> {
             ↔ IsTrue (not (is_held self.old id) && not (free_or_next self.old id)) }
         ensures no_ids { (result ≡ Err TableError.NoIds)
             ↔ IsTrue (free_or_next self.old id && not (has_room self.old id)) }
-        // So an id that is free has no entry.
+        // Hence a free id has no entry.
         ensures sound { ObjectsAreSound self.old }
     {
         if id < FIRST_SERVER_ID {
@@ -298,9 +298,9 @@ impl<T: Table> Objects<T> {
         })
     }
 
-    /// Opens an object at an id that has an entry, live or zombie, in that entry's place: the id
-    /// stays in use, and the object gets the next birth of the id's range. It allocates nothing, so
-    /// it cannot be refused.
+    /// Opens an object at an id that has an entry, live or zombie, and replaces that entry: the id
+    /// stays in use, and the object gets the next birth of the id's range. It allocates nothing and
+    /// is never refused.
     pub fn reopen(&mut self, id: u32, iface: Iface, version: u32) -> Object
         requires held { IsTrue (is_held self.old id) }
         requires not_display { id ≢ 1 }
@@ -337,8 +337,8 @@ impl<T: Table> Objects<T> {
         table.make_zombie(table_id(id));
     }
 
-    /// Removes an object's entry and frees its id, which is then the first of its range to be used
-    /// again. It allocates nothing.
+    /// Removes an object's entry and frees its id, which is then the first of its range to be
+    /// reused. It allocates nothing.
     pub fn close(&mut self, id: u32)
         requires held { IsTrue (is_held self.old id) }
         requires not_display { id ≢ 1 }

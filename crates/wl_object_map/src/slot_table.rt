@@ -13,7 +13,7 @@ use std::marker::Model;
 use std::mem::size_of;
 use wl_wire::Iface;
 
-/// What stands at the place of an id that was used.
+/// The slot of an id that was used.
 #[derive(Clone, Copy)]
 enum Slot {
     /// The id's row.
@@ -23,15 +23,15 @@ enum Slot {
         iface: Iface,
         state: State,
     },
-    /// The id is freed. Its neighbours in the chain of freed ids: the one that was freed next
-    /// after it, and the one that was freed last before it. 0 is none.
+    /// The id is freed. Its neighbours in the chain of freed ids: the one freed next after it, and
+    /// the one freed last before it; 0 for none.
     Free {
         newer: u32,
         older: u32,
     },
 }
 
-// What the table's documentation says of a slot's size.
+// The table's documentation gives this size.
 const _: () = prove!(size_of::<Slot>() == 24);
 
 impl Slot {
@@ -50,14 +50,14 @@ impl Slot {
 
 /// A table of objects in a vector of slots, in which each call takes constant time.
 ///
-/// Id `n` has the slot `n - 1`, of 24 bytes. A slot holds the row of its id, or, where the id is
-/// freed, its neighbours in the chain of freed ids, so that an id is taken out of the middle
-/// without a walk. Only an opening at a new id allocates, and only where the vector is full:
-/// it doubles then, up to 1,048,576 slots.
+/// Id `n` has slot `n - 1`, of 24 bytes. A slot holds the row of its id, or, if the id is freed,
+/// its neighbours in the chain of freed ids, so an id can be removed from the middle without a
+/// search. Only an opening at a new id allocates, and only if the vector is full: then it doubles,
+/// up to 1,048,576 slots.
 #[derive(Drop)]
 pub struct SlotTable<A: Allocator = Global> {
     slots: Vec<Slot, A>,
-    // The id freed last, 0 where none is free.
+    // The id freed last, 0 if none is free.
     first_free: u32,
     // How many ids are free.
     free: u32,
@@ -85,7 +85,7 @@ fn slot_of(slots: &[Slot], id: u32) -> Option<Slot>
     slots.get(place).copied()
 }
 
-/// Puts a slot at the place of an id that was used.
+/// Puts a slot at an id that was used.
 fn put(slots: &mut [Slot], id: u32, slot: Slot)
     requires some { 0 < id }
     requires used { id ≤ length slots.old }
@@ -94,8 +94,7 @@ fn put(slots: &mut [Slot], id: u32, slot: Slot)
     slots[id as usize - 1] = slot;
 }
 
-/// Makes `older` the neighbour on the older side of a freed id, or, where the id is 0, the first
-/// of the chain.
+/// Sets the older neighbour of a freed id, or, if `id` is 0, the first of the chain.
 fn set_older(slots: &mut [Slot], first: &mut u32, id: u32, older: u32)
     ensures slots { IsOlderSet id older slots.old slots.new }
     ensures first { first.new ≡ (if eqb id 0 then older else first.old) }
@@ -107,7 +106,7 @@ fn set_older(slots: &mut [Slot], first: &mut u32, id: u32, older: u32)
     }
 }
 
-/// Makes `newer` the neighbour on the newer side of a freed id. Does nothing where the id is 0.
+/// Sets the newer neighbour of a freed id. Does nothing if `id` is 0.
 fn set_newer(slots: &mut [Slot], id: u32, newer: u32)
     ensures { IsNewerSet id newer slots.old slots.new }
 {
@@ -116,7 +115,7 @@ fn set_newer(slots: &mut [Slot], id: u32, newer: u32)
     }
 }
 
-/// Takes a freed id out of the chain, wherever it stands: its neighbours become each other's.
+/// Removes a freed id from the chain, wherever it is, and links its neighbours.
 fn take_out(slots: &mut [Slot], first: &mut u32, id: u32)
     ensures chain { IsTakenOut id slots.old first.old slots.new first.new }
     ensures rows { HasSameRows slots.old slots.new }
@@ -128,7 +127,7 @@ fn take_out(slots: &mut [Slot], first: &mut u32, id: u32)
     set_newer(slots, older, newer);
 }
 
-/// Frees an id that was used, and puts it first into the chain.
+/// Frees an id that was used, and puts it at the front of the chain.
 fn put_first(slots: &mut [Slot], first: &mut u32, id: u32)
     requires some { 0 < id }
     requires used { id ≤ length slots.old }
@@ -142,7 +141,7 @@ fn put_first(slots: &mut [Slot], first: &mut u32, id: u32)
 }
 
 impl<A: Allocator> SlotTable<A> {
-    /// The id that is opened next.
+    /// The next id to be opened.
     fn next_id(&self) -> u32
         ensures { result ≡ next_id self.now }
     {
@@ -185,8 +184,8 @@ impl<A: Allocator> SlotTable<A> {
         Ok(Object { id, birth })
     }
 
-    /// Opens an object at an id that is freed or the next new one, and for which the limits leave
-    /// room. The only refusal is O4.
+    /// Opens an object at a freed id or the next new one; the limits must leave room for it. The
+    /// only refusal is O4.
     fn open(&mut self, id: u32, iface: Iface, version: u32) -> Result<Object, TableError>
         requires free { IsTrue (free_or_next self.old id) }
         requires room { IsTrue (has_room self.old id) }

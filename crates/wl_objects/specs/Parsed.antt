@@ -1,5 +1,5 @@
--- The arguments of a message as they were parsed, once: records that lend nothing, over the body
--- that they lie in.
+-- The arguments of a message after parsing: records that borrow nothing and refer to the body by
+-- position.
 use Rattle.std.specs.Prelude.{◌≡◌, ℕ, ℤ, ◌+◌, ◌<◌, ◌^◌, Bool, true, false, if◌then◌else◌, List, []}
 use Rattle.std.specs.Prelude.{◌∷◌, ◌++◌, length, map, take, drop, slice_index_or, Option, Some}
 use Rattle.std.specs.Prelude.{None}
@@ -25,11 +25,11 @@ use Rattle.wl_objects.specs.declared.args.Args.{Args}
 use Rattle.wl_objects.specs.Reading.{Reader, Reported, in_state, is_descriptor, reported_argument}
 use Rattle.wl_objects.specs.Reading.{reports_of}
 
--- `len` bytes from a place on, as far as there are such
+-- at most `len` bytes from `start`
 abbrev pub body_part : List ℕ → ℕ → ℕ → List ℕ
 body_part bytes start len = take len (drop start bytes)
 
--- an argument as it is spelled
+-- an argument as spelled
 abbrev pub parsed_argument : List ℕ → ParsedArg → Argument
 parsed_argument body parsed_as.Null = Str None
 parsed_argument body (parsed_as.Int z) = Int z
@@ -44,8 +44,8 @@ parsed_argument body (parsed_as.Bound len start version id) = NewNamed (body_par
 parsed_argument body (parsed_as.Array len start) = Array (body_part body start len)
 parsed_argument body (parsed_as.Fd place) = Fd tt
 
--- An argument as it is reported, where a new object gets this birth; of a descriptor the place of
--- its token among the message's.
+-- An argument as reported, given the birth of a new object; a descriptor by the index of its token
+-- among the message's.
 abbrev pub placed_of : List ℕ → ℕ → ParsedArg → Reported
 placed_of body birth parsed_as.Null = Str None
 placed_of body birth (parsed_as.Int z) = Int z
@@ -61,32 +61,32 @@ placed_of body birth (parsed_as.Bound len start version id) =
 placed_of body birth (parsed_as.Array len start) = Array (body_part body start len)
 placed_of body birth (parsed_as.Fd place) = Fd place
 
--- the object that an argument names; null where it names none
+-- the object that an argument names; null if it names none
 abbrev pub parsed_object : Option ParsedArg → Named
 parsed_object (Some (parsed_as.Object id birth state)) =
     in_state state (record { id = id; birth = birth })
 parsed_object _ = named_as.Null
 
--- the token at a place; 0 where there is none
+-- the token at an index; 0 if there is none
 abbrev pub token_at : List ℕ → ℕ → ℕ
 token_at tokens place = slice_index_or tokens place 0
 
--- a descriptor by its token instead of by its place
+-- a descriptor by its token instead of by its index
 abbrev pub with_token : List ℕ → Reported → Reported
 with_token tokens x = reshaped (λ object. object) (λ new. new) (token_at tokens) x
 
 abbrev pub reported_of : List ℕ → ℕ → List ℕ → ParsedArg → Reported
 reported_of body birth tokens parsed = with_token tokens (placed_of body birth parsed)
 
--- the arguments of a message as they are spelled
+-- the arguments of a message as spelled
 abbrev pub spelled_in : List ℕ → List ParsedArg → List Argument
 spelled_in body parsed = map (parsed_argument body) parsed
 
--- the arguments of a message as they are reported, where these are its tokens
+-- the arguments of a message as reported, given its tokens
 abbrev pub reported_in : List ℕ → ℕ → List ℕ → List ParsedArg → List Reported
 reported_in body birth tokens parsed = map (reported_of body birth tokens) parsed
 
--- What was parsed is these values: they are spelled so, and reported so, whatever tokens the
+-- The parsed records represent these values: they are spelled and reported so, whatever tokens the
 -- message has.
 pub record AreParsed (r : Reader) (body : List ℕ) (parsed : List ParsedArg) (values : List Argument)
     : Type 0 where
@@ -94,9 +94,9 @@ pub record AreParsed (r : Reader) (body : List ℕ) (parsed : List ParsedArg) (v
   pub reported : (tokens : List ℕ)
       → reported_in body r.birth tokens parsed ≡ reports_of r tokens values
 
--- ---- what parsing comes to
+-- ---- the result of parsing
 
--- an argument as it is spelled, and as it is reported
+-- an argument as spelled, and as reported
 abbrev pub Both : Type 0
 Both = Argument × Reported
 
@@ -106,11 +106,11 @@ both_of body birth parsed = (parsed_argument body parsed, placed_of body birth p
 abbrev pub all_parsed : List ℕ → ℕ → List ParsedArg → List Both
 all_parsed body birth parsed = map (both_of body birth) parsed
 
--- what the reader makes of an argument that has `place` descriptors before it
+-- the reader's view of an argument with `place` descriptors before it
 abbrev pub both : Reader → ℕ → Argument → Both
 both r place value = (value, reported_argument r place value)
 
--- how many descriptors stand before what follows an argument
+-- how many descriptors come before what follows an argument
 abbrev pub place_after : Argument → ℕ → ℕ
 place_after value place = if is_descriptor value then place + 1 else place
 
@@ -118,7 +118,7 @@ abbrev pub all_of : Reader → ℕ → List Argument → List Both
 all_of r place [] = []
 all_of r place (value ∷ values) = both r place value ∷ all_of r (place_after value place) values
 
--- what the reader makes of arguments that were read, and the bytes behind them
+-- the reader's view of arguments that were read, and the bytes after them
 abbrev pub made_of : Reader → ℕ → Result (List Argument × List ℕ) Fault
     → Result (List Both × List ℕ) Fault
 made_of r place (Err fault) = Err fault
@@ -132,13 +132,13 @@ abbrev pub made_unless : Reader → ℕ → Argument → Option Fault → Result
 made_unless r place value None = Ok (both r place value)
 made_unless r place value (Some fault) = Err fault
 
--- what was parsed, seen over its body, and the bytes behind it
+-- the parsed records, interpreted over the body, and the bytes after them
 abbrev pub parsed_in : List ℕ → ℕ → List ParsedArg → Result ℕ Fault
     → Result (List Both × List ℕ) Fault
 parsed_in body birth parsed (Err fault) = Err fault
 parsed_in body birth parsed (Ok end) = Ok (all_parsed body birth parsed, drop end body)
 
--- what was parsed as it is spelled, and the bytes that were found behind it
+-- the parsed records as spelled, and the bytes found after them
 abbrev pub whole_in : List ℕ → List ParsedArg → Result (Bor (List ℕ)) Fault
     → Result (List Argument × List ℕ) Fault
 whole_in body parsed (Err fault) = Err fault
@@ -152,7 +152,7 @@ abbrev pub parsed_one : List ℕ → ℕ → Result ParsedArg Fault → Result B
 parsed_one body birth (Err fault) = Err fault
 parsed_one body birth (Ok parsed) = Ok (both_of body birth parsed)
 
--- the arguments behind others
+-- more arguments, after others
 abbrev pub behind_those : List Both → Result (List Both × List ℕ) Fault
     → Result (List Both × List ℕ) Fault
 behind_those front (Err fault) = Err fault
@@ -165,8 +165,8 @@ is_fd _ = false
 abbrev pub place_behind : ParsedArg → ℕ → ℕ
 place_behind parsed place = if is_fd parsed then place + 1 else place
 
--- a value by where it lies, as its spelling alone tells: its text starts at `start`, and `place`
--- descriptors stand before it
+-- a value by its position, from its spelling alone: its text starts at `start`, and `place`
+-- descriptors come before it
 abbrev pub located : ℕ → ℕ → ValueRef → ParsedArg
 located start place (spelled_as.Int z) = parsed_as.Int z
 located start place (spelled_as.Uint n) = parsed_as.Uint n
@@ -180,7 +180,7 @@ located start place (spelled_as.NewNamed iface version id) =
 located start place (spelled_as.Array bytes) = parsed_as.Array (length bytes.now) start
 located start place spelled_as.Fd = parsed_as.Fd place
 
--- a number, and its kind, that the first four bytes are
+-- a number's record, for a kind and the first four bytes
 pub data IsParsedNumber : Kind → List ℕ → ParsedArg → Type 0 where
   is_int : {z : ℤ} {bytes : List ℕ} → z ≡ signed (number_at bytes)
       → IsParsedNumber kinds.Int bytes (parsed_as.Int z)
@@ -189,7 +189,7 @@ pub data IsParsedNumber : Kind → List ℕ → ParsedArg → Type 0 where
   is_fixed : {z : fixed.Fixed} {bytes : List ℕ} → units z ≡ signed (number_at bytes)
       → IsParsedNumber kinds.Fixed bytes (parsed_as.Fixed z)
 
--- the bytes of a text lie behind the first word
+-- the bytes of a text follow the first word
 pub record LiesBehind (bytes text : List ℕ) : Type 0 where
   pub same : text ≡ take (length text) (drop 4 bytes)
   pub fits : length text < 2 ^ 32
@@ -200,9 +200,9 @@ Lies bytes (NewNamed iface version id) = LiesBehind bytes iface
 Lies bytes (Array array) = LiesBehind bytes array
 Lies bytes _ = Unit {0}
 
--- ---- what is lent
+-- ---- what is borrowed
 
--- what a lent argument of a report is
+-- the value of a borrowed argument of a report
 abbrev pub lent_got : GotRef → Reported
 lent_got (refs.Int z) = Int z
 lent_got (refs.Uint n) = Uint n
@@ -215,6 +215,6 @@ lent_got (refs.Bound iface version object) = NewNamed iface.now version object
 lent_got (refs.Array bytes) = Array bytes.now
 lent_got (refs.Fd token) = Fd token
 
--- the arguments that are left to go through
+-- the arguments not yet taken out
 abbrev pub seen_args : Args → List Reported
 seen_args a = reported_in a.body.now a.birth a.tokens.now a.left.now

@@ -1,4 +1,4 @@
--- The argument for which a call is refused, by its place.
+-- The argument for which a call is refused, by its index.
 use Rattle.std.specs.Prelude.{◌≡◌, ℕ, ◌<◌, ◌≤◌, true, false, List, slice_get, Option, Some, None}
 use Rattle.wl_wire.specs.declared.kind.Kind.{Kind}
 use Rattle.wl_wire.specs.Argument.{Obj}
@@ -12,7 +12,7 @@ use Rattle.wl_objects.specs.Writing.{Given, suits, can_name, names_one}
 use Rattle.wl_objects.specs.Messages.{is_hidden}
 use Rattle.wl_object_map.specs.View.{lives}
 
--- An argument stands at the place, and it is of the kind that the message has there.
+-- There is an argument at the index, and it has the kind that the message has there.
 pub record SuitsAt (ks : List Kind) (list : List Given) (place : ℕ) : Type 0 where
   pub kind : Kind
   pub value : Given
@@ -20,7 +20,7 @@ pub record SuitsAt (ks : List Kind) (list : List Given) (place : ℕ) : Type 0 w
   pub there : slice_get list place ≡ Some value
   pub suit : suits kind value ≡ true
 
--- The argument at the place is not of its kind, or it is missing, or the message has none there.
+-- The argument at the index has the wrong kind, or it is missing, or the message has none there.
 pub data IsWrongAt (ks : List Kind) (list : List Given) (place : ℕ) : Type 0 where
   unsuited : {kind : Kind} {value : Given} → slice_get ks place ≡ Some kind
       → slice_get list place ≡ Some value → suits kind value ≡ false → IsWrongAt ks list place
@@ -29,13 +29,13 @@ pub data IsWrongAt (ks : List Kind) (list : List Given) (place : ℕ) : Type 0 w
   one_too_many : {value : Given} → slice_get ks place ≡ None → slice_get list place ≡ Some value
       → IsWrongAt ks list place
 
--- All before the place suit, and what stands there does not.
+-- All arguments before the index suit, and the one at the index does not.
 pub record IsFirstWrong (ks : List Kind) (list : List Given) (place : ℕ) : Type 0 where
   pub before : (k : ℕ) → k < place → SuitsAt ks list k
   pub wrong : IsWrongAt ks list place
 
--- An argument stands at the place; if it names an object, that is live, of the birth that the
--- argument tells and of the interface that the message asks for.
+-- There is an argument at the index; if it names an object, that object is live, with the
+-- argument's birth, and has the interface that the message asks for.
 pub record NamesAt (rows : ℕ → Option Entry) (ks : List Kind) (list : List Given) (place : ℕ)
     : Type 0 where
   pub kind : Kind
@@ -44,7 +44,7 @@ pub record NamesAt (rows : ℕ → Option Entry) (ks : List Kind) (list : List G
   pub there : slice_get list place ≡ Some value
   pub named : can_name rows kind value ≡ true
 
--- The argument at the place names an object that is not live with this birth, or is of another
+-- The argument at the index names an object that is not live with this birth, or has another
 -- interface.
 pub record IsLostAt (rows : ℕ → Option Entry) (ks : List Kind) (list : List Given) (place : ℕ)
     : Type 0 where
@@ -54,13 +54,13 @@ pub record IsLostAt (rows : ℕ → Option Entry) (ks : List Kind) (list : List 
   pub there : slice_get list place ≡ Some (Obj (Some object))
   pub lost : names_one (iface_of kind) object (rows object.id) ≡ false
 
--- All before the place can be named, and what stands there cannot.
+-- All arguments before the index can be named, and the one at the index cannot.
 pub record IsFirstLost (rows : ℕ → Option Entry) (ks : List Kind) (list : List Given) (place : ℕ)
     : Type 0 where
   pub before : (k : ℕ) → k < place → NamesAt rows ks list k
   pub lost : IsLostAt rows ks list place
 
--- A call comes to its arguments: its target is live with this birth, and the message is one that
+-- A call's arguments are looked at: its target is live with this birth, and the message is one that
 -- `send` writes and exists at the target's version.
 pub record ReachesArguments (tables : List Interface) (side : Side) (view : Objects)
     (target : Object) (opcode : ℕ) (signature : MessageSignature) : Type 0 where

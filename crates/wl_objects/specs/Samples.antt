@@ -1,4 +1,4 @@
--- Messages worked out by hand, and what they mean.
+-- Messages worked out by hand, and their meaning.
 use Rattle.std.specs.Prelude.{ℕ, zero, suc, ◌+◌, true, false, List, [], ◌∷◌, length, nat_eq}
 use Rattle.std.specs.Prelude.{slice_get, Option, None, option_map}
 use Rattle.std.specs.declared.result.Result.{Result}
@@ -20,15 +20,14 @@ abbrev pub values_in : Result Received Fault → Result (List Argument) Fault
 values_in (Ok message) = Ok message.values
 values_in (Err fault) = Err fault
 
--- the row of an id, where objects of these interfaces were made one after another, and none has
--- ended
+-- the row of an id, if objects of these interfaces were made one after another and none has ended
 abbrev pub sample_row : List Iface → ℕ → Option Entry
 sample_row ifaces zero = None
 sample_row ifaces (suc n) =
     option_map (λ iface. record { birth = n; iface = iface; version = 1; state = Live })
     (slice_get ifaces n)
 
--- a reader that holds these
+-- a reader that has these objects
 abbrev pub holding : List Iface → Reader
 holding ifaces = record {
   object = sample_row ifaces;
@@ -38,19 +37,19 @@ holding ifaces = record {
   forgives = false;
 }
 
--- the same, where the connection has no room for a new object
+-- the same, but the connection has no room for a new object
 abbrev pub full : List Iface → Reader
 full ifaces = record (holding ifaces) {
   new_id = λ id. new_id_of (nat_eq id (length ifaces + 1)) false;
 }
 
--- a request in front of a reader, where no token waits
+-- a request at a reader, while no token waits
 abbrev pub request_to : Reader → ℕ → ℕ → List ℕ → Result (List Argument) Fault
 request_to reader object opcode body =
     values_in (received core_tables Request reader
     (record { object = object; size = 8; opcode = opcode }) body 0)
 
--- a request in front of a server that holds these
+-- a request at a server that has these objects
 abbrev pub sample_request : List Iface → ℕ → ℕ → List ℕ → Result (List Argument) Fault
 sample_request ifaces = request_to (holding ifaces)
 
@@ -58,22 +57,22 @@ sample_request ifaces = request_to (holding ifaces)
 abbrev pub fresh : List Iface
 fresh = display ∷ []
 
--- and a registry at id 2, and a callback at id 3
+-- also a registry at id 2 and a callback at id 3
 abbrev pub sample_registry : List Iface
 sample_registry = display ∷ registry ∷ []
 
 abbrev pub with_callback : List Iface
 with_callback = display ∷ registry ∷ callback ∷ []
 
--- or a wl_shm at id 3
+-- also a wl_shm at id 3
 abbrev pub with_shm : List Iface
 with_shm = display ∷ registry ∷ (record { 0 = 4 }) ∷ []
 
--- or a wl_surface at id 3
+-- also a wl_surface at id 3
 abbrev pub with_surface : List Iface
 with_surface = display ∷ registry ∷ (record { 0 = 7 }) ∷ []
 
--- name 1; a string of 14 bytes, the last of them 0, with 2 bytes of padding; version 6; id 4
+-- name 1; a string of 14 bytes, the last of which is 0, and 2 bytes of padding; version 6; id 4
 abbrev pub bind_body : ℕ → List ℕ
 bind_body len =
     1 ∷ 0 ∷ 0 ∷ 0 ∷ len ∷ 0 ∷ 0 ∷ 0

@@ -1,4 +1,4 @@
--- What the code's own types stand for, without where they lie in memory.
+-- The values that the code's types represent, apart from where they lie in memory.
 use Rattle.std.specs.Prelude.{List, map}
 use Rattle.std.specs.declared.result.Result.{Result}
 use Rattle.std.specs.declared.result.Result.TheVariants.{Ok, Err}
@@ -15,7 +15,7 @@ use Rattle.wl_objects.specs.Reading.{Reported}
 use Rattle.wl_objects.specs.Messages.{Received}
 use Rattle.wl_objects.specs.Parsed.{spelled_in}
 
--- what an owned argument of a report is
+-- the value of an owned argument of a report
 abbrev pub got : {A : Type 0} → Got A → Reported
 got (values.Int z) = Int z
 got (values.Uint n) = Uint n
@@ -30,7 +30,7 @@ got (values.Fd token) = Fd token
 abbrev pub got_values : {A : Type 0} → List (Got A) → List Reported
 got_values list = map got list
 
--- a message that was read, without where it lies in memory
+-- a message that was read, apart from where it lies in memory
 abbrev pub received_of : Read → Received
 received_of read = record {
   target = read.target;
@@ -48,7 +48,7 @@ abbrev pub signature_in : Result CheckedCall SendError → Result MessageSignatu
 signature_in (Err refusal) = Err refusal
 signature_in (Ok call) = Ok call.signature.now
 
--- the same signature, where the arguments were measured
+-- the same signature, after the arguments were measured
 abbrev pub signature_of : MessageSignature → Result Measured SendError
     → Result MessageSignature SendError
 signature_of signature (Err refusal) = Err refusal

@@ -9,7 +9,7 @@ use Rattle.wl_objects.specs.declared.error.Fault.{Fault}
 use Rattle.wl_objects.specs.declared.error.Fault.TheVariants as faults
 use Rattle.wl_objects.specs.Reading.{Reader, forgiving_kind, value_fault}
 
--- The bytes are a joining of spellings of these kinds, in order, with nothing left.
+-- The bytes are spellings of these values for these kinds, joined in order, with nothing left.
 pub data SpellsAll : List Kind → List Argument → List ℕ → Type 0 where
   none : {bytes : List ℕ} → bytes ≡ [] → SpellsAll [] [] bytes
   more : {kind : Kind} {ks : List Kind} {value : Argument} {values : List Argument}
@@ -17,8 +17,7 @@ pub data SpellsAll : List Kind → List Argument → List ℕ → Type 0 where
       → Spells kind value front → SpellsAll ks values rest → bytes ≡ front ++ rest
       → SpellsAll (kind ∷ ks) (value ∷ values) bytes
 
--- The bytes begin with arguments of these kinds, and nothing is wrong with any of them; the rest
--- lies behind them.
+-- The bytes begin with arguments of these kinds, none of them at fault; the rest follows them.
 pub data MeetsKinds (r : Reader) : ℕ → List Kind → List ℕ → List Argument → List ℕ → Type 0 where
   none : {place : ℕ} {bytes : List ℕ} → MeetsKinds r place [] bytes [] bytes
   more : {place : ℕ} {kind : Kind} {ks : List Kind} {value : Argument} {values : List Argument}
@@ -27,8 +26,8 @@ pub data MeetsKinds (r : Reader) : ℕ → List Kind → List ℕ → List Argum
       → MeetsKinds r (suc place) ks behind values rest
       → bytes ≡ front ++ behind → MeetsKinds r place (kind ∷ ks) bytes (value ∷ values) rest
 
--- The first argument at fault: it is no spelling of its kind, or its value is at fault; and all
--- before it are right.
+-- The first argument at fault: the bytes do not spell its kind, or its value is at fault; all
+-- arguments before it are right.
 pub data FirstFault (r : Reader) : ℕ → List Kind → List ℕ → Fault → Type 0 where
   spelling : {place : ℕ} {kind : Kind} {ks : List Kind} {bytes : List ℕ} {fault : ArgFault}
       → IsFirstFault (forgiving_kind r.forgives kind) bytes fault

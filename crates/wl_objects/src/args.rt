@@ -1,4 +1,4 @@
-//! The arguments of a report, lent.
+//! The arguments of a report, borrowed.
 ghost use Rattle.std.specs.Prelude.{◌≡◌, ◌≢◌, ◌↔◌, IsTrue, [], ◌∷◌, ◌++◌, IfOk, OnErr, MatchOption};
 ghost use Rattle.std.specs.Prelude.{length, take, drop};
 ghost use Rattle.wl_objects.specs.Reading.{in_state};
@@ -12,8 +12,8 @@ use std::alloc::{AllocError, Allocator};
 use wl_object_map::{Object, State};
 use wl_wire::Bytes;
 
-/// The arguments of a message that are left to go through, in order. They, their strings and their
-/// arrays are lent from the end that read the message, until it reads the next one.
+/// The remaining arguments of a message, in order. They, their strings and their arrays are
+/// borrowed from the end that read the message, until it reads the next one.
 #[derive(Clone, Copy)]
 pub struct Args<'a> {
     /// The message's body.
@@ -26,8 +26,8 @@ pub struct Args<'a> {
 }
 
 impl<'a> Args<'a> {
-    /// The arguments of a message with this body and these tokens, where an object that it makes
-    /// has this birth.
+    /// The arguments of a message with this body and these tokens; an object that it makes has this
+    /// birth.
     pub fn new(args: &'a ParsedArgs, body: &'a [u8], tokens: &'a [u32], birth: u64) -> Args<'a>
         ensures { seen_args result ≡ reported_in body.now birth tokens.now args.now }
     {
@@ -39,21 +39,21 @@ impl<'a> Args<'a> {
         }
     }
 
-    /// How many arguments are left.
+    /// How many arguments remain.
     pub fn len(&self) -> usize
         ensures { result ≡ length (seen_args self.now) }
     {
         self.left.len()
     }
 
-    /// Whether no argument is left.
+    /// Whether no argument remains.
     pub fn is_empty(&self) -> bool
         ensures { IsTrue result ↔ (seen_args self.now ≡ []) }
     {
         self.left.is_empty()
     }
 
-    /// Takes out the first argument that is left.
+    /// Takes out the next argument.
     pub fn next(&mut self) -> Option<GotRef<'a>>
         ensures { MatchOption result ((seen_args self.old ≡ []) × (seen_args self.new ≡ []))
             (λ got. seen_args self.old ≡ lent_got got ∷ seen_args self.new) }
@@ -65,8 +65,7 @@ impl<'a> Args<'a> {
 }
 
 impl<'a> Args<'a> {
-    /// The arguments that are left, in memory of their own. Where none is left it allocates
-    /// nothing.
+    /// An owned copy of the remaining arguments. Allocates nothing if there are none.
     pub fn to_owned<A: Allocator + Clone + Drop>(
         &self,
         alloc: &A,
@@ -86,7 +85,7 @@ impl<'a> Args<'a> {
     }
 }
 
-/// An argument in memory of its own.
+/// An owned copy of an argument.
 fn owned<A: Allocator + Clone + Drop>(alloc: &A, argument: GotRef<'_>) -> Result<Got<A>, AllocError>
     ensures { IfOk result (λ owned. got owned ≡ lent_got argument.entry) }
 {
@@ -112,7 +111,7 @@ fn owned<A: Allocator + Clone + Drop>(alloc: &A, argument: GotRef<'_>) -> Result
     }
 }
 
-/// One argument as it is reported.
+/// One argument as reported.
 fn got_of<'a>(body: &'a [u8], birth: u64, tokens: &[u32], parsed: ParsedArg) -> GotRef<'a>
     ensures { lent_got result ≡ reported_of body.now birth tokens.now parsed }
 {
@@ -143,7 +142,7 @@ fn got_of<'a>(body: &'a [u8], birth: u64, tokens: &[u32], parsed: ParsedArg) -> 
     }
 }
 
-/// An object, live or dead as its entry is.
+/// An object, live or dead according to its entry.
 pub(crate) fn in_state(state: State, object: Object) -> Named
     ensures { result ≡ in_state state object }
 {
@@ -153,7 +152,7 @@ pub(crate) fn in_state(state: State, object: Object) -> Named
     }
 }
 
-/// The token at a place; 0 where there is none.
+/// The token at an index; 0 if there is none.
 fn token_at(tokens: &[u32], place: usize) -> u32
     ensures { result ≡ token_at tokens.now place }
 {

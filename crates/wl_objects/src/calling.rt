@@ -1,4 +1,4 @@
-//! The arguments of a call, checked before a message is made of them.
+//! The arguments of a call, checked before a message is made from them.
 ghost use Rattle.std.specs.Prelude.{◌≡◌, [], ◌∷◌, ◌≤◌, ◌+◌, ℕ, IfOk, IfSome, IsTrue, length};
 ghost use Rattle.std.specs.Prelude.{Some};
 ghost use Rattle.std.specs.List.{All};
@@ -35,7 +35,7 @@ pub struct CheckedCall<'t> {
     pub makes: Option<Iface>,
 }
 
-/// What the arguments of a call come to.
+/// Length, tokens and new interface of a call's arguments.
 #[derive(Clone, Copy, Debug)]
 struct Measured {
     len: usize,
@@ -43,9 +43,9 @@ struct Measured {
     makes: Option<Iface>,
 }
 
-/// Checks a call before its room is looked at: the first of S2, S3, S4, S5, S6 and S8, by this
-/// limit of a message's bytes, else the target's entry, the message's signature and what its
-/// arguments come to. Takes no memory.
+/// Checks a call before room is considered. Returns the first of S2, S3, S4, S5, S6 and S8 (against
+/// this limit in bytes), else the target's entry, the message's signature and the measure of its
+/// arguments. Allocates nothing.
 pub fn check_call<'t, T: Table>(
     messages: Messages<'t>,
     objects: &Objects<T>,
@@ -62,13 +62,13 @@ pub fn check_call<'t, T: Table>(
         (λ call. (id : ℕ) → call.len ≡ message_len (on_wire id args.now)) }
     ensures tokens { IfOk result (λ call. call.tokens ≡ length (tokens_of (given args.now))) }
     ensures makes { IfOk result (λ call. call.makes ≡ call_makes call.signature.now.kinds) }
-    // So the message can be written, whatever the id of its new object.
+    // Hence the message can be written, whatever the id of its new object.
     ensures fits { IfOk result
         (λ _. (id : ℕ) → EachFits (on_wire id args.now)
         × (message_len (on_wire id args.now) ≤ limit)) }
     ensures in_range { IfOk result (λ _. All InRange (given args.now)) }
     ensures few { IfOk result (λ _. length args.now ≤ max_args) }
-    // Always so, and known because the objects and the tables were asked.
+    // Always true; known here because the objects and the tables were read.
     ensures sound { ObjectsAreSound objects.now }
     ensures valid { IfOk result (λ _. Valid messages.entry.tables.now) }
 {
@@ -97,8 +97,9 @@ pub fn check_call<'t, T: Table>(
     })
 }
 
-/// Goes through the arguments of a call once: the first of S5, S6 and S8, else what they come to.
-/// An argument of the wrong kind stands before a lost object, wherever the two stand.
+/// Goes through the arguments of a call once and returns the first of S5, S6 and S8, else their
+/// measure. Any argument of the wrong kind is reported before any lost object, wherever the two
+/// are.
 fn measure<T: Table>(
     objects: &Objects<T>,
     kinds: &[Kind],
@@ -140,7 +141,7 @@ fn measure<T: Table>(
     Ok(Measured { len, tokens, makes })
 }
 
-/// Whether a number is given where one of its kind is asked for.
+/// Whether the argument is a number and the kind is the same number kind.
 fn is_number(kind: Kind, arg: Arg<'_>) -> bool
     ensures given { IsTrue result → IsNumberGiven kind (given_of arg.entry) }
     ensures in_range { IsTrue result → InRange (given_of arg.entry) }
@@ -153,7 +154,7 @@ fn is_number(kind: Kind, arg: Arg<'_>) -> bool
     }
 }
 
-/// How many bytes a message of these arguments has, which is a length that a header can have.
+/// The length in bytes of a message with these arguments. It must fit in a header.
 pub(crate) fn message_len(args: &[Arg<'_>]) -> usize
     requires { message_len (on_wire 0 args.now) ≤ 65535 }
     ensures { result ≡ message_len (on_wire 0 args.now) }
@@ -165,7 +166,7 @@ pub(crate) fn message_len(args: &[Arg<'_>]) -> usize
     len
 }
 
-/// How many bytes spell the argument; beyond any limit, only that these are more.
+/// Encoded length; for an argument longer than any message, some number above 65,535.
 fn len_of(arg: Arg<'_>) -> usize
     ensures most { result ≤ spelled_len (wired 0 (given_of arg.entry)) }
     ensures exact { result ≤ 65535 → result ≡ spelled_len (wired 0 (given_of arg.entry)) }
@@ -181,8 +182,8 @@ fn len_of(arg: Arg<'_>) -> usize
     }
 }
 
-/// How many bytes a length, `len` bytes with `more` behind them, and their padding have; beyond any
-/// limit, only that these are more.
+/// The length of a length word, `len` bytes and `more` after them, and their padding; if that is
+/// longer than any message, some number above 65,535.
 fn counted_len(len: usize, more: usize) -> usize
     requires { more ≤ 1 }
     ensures most { result ≤ 4 + padded (len + more) }
@@ -192,7 +193,7 @@ fn counted_len(len: usize, more: usize) -> usize
     4 + (len.min(65536) + more + 3) / 4 * 4
 }
 
-/// How many tokens an argument is.
+/// How many tokens an argument takes.
 fn token_count(arg: &Arg<'_>) -> usize
     ensures count { result ≡ length (tokens_of (given_of arg.now ∷ [])) }
     ensures one { result ≤ 1 }
@@ -226,7 +227,7 @@ pub fn live_row<T: Table>(objects: &Objects<T>, object: Object) -> Option<Entry>
     }
 }
 
-/// Whether an argument is of the kind.
+/// Whether an argument has the kind.
 fn suits(kind: Kind, arg: &Arg<'_>) -> bool
     ensures { result ≡ suits kind (given_of arg.now) }
 {
@@ -244,7 +245,7 @@ fn suits(kind: Kind, arg: &Arg<'_>) -> bool
     }
 }
 
-/// Whether an object is live with this birth, and of the interface, if one is asked for.
+/// Whether an object is live with this birth and has the interface, if one is asked for.
 fn names_one<T: Table>(objects: &Objects<T>, iface: Option<Iface>, object: Object) -> bool
     ensures { result ≡ names_one iface object (look objects.now object.id) }
 {
@@ -265,7 +266,7 @@ fn can_name<T: Table>(objects: &Objects<T>, kind: Kind, arg: &Arg<'_>) -> bool
     }
 }
 
-/// The place of an argument of this kind, if the object that it names is not live or of another
+/// The index of an argument of this kind, if the object that it names is not live or has another
 /// interface.
 fn lost_at<T: Table>(objects: &Objects<T>, place: usize, kind: Kind, arg: &Arg<'_>) -> Option<usize>
     ensures { result ≡ lost_place (look objects.now) place (kind ∷ [])

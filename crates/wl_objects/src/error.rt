@@ -7,7 +7,8 @@ use std::error::Error;
 use std::fmt::{self, Display, Formatter};
 use wl_wire::ArgFault;
 
-/// Why a message was not written. The causes are tested in this order, and nothing has changed.
+/// Why a message was not written. The causes are tested in this order, and a refused call changes
+/// nothing.
 #[derive(Clone, Copy, Debug, PartialEq, Eq)]
 pub enum SendError {
     /// S1: the end has failed and writes nothing more.
@@ -18,20 +19,20 @@ pub enum SendError {
     NoSuchMessage,
     /// S4: the message is newer than the target's version.
     TooOld,
-    /// S5: the argument at this place is of the wrong kind, is null where that is not allowed, or
-    /// is a string with a byte 0. Where the numbers of arguments differ and all before fit, the
+    /// S5: the argument at this index has the wrong kind, is null and may not be, or is a string
+    /// with a byte 0. If the numbers of arguments differ and all before suit, the index is the
     /// smaller number.
     WrongArgs(usize),
-    /// S6: the object at this place is not live, or of another interface.
+    /// S6: the object at this index is not live, or has another interface.
     BadObject(usize),
-    /// S7: the name is not that of a remembered global of this interface, or the version is 0 or
-    /// above the advertised one or the one in the tables.
+    /// S7: no remembered global has this name and this interface; or the version is 0, above the
+    /// advertised one, or above the one in the tables.
     BadBind,
     /// S8: the message is longer than the end's limit.
     TooLong,
     /// S9: the outbox has too few free bytes or tokens.
     Full,
-    /// S10: no more objects can be opened in the range of ids of the message's writer.
+    /// S10: no more objects can be opened in the writer's range of ids.
     NoIds,
     /// S11: there is no memory for the new object.
     Memory,
@@ -39,28 +40,28 @@ pub enum SendError {
     NotDroppable,
 }
 
-/// What is wrong with a message that was read. Places of arguments are counted from 0.
+/// What is wrong with a message that was read. Indices of arguments count from 0.
 #[derive(Clone, Copy, Debug, PartialEq, Eq)]
 pub enum Fault {
-    /// F1: the size is below 8, no multiple of 4, or above the limit.
+    /// F1: the size is below 8, not a multiple of 4, or above the limit.
     BadSize,
     /// F2: the message is for an object that the reader does not know.
     UnknownObject,
     /// F3: the interface has no such message at the object's version.
     UnknownMessage,
-    /// F4: the argument at this place is no spelling of its kind.
+    /// F4: the bytes of the argument at this index do not spell its kind.
     BadArgument(usize, ArgFault),
-    /// F5: the object at this place is unknown, or of another interface.
+    /// F5: the object at this index is unknown, or has another interface.
     BadObject(usize),
-    /// F6: the new id at this place is not of the range of the message's writer, is in use, or is
-    /// neither freed nor the next. At a client an id is in use only where a request can end its
-    /// object: any other object of the server's gives way to the new one.
+    /// F6: the new id at this index is not in the writer's range, is in use, or is neither freed
+    /// nor the next. At a client an id is in use only if a request can end its object: a new object
+    /// replaces any other object of the server.
     BadNewId(usize),
-    /// F7: bytes are left behind the last argument.
+    /// F7: bytes are left after the last argument.
     TrailingBytes,
     /// F8: fewer tokens wait than the message has descriptors.
     MissingDescriptor,
-    /// F9: no global of this name was ever advertised, or with another interface, or the version
+    /// F9: no global of this name was ever advertised, or it has another interface, or the version
     /// is 0 or above the advertised one.
     BadBind,
     /// F10: the connection has no more room for a new object.
@@ -70,16 +71,16 @@ pub enum Fault {
 /// Why no message was read.
 #[derive(Clone, Copy, Debug, PartialEq, Eq)]
 pub enum NextError {
-    /// The message that begins `offset` bytes after the beginning of the stream is at fault. The
-    /// end has failed.
+    /// The message that begins `offset` bytes after the start of the stream is at fault. The end
+    /// has failed.
     Fault { fault: Fault, offset: u64 },
     /// The end had failed before.
     Failed,
     /// There is no memory for the report, or for the object that the message makes. The message
     /// stays and can be read again.
     Memory,
-    /// The outbox has no room for the delete_id that follows a request that destroys an object
-    /// which the client made. The message stays and can be read again.
+    /// The outbox has no room for the delete_id that must follow a request that destroys a client's
+    /// object. The message stays and can be read again.
     OutFull,
 }
 

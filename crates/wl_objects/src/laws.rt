@@ -22,9 +22,9 @@ ghost use Rattle.wl_objects.specs.Carried.{AreExpected, AreWritten, Arrive, InRa
 ghost use Rattle.wl_objects.specs.Carried.{CallPasses, received_as_meant};
 ghost use Rattle.wl_objects.specs.Places.{IsFirstLost, IsFirstWrong, ReachesArguments, SuitsAt};
 
-/// What one end writes arrives at the other: arguments that suit the message and name live objects
-/// of the writer, spelled with the new id n, are read by any reader that holds each named object
-/// under its id, with its birth and interface, live or a zombie, and to which n is free.
+/// What one end writes arrives at the other. The arguments suit the message, name live objects of
+/// the writer, and are spelled with the new id n. Then any reader reads them that has each named
+/// object under its id, with its birth and interface, live or a zombie, and for which n is free.
 pub fn what_is_written_arrives()
     ensures { (writer : ℕ → Option SpecEntry) (reader : Reader) (kinds : List SpecKind) (n : ℕ)
         (list : List Given)
@@ -33,7 +33,8 @@ pub fn what_is_written_arrives()
         → Arrive reader kinds n list }
 {}
 
-/// What stands at the front of a message's body is read exactly where it meets the reader.
+/// The arguments at the front of a message's body are read if and only if they are what the reader
+/// expects.
 pub fn what_meets_is_read()
     ensures { (reader : Reader) (place : ℕ) (kinds : List SpecKind) (bytes : List ℕ)
         (values : List Argument) (rest : List ℕ)
@@ -42,7 +43,7 @@ pub fn what_meets_is_read()
         ↔ MeetsKinds reader place kinds bytes values rest }
 {}
 
-/// The fault of a message's arguments is the first that stands.
+/// The fault of a message's arguments is the first that applies.
 pub fn first_fault()
     ensures { (reader : Reader) (place : ℕ) (kinds : List SpecKind) (bytes : List ℕ)
         (fault : SpecFault)
@@ -51,7 +52,7 @@ pub fn first_fault()
         ↔ FirstFault reader place kinds bytes fault }
 {}
 
-/// The object that a call makes is the one that its signature says.
+/// The object that a call makes has the interface in the message's signature.
 pub fn call_makes_its_object()
     ensures { (tables : List Interface) (version id : ℕ) (kinds : List SpecKind)
         (list : List SpecArg)
@@ -61,7 +62,7 @@ pub fn call_makes_its_object()
         (call_makes kinds) }
 {}
 
-/// A call passes its checks exactly where nothing stands against it.
+/// A call passes its checks if and only if no refusal applies.
 pub fn a_call_passes()
     ensures { (limit : ℕ) (tables : List Interface) (side : SpecSide) (view : Objects)
         (target : SpecObject) (opcode : ℕ) (list : List Given) (signature : MessageSignature)
@@ -69,9 +70,10 @@ pub fn a_call_passes()
         ↔ CallPasses limit tables side view target opcode list signature }
 {}
 
-/// Of arguments that do not suit, a call names the first: all before it suit, and it does not, or
-/// is missing, or is one too many; so where the numbers differ and all before suit, the place is
-/// the smaller number. It names none exactly where there is an argument for each kind and all suit.
+/// For arguments that do not suit, a call returns the first: all before it suit, and it does not,
+/// or is missing, or is one too many. So if the numbers of arguments differ and all before suit,
+/// the index is the smaller number. It returns none if and only if there is an argument for each
+/// kind and all suit.
 pub fn first_wrong_argument()
     ensures place { (kinds : List SpecKind) (list : List Given) (place : ℕ)
         → (wrong_place 0 kinds list ≡ Some place) ↔ IsFirstWrong kinds list place }
@@ -80,16 +82,16 @@ pub fn first_wrong_argument()
         × ((k : ℕ) → k < length kinds → SuitsAt kinds list k)) }
 {}
 
-/// Of objects that cannot be named, a call names the first: all before it can, and it is not live
-/// with its birth, or of another interface.
+/// For objects that cannot be named, a call returns the first: all before it can, and it is not
+/// live with its birth, or has another interface.
 pub fn first_lost_object()
     ensures { (rows : ℕ → Option SpecEntry) (kinds : List SpecKind) (list : List Given) (place : ℕ)
         → (lost_place rows 0 kinds list ≡ Some place) ↔ IsFirstLost rows kinds list place }
 {}
 
-/// A call is refused for an argument exactly where it comes to its arguments and one is wrong: S5
-/// for the first that does not suit, and S6 for the first object that cannot be named, which is
-/// looked for only where all arguments suit.
+/// A call is refused for an argument if and only if the checks get to its arguments and one is
+/// wrong: S5 for the first that does not suit, and S6 for the first object that cannot be named,
+/// which is looked for only if all arguments suit.
 pub fn a_call_is_refused_for_an_argument()
     ensures wrong { (limit : ℕ) (tables : List Interface) (side : SpecSide) (view : Objects)
         (target : SpecObject) (opcode : ℕ) (list : List Given) (place : ℕ)
@@ -107,8 +109,8 @@ pub fn a_call_is_refused_for_an_argument()
         × IsFirstLost (look view) signature.kinds list place) }
 {}
 
-/// A whole message arrives: what passed its checks at one end is received at the other, where the
-/// reader holds the target and each named object, live or a zombie, and the new id is free.
+/// A whole message arrives: what passed its checks at one end is received at the other, if the
+/// reader has the target and each named object, live or a zombie, and the new id is free.
 pub fn a_message_arrives()
     ensures { (limit : ℕ) (tables : List Interface) (side : SpecSide) (view : Objects)
         (reader : Reader) (target : SpecObject) (opcode size n waiting : ℕ) (list : List Given)
@@ -123,7 +125,7 @@ pub fn a_message_arrives()
         ≡ Ok (received_as_meant target held.row signature (map (wired n) list)) }
 {}
 
-/// A message is a row of whole words, as many bytes as its header says.
+/// A message is a sequence of whole words, as many bytes as its header says.
 pub fn a_message_has_its_size()
     ensures len { (object opcode : ℕ) (values : List Argument)
         → length (message_bytes object opcode values) ≡ message_len values }
@@ -131,7 +133,7 @@ pub fn a_message_has_its_size()
     ensures header { (values : List Argument) → 8 ≤ message_len values }
 {}
 
-/// What a reader took whole is spelled by the values that it read, where the object of
+/// A message that was read whole is a spelling of the values that were read; the object of
 /// wl_display.error may be null.
 pub fn what_is_read_is_spelled()
     ensures { (reader : Reader) (kinds : List SpecKind) (bytes : List ℕ) (values : List Argument)
@@ -140,7 +142,7 @@ pub fn what_is_read_is_spelled()
         → SpellsAll (map (forgiving_kind reader.forgives) kinds) values bytes }
 {}
 
-/// What is written spells its values, where no object has the id 0.
+/// A written message is a spelling of its values, if no object has the id 0.
 pub fn what_is_written_is_spelled()
     ensures { (kinds : List SpecKind) (n : ℕ) (list : List Given) → n < 2 ^ 32
         → wrong_place 0 kinds list ≡ None → All InRange list

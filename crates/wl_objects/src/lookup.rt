@@ -6,37 +6,37 @@ ghost use Rattle.wl_objects.specs.Messages.{server_may_use, reader_of, waits_for
 use wl_object_map::{Entry, FIRST_SERVER_ID, Maker, Objects, State, Table};
 use wl_sigs::{Side, Tables};
 
-/// What an id is to a reader that finds it as a new object's.
+/// What a reader finds for an id that a new object is to have.
 #[derive(Clone, Copy, Debug, PartialEq, Eq)]
 pub enum NewId {
-    /// The object can be opened: a request's at a freed id or the next one, an event's also at that
-    /// of an object that has ended, or that no request can end.
+    /// For a request: a freed id or the next unused one. For an event also the id of a zombie, or
+    /// of an object that no request destroys.
     Free,
     /// None of these.
     Wrong,
-    /// As `Free`, but the connection has no more room.
+    /// As `Free`, but the connection has no room for another object.
     TooMany,
 }
 
-/// What the reading of a message asks: the object that an id names, and what an id is as a new
+/// What the reading of a message asks for: the object with an id, and whether an id can be a new
 /// object's.
 pub trait Lookup {
     ghost reader: { Self → Reader };
 
-    /// The object that an id names.
+    /// The object with this id.
     fn object(&self, id: u32) -> Option<Entry>
         ensures { result ≡ (reader self.now).object id };
 
-    /// What an id is as that of a new object of the client.
+    /// The result for an id as that of a new object of the client.
     fn new_id(&self, id: u32) -> NewId
         ensures { result ≡ (reader self.now).new_id id };
 
-    /// What an id is as that of a new object of the server.
+    /// The result for an id as that of a new object of the server.
     fn new_server_id(&self, id: u32) -> NewId
         ensures { result ≡ (reader self.now).new_server_id id };
 }
 
-/// An end's objects, as the reading of a message of a side asks them, by these tables.
+/// An end's objects, as a reader of one side's messages sees them, given the tables.
 #[derive(Drop)]
 pub struct ObjectsLookup<'a, T: Table> {
     pub tables: &'a Tables,
@@ -73,8 +73,8 @@ impl<'a, T: Table> Lookup for ObjectsLookup<'a, T> {
     }
 }
 
-/// Whether an id can be that of a new object of the server: it is of the server's range, no live
-/// object that a request can end has it, and it was used before or is the next one.
+/// Whether an id can be that of a new object of the server: it is in the server's range, is not
+/// that of a live object that a request can end, and was used before or is the next one.
 fn server_may_use<T: Table>(tables: &Tables, objects: &Objects<T>, id: u32) -> bool
     ensures { result ≡ server_may_use tables.now objects.now id }
 {
@@ -83,8 +83,8 @@ fn server_may_use<T: Table>(tables: &Tables, objects: &Objects<T>, id: u32) -> b
         && id - FIRST_SERVER_ID <= objects.used(Maker::Server)
 }
 
-/// Whether an object is live, and a request can end it: its interface has a destroying one at the
-/// object's version.
+/// Whether an object is live and a request can end it: its interface has a destroying request at
+/// the object's version.
 pub fn waits_for_request(tables: &Tables, entry: Option<Entry>) -> bool
     ensures { result ≡ waits_for_request tables.now entry }
 {

@@ -1,4 +1,4 @@
-//! The messages of a side, and those that have a meaning of their own.
+//! The messages of a side, and those with a meaning of their own.
 ghost use Rattle.std.specs.Prelude.{◌≡◌};
 ghost use Rattle.wl_objects.specs.Messages.{is_error, is_delete_id, is_bind, is_hidden, maker_by};
 
@@ -6,14 +6,14 @@ use wl_object_map::Maker;
 use wl_sigs::{Side, Tables, event, request};
 use wl_wire::Iface;
 
-/// The messages that one side writes, as these tables have them.
+/// The messages that one side writes, according to these tables.
 #[derive(Clone, Copy)]
 pub struct Messages<'t> {
     pub tables: &'t Tables,
     pub side: Side,
 }
 
-/// Who makes the objects that messages of a side make.
+/// Who makes the objects of messages of a side.
 pub fn maker_by(side: Side) -> Maker
     ensures { result ≡ maker_by side }
 {
@@ -23,10 +23,10 @@ pub fn maker_by(side: Side) -> Maker
     }
 }
 
-/// The place of wl_display in all tables.
+/// The index of wl_display in all tables.
 pub const DISPLAY: Iface = Iface(0);
 
-/// The place of wl_registry in all tables.
+/// The index of wl_registry in all tables.
 pub const REGISTRY: Iface = Iface(1);
 
 /// Whether this is wl_display.error, whose object may be null or unknown to the reader.
@@ -50,7 +50,7 @@ pub fn is_bind(side: Side, iface: Iface, opcode: u16) -> bool
     side == Side::Request && iface == REGISTRY && opcode == request::wl_registry::BIND
 }
 
-/// Whether an end writes this message by calls of its own: bind, and the events of wl_display and
+/// Whether an end writes this message only by special calls: bind, and the events of wl_display and
 /// wl_registry.
 pub fn is_hidden(side: Side, iface: Iface, opcode: u16) -> bool
     ensures { result ≡ is_hidden side iface opcode }

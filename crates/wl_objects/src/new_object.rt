@@ -15,8 +15,8 @@ pub struct NewObject {
     pub version: u32,
 }
 
-/// The object that a message makes, if it makes one, where its target has this version: of the
-/// signature's interface and the target's version, or of those that a bind names.
+/// The object that a message makes, if it makes one, given the target's version: with the
+/// signature's interface and the target's version, or with those that a bind names.
 #[inline(always)]
 pub fn made_by_message(
     tables: &Tables,
@@ -26,7 +26,7 @@ pub fn made_by_message(
 ) -> Option<NewObject>
     ensures { result ≡ made tables.now version signature.now.kinds values.now }
 {
-    // Most messages make nothing: of these no kind is looked at.
+    // Fast path: most messages make nothing.
     if !signature.has_new_object() {
         return None;
     }
@@ -43,7 +43,7 @@ fn made_among(
     ensures { result ≡ made tables.now version kinds.now values.now }
 {
     'kinds: for (place, kind) in kinds.iter().enumerate() {
-        // Of a kind that makes nothing no value is made.
+        // For a kind that makes nothing, no value is built.
         if !is_new_object(*kind) {
             continue;
         }

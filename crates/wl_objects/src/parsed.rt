@@ -23,9 +23,9 @@ use wl_object_map::{Entry, Object, State};
 use wl_sigs::MAX_ARGS;
 use wl_wire::{Fixed, Kind, ValueRef, read_ref};
 
-/// One argument of a message that was read. A string or an array is given by its length and by
-/// where it starts in the message's body, an object by its entry when the message was read. The
-/// order of the fields keeps an argument at 24 bytes, of which a report holds `MAX_ARGS`.
+/// One argument of a message that was read. A string or an array is given by its length and its
+/// start in the message's body, an object by its entry when the message was read. The order of the
+/// fields keeps an argument at 24 bytes; a report holds `MAX_ARGS` of them.
 #[derive(Clone, Copy, Debug)]
 pub enum ParsedArg {
     /// The null string.
@@ -49,7 +49,7 @@ pub enum ParsedArg {
     New {
         id: u32,
     },
-    /// A new object whose interface, a string, and version the message gives.
+    /// A new object for which the message gives the interface, a string, and the version.
     Bound {
         len: u32,
         start: usize,
@@ -60,7 +60,7 @@ pub enum ParsedArg {
         len: u32,
         start: usize,
     },
-    /// A descriptor, by how many stand before it in the message.
+    /// A descriptor, by how many come before it in the message.
     Fd {
         place: usize,
     },
@@ -69,7 +69,7 @@ pub enum ParsedArg {
 const _: () = prove!(size_of::<ParsedArg>() == 24);
 
 /// The arguments of one message, at most `MAX_ARGS`. They hold no allocation and borrow nothing. An
-/// end keeps one of these, into which each message is parsed in place of the one before.
+/// end keeps one of these, and each message is parsed over the one before.
 #[derive(Drop)]
 pub struct ParsedArgs {
     items: [ParsedArg; MAX_ARGS],
@@ -113,7 +113,7 @@ impl ParsedArgs {
         &self.items[..self.count]
     }
 
-    /// The argument at a place, counted from 0, of a message with this body.
+    /// The argument at an index, from 0, of a message with this body.
     pub fn value<'a>(&self, body: &'a [u8], place: usize) -> Option<ValueRef<'a>>
         ensures { option_map lent result ≡ slice_get (spelled_in body.now self.now) place }
     {
@@ -121,8 +121,8 @@ impl ParsedArgs {
         Some(value_of(body, *parsed))
     }
 
-    /// The object that the argument at a place names, counted from 0, as it was when the message
-    /// was read; null where it names none.
+    /// The object that the argument at an index, from 0, names, as it was when the message was
+    /// read; null if it names none.
     pub fn object(&self, place: usize) -> Named
         ensures { result ≡ parsed_object (slice_get self.now place) }
     {
@@ -145,7 +145,7 @@ impl Debug for ParsedArgs {
     }
 }
 
-/// An argument as it is spelled.
+/// An argument as spelled.
 pub(crate) fn value_of(body: &[u8], parsed: ParsedArg) -> ValueRef<'_>
     ensures { lent result ≡ parsed_argument body.now parsed }
 {
@@ -172,7 +172,7 @@ pub(crate) fn value_of(body: &[u8], parsed: ParsedArg) -> ValueRef<'_>
     }
 }
 
-/// `len` bytes from a place on, as far as there are such.
+/// At most `len` bytes from `start`.
 pub(crate) fn part(bytes: &[u8], start: usize, len: usize) -> &[u8]
     ensures { result.now ≡ body_part bytes.now start len }
 {
@@ -180,7 +180,7 @@ pub(crate) fn part(bytes: &[u8], start: usize, len: usize) -> &[u8]
     &rest[..len.min(rest.len())]
 }
 
-/// A message's body as a reader parses it: by what it knows of objects and ids, and whether an
+/// A message's body as a reader parses it: what the reader knows of objects and ids, and whether an
 /// object may be null or unknown.
 #[derive(Drop)]
 pub(crate) struct Parser<'a, L: Lookup> {
@@ -190,9 +190,8 @@ pub(crate) struct Parser<'a, L: Lookup> {
 }
 
 impl<'a, L: Lookup> Parser<'a, L> {
-    /// Parses the arguments at the front of the body, one of each kind, in place of those that were
-    /// parsed before, and returns the bytes behind them; or the first fault. Each object is looked
-    /// up once.
+    /// Parses the arguments at the front of the body, one of each kind, over those parsed before,
+    /// and returns the bytes after them; or the first fault. Each object is looked up once.
     pub fn parse_body(&self, kinds: &[Kind], args: &mut ParsedArgs) -> Result<&'a [u8], Fault>
         requires few { length kinds.now ≤ max_args }
         ensures answer { whole_in self.now.body.now args.new result
@@ -242,7 +241,7 @@ impl<'a, L: Lookup> Parser<'a, L> {
         Ok(end)
     }
 
-    /// The argument that starts there, with its length, where `descriptors` stand before it.
+    /// The argument that starts here, with its length; `descriptors` come before it.
     fn parse_at(
         &self,
         place: usize,
@@ -266,7 +265,7 @@ impl<'a, L: Lookup> Parser<'a, L> {
         }
     }
 
-    /// Judges a value whose spelling starts there, and keeps where it lies.
+    /// Judges a value whose spelling starts here, and keeps its position.
     fn resolve(
         &self,
         place: usize,
@@ -313,7 +312,7 @@ impl<'a, L: Lookup> Parser<'a, L> {
     }
 }
 
-/// The argument that starts there, if its kind is a number's and its four bytes are there.
+/// The argument that starts here, if its kind is a number's and its four bytes are there.
 #[inline(always)]
 fn read_number(kind: Kind, body: &[u8], start: usize) -> Option<ParsedArg>
     requires { start ≤ length body.now }
@@ -329,8 +328,8 @@ fn read_number(kind: Kind, body: &[u8], start: usize) -> Option<ParsedArg>
     }
 }
 
-/// A value by where it lies, as its spelling alone tells: its text, if it has one, starts at
-/// `text`, and `descriptors` stand before it in the message.
+/// A value by its position, from its spelling alone: its text, if it has one, starts at `text`, and
+/// `descriptors` come before it in the message.
 #[inline(always)]
 fn located(value: ValueRef<'_>, text: usize, descriptors: usize) -> ParsedArg
     requires { (bytes : List ℕ) × Lies bytes (lent value) }
@@ -361,7 +360,7 @@ fn located(value: ValueRef<'_>, text: usize, descriptors: usize) -> ParsedArg
     }
 }
 
-/// How many descriptors stand before what follows an argument.
+/// How many descriptors come before what follows an argument.
 fn place_behind(parsed: ParsedArg, place: usize) -> usize
     requires { place ≤ max_args }
     ensures { result ≡ place_behind parsed place }
@@ -372,7 +371,7 @@ fn place_behind(parsed: ParsedArg, place: usize) -> usize
     }
 }
 
-/// The bytes from a place on.
+/// The bytes from `start` on.
 fn bytes_from(bytes: &[u8], start: usize) -> &[u8]
     requires { start ≤ length bytes.now }
     ensures { result.now ≡ drop start bytes.now }
@@ -380,7 +379,7 @@ fn bytes_from(bytes: &[u8], start: usize) -> &[u8]
     &bytes[start..]
 }
 
-/// The kind as a reader takes it: one that forgives lets an object be null.
+/// The kind as a reader takes it: if the reader forgives, an object may be null.
 fn kind_at(forgives: bool, kind: Kind) -> Kind
     ensures { result ≡ forgiving_kind forgives kind }
 {

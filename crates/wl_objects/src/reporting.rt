@@ -12,10 +12,10 @@ use std::alloc::{Allocator, Global};
 use std::marker::Model;
 use wl_object_map::{Object, Objects, State, Table};
 
-/// The arguments of a report, in memory of their own.
+/// The arguments of a report, owned.
 #[derive(Debug, Drop)]
 pub struct OwnedArgs<A: Allocator = Global> {
-    // None at a message without arguments, so that its report needs no allocator.
+    // `None` for a message without arguments, so that its report needs no allocator.
     items: Option<Vec<Got<A>, A>>,
 }
 
@@ -45,7 +45,7 @@ impl<A: Allocator> OwnedArgs<A> {
         Self { items: Some(items) }
     }
 
-    /// Returns the vector. None where there is none, as at a message without arguments. Allocates
+    /// Returns the vector; `None` if there is none, as for a message without arguments. Allocates
     /// nothing.
     pub fn into_vec(self) -> Option<Vec<Got<A>, A>>
         ensures { option_map_or (λ v. got_values v.items) result [] ≡ self }
@@ -64,7 +64,7 @@ impl<A: Allocator> OwnedArgs<A> {
     }
 }
 
-/// The object that an id names, live or dead as its entry is. Null where the id is 0 or unknown.
+/// The object with an id, live or dead according to its entry. Null if the id is 0 or unknown.
 pub fn named<T: Table>(objects: &Objects<T>, id: u32) -> Named
     ensures { (tables : List Interface) (side : Side)
         → result ≡ named_at (reader_of tables side objects.now) id }

@@ -1,4 +1,4 @@
-//! What some messages mean, worked out by hand. Each is the contract of a function that does
+//! The meaning of some messages, worked out by hand. Each is the contract of a function that does
 //! nothing.
 ghost use Rattle.std.specs.Prelude.{◌≡◌, [], ◌∷◌, codes, Ok, Err};
 ghost use Rattle.wl_wire.specs.declared.kind.ArgFault.TheVariants.{NoEndingNul};
@@ -12,8 +12,8 @@ ghost use Rattle.wl_objects.specs.Samples.{sample_request, request_to, full, fre
 ghost use Rattle.wl_objects.specs.Samples.{sample_registry, with_callback, with_shm, with_surface};
 ghost use Rattle.wl_objects.specs.Samples.{bind_body};
 
-/// wl_display.get_registry of id 2 and wl_display.sync of id 3, in front of a server that has read
-/// nothing; then of id 2, which is in use, in front of one that has a registry there.
+/// At a server that has read nothing: wl_display.get_registry with id 2 and wl_display.sync with id
+/// 3. At one that has a registry at id 2: get_registry with id 2, which is in use.
 #[tactic(auto, unfolding(wl_sigs::specs::Core::core_tables))]
 pub fn new_objects()
     ensures registry { sample_request fresh 1 1 (2 ∷ 0 ∷ 0 ∷ 0 ∷ []) ≡ Ok (New 2 ∷ []) }
@@ -22,8 +22,8 @@ pub fn new_objects()
     ensures in_use { sample_request sample_registry 1 0 (2 ∷ 0 ∷ 0 ∷ 0 ∷ []) ≡ Err (BadNewId 0) }
 {}
 
-/// wl_registry.bind of a compositor of version 6 at id 4; the same with a length that is one too
-/// small, so that the last byte counted is no NUL.
+/// wl_registry.bind of a compositor, version 6, at id 4; the same with a length that is one too
+/// small, so that the last byte counted is not NUL.
 #[tactic(auto, unfolding(wl_sigs::specs::Core::core_tables))]
 pub fn bind()
     ensures bound { sample_request with_callback 2 0 (bind_body 14)
@@ -44,8 +44,9 @@ pub fn faults()
         ≡ Err MissingDescriptor }
 {}
 
-/// wl_surface.set_opaque_region of no region; of the registry, which is no wl_region; and of an id
-/// that names no object. Then wl_display.sync of the next id, where there is no room for an object.
+/// wl_surface.set_opaque_region with null; with the registry, which is no wl_region; and with an id
+/// that names no object. Then wl_display.sync with the next id, while there is no room for an
+/// object.
 #[tactic(auto, unfolding(wl_sigs::specs::Core::core_tables))]
 pub fn object_faults()
     ensures null { sample_request with_surface 3 4 (0 ∷ 0 ∷ 0 ∷ 0 ∷ []) ≡ Ok (Obj 0 ∷ []) }

@@ -8,8 +8,8 @@ use crate::parsed::{ParsedArg, value_of};
 use std::marker::Model;
 use wl_wire::ValueRef;
 
-/// The values of a message's arguments that are left to go through, in order. They were parsed
-/// before; their strings and arrays lie in the message's body.
+/// The remaining values of a message's arguments, in order. They were parsed before; their strings
+/// and arrays lie in the message's body.
 #[derive(Debug, Drop)]
 pub struct Values<'a> {
     left: &'a [ParsedArg],
@@ -27,14 +27,14 @@ impl<'a> Model for Values<'a> {
 }
 
 impl<'a> Values<'a> {
-    /// The values of what was parsed in this body.
+    /// The values of the arguments parsed from this body.
     pub(crate) fn new(parsed: &'a [ParsedArg], body: &'a [u8]) -> Values<'a>
         ensures { result ≡ spelled_in body.now parsed.now }
     {
         Values { left: parsed, body }
     }
 
-    /// Takes out the first value.
+    /// Takes out the next value.
     pub fn next(&mut self) -> Option<ValueRef<'a>>
         ensures { MatchOption result ((self.old ≡ []) × (self.new ≡ []))
             (λ value. self.old ≡ lent value ∷ self.new) }
@@ -44,7 +44,7 @@ impl<'a> Values<'a> {
         Some(value_of(self.body, *parsed))
     }
 
-    /// The value at a place, counted from 0.
+    /// The value at an index, from 0.
     pub(crate) fn at(&self, place: usize) -> Option<ValueRef<'a>>
         ensures { option_map lent result ≡ slice_get self.now place }
     {
@@ -52,8 +52,7 @@ impl<'a> Values<'a> {
         Some(value_of(self.body, *parsed))
     }
 
-    /// The id of the object that the argument at a place names, counted from 0; 0 where it names
-    /// none.
+    /// The id of the object that the argument at an index, from 0, names; 0 if it names none.
     pub fn id_at(&self, place: usize) -> u32
         ensures { result ≡ id_at self.now place }
     {
@@ -63,7 +62,7 @@ impl<'a> Values<'a> {
         }
     }
 
-    /// The same values, to go through once more.
+    /// The same values, to be gone through again.
     pub fn clone(&self) -> Values<'a>
         ensures { result ≡ self.now }
     {

@@ -1,4 +1,4 @@
-//! Messages made of a call's arguments.
+//! Messages made from a call's arguments.
 ghost use Rattle.std.specs.Prelude.{◌≡◌, ◌≤◌, ◌+◌, ◌++◌, length, take, drop};
 ghost use Rattle.wl_wire.specs.Argument.{lent, NewNamed};
 ghost use Rattle.wl_wire.specs.Word.{header_bytes};
@@ -13,10 +13,10 @@ use wl_sigs::MAX_ARGS;
 use wl_sigs::request::wl_registry::BIND;
 use wl_wire::{Encode, HEADER_LEN, Header, ValueRef, write_value};
 
-/// Where the new object of a bind begins: behind the header and the name.
+/// Where a bind's new object begins: after the header and the name.
 const BOUND_AT: usize = HEADER_LEN + 4;
 
-/// The argument as it stands on the wire, where the new object gets this id.
+/// The argument on the wire, given the new object's id.
 pub(crate) fn wired<'a>(arg: &Arg<'a>, new_id: u32) -> ValueRef<'a>
     ensures { lent result ≡ wired new_id (given_of arg.now) }
 {
@@ -33,20 +33,20 @@ pub(crate) fn wired<'a>(arg: &Arg<'a>, new_id: u32) -> ValueRef<'a>
     }
 }
 
-/// The message that a call becomes, where the new object gets this id.
+/// The message made from a call, given the new object's id.
 #[derive(Clone, Copy, Debug)]
 pub struct CallMessage<'a> {
-    /// The id of the object that it is for.
+    /// The id of the message's target.
     pub object: u32,
     pub opcode: u16,
     pub args: &'a [Arg<'a>],
     pub new_id: u32,
-    /// How many bytes it has.
+    /// Its length in bytes.
     pub len: usize,
 }
 
 impl<'a> CallMessage<'a> {
-    /// A message that makes no object, of a length that a header can have.
+    /// A message that makes no object; its length must fit in a header.
     pub fn new(object: u32, opcode: u16, args: &'a [Arg<'a>]) -> CallMessage<'a>
         requires fits { EachFits (on_wire 0 args.now) }
         requires short { message_len (on_wire 0 args.now) ≤ 65535 }
@@ -115,7 +115,7 @@ impl<'a> Encode for BindMessage<'a> {
 }
 
 impl<'a> BindMessage<'a> {
-    /// How many bytes it has, whatever its id.
+    /// Its length in bytes, whatever its id.
     pub fn len(&self) -> usize
         requires { BindFits self.now }
         ensures { result ≡ message_len (values_of_bind self.now) }
@@ -123,7 +123,7 @@ impl<'a> BindMessage<'a> {
         BOUND_AT + self.named().spelled_len()
     }
 
-    /// The new object, with the interface and version that are named beside it.
+    /// The new object, with the interface and version that the bind names.
     fn named(&self) -> ValueRef<'a>
         ensures { lent result
             ≡ NewNamed self.now.iface.now self.now.version self.now.id }
@@ -151,7 +151,7 @@ fn write_header(out: &mut [u8], object: u32, size: usize, opcode: u16)
     out[..HEADER_LEN].copy_from_slice(&header.to_bytes());
 }
 
-/// Writes arguments over these bytes, which are as many as they have.
+/// Writes arguments over these bytes, which are exactly as long.
 fn write_args(out: &mut [u8], args: &[Arg<'_>], new_id: u32)
     requires fits { EachFits (on_wire new_id args.now) }
     requires len { length out.old + 8 ≡ message_len (on_wire new_id args.now) }
@@ -163,7 +163,7 @@ fn write_args(out: &mut [u8], args: &[Arg<'_>], new_id: u32)
     }
 }
 
-/// Writes the tokens of a call, in order, and returns how many there are.
+/// Writes the tokens of a call, in order, and returns their number.
 pub fn take_tokens(args: &[Arg<'_>], tokens: &mut [u32; MAX_ARGS]) -> usize
     requires few { length args.now ≤ max_args }
     ensures tokens { take result tokens.new ≡ tokens_of (given args.now) }

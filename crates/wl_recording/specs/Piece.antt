@@ -1,4 +1,4 @@
--- What passes between two ends, one piece at a time.
+-- What is exchanged between two ends, one piece at a time.
 use Rattle.std.specs.Prelude.{◌≡◌, ℕ, ◌-◌, ◌≤◌, ◌==◌, ◌&&◌, nat_lt, if◌then◌else◌, List, [], ◌∷◌}
 use Rattle.std.specs.Prelude.{◌++◌, length}
 use Rattle.hex.specs.Hex.{IsBytes}
@@ -13,7 +13,7 @@ pub record Piece : Type 0 where
   pub bytes : List ℕ
   pub tokens : ℕ
 
--- a kept piece, without where its bytes lie
+-- a kept piece, apart from where its bytes lie
 abbrev pub recorded_piece : {A : Type 0} → Passed A → Piece
 recorded_piece kept = record {
   direction = kept.direction;
@@ -21,15 +21,15 @@ recorded_piece kept = record {
   tokens = kept.tokens;
 }
 
--- of these bytes those that go a way, where they all go another or this one
+-- these bytes if they go this way, else none
 abbrev pub own : Direction → Direction → List ℕ → List ℕ
 own ToServer ToServer bytes = bytes
 own ToServer ToClient bytes = []
 own ToClient ToServer bytes = []
 own ToClient ToClient bytes = bytes
 
--- This piece was appended: its bytes stand behind those of its direction, and those of the other
--- are as before.
+-- This piece was appended: its bytes follow those of its direction, and those of the other
+-- direction are unchanged.
 pub record IsAppended (piece : Piece) (appended : Appended)
     (server server_after client client_after : List ℕ) : Type 0 where
   pub direction : appended.direction ≡ piece.direction
@@ -43,14 +43,14 @@ abbrev pub AreAsBefore : List ℕ → List ℕ → List ℕ → List ℕ → Typ
 AreAsBefore server server_after client client_after =
     (server_after ≡ server) × (client_after ≡ client)
 
--- a line can tell it: its bytes are below 256, and its tokens at most 65,535
+-- a line can represent it: its bytes are below 256, and its tokens at most 65,535
 pub record IsTellable (piece : Piece) : Type 0 where
   pub bytes : IsBytes piece.bytes
   pub tokens : piece.tokens ≤ 65535
 
--- What is recorded where these bytes and tokens, at most 65,536, pass at once. Where nothing passed
--- it is no piece. One piece counts at most 65,535 tokens, so 65,536 are two pieces: 65,535 tokens
--- alone, then the bytes with one.
+-- What is recorded if these bytes and tokens, at most 65,536, pass at once: no piece if nothing
+-- passed. A piece counts at most 65,535 tokens, so 65,536 are two pieces: 65,535 tokens alone, then
+-- the bytes with one.
 abbrev pub passed : Direction → List ℕ → ℕ → List Piece
 passed direction bytes tokens =
     if nat_lt 65535 tokens
@@ -59,13 +59,13 @@ passed direction bytes tokens =
     else (if length bytes == 0 && tokens == 0 then []
     else record { direction = direction; bytes = bytes; tokens = tokens } ∷ [])
 
--- how many bytes the last piece has, or 0 where there is none
+-- how many bytes the last piece has; 0 if there is none
 abbrev pub last_len : List Piece → ℕ
 last_len [] = 0
 last_len (piece ∷ []) = length piece.bytes
 last_len (piece ∷ next ∷ more) = last_len (next ∷ more)
 
--- the same pieces, but the last with these bytes
+-- the same pieces, with the bytes of the last replaced
 abbrev pub with_last_bytes : List Piece → List ℕ → List Piece
 with_last_bytes [] bytes = []
 with_last_bytes (piece ∷ []) bytes = record piece { bytes = bytes } ∷ []

@@ -5,9 +5,9 @@ ghost use Rattle.hex.specs.Hex.{decode_of, is_hex_digit};
 
 use std::alloc::{AllocError, Allocator};
 
-/// Appends the bytes that these digits stand for, two digits of either case for each, and returns
-/// whether they stand for any. Where they do not, since one is no digit or their number is odd, it
-/// appends nothing and asks for no memory; where memory runs out, it appends nothing.
+/// Appends the bytes that these digits represent, two digits of either case for each, and returns
+/// true. If a byte is no digit or their number is odd, it appends nothing, allocates nothing and
+/// returns false. Without memory it appends nothing.
 pub fn append_bytes<A: Allocator>(digits: &[u8], bytes: &mut Vec<u8, A>) -> Result<bool, AllocError>
     ensures read { IfOk result (λ are_digits. IsTrue are_digits
         → (more : List ℕ) × (bytes.new.items ≡ bytes.old.items ++ more)

@@ -1,8 +1,8 @@
 //! Recordings of sessions, as values and as text.
 //!
-//! A recording is what passed between a client and a server at one point of the connection, both
-//! directions together, piece by piece: which way a piece went, its bytes, and how many tokens, for
-//! file descriptors, came with it. Its text has a line for each piece:
+//! A recording is everything that passed between a client and a server at one point of the
+//! connection, in both directions, piece by piece: the direction of a piece, its bytes, and its
+//! number of tokens, which represent file descriptors. Its text has one line for each piece:
 //!
 //! ```text
 //! # get_registry, then a token alone

@@ -1,4 +1,4 @@
-//! What passes between two ends.
+//! What is exchanged between two ends.
 ghost use Rattle.std.specs.Prelude.{◌≡◌, ◌++◌, OnOk, OnErr, IfOk};
 ghost use Rattle.wl_recording.specs.declared.piece.Direction.TheVariants.{ToServer, ToClient};
 ghost use Rattle.wl_recording.specs.Piece.{AreAsBefore, IsAppended, own, recorded_piece};
@@ -6,7 +6,7 @@ ghost use Rattle.wl_recording.specs.Piece.{AreAsBefore, IsAppended, own, recorde
 use std::alloc::{AllocError, Allocator, Global};
 use wl_wire::Bytes;
 
-/// Which way a piece went.
+/// The direction of a piece.
 #[derive(Clone, Copy, Debug, PartialEq, Eq)]
 pub enum Direction {
     /// From the client to the server. Its sign in a text is `>`.
@@ -18,18 +18,18 @@ pub enum Direction {
 /// One piece of a recording.
 #[derive(Debug, Drop)]
 pub struct Passed<A: Allocator = Global> {
-    /// Which way it went.
+    /// Its direction.
     pub direction: Direction,
-    /// Its bytes: any part of that direction's stream, cut anywhere.
+    /// Its bytes: any part of that direction's stream, split anywhere.
     pub bytes: Bytes<A>,
-    /// How many tokens came with it, each for one file descriptor.
+    /// How many tokens came with it, one for each file descriptor.
     pub tokens: u32,
 }
 
 /// A piece whose bytes were appended to those of its direction.
 #[derive(Clone, Copy, Debug)]
 pub struct Appended {
-    /// Which way it went.
+    /// Its direction.
     pub direction: Direction,
     /// How many bytes it has.
     pub len: usize,
@@ -38,7 +38,7 @@ pub struct Appended {
 }
 
 impl<A: Allocator> Passed<A> {
-    /// Appends its bytes to those of its direction. Where memory runs out, it appends nothing.
+    /// Appends its bytes to those of its direction. Without memory it appends nothing.
     pub fn append_to(
         &self,
         to_server: &mut Vec<u8, A>,

@@ -20,8 +20,7 @@ use wl_wire::Bytes;
 /// Why a text is no recording.
 #[derive(Clone, Copy, Debug, PartialEq, Eq)]
 pub enum RecordingError {
-    /// RP1: this line, counted from 1, is neither skipped nor a piece, and it is the first such
-    /// line.
+    /// RP1: the first line, counted from 1, that is neither skipped nor a piece.
     BadLine { line: usize },
     /// RP2: out of memory, for the pieces.
     Memory,
@@ -59,7 +58,7 @@ impl<T: Drop> From<AllocFailed<T>> for RecordingError {
     }
 }
 
-/// What passed at one point of a connection, both directions together, in its order.
+/// What passed at one point of a connection, both directions together, in order.
 #[derive(Debug, Drop)]
 pub struct Recording<A: Allocator = Global> {
     pieces: Vec<Passed<A>, A>,
@@ -78,7 +77,7 @@ impl<A: Allocator> Model for Recording<A> {
 }
 
 impl<A: Allocator> Recording<A> {
-    /// A recording of nothing. It allocates nothing.
+    /// An empty recording. It allocates nothing.
     pub fn new(alloc: A) -> Self
         ensures { result ≡ [] }
     {
@@ -97,23 +96,23 @@ impl<A: Allocator> Recording<A> {
 }
 
 impl<A: Allocator + Clone> Recording<A> {
-    /// The recording of a text.
+    /// Parses the text of a recording.
     ///
-    /// The text is lines, each ended by a line feed, which the last may lack; one carriage return
-    /// before a line feed is dropped. An empty line and a line that begins with `#` are skipped.
-    /// Each other line is one piece, as `> 0100000001000c0002000000 +1`: `>` to the server or `<`
-    /// to the client; a space; `-` for no bytes, or two hexadecimal digits, of either case, for
-    /// each byte; and where tokens came, a space, a plus sign and their number, 1 to 65,535, in 1
-    /// to 5 decimal digits.
+    /// Each line ends with a line feed, which the last may lack; one carriage return before a line
+    /// feed is dropped. An empty line and a line that begins with `#` are skipped. Every other line
+    /// is one piece, such as `> 0100000001000c0002000000 +1`: `>` to the server or `<` to the
+    /// client; a space; `-` for no bytes, or two hexadecimal digits, of either case, for each byte;
+    /// and, if tokens came, a space, a plus sign and their number, 1 to 65,535, in 1 to 5 decimal
+    /// digits.
     ///
-    /// `BadLine` (RP1) comes exactly where some line is none of these, with the number of the first
-    /// such line. `Memory` (RP2) may come in place of any result.
+    /// `BadLine` (RP1) is returned if and only if some line is none of these, with the number of
+    /// the first such line. `Memory` (RP2) may be returned instead of any result.
     pub fn parse(alloc: A, text: &[u8]) -> Result<Self, RecordingError>
         ensures told { IfOk result (λ pieces. TextRecords text.now pieces) }
         ensures bad { IfErr result
             (λ e. (e ≡ Memory) ⊎ ((n : ℕ) × (e ≡ BadLine n) × IsFirstBad text.now n)) }
 
-        // and the result is the recording of the text, or its bad line
+        // and the result is the recording in the text, or its first bad line
         ensures only { (pieces : List Piece) → TextRecords text.now pieces → (result ≡ Ok pieces)
             ⊎ (result ≡ Err Memory) }
         ensures first { (n : ℕ) → IsFirstBad text.now n → (result ≡ Err (BadLine n))
@@ -122,7 +121,7 @@ impl<A: Allocator + Clone> Recording<A> {
         Recording::read(alloc, text)
     }
 
-    // The recording of a text, or its first bad line.
+    // The recording in a text, or its first bad line.
     fn read(alloc: A, text: &[u8]) -> Result<Self, RecordingError>
         ensures told { IfOk result (λ pieces. TextRecords text.now pieces) }
         ensures bad { IfErr result
@@ -136,7 +135,7 @@ impl<A: Allocator + Clone> Recording<A> {
         Ok(Recording { pieces })
     }
 
-    /// The text of the recording: a line for each piece, ended by a line feed. Digits are of lower
+    /// The text of the recording: a line for each piece, ended by a line feed. Digits are lower
     /// case, and there are no comments.
     pub fn to_text(&self) -> Result<Vec<u8, A>, AllocError>
         ensures text { IfOk result (λ text. text.items ≡ recording_text self.now) }
@@ -149,11 +148,11 @@ impl<A: Allocator + Clone> Recording<A> {
         Ok(text)
     }
 
-    /// Adds what passed at once, at most 65,536 tokens among it.
+    /// Adds what passed at once, with at most 65,536 tokens.
     ///
-    /// Nothing is added where nothing passed. One piece counts at most 65,535 tokens, so 65,536 are
-    /// added as two pieces: 65,535 tokens alone, and then the bytes with one token. Where memory
-    /// runs out, nothing is added.
+    /// Nothing is added if nothing passed. A piece counts at most 65,535 tokens, so 65,536 are
+    /// added as two pieces: 65,535 tokens alone, and then the bytes with one token. Without memory
+    /// nothing is added.
     pub fn add(&mut self, direction: Direction, bytes: &[u8], tokens: u32) -> Result<(), AllocError>
         requires { tokens ≤ 65536 }
         ensures ok { OnOk result (self.new ≡ self.old ++ passed direction bytes.now tokens) }
@@ -166,11 +165,11 @@ impl<A: Allocator + Clone> Recording<A> {
         Ok(())
     }
 
-    /// Adds what is about to pass, with zeros in place of its bytes, as `add` would.
+    /// Adds what is about to pass, as `add` would, but with zeros in place of its bytes.
     ///
-    /// So everything is allocated before anything moves: what passes is then written over the zeros
-    /// by `fill_last`, which cannot fail. `filled_passed` of the proofs says that both together are
-    /// `add`.
+    /// So everything is allocated before anything moves; `fill_last`, which cannot fail, then
+    /// writes what passes over the zeros. `filled_passed` of the proofs says that the two together
+    /// are `add`.
     pub fn prepare(
         &mut self,
         direction: Direction,

@@ -135,7 +135,7 @@ pub answer-is : (state : State) (x : Result (Option Step) NextError) → x ≡ c
     → report_of_step x ≡ next_answer state
 answer-is state x e = ap report_of_step e ∙ sym (answer-checked state)
 
--- what stands in front does not depend on the registries
+-- what is at the front does not depend on the registries
 pub seen-by : (state : State) (globals : List Global) (x : Result (Option Step) NextError) → state.core.failed ≡ false
     → globals ≡ state.globals → x ≡ front_step (server_state state.core globals) → x ≡ checked_front state
 seen-by state globals x h e g =

@@ -1,4 +1,4 @@
--- The bits of a word behind a place.
+-- The bits of a word after a place.
 use Rattle.std.proofs.Common.{◌≡◌, ℕ, ◌+◌, ◌-◌, ◌/◌, ◌^◌, ◌<◌, ◌≤◌, ap, ◌∙◌, inl, inr, arith}
 use Rattle.std.specs.Int.{bit_at, bit_not, trailing_zeros, w64}
 use Rattle.std.specs.Int.Count.{trailing_of_zero}
@@ -13,7 +13,7 @@ use Rattle.std.proofs.lemmas.Nat.Bits.{bit_at-trailing_zeros, bit_at-zero, ones_
 abbrev passed : ℕ → ℕ
 passed p = (2 ^ 64 - 1) / 2 ^ (63 - p)
 
--- the bits of a word behind it
+-- the bits of a word after it
 abbrev pub behind : ℕ → ℕ → ℕ
 behind word p = bit_and word (bit_not w64 (passed p))
 
@@ -25,7 +25,7 @@ passed-is p l =
 passed-small : (p : ℕ) → passed p < 2 ^ 64
 passed-small p = omega (arith, div-le_self (2 ^ 64 - 1) (2 ^ (63 - p)))
 
--- behind a place the bits stay, and up to it they are cleared
+-- after a place the bits stay, and up to it they are cleared
 stays : (word p k : ℕ) → p < k → k < 64 → bit_at (behind word p) k ≡ 0 → bit_at word k ≡ 0
 stays word p k l m h = omega (
   arith,
@@ -46,7 +46,7 @@ cleared word p k l m = omega (
   bit_at_ones (p + 1) k (omega (arith, l)),
 )
 
--- the lowest of these stands behind the place, and none of the word's bits between
+-- the lowest of these is after the place, and none of the word's bits is in between
 pub lowest : (word p : ℕ) → word < 2 ^ 64 → p < 64
     → (p < trailing_zeros w64 (behind word p))
     × ((k : ℕ) → p < k → k < trailing_zeros w64 (behind word p) → bit_at word k ≡ 0)

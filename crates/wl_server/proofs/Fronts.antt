@@ -1,4 +1,4 @@
--- What stands in front of a server's waiting bytes, and that it can be taken.
+-- What is at the front of a server's waiting bytes, and that it can be taken.
 use Rattle.std.proofs.Common.{◌≡◌, ◌≢◌, ℕ, zero, suc, ◌≤◌, Bool, true, false, List, [], ◌∷◌, length}
 use Rattle.std.proofs.Common.{take, drop, Some, None, refl, sym, ap, subst, ◌∙◌, inl, inr, arith}
 use Rattle.std.specs.Prelude.{Option, ◌&&◌, not, nat_lt, nat_eq, slice_get, IsTrue}
@@ -274,7 +274,7 @@ can_take_found core h body waiting m v d s e f =
           };
     }
 
--- ---- the request that was read is what stands in front
+-- ---- the request that was read is what is at the front
 
 -- its own tokens are enough for its report
 tokens_enough : (core : Core) (f : Found) → found core request_side ≡ Ok (Some f)

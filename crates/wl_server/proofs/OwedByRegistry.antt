@@ -78,7 +78,7 @@ mark-other marks n k p l =
     unwrap_or-slice_get (with_mark marks n) (k - 1) false
     ∙ (get_or-set_other marks (n - 1) (k - 1) true false other ∙ sym (unwrap_or-slice_get marks (k - 1) false))
 
--- a name that is marked changes nothing for the names behind it
+-- marking a name changes nothing for the names after it
 pub removals-behind : (r : Registry) (owing : ℕ → Global → Owing) (n m : ℕ) (globals : List Global) → 0 < n → n < m
     → owings (owes_removal r) owing m globals ≡ owings (owes_removal (marked (Removal n) r)) owing m globals
 removals-behind r owing n m globals p l =

@@ -76,7 +76,7 @@ pub length-dues : (tables : List Interface) (xs : List Due) → length xs ≤ du
 length-dues tables [] = omega arith
 length-dues tables (x ∷ xs) = omega (arith, length-dues tables xs, len-least (values_of tables x.owing))
 
--- with the event behind the first ones more bytes are needed
+-- with the event after the first ones more bytes are needed
 pub due_len-take : (tables : List Interface) (xs : List Due) (d : Due) (ds : List Due) (n : ℕ) → length xs < n
     → due_len tables xs + message_len (values_of tables d.owing) ≤ due_len tables (take n (xs ++ d ∷ ds))
 due_len-take tables [] d ds (suc n) h = omega arith

@@ -1,4 +1,4 @@
--- What a server reads of what waits stays the same when more comes behind it.
+-- What a server reads of what waits stays the same when more follows it.
 use Rattle.std.proofs.Common.{◌≡◌, ◌≢◌, ℕ, zero, suc, Bool, true, false, cond, List, [], ◌∷◌, ◌++◌, refl, sym, ap}
 use Rattle.std.proofs.Common.{◌∙◌}
 use Rattle.std.specs.Prelude.{◌&&◌, not, nat_lt, slice_get}
@@ -95,7 +95,7 @@ past_arrived state f bytes tokens h = λ i. record (state_past state f) {
       (registries_after state.core state.registries (made_by_request state.core f.message));
 }
 
--- ---- what stands in front
+-- ---- what is at the front
 
 judged_bad : (f g : Found) (b : Bool) → cond b (Err faults.BadBind) (Ok (Some f)) ≡ Ok (Some g) → f ≡ g
 judged_bad f g true j = absurd (cc j)
@@ -140,7 +140,7 @@ fault_stays state what (Ok (Some f)) e j =
 
 -- ---- what is left
 
--- what is written behind a request changes nothing of what comes in
+-- what is written after a request does not change what comes in
 pub inbox_kept : (b : Bool) (id : ℕ) (core : Core) → (with_following b id core).inbox ≡ core.inbox
 inbox_kept true id core = refl
 inbox_kept false id core = refl

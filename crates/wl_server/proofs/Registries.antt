@@ -93,7 +93,7 @@ among_all_marked : (o : Object) (ds : List Due) (rs : List Registry) → IsAmong
 among_all_marked o [] rs h = h
 among_all_marked o (d ∷ ds) rs h = among_all_marked o ds (marked_in d rs) (among_marked o d rs h)
 
--- ---- what stands in the list
+-- ---- what is in the list
 
 among_before : (o : Object) (rs : List Registry) (r : Registry) → IsAmong o (rs ++ r ∷ [])
     → (r.object ≡ o) ⊎ IsAmong o rs
@@ -104,7 +104,7 @@ among_before o (x ∷ rs) r h = elim h as (λ _. (r.object ≡ o) ⊎ ((x.object
       [ inl q ↦ inl q | inr q ↦ inr (inr q) ]
 ]
 
--- what stands in the list after an opening stood there, or has the next birth
+-- what is in the list after an opening was there before, or has the next birth
 pub among_after : (core : Core) (rs : List Registry) (m : Option NewObject) (o : Object)
     → IsAmong o (registries_after core rs m) → IsAmong o rs ⊎ (o.birth ≡ core.view.client.births)
 among_after core rs None o h = inl h
@@ -514,7 +514,7 @@ pub has_dropped : (core : Core) (rs : List Registry) (object : Object) → Valid
     → None ≡ drop_refusal core object → HasRegistries core.view rs → HasRegistries (after_drop core object).view rs
 has_dropped core rs object v e h = has_fewer core.view rs object.id (not_dropped core object v (sym e)) h
 
--- ---- registries are told
+-- ---- events are sent to registries
 
 pub has_marked : (v : Objects) (d : Due) (rs : List Registry) → HasRegistries v rs → HasRegistries v (marked_in d rs)
 has_marked v d rs h = record {

@@ -90,7 +90,7 @@ removed-kept r n k y ne h =
     ap (λ (b : Bool). (mark_of r.told (k + 1) && not y.present) && not b)
     (mark-apart r.removed (n + 1) (k + 1) (omega arith) (omega arith) (λ e. ne (omega (arith, e)))) ∙ h
 
--- once the removal of a name is told, that of the next is next
+-- after the removal of a name is sent, that of the next is next
 pub removal-settled : (r : Registry) (globals : List Global) (n : ℕ) (x : Global)
     → NoneOf (owes_removal r) globals n → n < length globals → x ≡ get_or globals n x
     → mark_of (with_mark r.removed (n + 1)) (n + 1) ≡ true

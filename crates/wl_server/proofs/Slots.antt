@@ -328,7 +328,7 @@ not-found object low xs i r h =
           omega (arith, more, ap birth_in e, same))
     ])
 
--- ---- a registry is told
+-- ---- an event is sent to a registry
 
 -- how many of the slots before a place are open
 abbrev pub before : ℕ → List Slot → ℕ
@@ -343,7 +343,7 @@ rise-open low high (x ∷ xs) r l p =
     rise-open low high xs (rise-from (suc (birth_in x)) low xs (omega (arith, r.0)) r.1) l (omega (arith, p)) in
     either-way (RiseFrom low high (open_in (x ∷ xs))) x (λ o. rw o (r.0, rest)) (λ o. rw o more)
 
--- the open slot in place i is that of the registry behind those before it
+-- the open slot at place i is that of the registry after those before it
 pub open-place : (xs : List Slot) (i : ℕ) (s : Slot) → i < length xs → s ≡ get_or xs i s → s.is_open ≡ true
     → before i xs < length (open_in xs)
 open-place [] i s l e o = absurd (omega (arith, l))
@@ -392,7 +392,7 @@ owed-append globals (r ∷ rs) ms =
     ap (λ (l : List Due). due_to globals r ++ l) (owed-append globals rs ms)
     ∙ sym (append_assoc (due_to globals r) (owed_in globals rs) (owed_in globals ms))
 
--- what is owed is owed behind the settled slots
+-- what is owed is owed to registries after the settled slots
 pub owed-behind : (globals : List Global) (k : ℕ) (xs : List Slot) → owed_in globals (open_in (take k xs)) ≡ []
     → owed_in globals (open_in xs) ≡ owed_in globals (open_in (drop k xs))
 owed-behind globals k xs none =

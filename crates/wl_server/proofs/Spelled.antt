@@ -87,7 +87,7 @@ fault_text faults.MissingDescriptor = refl
 fault_text faults.BadBind = refl
 fault_text faults.TooManyObjects = refl
 
--- ---- what registries are told
+-- ---- the events for registries
 
 not_zero : (b : ℕ) → IsNameByte b → b ≢ 0
 not_zero b (inl h) e = omega arith

@@ -56,7 +56,7 @@ told-one core rs all count now new r d rest o p own len w =
       fit = omega (arith, due_len-append core.tables p.done (d ∷ []), p.fit, room, short);
     }
 
--- what one registry was told is told of all
+-- what was sent to one registry is part of what was sent to all
 pub told-registry : (core : Core) (rs : List Registry) (all : List Due) (count : ℕ) (now : Core) (ms : List Registry)
     (globals : List Global) (i low high : ℕ) (r after : Registry) (k : ℕ) (new : Core) (rest more : List Due)
     → IsOrdinary core.outbox → RiseFrom low high rs → Progress core rs all count now ms (due_to globals r ++ more)
@@ -168,7 +168,7 @@ some-left : (b : Bool) (now : Core) (rest : List Due) → b ≡ false → MatchB
 some-left true now rest e h = absurd (cc)
 some-left false now rest e h = h
 
--- where all was told, the registries behind are left
+-- if everything was sent, the registries after it are left
 pub told-whole : (core : Core) (rs : List Registry) (all : List Due) (count : ℕ) (now : Core) (xs : List Slot)
     (globals : List Global) (i high : ℕ) (s u : Slot) (told : Announced) (new : Core) → IsOrdinary core.outbox
     → RiseFrom 0 high rs → Progress core rs all count now (open_in xs) (owed_in globals (open_in (drop i xs)))

@@ -1,4 +1,4 @@
--- What the open registries are owed.
+-- The events that the open registries are still owed.
 use Rattle.std.specs.Prelude.{ℕ, suc, ◌+◌, ◌≤◌, Bool, not, ◌&&◌, nat_eq, if◌then◌else◌}
 use Rattle.std.specs.Prelude.{List, [], ◌∷◌, ◌++◌, length, take, map, Some}
 use Rattle.std.specs.Option.{option_map_or}
@@ -19,24 +19,24 @@ pub data Owing : Type 0 where
   -- global of a name
   Telling : (name : ℕ) → Global → Owing
 
--- a registry is owed global_remove of each name that it was told, that is withdrawn and not yet
--- removed
+-- a registry is owed global_remove of each name that was announced to it and is withdrawn, until
+-- that is sent
 abbrev pub owes_removal : Registry → ℕ → Global → Bool
 owes_removal registry name global =
     (mark_of registry.told name && not global.present) && not (mark_of registry.removed name)
 
--- and global of each present name that it was not told
+-- and global of each present name that was not announced to it
 abbrev pub owes_telling : Registry → ℕ → Global → Bool
 owes_telling registry name global = global.present && not (mark_of registry.told name)
 
--- the names of these globals, of which the first has this one, where the test holds
+-- the owed events, by the test, for the names of these globals, numbered from this name
 abbrev pub owings : (ℕ → Global → Bool) → (ℕ → Global → Owing) → ℕ → List Global → List Owing
 owings test owing name [] = []
 owings test owing name (global ∷ globals) =
     if test name global then owing name global ∷ owings test owing (suc name) globals
     else owings test owing (suc name) globals
 
--- what one registry is owed: the removals by rising name, then the globals by rising name
+-- what one registry is owed: the removals in order of name, then the globals in order of name
 abbrev pub owed_to : List Global → Registry → List Owing
 owed_to globals registry =
     owings (owes_removal registry) (λ name _. Removal name) 1 globals
@@ -55,7 +55,7 @@ abbrev pub owed_in : List Global → List Registry → List Due
 owed_in globals [] = []
 owed_in globals (registry ∷ registries) = due_to globals registry ++ owed_in globals registries
 
--- All that is owed: to the open registries by rising birth.
+-- All that is owed, to the open registries in order of birth.
 abbrev pub owed : State → List Due
 owed state = owed_in state.globals state.registries
 
@@ -71,12 +71,12 @@ values_of tables (Removal name) = Uint name ∷ []
 values_of tables (Telling name global) =
     Uint name ∷ Str (Some (name_at tables global.iface)) ∷ Uint global.version ∷ []
 
--- how many bytes these events have
+-- the length of these events in bytes
 abbrev pub due_len : List Interface → List Due → ℕ
 due_len tables [] = 0
 due_len tables (due ∷ dues) = message_len (values_of tables due.owing) + due_len tables dues
 
--- This number of the first owed events is the most that fits into the outbox.
+-- This number is the most of the first owed events that fit into the outbox.
 pub record Fitting (state : State) (count : ℕ) : Type 0 where
   pub there : count ≤ length (owed state)
   pub fits : due_len state.core.tables (take count (owed state)) ≤ room_of state.core.outbox
@@ -84,14 +84,14 @@ pub record Fitting (state : State) (count : ℕ) : Type 0 where
       → due_len state.core.tables (take more (owed state)) ≤ room_of state.core.outbox
       → more ≤ count
 
--- the end with these events written
+-- the end after these events were written
 abbrev pub with_dues : Core → List Due → Core
 with_dues core [] = core
 with_dues core (due ∷ dues) =
     with_dues
     (with_sent core due.object.id (owed_opcode due.owing) (values_of core.tables due.owing) []) dues
 
--- a registry with the mark of an event that it was sent
+-- a registry with the mark of an event that was sent to it
 abbrev pub marked : Owing → Registry → Registry
 marked (Removal name) registry = record registry { removed = with_mark registry.removed name }
 marked (Telling name global) registry = record registry { told = with_mark registry.told name }
@@ -106,7 +106,7 @@ abbrev pub all_marked : List Due → List Registry → List Registry
 all_marked [] registries = registries
 all_marked (due ∷ dues) registries = all_marked dues (marked_in due registries)
 
--- The server after the first of the owed events were written, and marked as told or removed.
+-- The server after the first of the owed events were written and marked as sent.
 abbrev pub after_announce : State → ℕ → State
 after_announce state count = record state {
   core = with_dues state.core (take count (owed state));

@@ -45,7 +45,7 @@ pub record IsLiveOfServer (core : Core) (object : Object) : Type 0 where
   pub made_by_server : is_of_server object.id ≡ true
   pub is_live : is_some (live_row core.view object) ≡ true
 
--- The end after an object was dropped: delete_id is written, and the object is closed.
+-- The end after `drop_object`: delete_id is written, and the object is closed.
 abbrev pub after_drop : Core → Object → Core
 after_drop core object = with_view (with_delete_id core object.id) (closed core.view object.id)
 
@@ -63,7 +63,7 @@ abbrev pub error_refusal : Core → Object → List ℕ → Option SendError
 error_refusal core object text =
     if core.failed then Some refusals.Failed else error_at text (live_row core.view object)
 
--- The end after an error was posted: the event stands last, and the end has failed.
+-- The end after `post_error`: its outbox ends with the event, and the end has failed.
 abbrev pub after_error : Core → Object → ℕ → List ℕ → Core
 after_error core object code text = with_error_event core object.id code text
 
@@ -73,14 +73,14 @@ abbrev pub version_in : ℕ → Option Interface → Bool
 version_in version None = false
 version_in version (Some i) = nat_le 1 version && nat_le version i.version
 
--- what can be advertised: any interface of the tables other than wl_display and wl_registry, at one
--- of its versions
+-- what can be advertised: any interface of the tables except wl_display and wl_registry, at one of
+-- its versions
 abbrev pub can_be_global : List Interface → Iface → ℕ → Bool
 can_be_global tables iface version =
     not (same_iface iface display || same_iface iface registry)
     && version_in version (interface_at tables iface.0)
 
--- the server with one global more, of the next name
+-- the server with one more global, under the next name
 abbrev pub with_global : State → Iface → ℕ → State
 with_global state iface version = record state {
   globals = state.globals ++ record { iface = iface; version = version; present = true } ∷ [];
@@ -89,7 +89,7 @@ with_global state iface version = record state {
 abbrev pub next_name : State → ℕ
 next_name state = length state.globals + 1
 
--- whether there is a global of a name that is not withdrawn
+-- whether a name has a global that is not withdrawn
 abbrev pub is_present : Option Global → Bool
 is_present None = false
 is_present (Some global) = global.present
@@ -101,13 +101,13 @@ abbrev pub without_at : List Global → ℕ → Option Global → List Global
 without_at globals name None = globals
 without_at globals name (Some global) = slice_set globals (name - 1) (withdrawn global)
 
--- the server with a name withdrawn
+-- the server after a name was withdrawn
 abbrev pub after_withdraw : State → ℕ → State
 after_withdraw state name = record state {
   globals = without_at state.globals name (global_of state.globals name);
 }
 
--- Why `add_global` is refused, where no memory is needed: G1, G2, G3.
+-- Why `add_global` is refused, if no memory is needed: G1, G2, G3.
 abbrev pub add_refusal : State → Iface → ℕ → Option GlobalError
 add_refusal state iface version =
     if state.core.failed then Some global_errors.Failed
@@ -121,11 +121,11 @@ withdraw_refusal state name =
     if state.core.failed then Some global_errors.Failed
     else if is_present (global_of state.globals name) then None else Some global_errors.NoSuchGlobal
 
--- a result where nothing refuses it
+-- a result, unless it is refused
 abbrev pub ok_unless : {X E : Type 0} → Option E → X → Result X E
 ok_unless None x = Ok x
 ok_unless (Some why) x = Err why
 
--- What `add_global` returns, where no memory is needed: the name, or why it is refused.
+-- What `add_global` returns, if no memory is needed: the name, or why it is refused.
 abbrev pub add_answer : State → Iface → ℕ → Result ℕ GlobalError
 add_answer state iface version = ok_unless (add_refusal state iface version) (next_name state)

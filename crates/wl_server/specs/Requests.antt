@@ -1,4 +1,4 @@
--- What a server reads, and what it makes of it.
+-- What a server reads, and what state that leaves.
 use Rattle.std.specs.Prelude.{ℕ, slice_get, Bool, false, ◌&&◌, not, nat_lt, nat_le, bytes_eq}
 use Rattle.std.specs.Prelude.{if◌then◌else◌, List, [], ◌∷◌, codes, is_some, Option, Some, None}
 use Rattle.std.specs.declared.result.Result.{Result}
@@ -37,8 +37,8 @@ abbrev pub name_fits : List ℕ → Option Interface → Bool
 name_fits name None = false
 name_fits name (Some i) = bytes_eq i.name name
 
--- whether a bind names a global that was ever advertised, withdrawn or not, by its interface and a
--- version from 1 to the advertised one
+-- whether a bind names a global that was ever advertised, withdrawn or not, with its interface and
+-- a version from 1 to the advertised one
 abbrev pub was_advertised : List Interface → List ℕ → ℕ → Option Global → Bool
 was_advertised tables iface version None = false
 was_advertised tables iface version (Some global) =
@@ -61,7 +61,7 @@ unless_bad_bind state (Ok (Some f)) =
     then Err faults.BadBind else Ok (Some f)
 unless_bad_bind state other = other
 
--- What stands in front of a server's waiting bytes.
+-- What is at the front of a server's waiting bytes.
 abbrev pub request : State → Result (Option Found) Fault
 request state = unless_bad_bind state (found state.core request_side)
 
@@ -85,12 +85,12 @@ fault_message faults.MissingDescriptor = codes "missing descriptor"
 fault_message faults.BadBind = codes "bad bind"
 fault_message faults.TooManyObjects = codes "too many objects"
 
--- the server after a fault: the error event for object 1 comes after all else
+-- the server after a fault: its outbox ends with the error event for object 1
 abbrev pub after_fault : State → Fault → State
 after_fault state fault =
     with_core state (with_error_event state.core 1 (fault_code fault) (fault_message fault))
 
--- ---- what a request leaves
+-- ---- the state after a request
 
 -- the object that a request makes
 abbrev pub made_by_request : Core → Received → Option NewObject
@@ -106,8 +106,8 @@ reported_object (Some (Obj (named_as.Live object))) = object
 reported_object (Some (Obj (named_as.Dead object))) = object
 reported_object _ = record { id = 0; birth = 0 }
 
--- the object that a request destroys, if it destroys one, by what is reported of the request: its
--- target, or the object that an argument names
+-- the object that a request destroys, if it destroys one, from its report: its target, or the
+-- object that an argument names
 abbrev pub ended_object : Destroys → Report → Object
 ended_object Nothing report = report.target
 ended_object Target report = report.target
@@ -123,19 +123,19 @@ report core f = record {
 abbrev pub ended : Core → Found → Object
 ended core f = ended_object f.message.signature.destroys (report core f)
 
--- whether a request is answered by a delete_id: it destroys an object that the client made
+-- whether a request must be followed by a delete_id: it destroys an object that the client made
 abbrev pub owes_delete_id : Core → Found → Bool
 owes_delete_id core f = destroys_it f.message && not (is_of_server (ended core f).id)
 
 -- the end after a request: its message is taken, the object that it makes is opened, and the one
--- that it destroys is closed, with its delete_id written where the client made it
+-- that it destroys is closed, with its delete_id written if the client made it
 abbrev pub core_after : Core → Found → Core
 core_after core f =
     with_following (owes_delete_id core f) (ended core f).id
     (with_view (past_found core f) (after event_side core.view (made_by_request core f.message)
     f.message.signature.destroys (ended core f).id))
 
--- a new registry was told nothing yet
+-- nothing was announced yet to a new registry
 abbrev pub registries_after : Core → List Registry → Option NewObject → List Registry
 registries_after core registries None = registries
 registries_after core registries (Some m) =
@@ -149,21 +149,21 @@ state_past state f = record state {
       (registries_after state.core state.registries (made_by_request state.core f.message));
 }
 
--- ---- reading the next message, where no memory is needed
+-- ---- reading the next message, if no memory is needed
 
--- whether a report needs memory, which is for its arguments
+-- whether a report needs memory, for its arguments
 abbrev pub needs_memory : Report → Bool
 needs_memory report = not (is_none report.args)
 
--- a request that is answered by a delete_id needs room for it
+-- whether the outbox lacks room for the delete_id that must follow the request
 abbrev pub is_out_full : Core → Found → Bool
 is_out_full core f = owes_delete_id core f && nat_lt (room_of core.outbox) delete_id_len
 
--- After each request more can be read.
+-- More can be read after any request.
 abbrev pub is_last : Report → Bool
 is_last report = false
 
--- whether what stands in front opens an object
+-- whether the first message opens an object
 abbrev pub request_opens : Core → Result (Option Found) Fault → Bool
 request_opens core (Ok (Some f)) = is_some (made_by_request core f.message)
 request_opens core _ = false
@@ -183,16 +183,16 @@ server_role = record {
   opens = λ state. request_opens state.core (request state);
 }
 
--- What `next` returns: what the first message is, nothing where none is whole, or why it cannot be
--- read.
+-- What `next` returns: the report of the first message, nothing if it is not whole, or why it
+-- cannot be read.
 abbrev pub next_answer : State → Result (Option Report) NextError
 next_answer state = role_answer server_role state
 
--- What `next` leaves.
+-- The state that `next` leaves.
 abbrev pub after_next : State → State
 after_next state = role_after server_role state
 
--- What `next_owned` returns where memory can be refused: out of memory stands only in place of a
--- report that needs some. A request that opens an object has such a report.
+-- What `next_owned` returns if memory can be refused: the same, except that it may be out of memory
+-- for a report that needs some. A request that opens an object has such a report.
 abbrev pub IsServerNext : State → Result (Option Report) NextError → Type 0
 IsServerNext state result = IsReportNext server_role state result

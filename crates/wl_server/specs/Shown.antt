@@ -1,4 +1,4 @@
--- What is printed of a request that a server has read.
+-- What is printed for a request that a server has read.
 use Rattle.std.specs.Prelude.{ℕ, List, Some}
 use Rattle.wl_sigs.specs.declared.signature.Side.TheVariants.{Request as request_side}
 use Rattle.wl_sigs.specs.Tables.{Interface}

@@ -1,4 +1,4 @@
--- How a server keeps its open registries.
+-- How a server stores its open registries.
 use Rattle.std.specs.Prelude.{◌≡◌, ℕ, suc, ◌≤◌, max, List, [], ◌∷◌, length, map, take}
 use Rattle.std.specs.List.{filter}
 use Rattle.wl_connection.specs.Core.{Core, max_globals}
@@ -8,9 +8,9 @@ use Rattle.wl_server.specs.State.{Global, Registry}
 use Rattle.wl_server.specs.Announcing.{owed_in}
 use Rattle.wl_server.specs.Registries.{HasRegistries}
 
--- The open registries, how many of them, from the first on, are known to be owed nothing, a number
--- that is above the births of all registries that were kept, for how many more there is room, and how
--- many that are closed still take room.
+-- The open registries; how many of the first ones are known to be owed nothing; a number above the
+-- births of all registries that were kept; for how many more there is room; and how many closed
+-- ones still take room.
 pub record KeptRegistries : Type 0 where
   pub list : List Registry
   pub settled : ℕ
@@ -18,35 +18,35 @@ pub record KeptRegistries : Type 0 where
   pub room : ℕ
   pub closed : ℕ
 
--- the registries of the slots that are open
+-- the registries of the open slots
 abbrev pub open_in : List Slot → List Registry
 open_in slots = map (λ slot. slot.registry) (filter (λ slot. slot.is_open) slots)
 
--- the slots' births rise, from a number on
+-- the slots' births rise, starting at a number or above
 abbrev pub SlotsRise : ℕ → List Slot → Type 0
 SlotsRise low [] = Unit {0}
 SlotsRise low (slot ∷ slots) =
     (low ≤ slot.registry.object.birth) × SlotsRise (suc slot.registry.object.birth) slots
 
--- the least number that is above their births
+-- the least number above their births
 abbrev pub past_of : List Slot → ℕ
 past_of [] = 0
 past_of (slot ∷ slots) = max (suc slot.registry.object.birth) (past_of slots)
 
--- what is known to be owed nothing
+-- the registries that are known to be owed nothing
 abbrev pub settled_in : KeptRegistries → List Registry
 settled_in kept = take kept.settled kept.list
 
--- where nothing was owed to what was settled before, nothing is owed to what is settled after
+-- if nothing was owed to the settled registries before, nothing is owed to those after
 abbrev pub KeepsSettled : KeptRegistries → KeptRegistries → Type 0
 KeepsSettled before after = (globals : List Global) → owed_in globals (settled_in before) ≡ []
     → owed_in globals (settled_in after) ≡ []
 
--- What holds of a server between calls.
+-- What holds for a server between calls.
 pub record IsSound (core : Core) (globals : List Global) (kept : KeptRegistries) : Type 0 where
   pub few : length globals ≤ max_globals
   pub registries : HasRegistries core.view kept.list
   pub past : kept.past ≤ core.view.client.births
   pub settled : owed_in globals (settled_in kept) ≡ []
-  -- no event destroys an object that the server made
+  -- no event destroys any object that the server made
   pub lasting : NoEventEndsMade core.tables core.view

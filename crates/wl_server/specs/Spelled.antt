@@ -1,4 +1,4 @@
--- What a server writes of itself, as spellings by the signatures of its tables.
+-- What a server writes on its own, as spellings by the signatures of its tables.
 use Rattle.std.specs.Prelude.{◌≡◌, ℕ, ◌<◌, ◌^◌, true, List, [], ◌∷◌, Some}
 use Rattle.wl_wire.specs.Argument.{Argument, Uint}
 use Rattle.wl_sigs.specs.declared.signature.Side.TheVariants.{Event}
@@ -10,8 +10,8 @@ use Rattle.wl_connection.specs.Spelled.{MessageSpells}
 use Rattle.wl_server.specs.Calls.{is_error_text}
 use Rattle.wl_server.specs.Announcing.{Due, Owing, Removal, Telling, owed_opcode, values_of}
 
--- A message for this object, with these values, is a spelling of them by the signature that valid
--- tables have for it.
+-- A message for this object is a spelling of these values by the signature that valid tables have
+-- for it.
 abbrev pub IsSpelled : List Interface → (place object opcode : ℕ) → List Argument → Type 0
 IsSpelled tables place object opcode values =
     Valid tables → (signature : MessageSignature)

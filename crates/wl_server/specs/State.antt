@@ -1,4 +1,5 @@
--- What a server is: an end, the globals that it has added, and what each open registry was told.
+-- The state of a server: an end, the globals that it added, and what was announced to each open
+-- registry.
 use Rattle.std.specs.Prelude.{ℕ, zero, suc, ◌-◌, ◌≤◌, Bool, true, false, List, [], ◌∷◌, slice_get}
 use Rattle.std.specs.Prelude.{slice_set, unwrap_or, replicate, Option, None}
 use Rattle.wl_wire.specs.declared.kind.Iface.{Iface}
@@ -8,14 +9,14 @@ use Rattle.wl_object_map.specs.declared.object.Object.{Object}
 use Rattle.wl_connection.specs.Core.{Core, new_core}
 use Rattle.wl_connection.specs.Core.{max_globals}
 
--- a global: what is advertised, and whether it is still there or was withdrawn
+-- a global: what is advertised, and whether it is present or withdrawn
 pub record Global : Type 0 where
   pub iface : Iface
   pub version : ℕ
   pub present : Bool
 
--- an open registry, with a mark for each name that it was told, and for each whose removal it was
--- told
+-- an open registry, with a mark for each name announced to it, and for each whose removal was sent
+-- to it
 pub record Registry : Type 0 where
   pub object : Object
   pub told : List Bool
@@ -34,7 +35,7 @@ new_state tables sizes = record { core = new_core tables sizes; globals = []; re
 abbrev pub with_core : State → Core → State
 with_core state core = record state { core = core }
 
--- the global of a name, whether present or withdrawn
+-- the global with a name, present or withdrawn
 abbrev pub global_of : List Global → ℕ → Option Global
 global_of globals zero = None
 global_of globals (suc place) = slice_get globals place
@@ -43,11 +44,11 @@ global_of globals (suc place) = slice_get globals place
 abbrev pub mark_of : List Bool → ℕ → Bool
 mark_of marks name = unwrap_or (slice_get marks (name - 1)) false
 
--- the marks with that of a name set
+-- the marks after a name was marked
 abbrev pub with_mark : List Bool → ℕ → List Bool
 with_mark marks name = slice_set marks (name - 1) true
 
--- a registry that was told nothing yet
+-- a registry to which nothing was announced yet
 abbrev pub untold : Object → Registry
 untold object = record {
   object = object;
@@ -55,7 +56,8 @@ untold object = record {
   removed = replicate max_globals false;
 }
 
--- the births of these registries rise, from the first number on and below the last
+-- the births of these registries rise, starting at the first number or above, and are below the
+-- last
 abbrev pub RiseFrom : ℕ → ℕ → List Registry → Type 0
 RiseFrom low high [] = low ≤ high
 RiseFrom low high (r ∷ registries) =

@@ -1,4 +1,4 @@
--- How far the registries have been told of the globals, event by event.
+-- How far the globals have been announced to the registries, event by event.
 use Rattle.std.specs.Prelude.{◌≡◌, ℕ, ◌≤◌, ◌<◌, Bool, List, [], ◌∷◌, ◌++◌, length, map}
 use Rattle.std.specs.Bool.{MatchBool}
 use Rattle.wl_message.specs.Outgoing.{room_of}
@@ -15,7 +15,7 @@ use Rattle.wl_server.specs.Announcing.{all_marked}
 abbrev pub dues_for : Object → List Owing → List Due
 dues_for object list = map (λ owing. record { object = object; owing = owing }) list
 
--- Of all that was owed this number of events is written and marked, and these are left.
+-- This number of the owed events is written and marked, and these are left.
 pub record Progress (core : Core) (registries : List Registry) (all : List Due) (count : ℕ)
     (now : Core) (marked : List Registry) (rest : List Due) : Type 0 where
   pub done : List Due
@@ -25,7 +25,7 @@ pub record Progress (core : Core) (registries : List Registry) (all : List Due) 
   pub marks : marked ≡ all_marked done registries
   pub fit : due_len core.tables done ≤ room_of core.outbox
 
--- an event for the registry of this id was written where it fits, and else nothing
+-- an event for the registry with this id was written if it fits; else nothing was
 abbrev pub IsWritten : Core → ℕ → Owing → Bool → Core → Type 0
 IsWritten core registry owing written now = MatchBool written
     ((message_len (values_of core.tables owing) ≤ room_of core.outbox)
@@ -37,7 +37,7 @@ abbrev pub IsBlocked : Core → List Due → Type 0
 IsBlocked core [] = ⊥
 IsBlocked core (due ∷ dues) = room_of core.outbox < message_len (values_of core.tables due.owing)
 
--- All that was owed is told, or as much as fits.
+-- All that was owed is written, or as much as fits.
 pub record IsAnnounced (core : Core) (registries : List Registry) (all : List Due)
     (told : Announced)
     (now : Core) (marked : List Registry) : Type 0 where

@@ -20,15 +20,14 @@ use wl_sigs::Tables;
 use wl_sigs::event::wl_registry::{GLOBAL, GLOBAL_REMOVE};
 use wl_wire::Iface;
 
-/// How many events were written, and whether these were all that were owed. Where they were not,
-/// the next does not fit.
+/// How many events were written, and whether these were all; if not, the next one does not fit.
 #[derive(Clone, Copy)]
 pub(crate) struct Announced {
     pub(crate) count: usize,
     pub(crate) all: bool,
 }
 
-/// The name of an interface; none past the tables, where no global is.
+/// The name of an interface; empty for one outside the tables, which no global has.
 fn name_at(tables: &Tables, iface: Iface) -> &[u8]
     ensures name { result.now ≡ name_at tables.now iface }
     ensures text { IsText result.now }
@@ -40,7 +39,7 @@ fn name_at(tables: &Tables, iface: Iface) -> &[u8]
     }
 }
 
-/// Writes global_remove of a name to a registry; nothing where it does not fit.
+/// Writes global_remove of a name to a registry, if it fits.
 fn write_global_remove<T: Table>(core: &mut Core<'_, T>, registry: u32, name: u32) -> bool
     ensures { IsWritten core.old registry (Removal name) result core.new }
 {
@@ -53,7 +52,7 @@ fn write_global_remove<T: Table>(core: &mut Core<'_, T>, registry: u32, name: u3
     true
 }
 
-/// Writes global of a name to a registry; nothing where it does not fit.
+/// Writes global of a name to a registry, if it fits.
 fn write_global<T: Table>(
     core: &mut Core<'_, T>,
     registry: u32,
@@ -76,8 +75,8 @@ fn write_global<T: Table>(
     true
 }
 
-/// Writes to one registry what it is owed, as far as it fits. Goes at once from one name to the next
-/// of which something is owed, within 64 names.
+/// Writes the events that one registry still needs, until one does not fit; skips names 64 at a
+/// time.
 pub(crate) fn announce_to<T: Table>(
     core: &mut Core<'_, T>,
     globals: &[Advertised],
@@ -122,12 +121,12 @@ pub(crate) fn announce_to<T: Table>(
 }
 
 impl<'t, T: Table> Server<'t, T> {
-    /// Writes to the open registries what they are owed: by rising birth, to each first
-    /// global_remove for the globals that were withdrawn, then global for those that are new to it,
-    /// by rising name. Stops at the first event that does not fit. Returns how many events were
-    /// written, and refuses only with S1. Never runs out of memory.
+    /// Writes the events that the open registries still need, to the registries in order of birth;
+    /// to each first global_remove for withdrawn globals, then global for new ones, in order of
+    /// name. Stops at the first event that does not fit. Returns how many events were written; the
+    /// only refusal is S1. Never runs out of memory.
     pub fn announce(&mut self) -> Result<usize, SendError>
-        // These are the open registries: all of them and no other object, by rising births.
+        // These are the open registries: all of them and no other object, in order of birth.
         ensures registries { HasRegistries self.old.core.view self.old.registries }
         ensures ok { IfOk result
             (λ count. (self.old.core.failed ≡ false) × Fitting self.old count

@@ -10,7 +10,7 @@ use wl_objects::{Received, Values, is_bind};
 use wl_sigs::{Side, Tables};
 use wl_wire::ValueRef;
 
-/// Whether a message is a bind that names no global that was ever advertised so.
+/// Whether a message is a bind that names no global that was ever advertised in this way.
 pub(crate) fn is_bad_bind(
     tables: &Tables,
     globals: &[Advertised],
@@ -24,7 +24,7 @@ pub(crate) fn is_bad_bind(
         && !is_good_bind(tables, globals, &message.values())
 }
 
-/// Whether the arguments of a bind name a global that was ever advertised, by its interface and a
+/// Whether the arguments of a bind name a global that was ever advertised, with its interface and a
 /// version from 1 to the advertised one.
 fn is_good_bind(tables: &Tables, globals: &[Advertised], values: &Values<'_>) -> bool
     ensures { result ≡ is_good_bind_of tables.now globals.now values.now }
@@ -43,8 +43,8 @@ fn is_good_bind(tables: &Tables, globals: &[Advertised], values: &Values<'_>) ->
     }
 }
 
-/// Whether a global, present or withdrawn, is of this interface and was advertised with at least
-/// this version.
+/// Whether a global, present or withdrawn, has this interface and was advertised with at least this
+/// version.
 fn was_advertised(tables: &Tables, iface: &[u8], version: u32, global: Option<Advertised>) -> bool
     ensures { result ≡ was_advertised tables.now iface.now version global }
 {

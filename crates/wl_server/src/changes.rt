@@ -1,4 +1,4 @@
-//! The changes that a request makes at a server: among its objects, and its open registries.
+//! The changes that a request makes at a server: to its objects, and to its open registries.
 ghost use Rattle.std.specs.Prelude.{◌≡◌, ◌≢◌, ◌≤◌, Some, None, IsTrue, OnOk, false, OnErr};
 ghost use Rattle.std.specs.Option.{option_map_or};
 ghost use Rattle.wl_sigs.specs.Fixed.{registry};
@@ -53,8 +53,8 @@ pub(crate) fn open_new_object<T: Table>(
     }
 }
 
-/// Opens an object, and where it is a registry makes room for it. Where there is no memory nothing
-/// opens, and the open registries are the same.
+/// Opens an object, and reserves room for it if it is a registry. Without memory nothing is opened,
+/// and the open registries do not change.
 fn open_object<T: Table>(
     core: &mut Core<'_, T>,
     registries: &mut OpenRegistries<T::Alloc>,
@@ -84,7 +84,7 @@ fn open_object<T: Table>(
     Ok(())
 }
 
-/// Opens an object at an id that is free. Where there is no memory nothing changes.
+/// Opens an object at a free id. Without memory nothing changes.
 fn open_free<T: Table>(core: &mut Core<'_, T>, made: NewObject) -> Result<(), AllocError>
     requires free { HasFreeId core.old.view (Some made) }
     ensures ok { OnOk result (core.new ≡ with_view core.old (opens core.old.view (Some made))) }
@@ -98,7 +98,7 @@ fn open_free<T: Table>(core: &mut Core<'_, T>, made: NewObject) -> Result<(), Al
     }
 }
 
-/// Closes an object that a request destroys, and writes the delete_id of one that the client made.
+/// Closes an object that a request destroys, and writes its delete_id if the client made it.
 pub(crate) fn close_object<T: Table>(
     core: &mut Core<'_, T>,
     registries: &mut OpenRegistries<T::Alloc>,
@@ -125,7 +125,7 @@ pub(crate) fn close_object<T: Table>(
     }
 }
 
-/// Whether the object of an id is a registry.
+/// Whether the object with an id is a registry.
 fn is_registry<T: Table>(core: &Core<'_, T>, id: u32) -> bool
     ensures { result
         ≡ option_map_or (λ entry. same_iface entry.iface registry) (look core.now.view id) false }

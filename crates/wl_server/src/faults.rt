@@ -1,4 +1,4 @@
-//! What a server writes after a fault: wl_display.error, by which the connection ends.
+//! What a server writes after a fault: wl_display.error, which ends the connection.
 ghost use Rattle.std.specs.Prelude.{◌≡◌, ◌≤◌, IsTrue, false, length};
 ghost use Rattle.wl_objects.specs.Writing.{has_no_nul};
 ghost use Rattle.wl_connection.specs.Sending.{max_error_text};
@@ -9,7 +9,7 @@ use wl_connection::Core;
 use wl_object_map::DISPLAY_ID;
 use wl_objects::{Fault, NextError, Table};
 
-/// Writes the error event of a fault, which is the end of the connection.
+/// Writes the error event of a fault, which ends the connection.
 pub(crate) fn report_fault<T: Table>(core: &mut Core<'_, T>, why: NextError)
     requires { core.old.failed ≡ false }
     ensures { core.new ≡ core_told core.old why }

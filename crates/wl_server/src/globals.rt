@@ -17,7 +17,7 @@ use wl_objects::{DISPLAY, REGISTRY, Table};
 use wl_sigs::Tables;
 use wl_wire::Iface;
 
-/// A global. Its name is its place, counted from 1.
+/// A global. Its name is its index plus 1.
 #[derive(Clone, Copy, Debug)]
 pub(crate) struct Advertised {
     pub(crate) iface: Iface,
@@ -41,10 +41,10 @@ impl Model for Advertised {
 pub enum GlobalError {
     /// G1: the server has failed.
     Failed,
-    /// G2: wl_display, wl_registry, an interface that is not in the tables, or a version that is 0
-    /// or above the one in the tables.
+    /// G2: the interface is wl_display, wl_registry or not in the tables, or the version is 0 or
+    /// above the one in the tables.
     BadGlobal,
-    /// G3: 1,024 globals were added in the server's life.
+    /// G3: 1,024 globals were added in the server's lifetime.
     TooMany,
     /// G4: there is no memory for the global.
     Memory,
@@ -105,7 +105,7 @@ impl<'t, T: Table> Server<'t, T> {
     }
 
     /// Withdraws a global. G1 is tested before G5. The global can still be bound, and `announce`
-    /// sends global_remove to the registries that were told of it. Allocates nothing.
+    /// sends global_remove to the registries to which it was announced. Allocates nothing.
     pub fn withdraw(&mut self, name: u32) -> Result<(), GlobalError>
         ensures answer { refusal_in result ≡ withdraw_refusal self.old name }
         ensures ok { OnOk result (self.new ≡ after_withdraw self.old name) }
@@ -141,7 +141,7 @@ fn can_be_global(tables: &Tables, iface: Iface, version: u32) -> bool
     }
 }
 
-/// The global of a name, whether present or withdrawn.
+/// The global with a name, present or withdrawn.
 pub(crate) fn global_of(globals: &[Advertised], name: u32) -> Option<Advertised>
     ensures { result ≡ global_of globals.now name }
 {
@@ -149,7 +149,7 @@ pub(crate) fn global_of(globals: &[Advertised], name: u32) -> Option<Advertised>
     globals.get(place as usize).copied()
 }
 
-/// The names of the withdrawn ones among these globals.
+/// The names of the withdrawn globals among these.
 pub(crate) fn withdrawn_names(globals: &[Advertised]) -> Marks
     requires { length globals.now ≤ max_globals }
     ensures { AreWithdrawn globals.now result }

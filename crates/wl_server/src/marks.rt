@@ -1,4 +1,4 @@
-//! Marks of the names of globals, a bit for each.
+//! Marks for the names of globals, one bit each.
 ghost use Rattle.std.specs.Prelude.{◌≡◌, ◌≤◌, ◌<◌, ◌+◌, ◌*◌, ◌/◌, ◌%◌, ◌==◌, ℕ, true, false};
 ghost use Rattle.std.specs.Prelude.{replicate};
 ghost use Rattle.std.specs.Int.{bit_at};
@@ -10,10 +10,10 @@ use std::marker::Model;
 /// How many marks a word has.
 pub(crate) const WORD_LEN: usize = 64;
 
-/// How many words have a mark for each name, of which there are 1,024.
+/// How many words hold a mark for each of the 1,024 names.
 const WORD_COUNT: usize = 16;
 
-/// A mark for each of the names 1 to 1,024. That of a name stands at the name less 1.
+/// A mark for each of the names 1 to 1,024. The mark of a name is at place `name - 1`.
 #[derive(Debug, Drop)]
 pub(crate) struct Marks {
     words: [u64; WORD_COUNT],
@@ -58,8 +58,8 @@ impl Marks {
         self.words[place / WORD_LEN] |= 1 << (place % WORD_LEN);
     }
 
-    /// The marks of 64 names, of which the first is 64 times `word` and 1: a bit for each, the
-    /// lowest first.
+    /// The marks of names `64 * word + 1` to `64 * word + 64`, one bit each, the lowest name in bit
+    /// 0.
     pub(crate) fn word(&self, word: usize) -> u64
         requires { word < 16 }
         ensures { (k : ℕ) → k < 64 → (bit_at result k == 1) ≡ mark_of self.now (64 * word + k + 1) }
@@ -68,8 +68,7 @@ impl Marks {
     }
 }
 
-/// The next place behind this one whose bit is set in the word that has both; the first place
-/// behind the word where none is.
+/// The next set bit after `place` in its word; if none is set, the first place of the next word.
 pub(crate) fn next_in(word: u64, place: usize) -> usize
     requires { place < max_globals }
     ensures behind { place < result }

@@ -1,4 +1,4 @@
-//! The open registries of a server's client, by rising births.
+//! The open registries of a server's client, in order of birth.
 ghost use Rattle.std.specs.Prelude.{◌≡◌, ◌≤◌, ◌<◌, ◌+◌, ◌∷◌, ◌++◌, [], true, OnOk, OnErr, length};
 ghost use Rattle.std.specs.Prelude.{take};
 ghost use Rattle.std.specs.List.{count_by};
@@ -19,16 +19,16 @@ use std::marker::Model;
 use wl_connection::Core;
 use wl_objects::{Object, Table};
 
-/// The open registries of a client. One that is closed keeps its slot until more than half of the
-/// slots are closed, or there is no memory for a new one, and then all these go at once: on average
-/// a closing costs no more beside many registries than beside few.
+/// The open registries of a client. A closed one keeps its slot until more than half of the slots
+/// are closed, or there is no memory for a new one; then all closed slots are removed at once. So
+/// on average a closing costs the same, however many registries there are.
 #[derive(Drop)]
 pub(crate) struct OpenRegistries<A: Allocator> {
-    /// By rising births.
+    /// In order of birth.
     slots: Vec<Slot, A>,
     /// How many slots are closed.
     closed: usize,
-    /// The registries of so many slots, from the first on, are known to be owed nothing.
+    /// The first `settled` slots need no event.
     settled: usize,
 }
 
@@ -60,8 +60,8 @@ fn count_open(slots: &[Slot]) -> usize
     slots.iter().filter(|slot| slot.is_open).count()
 }
 
-/// Writes to the registries of slots what they are owed, as far as it fits, from a place on. The
-/// place moves behind the registries that are then owed nothing.
+/// Writes the events that the registries of slots still need, from a place on, until one does not
+/// fit. The place moves past the registries that then need none.
 fn announce_from<T: Table>(
     core: &mut Core<'_, T>,
     globals: &[Advertised],
@@ -98,7 +98,7 @@ fn announce_from<T: Table>(
 }
 
 impl<A: Allocator + Drop> OpenRegistries<A> {
-    /// No registries, and room for none.
+    /// No registries, and no room reserved.
     pub(crate) fn new(alloc: A) -> Self
         ensures list { result.list ≡ [] }
         ensures settled { settled_in result ≡ [] }
@@ -111,8 +111,8 @@ impl<A: Allocator + Drop> OpenRegistries<A> {
         }
     }
 
-    /// Makes room for one more. Where there is no memory, the slots that are closed give theirs; it
-    /// fails only where none is.
+    /// Reserves room for one more. Without memory, the closed slots are reused; it fails only if
+    /// there are none.
     pub(crate) fn reserve(&mut self) -> Result<(), AllocError>
         ensures list { self.new.list ≡ self.old.list }
         ensures settled { KeepsSettled self.old self.new }
@@ -130,7 +130,7 @@ impl<A: Allocator + Drop> OpenRegistries<A> {
         Ok(())
     }
 
-    /// Puts a registry that was told nothing yet behind the others. Allocates nothing.
+    /// Appends a registry to which nothing was announced yet. Allocates nothing.
     pub(crate) fn push_reserved(&mut self, object: Object)
         requires room { 0 < self.old.room }
         requires past { self.old.past ≤ object.birth }
@@ -144,7 +144,7 @@ impl<A: Allocator + Drop> OpenRegistries<A> {
         });
     }
 
-    /// From now on each registry may be owed something.
+    /// From now on any registry may need an event.
     pub(crate) fn unsettle(&mut self)
         ensures list { self.new.list ≡ self.old.list }
         ensures settled { settled_in self.new ≡ [] }
@@ -153,7 +153,7 @@ impl<A: Allocator + Drop> OpenRegistries<A> {
         self.settled = 0;
     }
 
-    /// Takes out the registry that this object is. Allocates nothing.
+    /// Removes the registry with this object. Allocates nothing.
     pub(crate) fn remove(&mut self, object: Object)
         ensures list { self.new.list ≡ without_object true object self.old.list }
         ensures settled { KeepsSettled self.old self.new }
@@ -178,7 +178,7 @@ impl<A: Allocator + Drop> OpenRegistries<A> {
         }
     }
 
-    /// Takes out the slots that are closed. Allocates nothing, and keeps their room.
+    /// Removes the closed slots. Allocates nothing, and keeps their memory.
     fn compact(&mut self)
         ensures list { self.new.list ≡ self.old.list }
         ensures settled { self.new.settled ≡ self.old.settled }
@@ -190,8 +190,8 @@ impl<A: Allocator + Drop> OpenRegistries<A> {
         self.closed = 0;
     }
 
-    /// Writes to the open registries what they are owed, as far as it fits. Passes over those that
-    /// are known to be owed nothing.
+    /// Writes the events that the open registries still need, until one does not fit. Skips those
+    /// that are known to need none.
     pub(crate) fn announce<T: Table>(
         &mut self,
         core: &mut Core<'_, T>,

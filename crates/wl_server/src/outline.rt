@@ -1,4 +1,4 @@
-//! The report of a request without its arguments, which it lends or copies.
+//! The report of a request without its arguments, which a report borrows or copies.
 ghost use Rattle.std.specs.Prelude.{◌≡◌, ◌≢◌, [], IfOk, OnErr};
 ghost use Rattle.wl_server.specs.Seen.{lent_report, report_of};
 ghost use Rattle.wl_server.specs.Steps.{outlined};
@@ -7,8 +7,8 @@ use crate::report::{OwnedRequest, Request};
 use std::alloc::{AllocError, Allocator};
 use wl_objects::{Args, Object, ParsedArgs};
 
-/// What is reported of a request. Where its arguments and its tokens lie is said when the report is
-/// lent or copied.
+/// The report of a request. Its arguments and tokens are added when the report is borrowed or
+/// copied.
 #[derive(Clone, Copy, Debug)]
 pub(crate) struct Outline {
     pub(crate) target: Object,
@@ -18,7 +18,7 @@ pub(crate) struct Outline {
 }
 
 impl Outline {
-    /// The report of a request with these arguments, this body and these tokens, which are lent.
+    /// The report of a request, borrowing these arguments, this body and these tokens.
     pub(crate) fn lend<'a>(
         &self,
         args: &'a ParsedArgs,
@@ -34,8 +34,8 @@ impl Outline {
         }
     }
 
-    /// The report of a request with these arguments, this body and these tokens, in memory of its
-    /// own, which is taken only where there are arguments.
+    /// The report of a request with these arguments, this body and these tokens, owned. Memory is
+    /// needed only if there are arguments.
     pub(crate) fn to_owned<A: Allocator + Clone + Drop>(
         &self,
         alloc: &A,

@@ -1,4 +1,4 @@
-//! What stands in front of a server's inbox: a request that was read and not yet taken.
+//! The message at the front of a server's inbox: a request that was read and not yet taken.
 ghost use Rattle.std.specs.Prelude.{◌≡◌, ◌&&◌, ℕ, List, Some, IfOk, IfSome, nat_lt};
 ghost use Rattle.wl_wire.specs.Word.{IsHeader};
 ghost use Rattle.wl_sigs.specs.declared.signature.Side.TheVariants.{Request as request_side};
@@ -25,15 +25,15 @@ use wl_objects::{
 };
 use wl_sigs::{Destroys, Side, Tables};
 
-/// A request that was read and not yet taken: what is reported of it, and what it changes. It lends
-/// nothing; its arguments lie at the end that read it.
+/// A request that was read and not yet taken: its report and its changes. It borrows nothing; its
+/// arguments are at the end that read it.
 #[derive(Clone, Copy, Debug)]
 pub(crate) struct PendingRequest {
     pub(crate) outline: Outline,
     pub(crate) change: Change,
     /// The entry of its target.
     pub(crate) entry: Entry,
-    /// How many bytes the message has.
+    /// The length of the message in bytes.
     pub(crate) size: u16,
     /// How many tokens it takes.
     pub(crate) tokens: usize,
@@ -59,8 +59,7 @@ fn ended_by(destroys: Destroys, target: Object, args: &ParsedArgs) -> Option<Obj
     }
 }
 
-/// The request in front, once it is whole and if it can be taken. Nothing changes but the arguments
-/// that were parsed last.
+/// The first request, if it is whole and can be taken. Only the parsed arguments change.
 pub(crate) fn find<T: Table>(
     end: &mut Endpoint<'_, T>,
     globals: &[Advertised],
@@ -94,7 +93,7 @@ pub(crate) fn find<T: Table>(
     Ok(Some(request))
 }
 
-/// What a message is and changes, with its arguments parsed.
+/// The meaning and the changes of a message, with its arguments parsed.
 fn pending_of<T: Table>(
     args: &mut ParsedArgs,
     tables: &Tables,
@@ -140,7 +139,7 @@ fn pending_of<T: Table>(
     })
 }
 
-/// What a message changes among the objects.
+/// How a message changes the objects.
 fn change_of(tables: &Tables, message: &Received<'_, '_>) -> Change
     ensures made { result.made ≡ made tables.now message.now.entry.version
         message.now.signature.now.kinds (received_of message.now).values }
@@ -153,7 +152,7 @@ fn change_of(tables: &Tables, message: &Received<'_, '_>) -> Change
     }
 }
 
-/// Whether an object is destroyed whose delete_id needs more room than there is. One that the
+/// Whether there is too little room for the delete_id of a destroyed object. An object that the
 /// server made needs none.
 fn lacks_room(room: usize, ended: Option<Object>) -> bool
     ensures { result ≡ (needs_delete_id ended && nat_lt room delete_id_len) }

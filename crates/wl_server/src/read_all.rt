@@ -1,4 +1,4 @@
-//! Whole streams at a server, in pieces.
+//! Reading whole streams at a server, in pieces.
 ghost use Rattle.std.specs.Prelude.{◌≡◌, true, false, length, map, take, Some, None};
 ghost use Rattle.wl_message.specs.InStep.{part};
 ghost use Rattle.wl_connection.specs.Core.{no_room};
@@ -16,11 +16,11 @@ impl<'t, T: Table> Server<'t, T> {
     /// Reads pieces of a stream, in order, and appends what was read to the reports.
     ///
     /// All that waits is read before each piece and at the end. A piece is taken in as far as it
-    /// fits, and the rest of it after what waits was read again. Room for a report is made before
-    /// its message is read. `stop` is `Memory` if that room or the report's own memory is refused,
-    /// and then the message stands in front and can be read again. The reading ends early where no
-    /// message can be read, and before a piece whose tokens do not all fit; what was read before
-    /// stays read.
+    /// fits, and the rest of it after what waits was read again. Room for a report is reserved
+    /// before its message is read. `stop` is `Memory` if there is no memory for that room or for
+    /// the report; then the message stays at the front and can be read again. The reading ends
+    /// early when no message can be read, and before a piece whose tokens do not all fit; what was
+    /// read before stays read.
     pub fn read_all(
         &mut self,
         pieces: &[Piece<'_>],
@@ -34,7 +34,7 @@ impl<'t, T: Table> Server<'t, T> {
         ensures sound { self.old.core.failed ≡ false → result.stop ≡ None
             → self.new.core.failed ≡ false }
 
-        // A server that has failed reads nothing, not even where there are no pieces.
+        // A server that has failed reads nothing, even if there are no pieces.
         ensures answer { self.old.core.failed ≡ true
             → result ≡ record { pieces = 0; part = no_room; stop = Some NextError.Failed } }
         ensures failed { self.old.core.failed ≡ true → self.new ≡ self.old }

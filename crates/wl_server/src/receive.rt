@@ -1,4 +1,4 @@
-//! How a server reads the requests that come in.
+//! How a server reads the requests that arrive.
 ghost use Rattle.std.specs.Prelude.{◌≡◌, Some, IfOk, IfSome};
 ghost use Rattle.std.specs.Borrow.{sem};
 ghost use Rattle.std.specs.Io.BufRead.{Rests};
@@ -18,13 +18,12 @@ use wl_connection::{Endpoint, read, read_owned};
 use wl_objects::{NextError, Table};
 
 impl<'t, T: Table> Server<'t, T> {
-    /// Reads the next request once it is whole, and lends its report: strings, arrays and tokens
-    /// are slices of the server's own until its next call. Returns `None` if no whole request
-    /// waits.
+    /// Reads the next request if it is whole, and returns its report, which borrows strings, arrays
+    /// and tokens from the server until its next call. Returns `None` if no whole request waits.
     ///
     /// A request that destroys an object closes it. If the client made the object, its delete_id is
-    /// written at once; if the server made it, nothing is written, and the server can use the id
-    /// again. After a fault the server has failed for good, and the error event is the last that it
+    /// written at once; if the server made it, nothing is written, and the server can reuse the id.
+    /// After a fault the server has failed for good, and the error event is the last that it
     /// writes. If there is no room for the delete_id, or no memory for the object that the request
     /// opens, the request stays and can be read again. A request that opens no object never returns
     /// out of memory.
@@ -40,7 +39,7 @@ impl<'t, T: Table> Server<'t, T> {
         }
     }
 
-    /// Reads the next request as `next` does, and returns beside its report the entry that its
+    /// Reads the next request as `next` does; returns its report together with the entry that its
     /// target had before the request.
     pub fn next_with_entry(&mut self) -> Result<Option<RequestWithEntry<'_>>, NextError>
         ensures* after { sem 𝓛 (Rests
@@ -60,9 +59,9 @@ impl<'t, T: Table> Server<'t, T> {
         }
     }
 
-    /// Reads the next request as `next` does, and returns its report in memory of its own. If there
-    /// is no memory for the report, the request stays and can be read again. A request without
-    /// arguments never returns out of memory.
+    /// Reads the next request as `next` does, and returns an owned report. If there is no memory
+    /// for the report, the request stays and can be read again. A request without arguments never
+    /// returns out of memory.
     pub fn next_owned(&mut self) -> Result<Option<OwnedRequest<T::Alloc>>, NextError>
         ensures answer { IsServerNext self.old (report_in result) }
         ensures state { self.new ≡ unless_memory self.old (after_next self.old) (report_in result) }
@@ -73,7 +72,7 @@ impl<'t, T: Table> Server<'t, T> {
         }
     }
 
-    /// Reads the next request as `next_owned` does, and returns beside its report the entry that
+    /// Reads the next request as `next_owned` does; returns its report together with the entry that
     /// its target had before the request.
     pub fn next_owned_with_entry(
         &mut self,

@@ -1,4 +1,4 @@
-//! The open registries of a server's client, and what each was told of the globals.
+//! The open registries of a server's client, and which globals were announced to each.
 ghost use Rattle.std.specs.Prelude.{◌≡◌, ◌≤◌, ◌<◌, true};
 ghost use Rattle.wl_connection.specs.Core.{max_globals};
 ghost use Rattle.wl_server.specs.State.{mark_of, untold, with_mark};
@@ -10,8 +10,8 @@ use crate::marks::{Marks, WORD_LEN, next_in};
 use std::marker::Model;
 use wl_objects::Object;
 
-/// An open registry, with a mark for each name that it was told, and for each whose removal it was
-/// told.
+/// An open registry, with a mark for each name announced to it, and for each whose removal was sent
+/// to it.
 #[derive(Debug, Drop)]
 pub(crate) struct OpenRegistry {
     pub(crate) object: Object,
@@ -28,7 +28,7 @@ impl Model for OpenRegistry {
 }
 
 impl OpenRegistry {
-    /// A registry that was told nothing yet.
+    /// A registry to which nothing was announced yet.
     pub(crate) fn new(object: Object) -> Self
         ensures { result ≡ untold object }
     {
@@ -39,7 +39,7 @@ impl OpenRegistry {
         }
     }
 
-    /// Whether the registry is owed global_remove of a name.
+    /// Whether the registry still needs global_remove of a name.
     pub(crate) fn owes_removal(&self, name: u32, global: Advertised) -> bool
         requires { (0 < name) × (name ≤ max_globals) }
         ensures { result ≡ owes_removal self.now name global }
@@ -47,7 +47,7 @@ impl OpenRegistry {
         self.told.has(name) && !global.present && !self.removed.has(name)
     }
 
-    /// Whether the registry is owed global of a name.
+    /// Whether the registry still needs global of a name.
     pub(crate) fn owes_telling(&self, name: u32, global: Advertised) -> bool
         requires { (0 < name) × (name ≤ max_globals) }
         ensures { result ≡ owes_telling self.now name global }
@@ -55,8 +55,8 @@ impl OpenRegistry {
         global.present && !self.told.has(name)
     }
 
-    /// The next place behind this one of whose name global_remove may be owed: none is owed of the
-    /// names between. The names of the withdrawn globals are marked.
+    /// The next place after this one whose name may need global_remove; the names between need
+    /// none. `withdrawn` marks the names of withdrawn globals.
     pub(crate) fn next_removal(&self, withdrawn: &Marks, place: usize) -> usize
         requires { place < max_globals }
         ensures behind { place < result }
@@ -67,8 +67,7 @@ impl OpenRegistry {
         next_in(owed, place)
     }
 
-    /// The next place behind this one of whose name global may be owed: none is owed of the names
-    /// between.
+    /// The next place after this one whose name may need global; the names between need none.
     pub(crate) fn next_telling(&self, withdrawn: &Marks, place: usize) -> usize
         requires { place < max_globals }
         ensures behind { place < result }
@@ -79,7 +78,7 @@ impl OpenRegistry {
         next_in(owed, place)
     }
 
-    /// Marks a name as told of its removal.
+    /// Marks the removal of a name as sent.
     pub(crate) fn mark_removed(&mut self, name: u32)
         requires { (0 < name) × (name ≤ max_globals) }
         ensures set { self.new ≡ record self.old { removed = with_mark self.old.removed name } }
@@ -88,7 +87,7 @@ impl OpenRegistry {
         self.removed.set(name);
     }
 
-    /// Marks a name as told.
+    /// Marks a name as announced.
     pub(crate) fn mark_told(&mut self, name: u32)
         requires { (0 < name) × (name ≤ max_globals) }
         ensures set { self.new ≡ record self.old { told = with_mark self.old.told name } }

@@ -3,8 +3,8 @@
 use std::alloc::{Allocator, Global};
 use wl_objects::{Args, Entry, Object, OwnedArgs};
 
-/// A request that the server read. Strings, arrays and tokens are lent from the server, until its
-/// next call.
+/// A request that the server read. Strings, arrays and tokens are borrowed from the server, until
+/// its next call.
 #[derive(Clone, Copy)]
 pub struct Request<'a> {
     pub target: Object,
@@ -12,7 +12,7 @@ pub struct Request<'a> {
     pub args: Args<'a>,
 }
 
-/// A request that the server read, in memory of its own.
+/// A request that the server read, owned.
 #[derive(Debug, Drop)]
 pub struct OwnedRequest<A: Allocator = Global> {
     pub target: Object,
@@ -20,15 +20,15 @@ pub struct OwnedRequest<A: Allocator = Global> {
     pub args: OwnedArgs<A>,
 }
 
-/// A request that the server read, and what its objects had, before the request, of its target.
+/// A request that the server read, and the entry of its target from before the request.
 #[derive(Clone, Copy)]
 pub struct RequestWithEntry<'a> {
     pub request: Request<'a>,
-    /// The target's interface, version and state, also where the request has destroyed it.
+    /// The target's interface, version and state, even if the request destroyed it.
     pub entry: Entry,
 }
 
-/// The same, in memory of its own.
+/// The same, owned.
 #[derive(Debug, Drop)]
 pub struct OwnedRequestWithEntry<A: Allocator = Global> {
     pub request: OwnedRequest<A>,

@@ -1,4 +1,4 @@
-//! What a server keeps beside its endpoint, and how it reads a request with that.
+//! What a server keeps besides its endpoint, and how it reads a request with it.
 
 use crate::changes::{Change, close_object, open_new_object};
 use crate::faults::report_fault;
@@ -10,10 +10,10 @@ use std::alloc::{AllocError, Allocator};
 use wl_connection::{Endpoint, Role};
 use wl_objects::{NextError, Table};
 
-/// What a server keeps beside its endpoint.
+/// What a server keeps besides its endpoint.
 #[derive(Drop)]
 pub(crate) struct Kept<A: Allocator> {
-    /// The globals that it has added, in the order of their names.
+    /// The globals that it added, in the order of their names.
     pub(crate) globals: Vec<Advertised, A>,
     pub(crate) registries: OpenRegistries<A>,
 }
@@ -56,7 +56,7 @@ impl<T: Table> Role<T> for Kept<T::Alloc> {
         match find(end, &self.globals) {
             Ok(request) => Ok(request),
             Err(why) => {
-                // The client is told of a fault.
+                // Writes the error event for a fault.
                 report_fault(&mut end.core, why);
                 Err(why)
             }

@@ -15,20 +15,20 @@ use wl_connection::{Core, DELETE_ID_LEN};
 use wl_objects::{Arg, Object, SendError, Table};
 use wl_sigs::Side;
 
-/// The most bytes that the text of an error has.
+/// The longest text of an error in bytes.
 const MAX_ERROR_TEXT: usize = 40;
 
 impl<'t, T: Table> Server<'t, T> {
-    /// Writes an event with these arguments, `New` standing for the object that it makes, and
-    /// returns that object: an event makes one exactly where the tables give it such an argument.
+    /// Writes an event with these arguments, in which `New` is the object that it makes, and
+    /// returns that object; an event makes one if and only if its signature has such an argument.
     /// The object has the id of the server's range that was freed last, or the next new one, and
     /// the version of the event's target. An object that the event destroys is closed, and its
-    /// delete_id follows directly: both are written, or neither.
+    /// delete_id follows immediately: both are written, or neither.
     ///
     /// The refusals are tested in the order of their numbers: S1, S2, S3, S4, S5, S6, S8, S9, S10,
-    /// S11. Only an event that makes an object returns the last two: S10 where all 1,048,575 ids of
-    /// the server's range are in use or no birth is left there, S11 where there is no memory. The
-    /// events of wl_display and wl_registry, which other calls write, are S3.
+    /// S11. Only an event that makes an object returns the last two: S10 if all 1,048,575 ids of
+    /// the server's range are in use or no birth is left there, S11 if there is no memory. The
+    /// events of wl_display and wl_registry, which other calls write, are refused with S3.
     pub fn send(
         &mut self,
         target: Object,
@@ -37,7 +37,7 @@ impl<'t, T: Table> Server<'t, T> {
     ) -> Result<Option<Object>, SendError>
         ensures answer { IsSendAnswer self.old.core event_side target opcode (given args.now)
             result }
-        // Where no event of the tables makes an object, Ok has none, and neither S10 nor S11 is
+        // If no event of the tables makes an object, Ok has none, and neither S10 nor S11 is
         // returned.
         ensures nothing { has_server_objects self.old.core.tables ≡ false → OpensNothing result }
         ensures ok { OnOk result
@@ -48,9 +48,9 @@ impl<'t, T: Table> Server<'t, T> {
         self.end.core.send(Side::Event, target, opcode, args)
     }
 
-    /// Ends an object without its event, as a callback that nobody waits for, and writes its
-    /// delete_id. An object that the server made is S12, since no event ends one. The refusals are
-    /// tested in this order: S1, S2, S12, S9. Allocates nothing.
+    /// Ends an object without an event, for example a callback that nobody waits for, and writes
+    /// its delete_id. An object that the server made is refused with S12, since no event ends one.
+    /// The refusals are tested in this order: S1, S2, S12, S9. Allocates nothing.
     pub fn drop_object(&mut self, object: Object) -> Result<(), SendError>
         ensures answer { refusal_in result ≡ drop_refusal self.old.core object }
         ensures of_server { IsLiveOfServer self.old.core object
@@ -62,8 +62,8 @@ impl<'t, T: Table> Server<'t, T> {
     }
 
     /// Ends the connection with an error about an object, for which there is always room. The
-    /// server has failed afterwards. The refusals are tested in this order: S1, S2, and S5 where
-    /// the text has more than 40 bytes or a byte 0. Allocates nothing.
+    /// server has failed afterwards. The refusals are tested in this order: S1, S2, and S5 if the
+    /// text has more than 40 bytes or a byte 0. Allocates nothing.
     pub fn post_error(&mut self, object: Object, code: u32, text: &[u8]) -> Result<(), SendError>
         ensures answer { refusal_in result ≡ error_refusal self.old.core object text.now }
         ensures ok { OnOk result
@@ -84,12 +84,12 @@ impl<'t, T: Table> Server<'t, T> {
     }
 }
 
-/// Ends an object of an end without its event.
+/// Ends an object of an end without an event.
 fn close_dropped<T: Table>(core: &mut Core<'_, T>, object: Object) -> Result<(), SendError>
     ensures answer { refusal_in result ≡ drop_refusal core.old object }
     ensures ok { OnOk result (core.new ≡ after_drop core.old object) }
     ensures err { OnErr result (core.new ≡ core.old) }
-    // Tables are always valid; a proof learns it from a call that looked into them.
+    // Tables are always valid; a proof learns this from a call that read them.
     ensures valid { IfOk result (λ _. Valid core.old.tables) }
 {
     if core.failed {
@@ -108,7 +108,7 @@ fn close_dropped<T: Table>(core: &mut Core<'_, T>, object: Object) -> Result<(),
     Ok(())
 }
 
-/// Whether a text can stand in an error.
+/// Whether an error can have this text.
 fn is_error_text(text: &[u8]) -> bool
     ensures { result ≡ is_error_text text.now }
 {

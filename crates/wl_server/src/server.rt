@@ -12,8 +12,8 @@ use wl_message::Sizes;
 use wl_objects::Table;
 use wl_sigs::Tables;
 
-/// The server's end of one connection: its objects, its two queues, the globals that it
-/// advertises, and what each open registry was told of them.
+/// The server's end of one connection: its objects, its two queues, the globals that it advertises,
+/// and which of them were announced to each open registry.
 #[derive(Drop)]
 pub struct Server<'t, T: Table> {
     pub(crate) end: Endpoint<'t, T>,

@@ -1,4 +1,4 @@
-//! What a server has read, printed.
+//! Printing what a server has read.
 ghost use Rattle.std.specs.Prelude.{◌≡◌};
 ghost use Rattle.wl_trace_line.specs.Report.{shown_line};
 ghost use Rattle.wl_server.specs.Shown.{request_text};
@@ -8,8 +8,8 @@ use wl_sigs::{Side, Tables};
 use wl_trace_line::{MessageHead, ReportLine};
 
 impl<'a> RequestWithEntry<'a> {
-    /// The report, to be printed: `{}` prints it as the line of its message in a trace, as far as
-    /// the report has it.
+    /// The report, for printing: `{}` prints it as the line of its message in a trace, as far as
+    /// the report has what the line shows.
     pub fn shown<'t>(&self, tables: &'t Tables) -> ReportLine<'t, 'a>
         ensures { shown_line result ≡ request_text tables.now self.now }
     {

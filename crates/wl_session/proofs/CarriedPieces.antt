@@ -232,7 +232,7 @@ goes_lengths from nb nt =
 pub lengths_are : (from : Core) (nb nt : ℕ) (t : Amounts) → t ≡ goes from.outbox nb nt → Lengths from t
 lengths_are from nb nt t e = subst (λ (x : Amounts). Lengths from x) (sym e) (goes_lengths from nb nt)
 
--- what stands in the places that were written
+-- what is in the places that were written
 pub written : (n : ℕ) (waiting places before : List ℕ) → length (take n waiting) ≡ n
     → places ≡ take n waiting ++ drop n before → take n places ≡ take n waiting
 written n waiting places before l p = ap (take n) p ∙ written_over (take n waiting) (drop n before) n l

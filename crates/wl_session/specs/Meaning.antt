@@ -1,4 +1,4 @@
--- The code's own moves and replies, without where they lie in memory.
+-- The code's moves and replies, apart from where they lie in memory.
 use Rattle.std.specs.Prelude.{ℕ, List, map, length, Some, None}
 use Rattle.wl_wire.specs.Argument.{Int, Uint, Fixed, Str, Obj, New, Array, Fd, units}
 use Rattle.wl_objects.specs.Writing.{Given}
@@ -69,7 +69,7 @@ reply_of (replies.ServerNext result) = world.ServerNext (server.report_in result
 abbrev pub replies_of : {A : Type 0} → List (Reply A) → List world.Reply
 replies_of list = map reply_of list
 
--- how many arguments a move hands to a call
+-- how many arguments a move passes to a call
 abbrev pub arguments : {A : Type 0} → Move A → ℕ
 arguments (moves.ClientSend target opcode list) = length list.items
 arguments (moves.ServerSend target opcode list) = length list.items

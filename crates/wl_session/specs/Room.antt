@@ -15,7 +15,7 @@ pub record HoldsInbox (bytes tokens : ℕ) (inbox : Arrived) : Type 0 where
   pub bytes_fit : inbox.capacity ≤ bytes
   pub tokens_fit : inbox.token_capacity ≤ tokens
 
--- the pieces with these bytes in the last, if they are any
+-- the pieces with these bytes in the last, if there are any
 abbrev pub filled : List Piece → List ℕ → List Piece
 filled pieces [] = pieces
 filled pieces (byte ∷ bytes) = with_last_bytes pieces (byte ∷ bytes)
@@ -25,27 +25,28 @@ pub record AreSame (client server : Option Entry) : Type 0 where
   pub same : client ≡ server
   pub live : (e : Entry) → client ≡ Some e → e.state ≡ states.Live
 
--- of an id of the server's range that was used: these are the same live object, or the server has
--- freed the id and the client's object there has ended
+-- for a used id of the server's range: these are the same live object, or the server has freed the
+-- id and the client's object there has ended
 pub data AreSameByServer (client server : Option Entry) : Type 0 where
   both_live : (e : Entry) → client ≡ Some e → server ≡ Some e → e.state ≡ states.Live
       → AreSameByServer client server
   was_freed : (e : Entry) → client ≡ Some e → server ≡ None → e.state ≡ states.Zombie
       → AreSameByServer client server
 
--- the two have the same at each of the first ids of the server's range, of which so many were used
+-- the two ends agree at each of the first ids of the server's range, given how many of these were
+-- used
 abbrev pub SameByServer : ℕ → Objects → Objects → Type 0
 SameByServer used client server =
     (id : ℕ) → first_server_id ≤ id → id < first_server_id + used
     → AreSameByServer (look client id) (look server id)
 
--- how many objects a client has in its own range, also those that it has destroyed and whose
+-- how many objects a client has in its own range, including those that it has destroyed and whose
 -- delete_id has not come
 abbrev pub client_count : Objects → ℕ
 client_count client = row_count Client client
 
--- How many objects two ends have: in the client's range those that the client has, and in the
--- server's those that the server has.
+-- How many objects two ends have: the client's in the client's range, and the server's in the
+-- server's range.
 abbrev pub object_count : Objects → Objects → ℕ
 object_count client server = client_count client + row_count Server server
 

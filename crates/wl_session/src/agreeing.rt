@@ -20,11 +20,12 @@ use wl_server::Server;
 
 impl<'t, T: Table> Pair<'t, T> {
     /// Whether both ends have the same objects under the same ids, and the client has destroyed
-    /// none of those that it made. One of the server's that it has destroyed stays at the client
-    /// until its id is used again. If both are drained and no error was posted, they have.
+    /// none that it made. (A server's object that the client has destroyed stays at the client
+    /// until its id is used again.) If both ends are drained and no error was posted, the answer is
+    /// true.
     pub fn agree(&self) -> bool
         ensures exact { IsTrue result ↔ Agree self.now.client.core.view self.now.server.core.view }
-        // Over tables by which the server makes no object: the same rows, all live.
+        // If the tables let the server make no object: the same rows, all live.
         ensures rows { NoEventMakes self.now.client.core self.now.server.core
             → IsTrue result ↔ HaveSameRows self.now.client.core.view self.now.server.core.view }
         ensures drained { (world : World) → Stands self.now world → world.ended ≡ false
@@ -35,10 +36,10 @@ impl<'t, T: Table> Pair<'t, T> {
 }
 
 /// Whether a client and a server have the same objects under the same ids, and the client has
-/// destroyed none of those that it made, as `Pair::agree` has it.
+/// destroyed none that it made; see `Pair::agree`.
 pub fn same_rows<T: Table>(client: &Client<'_, T>, server: &Server<'_, T>) -> bool
     ensures exact { IsTrue result ↔ Agree client.now.core.view server.now.core.view }
-    // Over tables by which the server makes no object: the same rows, all live.
+    // If the tables let the server make no object: the same rows, all live.
     ensures rows { NoEventMakes client.now.core server.now.core
         → IsTrue result ↔ HaveSameRows client.now.core.view server.now.core.view }
 {
@@ -47,12 +48,12 @@ pub fn same_rows<T: Table>(client: &Client<'_, T>, server: &Server<'_, T>) -> bo
     same_of_client(client, server) && same_of_server(client, server)
 }
 
-/// How many objects a client and a server have: in the client's range those that the client has,
-/// counting those that it has destroyed and whose delete_id has not come, and in the server's range
-/// those that the server has.
+/// How many objects a client and a server have. In the client's range these are the client's,
+/// including those that it has destroyed and whose delete_id has not come; in the server's range
+/// they are the server's.
 pub fn object_count<T: Table>(client: &Client<'_, T>, server: &Server<'_, T>) -> usize
     ensures count { result ≡ object_count client.now.core.view server.now.core.view }
-    // Over tables by which the server makes no object: those that the client has.
+    // If the tables let the server make no object: the client's.
     ensures of_client { has_server_objects server.now.core.tables ≡ false
         → result ≡ client_count client.now.core.view }
 {
@@ -74,8 +75,8 @@ fn same_of_client<T: Table>(client: &Objects<T>, server: &Objects<T>) -> bool
     true
 }
 
-/// Whether the client's live objects of the server's range are the server's, its zombies there have
-/// the ids that the server has freed, and both have counted alike.
+/// Whether in the server's range the client's live objects are the server's, the client's zombies
+/// have ids that the server has freed, and both counts are equal.
 fn same_of_server<T: Table>(client: &Objects<T>, server: &Objects<T>) -> bool
     ensures { IsTrue result ↔ AgreeByServer client.now server.now }
 {
@@ -89,7 +90,7 @@ fn same_of_server<T: Table>(client: &Objects<T>, server: &Objects<T>) -> bool
     same_by_server(client, server, used)
 }
 
-/// Whether the two have the same at each of the first `used` ids of the server's range.
+/// Whether the two agree at each of the first `used` ids of the server's range.
 fn same_by_server<T: Table>(client: &Objects<T>, server: &Objects<T>, used: u32) -> bool
     requires { used ≤ max_ids }
     ensures { IsTrue result ↔ SameByServer used client.now server.now }
@@ -122,8 +123,8 @@ fn are_same(client: Option<Entry>, server: Option<Entry>) -> bool
     }
 }
 
-/// Whether these are what both ends have at an id of the server's range that was used: the same
-/// live object, or one that the client has destroyed and none at the server.
+/// Whether these are possible at one used id of the server's range: the same live object at both
+/// ends, or one that the client has destroyed and none at the server.
 fn are_same_by_server(client: Option<Entry>, server: Option<Entry>) -> bool
     ensures { IsTrue result ↔ AreSameByServer client server }
 {

@@ -1,4 +1,4 @@
-//! The calls of the two ends, as the pair does them: what each does to both ends and to the
+//! The calls of the two ends, as the pair makes them: what each does to both ends and to the
 //! recording.
 ghost use Rattle.wl_objects.specs.Writing.{given};
 ghost use Rattle.wl_connection.specs.Outcomes.{some_object};

@@ -16,8 +16,8 @@ use wl_message::{Fed, Taken};
 use wl_objects::Table;
 use wl_recording::{Direction, Recording};
 
-/// Makes the room to record what will go: a piece with zeros in place of its bytes. It allocates
-/// nothing where nothing goes.
+/// Makes room to record what will go: a piece with zeros in place of its bytes. It allocates
+/// nothing if nothing goes.
 fn prepare<A: Allocator + Clone>(
     recording: &mut Recording<A>,
     direction: Direction,
@@ -47,7 +47,7 @@ fn fill<A: Allocator + Clone>(recording: &mut Recording<A>, bytes: &[u8])
 }
 
 /// Moves what waits at one end to the other, as much as these slices hold, and writes it into the
-/// piece that was prepared for it.
+/// piece prepared for it.
 fn hand_over<W: End, R: End, A: Allocator + Clone>(
     from: &mut W,
     to: &mut R,
@@ -80,7 +80,7 @@ fn hand_over<W: End, R: End, A: Allocator + Clone>(
     to.feed(bytes, &tokens[..taken.tokens]);
 }
 
-/// Moves what waits at one end to the other as `hand_over` does, by way of these buffers and within
+/// Moves what waits at one end to the other as `hand_over` does, through these buffers and within
 /// this limit.
 fn pass<W: End, R: End, A: Allocator + Clone>(
     from: &mut W,
@@ -114,8 +114,8 @@ fn pass<W: End, R: End, A: Allocator + Clone>(
 }
 
 impl<'t, T: Table> Pair<'t, T> {
-    /// Carries what waits at the client to the server, at most `most` bytes, and records it. The
-    /// room to record it is made before anything moves.
+    /// Carries what waits at the client to the server, at most `most` bytes, and records it. Room
+    /// to record it is made before anything moves.
     pub(crate) fn carry_to_server(&mut self, most: usize) -> Carried
         ensures { Does self.old (CarryToServer most) (CarryToServer (carried_of result)) self.new }
     {
@@ -139,8 +139,8 @@ impl<'t, T: Table> Pair<'t, T> {
         Carried::Moved(going)
     }
 
-    /// Carries what waits at the server to the client, at most `most` bytes, and records it. The
-    /// room to record it is made before anything moves.
+    /// Carries what waits at the server to the client, at most `most` bytes, and records it. Room
+    /// to record it is made before anything moves.
     pub(crate) fn carry_to_client(&mut self, most: usize) -> Carried
         ensures { Does self.old (CarryToClient most) (CarryToClient (carried_of result)) self.new }
     {

@@ -1,4 +1,4 @@
-//! Lending the arguments of a move to the call that it makes.
+//! Lending the arguments of a move to its call.
 ghost use Rattle.std.specs.Prelude.{◌≡◌, ◌≤◌, length, vec_capacity};
 ghost use Rattle.wl_objects.specs.Writing.{given, given_of};
 ghost use Rattle.theory_connection.specs.World.{Each};
@@ -10,7 +10,7 @@ use std::alloc::Allocator;
 use wl_objects::Arg;
 use wl_wire::Fixed;
 
-/// Replaces what is in the list by these arguments, lent.
+/// Replaces the contents of the list by these arguments, borrowed.
 pub fn lend<'m, A: Allocator, B: Allocator>(args: &'m [SendArg<A>], list: &mut Vec<Arg<'m>, B>)
     requires { length args.now ≤ vec_capacity list.old }
     ensures same { given list.new.items ≡ args_of args.now }

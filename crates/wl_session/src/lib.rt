@@ -1,5 +1,5 @@
-//! Both ends of a Wayland connection with nothing between them: the moves that they are given, and
-//! their replies.
+//! Both ends of a Wayland connection, joined directly: the moves that can be made with them, and
+//! the replies.
 #![tactic(auto)]
 
 mod agreeing;

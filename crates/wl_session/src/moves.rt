@@ -7,24 +7,24 @@ use wl_objects::{NextError, Object, SendError};
 use wl_server::{GlobalError, OwnedRequest};
 use wl_wire::{Fixed, Iface};
 
-/// One argument of a message that is to be written, in memory of its own.
+/// One argument of a message to be written, owned.
 #[derive(Debug, Drop)]
 pub enum SendArg<A: Allocator = Global> {
     Int(i32),
     Uint(u32),
     Fixed(Fixed),
-    /// A string without a NUL, or none for the null string.
+    /// A string without a NUL, or `None` for the null string.
     Str(Option<Vec<u8, A>>),
-    /// A live object, or none for the null object.
+    /// A live object, or `None` for the null object.
     Obj(Option<Object>),
-    /// The place of the new object, which the call makes.
+    /// The position of the new object, which the call makes.
     New,
     Array(Vec<u8, A>),
-    /// The token that stands for a descriptor.
+    /// The token that represents a descriptor.
     Fd(u32),
 }
 
-/// One thing to do with a pair: a call of one of its ends, or a carry between them.
+/// One action on a pair: a call of one of its ends, or a carry between them.
 #[derive(Debug, Drop)]
 pub enum Move<A: Allocator = Global> {
     /// The client sends a request.
@@ -67,11 +67,11 @@ pub enum Move<A: Allocator = Global> {
     },
     /// The server announces its globals to the open registries.
     Announce,
-    /// At most this many bytes go from the client to the server, and at most what its inbox has
-    /// room for.
+    /// The client's bytes go to the server, at most this many, and at most as many as the server's
+    /// inbox has room for.
     CarryToServer(usize),
-    /// At most this many bytes go from the server to the client, and at most what its inbox has
-    /// room for.
+    /// The server's bytes go to the client, at most this many, and at most as many as the client's
+    /// inbox has room for.
     CarryToClient(usize),
     /// The client reads a message.
     ClientNext,
@@ -84,11 +84,11 @@ pub enum Move<A: Allocator = Global> {
 pub enum Carried {
     /// What went.
     Moved(Fed),
-    /// Out of memory for the recording of what would go, and nothing went.
+    /// There was no memory to record what would go, and nothing went.
     Memory,
 }
 
-/// The reply to a move: what its call returned, under the move's name.
+/// The reply to a move, in the variant of the same name: what its call returned.
 #[derive(Debug, Drop)]
 pub enum Reply<A: Allocator = Global> {
     ClientSend(Result<Option<Object>, SendError>),

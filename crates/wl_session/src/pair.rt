@@ -26,14 +26,14 @@ use wl_sigs::Tables;
 /// The most tokens that an inbox holds, and so the most that a carry moves.
 const MOST_TOKENS: usize = 65_536;
 
-/// A client and a server with nothing between, and what was carried from one to the other.
+/// A client and a server, joined directly, and what was carried from one to the other.
 #[derive(Drop)]
 pub struct Pair<'t, T: Table> {
     pub(crate) client: Client<'t, T>,
     pub(crate) server: Server<'t, T>,
     pub(crate) recording: Recording<T::Alloc>,
     pub(crate) ended_at: Option<usize>,
-    // What is on its way in a carry.
+    // The bytes of a carry, while it moves them.
     pub(crate) bytes: Vec<u8, T::Alloc>,
     pub(crate) tokens: Vec<u32, T::Alloc>,
     // The allocator of the lists of replies.
@@ -66,10 +66,11 @@ impl<'t, T: Table> Model for Pair<'t, T> {
 }
 
 impl<'t, T: Table + Drop> Pair<'t, T> {
-    /// Both ends as they begin: wl_display at each, empty queues of these sizes, no globals. Both
-    /// go by one limit. What a carry needs beside the recording is made here.
+    /// A new client and a new server: wl_display at each, empty queues of these sizes, no globals.
+    /// Both must have the same limit. All that a carry needs, except for the recording, is
+    /// allocated here.
     ///
-    /// The pair stands for the opening world.
+    /// The pair represents the opening world.
     pub fn new(
         alloc: T::Alloc,
         tables: &'t Tables,
@@ -107,13 +108,12 @@ impl<'t, T: Table> Pair<'t, T> {
         self.client.is_drained() && self.server.is_drained()
     }
 
-    /// The number of objects: in the client's range those that the client has, counting those that
-    /// it has destroyed and whose delete_id has not come, and in the server's range those that the
-    /// server has.
+    /// The number of objects. In the client's range these are the client's, including those that it
+    /// has destroyed and whose delete_id has not come; in the server's range they are the server's.
     pub fn len(&self) -> usize
         ensures count { result
             ≡ object_count self.now.client.core.view self.now.server.core.view }
-        // Over tables by which the server makes no object: those that the client has.
+        // If the tables let the server make no object: the client's.
         ensures of_client { has_server_objects self.now.server.core.tables ≡ false
             → result ≡ client_count self.now.client.core.view }
     {
@@ -123,7 +123,7 @@ impl<'t, T: Table> Pair<'t, T> {
     /// What was carried, piece by piece.
     ///
     /// It is lawful up to the first error that was posted, whatever was done with the pair: `check`
-    /// says so of it, where it has memory.
+    /// of it says so, if it has memory.
     pub fn recording(&self) -> &Recording<T::Alloc>
         ensures lends { result.now ≡ self.now.recording }
         ensures lawful { (world : World) → Linked self.now world
@@ -141,7 +141,7 @@ impl<'t, T: Table> Pair<'t, T> {
     }
 }
 
-/// Buffers for this many bytes that a carry moves, and for as many tokens as an inbox can hold.
+/// Buffers for this many bytes of a carry, and for as many tokens as an inbox can hold.
 fn buffers<A: Allocator + Clone + Drop>(
     alloc: &A,
     most_bytes: usize,
@@ -154,7 +154,7 @@ fn buffers<A: Allocator + Clone + Drop>(
     Ok((bytes, tokens))
 }
 
-/// A client and a server as they begin.
+/// A new client and a new server.
 fn ends<'t, T: Table + Drop>(
     alloc: &T::Alloc,
     tables: &'t Tables,
@@ -171,7 +171,7 @@ fn ends<'t, T: Table + Drop>(
     Ok((client, server))
 }
 
-// All tables are valid, as each of their calls says.
+// All tables are valid, as every call on them says.
 fn know_valid(tables: &Tables)
     ensures { Valid tables.now }
 {

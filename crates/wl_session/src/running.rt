@@ -15,25 +15,25 @@ use std::alloc::{AllocError, Allocator};
 use wl_objects::{Arg, Table};
 
 impl<'t, T: Table> Pair<'t, T> {
-    /// Does these moves in their order, and returns one reply for each.
+    /// Makes these moves in order, and returns one reply for each.
     ///
-    /// The room for all replies, and for the longest list of arguments, is allocated first. The
-    /// error comes only there, and then nothing was done. A move that runs out of memory later has
-    /// the reply of its call for that, and the next moves are done all the same.
+    /// Room for all replies, and for the longest list of arguments, is allocated first. The error
+    /// is returned only then, before anything was done. A move that runs out of memory later has
+    /// the reply that its call gives for that, and the moves after it are still made.
     pub fn run(
         &mut self,
         moves: &[Move<T::Alloc>],
     ) -> Result<Vec<Reply<T::Alloc>, T::Alloc>, AllocError>
-        // each move does what its call does, and its reply is what that returns
+        // each move does what its call does, and its reply is what the call returns
         ensures does { IfOk result
             (λ replies. DoesAll self.old (moves_of moves.now) (replies_of replies.items) self.new) }
 
-        // and so, for every world that the pair stands for, this is a run of that world
+        // hence, for every world that the pair represents, this is a run of that world
         ensures runs { IfOk result
             (λ replies. (world : World) → Stands self.old world
             → Runs self.old world (moves_of moves.now) (replies_of replies.items) self.new) }
 
-        // and one that keeps a linked pair linked, so that what it records is lawful
+        // which keeps a linked pair linked, so what it records is lawful
         ensures links { IfOk result
             (λ replies. (world : World) → Linked self.old world
             → RunsLinked self.old world (moves_of moves.now) (replies_of replies.items) self.new) }
@@ -48,7 +48,7 @@ impl<'t, T: Table> Pair<'t, T> {
         Ok(replies)
     }
 
-    /// Does one move. Its arguments are lent by way of the list.
+    /// Makes one move. The list lends it its arguments.
     fn step<'m>(
         &mut self,
         action: &'m Move<T::Alloc>,

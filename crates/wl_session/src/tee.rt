@@ -16,7 +16,7 @@ use std::io::{self, ErrorKind, Read};
 use std::marker::Model;
 use wl_recording::{Direction, Recording};
 
-/// Bytes that were copied, with room for all that may be.
+/// Bytes that were copied, with room reserved for all that may be.
 #[derive(Drop)]
 pub(crate) struct Copied<A: Allocator> {
     bytes: Vec<u8, A>,
@@ -38,7 +38,7 @@ impl<A: Allocator> Model for Copied<A> {
 }
 
 impl<A: Allocator> Copied<A> {
-    /// No bytes yet, and room for this many.
+    /// No bytes, with room for this many.
     fn new(alloc: A, room: usize) -> Result<Self, AllocError>
         ensures { IfOk result (λ c. c ≡ record { bytes = []; room = room }) }
     {
@@ -56,17 +56,16 @@ impl<A: Allocator> Copied<A> {
         self.room - self.bytes.len()
     }
 
-    /// Adds bytes for which there is room.
+    /// Appends bytes, for which there must be room.
     fn add(&mut self, bytes: &[u8])
         requires { length bytes.now ≤ room_left self.old }
         ensures { self.new ≡ with_copied self.old bytes.now }
     {
-        // The room was reserved, so this does not allocate and cannot fail.
+        // Room was reserved, so this does not allocate and cannot fail.
         let _ = self.bytes.extend_from_slice(bytes);
     }
 
-    /// Adds all of them to a recording as one piece, none where there are none, and then holds
-    /// none.
+    /// Adds all bytes to a recording as one piece (nothing if there are none), and then holds none.
     fn move_to<B: Allocator + Clone>(
         &mut self,
         recording: &mut Recording<B>,
@@ -91,7 +90,7 @@ pub struct Tee<R, A: Allocator = Global> {
 }
 
 impl<R: Read, A: Allocator> Tee<R, A> {
-    /// Reads from this reader, with room to copy `room` bytes until `add_to` is called.
+    /// Wraps this reader, with room to copy `room` bytes until `add_to` is called.
     pub fn new(alloc: A, reader: R, room: usize) -> Result<Self, AllocError>
     where
         R: Drop,
@@ -102,8 +101,8 @@ impl<R: Read, A: Allocator> Tee<R, A> {
         Ok(Tee { reader, copied })
     }
 
-    /// The reader itself, so that a stream which goes both ways can also be written. What is read
-    /// through it is not copied.
+    /// The reader itself, for example to write to a stream that goes both ways. What is read
+    /// directly from it is not copied.
     pub fn reader(&mut self) -> &mut R
         ensures value { result.now ≡ self.old.reader }
         ensures* writes_back { sem 𝓛 (follows (the_row R.row A.row A.Allocator) R.row
@@ -112,9 +111,9 @@ impl<R: Read, A: Allocator> Tee<R, A> {
         &mut self.reader
     }
 
-    /// Adds what was read since the last such call to a recording, as one piece that passed this
-    /// way; none where nothing was. Then the whole room is free again. Out of memory changes
-    /// nothing.
+    /// Adds what was read since the last call of `add_to` to a recording, as one piece in this
+    /// direction; nothing if nothing was read. Then the whole room is free again. Out of memory
+    /// changes nothing.
     pub fn add_to<B: Allocator + Clone>(
         &mut self,
         recording: &mut Recording<B>,
@@ -134,8 +133,8 @@ impl<R: Read, A: Allocator> Tee<R, A> {
 impl<R: Read, A: Allocator> Read for Tee<R, A> {
     ghost remaining = { λ t. R.remaining t.reader };
 
-    /// Asks the reader for at most as many bytes as there is room to copy. Where there is no such
-    /// room, this fails without reading, with `StorageFull`. Any other error is the reader's own.
+    /// Asks the reader for at most as many bytes as there is room to copy. Without such room this
+    /// fails with `StorageFull` and reads nothing. Any other error is the reader's own.
     fn read(&mut self, buf: &mut [u8]) -> io::Result<usize>
         ensures bound { ReadsAtMost result buf.new }
         ensures bytes { ReadConsumes (R.remaining self.old.reader) (R.remaining self.new.reader)

@@ -1,6 +1,6 @@
--- The core interfaces of wayland.xml, at these versions, in this order. The data transfer
--- interfaces are left out. Of each message: its name, the version of its interface that brought it,
--- the kinds of its arguments, and what it destroys.
+-- Made by tools/dev/core-files. The core interfaces of wayland.xml, at these versions, in
+-- this order, without the data transfer interfaces. For each message: its name, the version
+-- of its interface that introduced it, the kinds of its arguments, and what it destroys.
 use Rattle.std.specs.Prelude.{List, [], ◌∷◌, codes, Some}
 use Rattle.wl_wire.specs.declared.kind.Iface.{Iface}
 use Rattle.wl_sigs.specs.declared.signature.Destroys.TheVariants.{Nothing, Target}
@@ -9,7 +9,7 @@ use Rattle.wl_sigs.specs.Fixed.{message, int, uint, fixed, string, array, fd, ob
 use Rattle.wl_sigs.specs.Fixed.{object_or_null, new, callback, wl_display, wl_registry, wl_callback}
 use Rattle.wl_sigs.specs.Fixed.{wl_fixes}
 
--- the places of the further interfaces
+-- the indices of the further interfaces
 abbrev compositor : Iface
 compositor = record { 0 = 3 }
 
@@ -295,8 +295,8 @@ wl_shell_surface = record {
       [];
 }
 
--- The interfaces, in their order. Proofs about tables go by the rules of valid tables, and do not
--- open this list.
+-- The interfaces in order. Proofs about tables use the rules of valid tables, and do not
+-- unfold this list.
 unfoldable pub core_tables : List Interface
 core_tables =
     wl_display ∷

@@ -1,6 +1,6 @@
--- wl_display, wl_registry, wl_callback and wl_fixes, which stand in all valid tables, and the words
--- in which interfaces are written. Of each message: its name, the version of its interface that
--- brought it, the kinds of its arguments, and what it destroys.
+-- wl_display, wl_registry, wl_callback and wl_fixes, which all valid tables have, and the
+-- vocabulary in which interfaces are written. For each message: its name, the version of its
+-- interface that introduced it, the kinds of its arguments, and what it destroys.
 use Rattle.std.specs.Prelude.{ℕ, List, [], ◌∷◌, codes, true, false, Option, Some, None}
 use Rattle.wl_wire.specs.declared.kind.Kind.{Kind}
 use Rattle.wl_wire.specs.declared.kind.Kind.TheVariants as kinds
@@ -48,7 +48,9 @@ any_object = kinds.Obj false None
 abbrev pub new : Option Iface → Kind
 new iface = kinds.New iface
 
--- the places of wl_display, wl_registry and wl_callback
+-- Generated from tools/core.xml by tools/dev/core-files, down to the next mark.
+
+-- the indices of wl_display, wl_registry and wl_callback
 abbrev pub display : Iface
 display = record { 0 = 0 }
 
@@ -95,7 +97,7 @@ wl_callback = record {
       [];
 }
 
--- the place of wl_fixes
+-- the index of wl_fixes
 abbrev pub fixes : Iface
 fixes = record { 0 = 18 }
 
@@ -109,3 +111,5 @@ wl_fixes = record {
       [];
   events = [];
 }
+
+-- End of what is generated.

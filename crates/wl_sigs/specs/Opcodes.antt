@@ -1,7 +1,8 @@
--- The constants of the modules `request` and `event`, beside the messages' names.
+-- The constants of the modules `request` and `event`, with the messages' names.
 use Rattle.std.specs.Prelude.{ℕ, ◌+◌, List, [], ◌∷◌, codes, map}
 use Rattle.wl_sigs.specs.declared.signature.Side.{Side}
 use Rattle.wl_sigs.specs.declared.signature.Side.TheVariants.{Request, Event}
+-- Generated from tools/core.xml by tools/dev/core-files, down to the next mark.
 use Rattle.wl_sigs.specs.declared.request.wl_display.TheConstants as request_wl_display
 use Rattle.wl_sigs.specs.declared.request.wl_registry.TheConstants as request_wl_registry
 use Rattle.wl_sigs.specs.declared.request.wl_compositor.TheConstants as request_wl_compositor
@@ -32,6 +33,7 @@ use Rattle.wl_sigs.specs.declared.event.wl_keyboard.TheConstants as event_wl_key
 use Rattle.wl_sigs.specs.declared.event.wl_touch.TheConstants as event_wl_touch
 use Rattle.wl_sigs.specs.declared.event.wl_output.TheConstants as event_wl_output
 use Rattle.wl_sigs.specs.declared.event.wl_shell_surface.TheConstants as event_wl_shell_surface
+-- End of what is generated.
 use Rattle.wl_sigs.specs.Tables.{MessageSignature, Interface, messages_of}
 
 -- a message's name and opcode
@@ -50,14 +52,16 @@ at_opcode opcode name = record { name = name; opcode = opcode }
 abbrev in_interface : List ℕ → List Opcode → Opcodes
 in_interface name messages = record { name = name; messages = messages }
 
--- the opcodes of messages that stand at this one and the next ones
+-- the opcodes of messages, numbered from this one
 abbrev pub opcodes_from : ℕ → List MessageSignature → List Opcode
 opcodes_from n [] = []
 opcodes_from n (m ∷ ms) = at_opcode n m.name ∷ opcodes_from (n + 1) ms
 
--- the opcodes at which tables have the messages of one side, interface by interface
+-- the opcodes of one side's messages in tables, interface by interface
 abbrev pub opcodes_in : List Interface → Side → List Opcodes
 opcodes_in tables side = map (λ i. in_interface i.name (opcodes_from 0 (messages_of side i))) tables
+
+-- Generated from tools/core.xml by tools/dev/core-files, down to the next mark.
 
 -- each constant, by its module's name and its own, both in lower case
 abbrev pub opcodes : Side → List Opcodes
@@ -234,3 +238,5 @@ opcodes Event =
     []) ∷
     in_interface (codes "wl_fixes") [] ∷
     []
+
+-- End of what is generated.

@@ -1,5 +1,5 @@
--- The rules of valid tables as tests that compute. Each test answers true exactly where its rule
--- holds. V2 has no test: all tables begin with the core interfaces, and its four are among these.
+-- The rules of valid tables as tests that compute. Each test is true if and only if its rule holds.
+-- V2 has no test: all tables begin with the core interfaces, which include its four.
 use Rattle.std.specs.Prelude.{ℕ, ◌+◌, List, [], ◌∷◌, map, length, Bool, true, false, not, ◌&&◌}
 use Rattle.std.specs.Prelude.{◌||◌, nat_le, nat_lt, nat_eq, bytes_eq, Option, Some, None}
 use Rattle.std.specs.List.{list_all, list_any}
@@ -14,7 +14,7 @@ use Rattle.wl_sigs.specs.Tables.{named_interface, destroys_argument, server_obje
 use Rattle.wl_sigs.specs.Tables.{has_server_object}
 use Rattle.wl_sigs.specs.Tables.{max_name_len, max_interfaces, max_messages, max_args}
 
--- each element passes, given its place, where the first stands at n
+-- each element passes, given its index, if the first has index n
 abbrev pub all_from : {X : Type 0} → (ℕ → X → Bool) → ℕ → List X → Bool
 all_from test n [] = true
 all_from test n (x ∷ xs) = test n x && all_from test (n + 1) xs
@@ -89,7 +89,7 @@ abbrev pub is_ended_by_event : Option Interface → Bool
 is_ended_by_event None = false
 is_ended_by_event (Some i) = has_destroying_event i
 
--- whether a request can end an object of this version, where its interface is this one
+-- whether a request of this interface can end an object of this version
 abbrev pub is_ended_by_request : ℕ → Option Interface → Bool
 is_ended_by_request version None = false
 is_ended_by_request version (Some i) = has_destroying_request version i
@@ -133,12 +133,12 @@ argument_ends_in_fixes_alone tables =
     nat_eq place 18 || both_sides (λ side. list_all ends_no_argument (messages_of side i)))
     0 tables
 
--- whether a place is that of one of the four interfaces that V2 and V10 fix
+-- whether an index is that of one of the four interfaces that V2 and V10 fix
 abbrev pub is_fixed_place : ℕ → Bool
 is_fixed_place place =
     nat_eq place 0 || (nat_eq place 1 || (nat_eq place 2 || nat_eq place 18))
 
--- whether the server may not make objects of the interface that stands at a place
+-- whether the server may not make objects of the interface at an index
 abbrev pub is_unmakeable : ℕ → Option Interface → Bool
 is_unmakeable place None = false
 is_unmakeable place (Some i) = is_fixed_place place || has_destroying_event i
@@ -161,7 +161,7 @@ server_makes_rightly tables =
 abbrev pub has_server_objects : List Interface → Bool
 has_server_objects tables = list_any (λ i. list_any has_server_object i.events) tables
 
--- all rules but V2
+-- all rules except V2
 abbrev pub keep_rules : List Interface → Bool
 keep_rules tables =
     names_are_distinct tables && are_small tables && make_few_objects tables

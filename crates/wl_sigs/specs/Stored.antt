@@ -1,4 +1,4 @@
--- What is kept in a value or in memory of its own. No public clause cites this module.
+-- Values kept in place or in memory of their own. No public clause cites this module.
 use Rattle.std.specs.Prelude.{ℕ, List}
 use Rattle.wl_wire.specs.declared.kind.Kind.{Kind}
 use Rattle.wl_sigs.specs.declared.name.Name.{Name}

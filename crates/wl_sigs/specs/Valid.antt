@@ -13,11 +13,11 @@ use Rattle.wl_sigs.specs.Tables.{max_name_len, max_interfaces, max_messages, max
 use Rattle.wl_sigs.specs.Fixed.{wl_display, wl_registry, wl_callback, wl_fixes, display, registry}
 use Rattle.wl_sigs.specs.Fixed.{callback, fixes}
 
--- P holds of each interface
+-- P holds for each interface
 abbrev pub EachInterface : List Interface → (Interface → Type 0) → Type 0
 EachInterface tables P = (place : ℕ) (i : Interface) → interface_at tables place ≡ Some i → P i
 
--- P holds of each message of the side
+-- P holds for each message of the side
 abbrev pub EachMessage : List Interface → Side → (MessageSignature → Type 0) → Type 0
 EachMessage tables side P =
     (place opcode : ℕ) (m : MessageSignature) → signature_at tables place side opcode ≡ Some m → P m
@@ -32,8 +32,8 @@ pub record IsTableName (name : List ℕ) : Type 0 where
   pub few : length name ≤ max_name_len
   pub bytes : All IsNameByte name
 
--- V1: interfaces and messages have names; those of interfaces are distinct, and those of messages
--- within one interface and side
+-- V1: interfaces and messages have names; the names of interfaces are distinct, and so are those of
+-- messages within one interface and side
 pub record NamesAreDistinct (tables : List Interface) : Type 0 where
   pub interfaces_named : EachInterface tables (λ i. IsTableName i.name)
   pub interfaces_distinct : (p q : ℕ) (i j : Interface)
@@ -44,8 +44,8 @@ pub record NamesAreDistinct (tables : List Interface) : Type 0 where
       → signature_at tables place side o ≡ Some m → signature_at tables place side p ≡ Some n
       → m.name ≡ n.name → o ≡ p
 
--- V2: wl_display, wl_registry and wl_callback stand first, and wl_fixes at place 18, exactly as
--- always; so what names one of them by its place names it
+-- V2: wl_display, wl_registry and wl_callback come first, and wl_fixes has index 18, each exactly
+-- as fixed; so whatever refers to one of them by its index refers to it
 pub record HasFixedFour (tables : List Interface) : Type 0 where
   pub display : interface_at tables 0 ≡ Some wl_display
   pub registry : interface_at tables 1 ≡ Some wl_registry
@@ -63,13 +63,13 @@ pub record MakeFewObjects (tables : List Interface) : Type 0 where
   pub events : EachMessage tables Event (λ m. new_objects m.kinds ≡ [])
   pub requests : EachMessage tables Request (λ m. length (new_objects m.kinds) ≤ 1)
 
--- wl_registry.bind, by its place
+-- wl_registry.bind, by its index
 pub record IsBind (place : ℕ) (side : Side) (opcode : ℕ) : Type 0 where
   pub registry : place ≡ 1
   pub request : side ≡ Request
   pub bind : opcode ≡ 0
 
--- V5: a new object without an interface stands in wl_registry.bind alone
+-- V5: only wl_registry.bind has a new object without an interface
 abbrev pub UnnamedNewInBindAlone : List Interface → Type 0
 UnnamedNewInBindAlone tables =
     (place : ℕ) (side : Side) (opcode : ℕ) (m : MessageSignature)
@@ -98,26 +98,26 @@ pub record SincesAreInRange (tables : List Interface) : Type 0 where
       → interface_at tables place ≡ Some i → signature_at tables place side opcode ≡ Some m
       → m.since ≤ i.version
 
--- V9: each interface that an argument names is in the tables
+-- V9: each interface that an argument names exists
 abbrev pub NamedInterfacesAreThere : List Interface → Type 0
 NamedInterfacesAreThere tables =
     (side : Side) → EachMessage tables side (λ m.
     All (λ k. (iface : Iface) → named_interface k ≡ Some iface → iface.0 < length tables) m.kinds)
 
--- V10: a message that destroys an argument stands in wl_fixes alone: it is destroy_registry, which
--- destroys the registry that its only argument names
+-- V10: only wl_fixes has a message that destroys an argument: destroy_registry, which destroys the
+-- registry that its only argument names
 abbrev pub ArgumentEndsInFixesAlone : List Interface → Type 0
 ArgumentEndsInFixesAlone tables =
     (place : ℕ) (side : Side) (opcode : ℕ) (m : MessageSignature)
     → signature_at tables place side opcode ≡ Some m
     → (place ≡ 18) ⊎ (destroys_argument m.destroys ≡ false)
 
--- the place is that of one of the four
+-- the index is that of one of the four
 abbrev pub IsFixedPlace : ℕ → Type 0
 IsFixedPlace place =
     (place ≡ display.0) ⊎ (place ≡ registry.0) ⊎ (place ≡ callback.0) ⊎ (place ≡ fixes.0)
 
--- V11: a new object of the server stands in an event, and at most one in each; its interface has no
+-- V11: only events have new objects of the server, each at most one; its interface has no
 -- destroying event, and is none of the four
 pub record ServerMakesRightly (tables : List Interface) : Type 0 where
   pub requests : EachMessage tables Request (λ m. server_objects m.kinds ≡ [])

@@ -1,4 +1,4 @@
--- What the code's own list of interfaces stands for.
+-- The value of the code's own list of interfaces.
 use Rattle.std.specs.Prelude.{map}
 use Rattle.wl_sigs.specs.declared.core_interfaces.CoreMessage.{CoreMessage}
 use Rattle.wl_sigs.specs.declared.core_interfaces.CoreInterface.{CoreInterface}

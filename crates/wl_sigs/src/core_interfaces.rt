@@ -1,4 +1,4 @@
-//! The core interfaces, as the code keeps them.
+//! The core interfaces, as the code stores them.
 
 use crate::signature::Destroys;
 use wl_wire::Kind::{Array, Fd, Fixed, Int, New, Obj, Str, Uint};
@@ -22,8 +22,9 @@ pub(crate) struct CoreInterface {
     pub(crate) events: &'static [CoreMessage],
 }
 
-// A message's name, the version of its interface that brought it, the kinds of its arguments, and
-// `destroys` where it destroys its target, or `destroys N` the object that its argument at N names.
+// A message's name, the version of its interface that introduced it, the kinds of its arguments,
+// and `destroys` if it destroys its target, or `destroys N` if it destroys the object that its
+// argument at index N names.
 macro_rules! message {
     ($name:literal, $since:literal, [$($kind:expr),*]) => {
         CoreMessage { name: $name, since: $since, kinds: &[$($kind),*], destroys: Destroys::Nothing }
@@ -55,6 +56,8 @@ const ANY_OBJECT: Kind = Obj {
     iface: None,
 };
 
+// Generated from tools/core.xml by tools/dev/core-files, down to the next mark.
+
 const WL_REGISTRY: Iface = Iface(1);
 
 const WL_CALLBACK: Iface = Iface(2);
@@ -81,7 +84,7 @@ const WL_SUBSURFACE: Iface = Iface(15);
 
 const WL_SHELL_SURFACE: Iface = Iface(17);
 
-/// The core interfaces at their places.
+/// The core interfaces in order.
 pub(crate) const CORE: [CoreInterface; 19] = [
     CoreInterface {
         name: b"wl_display",
@@ -347,3 +350,5 @@ pub(crate) const CORE: [CoreInterface; 19] = [
         events: &[],
     },
 ];
+
+// End of what is generated.

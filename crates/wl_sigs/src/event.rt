@@ -1,8 +1,8 @@
 // Made by tools/dev/core-files.
 //! The opcodes of the core interfaces' events, which a server writes.
 //!
-//! `event::wl_callback::DONE` is the opcode of wl_callback.done in the core tables, and so each
-//! constant is that of the message of its name: the law `opcodes_are_of_their_names` says so.
+//! `event::wl_callback::DONE` is the opcode of wl_callback.done in the core tables. Each
+//! constant is the opcode of the message with its name: the law `opcodes_are_of_their_names`.
 
 pub mod wl_display {
     pub const ERROR: u16 = 0;

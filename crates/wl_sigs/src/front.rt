@@ -4,8 +4,8 @@ ghost use Rattle.std.specs.Prelude.{◌≡◌, ◌≤◌, length, take};
 use std::fmt::{self, Debug, Formatter};
 use std::marker::Model;
 
-/// Up to `N` items at the front of an array, with blanks behind them. The count is a byte, so that
-/// it takes little room.
+/// Up to `N` items at the front of an array, followed by blanks. The count is a byte, to save
+/// space.
 #[derive(Drop)]
 pub(crate) struct Front<T, const N: usize> {
     len: u8,
@@ -48,7 +48,7 @@ impl<T, const N: usize> Front<T, N> {
 }
 
 impl<T: Copy, const N: usize> Front<T, N> {
-    /// A copy of a slice, with this blank behind it.
+    /// A copy of a slice, followed by this blank.
     pub(crate) fn from_slice(blank: T, slice: &[T]) -> Self
         requires fits { length slice.now ≤ N }
         requires counted { N ≤ 255 }

@@ -4,8 +4,8 @@ ghost use Rattle.wl_sigs.specs.NameHash.{name_hash};
 
 use std::hash::{FoldHasher, Hasher};
 
-/// The hash of a name. Whoever chooses names can choose such with one hash, so it tells only that
-/// two names differ.
+/// The hash of a name. Whoever chooses names can choose several with the same hash, so hashes can
+/// only show that two names differ.
 pub(crate) fn name_hash(name: &[u8]) -> u64
     ensures { result ≡ name_hash name.now }
 {

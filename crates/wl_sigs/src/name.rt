@@ -7,8 +7,8 @@ use std::alloc::{AllocError, Allocator, Global};
 use std::fmt::{self, Debug, Formatter};
 use std::mem::size_of;
 
-/// How many bytes of a name lie in the value itself: with their count and a mark they take the 32
-/// bytes that a vector with a mark takes. Few names of protocols are longer.
+/// How many bytes of a name are stored in the value itself: together with their count and a tag
+/// they fit in the 32 bytes that a vector with a tag takes. Few names in protocols are longer.
 const SHORT_NAME: usize = 30;
 
 const _: () = prove!(size_of::<Name>() == 32);
@@ -16,9 +16,9 @@ const _: () = prove!(size_of::<Name>() == 32);
 /// The bytes of a name.
 #[derive(Drop)]
 pub(crate) enum Name<A: Allocator = Global> {
-    /// In the value itself.
+    /// Stored in the value itself.
     Short(Front<u8, SHORT_NAME>),
-    /// In memory of its own.
+    /// Stored in memory of its own.
     Long(Vec<u8, A>),
 }
 
@@ -35,7 +35,7 @@ impl<A: Allocator> Name<A> {
 }
 
 impl<A: Allocator + Clone + Drop> Name<A> {
-    /// A copy of a name. It asks for memory only where the name is long.
+    /// A copy of a name. It allocates only if the name is long.
     pub(crate) fn from_slice(alloc: &A, name: &[u8]) -> Result<Self, AllocError>
         ensures { IfOk result (λ kept. name_bytes kept ≡ name.now) }
     {

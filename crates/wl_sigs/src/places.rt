@@ -1,4 +1,4 @@
-//! The first places of names.
+//! The first indices of names.
 ghost use Rattle.std.specs.Prelude.{◌≡◌, ℕ, List, Some, None, IfOk, OnOk, option_copied};
 ghost use Rattle.std.specs.Prelude.{if◌then◌else◌, is_some, bytes_eq};
 ghost use Rattle.wl_sigs.specs.Joined.{first_place};
@@ -9,11 +9,11 @@ use crate::hashed::HashedName;
 use std::alloc::{AllocError, Allocator};
 use std::collections::BTreeMap;
 
-/// Places by the hashes of names and the names, so that names that begin alike are mostly told
-/// apart by one number.
+/// Indices by name and its hash; the hash comes first, so that one number distinguishes most names
+/// that begin alike.
 pub(crate) type Places<'n, A> = BTreeMap<(u64, &'n [u8]), usize, A>;
 
-/// The first place of each of the names.
+/// The first index of each name.
 pub(crate) fn places_of<'n, A: Allocator + Clone + Drop>(
     alloc: &A,
     names: &[HashedName<'n>],
@@ -24,7 +24,7 @@ pub(crate) fn places_of<'n, A: Allocator + Clone + Drop>(
     let mut places = BTreeMap::new(alloc.clone()?);
     for (place, hashed) in names.iter().enumerate() {
         let key = (hashed.hash(), hashed.name());
-        // A name that stands again keeps its first place: to write that back takes no memory.
+        // A name that occurs again keeps its first index; writing it back allocates nothing.
         if let Some(earlier) = places.insert(key, place)? {
             places.insert(key, earlier)?;
         }
@@ -32,7 +32,7 @@ pub(crate) fn places_of<'n, A: Allocator + Clone + Drop>(
     Ok(places)
 }
 
-/// The first place of a name.
+/// The first index of a name.
 pub(crate) fn place_in<'n, A: Allocator>(places: &Places<'n, A>, name: &'n [u8]) -> Option<usize>
     ensures { result ≡ place_in places.now name.now }
 {

@@ -1,8 +1,8 @@
 // Made by tools/dev/core-files.
 //! The opcodes of the core interfaces' requests, which a client writes.
 //!
-//! `request::wl_surface::COMMIT` is the opcode of wl_surface.commit in the core tables, and so each
-//! constant is that of the message of its name: the law `opcodes_are_of_their_names` says so.
+//! `request::wl_surface::COMMIT` is the opcode of wl_surface.commit in the core tables. Each
+//! constant is the opcode of the message with its name: the law `opcodes_are_of_their_names`.
 
 pub mod wl_display {
     pub const SYNC: u16 = 0;

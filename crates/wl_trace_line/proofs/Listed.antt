@@ -14,7 +14,7 @@ use Rattle.wl_trace_line.specs.Argument.{argument_text, placed_text}
 use Rattle.wl_trace_line.specs.Line.{told_interface, taken_with, trace_texts}
 use Rattle.wl_trace_line.specs.Report.{wire_argument, descriptor_number, report_texts}
 
--- what is printed for texts that stand behind n others
+-- what is printed for texts that follow n others
 abbrev pub listed_behind : ℕ → List (List ℕ) → List ℕ
 listed_behind zero texts = comma_separated texts
 listed_behind (suc n) texts = flat_map (λ text. codes ", " ++ text) texts

@@ -1,4 +1,4 @@
--- The arguments of a message, as the line of a trace and that of a report tell them.
+-- The arguments of a message, as the line of a trace and that of a report show them.
 use Rattle.std.specs.Prelude.{ℕ, zero, suc, List, ◌++◌, length, codes, nat_eq}
 use Rattle.std.specs.Prelude.{if◌then◌else◌, Option, Some, None}
 use Rattle.std.specs.Fmt.{decimal, signed_decimal}
@@ -11,7 +11,7 @@ use Rattle.wl_trace_line.specs.Text.{object_text, new_text, known_name, string_t
 abbrev pub null_text : List ℕ
 null_text = codes "nil"
 
--- an object argument, where 0 is the null object
+-- an object argument; 0 is the null object
 abbrev pub argument_object : List ℕ → ℕ → List ℕ
 argument_object interface id = if nat_eq id 0 then null_text else object_text interface id
 
@@ -20,8 +20,8 @@ abbrev pub argument_string : Option (List ℕ) → List ℕ
 argument_string None = null_text
 argument_string (Some text) = string_text text
 
--- One argument: an object, or a new one, is of this interface, where that is known; a descriptor
--- has this number. A new object whose signature gives no interface names its own and a version.
+-- One argument. An object, or a new one, has this interface, if it is known; a descriptor has this
+-- number. A new object whose signature gives no interface shows its own and a version.
 abbrev pub argument_text : List Interface → Option Iface → ℕ → Argument → List ℕ
 argument_text tables iface number (Int z) = signed_decimal z
 argument_text tables iface number (Uint n) = decimal n
@@ -35,7 +35,7 @@ argument_text tables iface number (Array bytes) =
     codes "array[" ++ decimal (length bytes) ++ codes "]"
 argument_text tables iface number (Fd _) = codes "fd " ++ decimal number
 
--- what is printed for the argument at a place, counted from 0
+-- what is printed for the argument at an index, from 0
 abbrev pub placed_text : ℕ → List ℕ → List ℕ
 placed_text zero text = text
 placed_text (suc n) text = codes ", " ++ text

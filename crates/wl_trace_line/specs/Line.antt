@@ -12,17 +12,17 @@ use Rattle.wl_objects.specs.Messages.{Received}
 use Rattle.wl_trace_line.specs.Text.{name_of, head_text, comma_separated}
 use Rattle.wl_trace_line.specs.Argument.{argument_text}
 
--- the interface of an object: of one that is there, its own; of a new one, that of the signature
+-- the interface of an object: its own if the object exists; for a new one, that of the signature
 abbrev pub told_interface : (ℕ → Option Entry) → Kind → Argument → Option Iface
 told_interface held kind (Obj id) = option_map (λ (e : Entry). e.iface) (held id)
 told_interface held kind _ = named_interface kind
 
--- how many tokens have been taken behind an argument
+-- how many tokens have been taken after an argument
 abbrev pub taken_with : ℕ → Argument → ℕ
 taken_with taken value = if is_descriptor value then taken + 1 else taken
 
--- the texts of a message's arguments, in order, where these objects are held and `taken` tokens
--- were taken before them
+-- the texts of a message's arguments, in order, given the objects and the number of tokens taken
+-- before them
 abbrev pub trace_texts : List Interface → (ℕ → Option Entry) → ℕ → List Kind → List Argument
     → List (List ℕ)
 trace_texts tables held taken (kind ∷ ks) (value ∷ values) =
@@ -30,8 +30,8 @@ trace_texts tables held taken (kind ∷ ks) (value ∷ values) =
     ∷ trace_texts tables held (taken_with taken value) ks values
 trace_texts tables held taken _ _ = []
 
--- The line of a message that was read, with the line feed that ends it: by these tables, where
--- these objects are held, and `taken` tokens were taken in its direction before it.
+-- The line of a message that was read, with its line feed, given the tables, the objects, and how
+-- many tokens were taken in its direction before it.
 abbrev pub line : List Interface → Side → (ℕ → Option Entry) → Received → ℕ → List ℕ
 line tables side held message taken =
     head_text side (name_of tables message.entry.iface) message.target.id message.signature.name

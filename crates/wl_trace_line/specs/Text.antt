@@ -1,4 +1,4 @@
--- The texts of which a line is made.
+-- The texts that make up a line.
 use Rattle.std.specs.Prelude.{ℕ, ◌/◌, ◌%◌, Bool, false, ◌&&◌, not, nat_le, nat_eq, if◌then◌else◌}
 use Rattle.std.specs.Prelude.{List, [], ◌∷◌, ◌++◌, codes, Option, Some, None, option_map, unwrap_or}
 use Rattle.std.specs.List.{flat_map, join_by}
@@ -8,7 +8,7 @@ use Rattle.wl_sigs.specs.declared.signature.Side.{Side}
 use Rattle.wl_sigs.specs.declared.signature.Side.TheVariants.{Request, Event}
 use Rattle.wl_sigs.specs.Tables.{Interface, interface_at}
 
--- which way a message went: a request to the server, an event to the client
+-- the direction of a message: a request to the server, an event to the client
 abbrev pub arrow : Side → List ℕ
 arrow Request = codes "-> "
 arrow Event = codes "<- "
@@ -21,24 +21,22 @@ object_text interface id = interface ++ codes "@" ++ decimal id
 abbrev pub new_text : List ℕ → ℕ → List ℕ
 new_text interface id = codes "new id " ++ object_text interface id
 
--- the name of an interface of the tables; one that is not there has none
+-- the name of an interface of the tables; empty if it is not there
 abbrev pub name_of : List Interface → Iface → List ℕ
 name_of tables iface =
     unwrap_or (option_map (λ (i : Interface). i.name) (interface_at tables iface.0)) []
 
--- the name of an object's interface, where that is known; the object may not be known where
--- wl_display.error names it
+-- the name of an object's interface, if known; an object that wl_display.error names may be unknown
 abbrev pub known_name : List Interface → Option Iface → List ℕ
 known_name tables None = codes "unknown"
 known_name tables (Some iface) = name_of tables iface
 
--- a message up to its arguments: which way it went, the object that it is for, its name
+-- a message without its arguments: its direction, its target, its name
 abbrev pub head_text : Side → List ℕ → ℕ → List ℕ → List ℕ
 head_text side interface id message =
     arrow side ++ object_text interface id ++ codes "." ++ message
 
--- whether a byte of a string is printed as it stands: 0x20 to 0x7e, but neither the quote nor the
--- backslash
+-- whether a byte of a string is printed unchanged: 0x20 to 0x7e, except the quote and the backslash
 abbrev pub is_plain : ℕ → Bool
 is_plain byte = nat_le 0x20 byte && nat_le byte 0x7e && not (nat_eq byte 34) && not (nat_eq byte 92)
 

@@ -12,18 +12,17 @@ use crate::text::{known_name, write_new, write_object, write_string};
 use wl_sigs::Tables;
 use wl_wire::{Iface, Kind, ValueRef};
 
-/// An argument with what a line tells of it besides its value.
+/// An argument with what a line shows besides its value.
 #[derive(Clone, Copy)]
 pub(crate) struct LineArgument<'a> {
     pub value: ValueRef<'a>,
-    /// The interface of the object, where the argument is one and its interface is known.
+    /// The interface of the object, if the argument is one and its interface is known.
     pub iface: Option<Iface>,
-    /// The number of the descriptor, where the argument is one.
+    /// The number of the descriptor, if the argument is one.
     pub number: u128,
 }
 
-/// Prints the argument at a place, counted from 0: behind a comma and a space, unless it is the
-/// first.
+/// Prints the argument at an index, from 0, after a comma and a space unless it is the first.
 pub(crate) fn write_placed<S: Sink>(
     out: &mut S,
     tables: &Tables,
@@ -94,7 +93,7 @@ fn write_named<S: Sink>(out: &mut S, iface: &[u8], version: u32, id: u32) -> Res
     write_new(out, iface, id)
 }
 
-/// Prints an array, of which a line tells the length alone.
+/// Prints an array; a line shows only its length.
 fn write_array<S: Sink>(out: &mut S, len: usize) -> Result<(), S::Error>
     ensures { OnOk result (S.takes out.old (codes "array[" ++ decimal len ++ codes "]") out.new) }
 {
@@ -103,7 +102,7 @@ fn write_array<S: Sink>(out: &mut S, len: usize) -> Result<(), S::Error>
     out.write_byte(b']')
 }
 
-/// Prints a descriptor, for which a number stands.
+/// Prints a descriptor by its number.
 fn write_descriptor<S: Sink>(out: &mut S, number: u128) -> Result<(), S::Error>
     ensures { OnOk result (S.takes out.old (codes "fd " ++ decimal number) out.new) }
 {

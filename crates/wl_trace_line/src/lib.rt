@@ -1,8 +1,8 @@
 //! The lines of a trace: one message of a session, as text.
 //!
-//! A line says which way a message went, the object that it is for, its name and its arguments,
-//! as `-> wl_display@1.get_registry(new id wl_registry@2)`. A trace appends it to bytes, a report
-//! prints it to a formatter: both by the same functions, over a sink.
+//! A line shows the direction of a message, its target, its name and its arguments, such as `->
+//! wl_display@1.get_registry(new id wl_registry@2)`. A trace appends it to bytes, and a report
+//! prints it to a formatter; both use the same functions, over a `Sink`.
 #![tactic(auto)]
 
 mod argument;

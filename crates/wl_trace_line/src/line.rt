@@ -16,9 +16,8 @@ use wl_wire::{Iface, Kind, ValueRef};
 /// Appends the line of a message that was read, and its line feed, before the message changes what
 /// `lookup` knows.
 ///
-/// `taken` is the number of tokens that were taken in the message's direction before it, so that
-/// its first descriptor is printed as one more. Where memory runs out, a part of the line may have
-/// been appended.
+/// `taken` is the number of tokens taken in the message's direction before it; its first descriptor
+/// is printed as `taken + 1`. Without memory, a part of the line may have been appended.
 pub fn write_line<A: Allocator, L: Lookup>(
     out: &mut Vec<u8, A>,
     tables: &Tables,
@@ -40,7 +39,7 @@ pub fn write_line<A: Allocator, L: Lookup>(
     out.write_bytes(b")\n")
 }
 
-/// Prints the arguments of a message, where `taken` tokens were taken before them.
+/// Prints the arguments of a message; `taken` tokens were taken before them.
 fn write_arguments<S: Sink, L: Lookup>(
     out: &mut S,
     tables: &Tables,
@@ -71,7 +70,7 @@ fn write_arguments<S: Sink, L: Lookup>(
     Ok(())
 }
 
-/// The interface of an object: of one that is there its own, of a new one that of the signature.
+/// The interface of an object: its own if it exists; for a new one, that of the signature.
 fn told_interface<L: Lookup>(lookup: &L, kind: Kind, value: ValueRef<'_>) -> Option<Iface>
     ensures { result ≡ told_interface (L.reader lookup.now).object kind (lent value.entry) }
 {
@@ -84,7 +83,7 @@ fn told_interface<L: Lookup>(lookup: &L, kind: Kind, value: ValueRef<'_>) -> Opt
     }
 }
 
-/// The number of tokens that have been taken once this argument was read.
+/// The number of tokens that have been taken after this argument.
 fn taken_after(taken: u128, value: ValueRef<'_>) -> u128
     requires { taken < 2 ^ 127 + 2 ^ 64 }
     ensures { result ≡ taken_with taken (lent value.entry) }

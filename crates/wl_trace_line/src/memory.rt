@@ -8,7 +8,7 @@ use itoa::{Buffer, Integer, write_digits};
 use std::alloc::{AllocError, Allocator};
 use wl_wire::Fixed;
 
-/// Appends an `@` and the id of an object, both at once.
+/// Appends an `@` and the id of an object in one step.
 pub(crate) fn write_id<A: Allocator>(out: &mut Vec<u8, A>, id: u32) -> Result<(), AllocError>
     ensures { OnOk result (out.new.items ≡ out.old.items ++ (codes "@" ++ decimal id)) }
 {
@@ -28,7 +28,7 @@ pub(crate) fn write_number<A: Allocator, I: Integer>(
     out.extend_from_slice(buffer.format(number).as_bytes())
 }
 
-/// Appends a fixed-point number: its sign, its whole part, a point, and what is behind it.
+/// Appends a fixed-point number: its sign, its whole part, a point, and its decimals.
 pub(crate) fn write_fixed<A: Allocator>(
     out: &mut Vec<u8, A>,
     number: Fixed,

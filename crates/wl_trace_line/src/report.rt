@@ -1,4 +1,4 @@
-//! A message that an end has read, printed.
+//! Printing a message that an end has read.
 ghost use Rattle.std.specs.Prelude.{◌≡◌, OnOk, Some, option_copied, option_map};
 ghost use Rattle.wl_wire.specs.Argument.{lent};
 ghost use Rattle.wl_objects.specs.Parsed.{lent_got, seen_args};
@@ -18,19 +18,19 @@ use wl_objects::{Args, Entry, GotRef, Named};
 use wl_sigs::{Side, Signature, Tables};
 use wl_wire::{Iface, Kind, ValueRef};
 
-/// Which message an end reports. `{}` prints it as a trace does, up to its arguments.
+/// Which message an end reports. `{}` prints it as in a trace, without its arguments.
 #[derive(Clone, Copy)]
 pub struct MessageHead<'t> {
     pub tables: &'t Tables,
     pub side: Side,
-    /// The object that the message is for: its id, and what its end has of it.
+    /// The message's target: its id, and what its end knows about it.
     pub target: u32,
     pub entry: Option<Entry>,
     pub opcode: u16,
 }
 
 impl<'t> MessageHead<'t> {
-    /// The signature of the message, where the target is known.
+    /// The signature of the message, if the target is known.
     fn signature(&self) -> Option<&'t Signature>
         ensures { option_copied result ≡ known_signature self.now.tables.now self.now.side
             self.now.entry self.now.opcode }
@@ -78,7 +78,7 @@ impl Display for MessageHead<'_> {
 /// A message as an end reports it. `{}` prints it as the line of a trace, without the line feed.
 ///
 /// A report knows less than a trace: an object whose interface the signature leaves open is printed
-/// as `unknown@id`, and a descriptor by its token. All else is the trace's.
+/// as `unknown@id`, and a descriptor by its token. All else is the same.
 #[derive(Clone, Copy)]
 pub struct ReportLine<'t, 'a> {
     pub head: MessageHead<'t>,
@@ -104,7 +104,7 @@ impl Display for ReportLine<'_, '_> {
     }
 }
 
-/// A string of a message, in quotes, as a trace prints it.
+/// A string of a message, printed in quotes as in a trace.
 #[derive(Clone, Copy)]
 pub struct Quoted<'a> {
     pub text: &'a [u8],
@@ -122,7 +122,7 @@ impl Display for Quoted<'_> {
 #[derive(Clone, Copy)]
 pub struct ObjectName<'a> {
     pub tables: &'a Tables,
-    /// None where the interface is not known.
+    /// `None` if the interface is not known.
     pub iface: Option<Iface>,
     pub id: u32,
 }
@@ -186,7 +186,7 @@ fn wire_argument(got: GotRef<'_>) -> ValueRef<'_>
     }
 }
 
-/// The number that stands for a descriptor: its token.
+/// The number shown for a descriptor: its token.
 fn descriptor_number(got: GotRef<'_>) -> u32
     ensures { result ≡ descriptor_number (lent_got got.entry) }
 {
@@ -196,7 +196,7 @@ fn descriptor_number(got: GotRef<'_>) -> u32
     }
 }
 
-/// The id that names an object on the wire, dead or alive.
+/// The id of an object on the wire, dead or alive.
 fn named_id(named: Named) -> u32
     ensures { result ≡ named_id named }
 {

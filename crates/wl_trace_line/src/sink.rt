@@ -1,4 +1,4 @@
-//! Where a line is printed.
+//! The destination of a printed line.
 ghost use Rattle.std.specs.Prelude.{◌≡◌, ◌++◌, OnOk, List, ℕ, [], ◌∷◌, codes};
 ghost use Rattle.std.specs.Fmt.{decimal};
 ghost use Rattle.wl_wire.specs.Argument.{units};
@@ -11,29 +11,29 @@ use std::fmt::{self, Formatter};
 use std::str;
 use wl_wire::Fixed;
 
-/// What takes the bytes of a line: bytes in memory, or a formatter.
+/// Takes the bytes of a line: bytes in memory, or a formatter.
 pub(crate) trait Sink {
     type Error;
 
-    /// The first took these bytes and is then the second.
+    /// The second is the first after it took these bytes.
     ghost takes: { Self → List ℕ → Self → Type 0 };
 
-    /// A formatter takes text alone: the bytes have to be UTF-8.
+    /// Writes bytes. A formatter takes only text: the bytes must be UTF-8.
     fn write_bytes(&mut self, bytes: &[u8]) -> Result<(), Self::Error>
         ensures { OnOk result (takes self.old bytes.now self.new) };
 
     fn write_byte(&mut self, byte: u8) -> Result<(), Self::Error>
         ensures { OnOk result (takes self.old (byte ∷ []) self.new) };
 
-    /// A number in decimal.
+    /// Writes a number in decimal.
     fn write_number<I: Integer>(&mut self, number: I) -> Result<(), Self::Error>
         ensures { OnOk result (takes self.old (I.text number) self.new) };
 
-    /// A fixed-point number: its sign, its whole part, a point, and what is behind it.
+    /// Writes a fixed-point number: its sign, its whole part, a point, and its decimals.
     fn write_fixed(&mut self, number: Fixed) -> Result<(), Self::Error>
         ensures { OnOk result (takes self.old (fixed_text (units number)) self.new) };
 
-    /// An `@` and the id of an object.
+    /// Writes an `@` and the id of an object.
     fn write_id(&mut self, id: u32) -> Result<(), Self::Error>
         ensures { OnOk result (takes self.old (codes "@" ++ decimal id) self.new) };
 

@@ -1,4 +1,4 @@
-//! The texts of which a line is made.
+//! The texts that make up a line.
 ghost use Rattle.std.specs.Prelude.{◌≡◌, ◌<◌, OnOk, false};
 ghost use Rattle.std.specs.Fmt.{digit_glyph};
 ghost use Rattle.wl_trace_line.specs.Text.{arrow, object_text, new_text, name_of, known_name};
@@ -8,7 +8,7 @@ use crate::sink::Sink;
 use wl_sigs::{Side, Tables};
 use wl_wire::Iface;
 
-/// Which way a message went, and the space behind it.
+/// The direction of a message, and a space.
 fn arrow(side: Side) -> &'static [u8]
     ensures { result.now ≡ arrow side }
 {
@@ -18,7 +18,7 @@ fn arrow(side: Side) -> &'static [u8]
     }
 }
 
-/// The name of an interface of the tables; no bytes for one that is not there.
+/// The name of an interface of the tables; empty if it is not there.
 pub(crate) fn name_of<'t>(tables: &'t Tables, iface: Iface) -> &'t [u8]
     ensures { result.now ≡ name_of tables.now iface }
 {
@@ -54,7 +54,7 @@ pub(crate) fn write_new<S: Sink>(out: &mut S, interface: &[u8], id: u32) -> Resu
     write_object(out, interface, id)
 }
 
-/// Prints a message up to its arguments: which way it went, the object that it is for, its name.
+/// Prints a message without its arguments: its direction, its target, its name.
 pub(crate) fn write_head<S: Sink>(
     out: &mut S,
     side: Side,
@@ -71,7 +71,7 @@ pub(crate) fn write_head<S: Sink>(
     out.write_bytes(message)
 }
 
-/// Whether a byte of a string is printed as it stands.
+/// Whether a byte of a string is printed unchanged.
 fn is_plain(byte: u8) -> bool
     ensures { result ≡ is_plain byte }
 {

@@ -1,4 +1,4 @@
--- An object is told by its id and its birth.
+-- An object is identified by its id and its birth.
 use Rattle.std.proofs.Common.{◌≡◌, ◌≢◌, ℕ, false, Option, Some, None, IfSome, refl, sym, ap, subst}
 use Rattle.std.proofs.lemmas.Map.Lookups.{exact_pairs, exact_unsigned}
 use Rattle.std.specs.BTreeMap.{BTreeMap, get, is_at}
@@ -22,7 +22,7 @@ told_apart : (x y : Object) → y ≢ x → is_at (key_cmp (x.id, x.birth)) (y.i
 told_apart x y differs = not_equal (key_cmp (x.id, x.birth) (y.id, y.birth))
     (λ tied. differs (sym (same_object x y tied)))
 
--- what stands at an object's key is its twin
+-- the value at an object's key is its twin
 pub at_object : (m : BTreeMap (ℕ × ℕ) Object) (key : ℕ × ℕ) (x : Object) → key ≡ (x.id, x.birth)
     → get key_cmp m key ≡ twin_of m x
 at_object m key x is = ap (λ (k : ℕ × ℕ). get key_cmp m k) is

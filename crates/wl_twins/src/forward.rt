@@ -1,4 +1,4 @@
-//! An argument of a report as one of a call.
+//! An argument of a report, translated to an argument of a call.
 ghost use Rattle.std.specs.Prelude.{◌≡◌, true, MatchOption};
 ghost use Rattle.wl_objects.specs.Parsed.{lent_got};
 ghost use Rattle.wl_objects.specs.Writing.{given_of};
@@ -17,7 +17,8 @@ pub(crate) fn object_of(argument: GotRef<'_>) -> Option<Object>
     }
 }
 
-/// The argument with this object, or none, in place of the one that it names; none of a bind's.
+/// The argument with the object that it names replaced by this object or by none; `None` for a
+/// bind's new object.
 pub(crate) fn forward<'a>(argument: GotRef<'a>, twin: Option<Object>) -> Option<Arg<'a>>
     ensures { MatchOption result (is_bound (lent_got argument.entry) ≡ true)
         (λ arg. given_of arg ≡ forwarded twin (lent_got argument.entry)) }

@@ -1,4 +1,4 @@
-//! What a proxy remembers of objects. A proxy is a server towards a client and a client towards a
+//! What a proxy remembers about objects. A proxy is a server to a client and a client to a
 //! compositor, and each object of one end has a twin at the other.
 #![tactic(auto)]
 

@@ -1,4 +1,4 @@
-//! Which objects of two ends stand for each other.
+//! Which objects of two ends are each other's twins.
 ghost use Rattle.std.specs.Prelude.{◌≡◌, ◌≢◌, IfOk, IfSome, OnOk, Some, None};
 ghost use Rattle.wl_object_map.specs.declared.object.Object.{Object as AnObject};
 ghost use Rattle.wl_objects.specs.Parsed.{lent_got};
@@ -10,8 +10,8 @@ use std::alloc::{AllocError, Allocator, Global};
 use std::collections::BTreeMap;
 use wl_objects::{Arg, GotRef, Object};
 
-/// An object's id and birth. A birth alone does not tell it: each end counts those of its own ids
-/// and those of the server's apart.
+/// An object's id and birth. A birth alone does not identify it: each end counts births separately
+/// for its own ids and for the other end's.
 fn key_of(object: Object) -> (u32, u64)
     ensures { result ≡ (object.id, object.birth) }
 {
@@ -19,18 +19,18 @@ fn key_of(object: Object) -> (u32, u64)
     (id, birth)
 }
 
-/// The objects of a server and of a client that stand for each other. An object is told by its id
-/// and its birth, so one of the past is nobody's twin, whatever has its id now.
+/// Pairs of a server's object and a client's object that are each other's twins. Only id and birth
+/// together identify an object, so a past object is nobody's twin, whatever has its id now.
 #[derive(Drop)]
 pub struct Twins<A: Allocator = Global> {
-    /// The client's objects, by the server's.
+    /// The client's objects, by their twins at the server.
     at_client: BTreeMap<(u32, u64), Object, A>,
-    /// The server's objects, by the client's.
+    /// The server's objects, by their twins at the client.
     at_server: BTreeMap<(u32, u64), Object, A>,
 }
 
 impl<A: Allocator + Clone + Drop> Twins<A> {
-    /// No twins at all.
+    /// No twins.
     pub fn new(alloc: A) -> Result<Self, AllocError>
         ensures none_at_client { IfOk result
             (λ twins. (object : AnObject) → client_twin twins object ≡ None) }
@@ -43,7 +43,7 @@ impl<A: Allocator + Clone + Drop> Twins<A> {
         })
     }
 
-    /// Makes two objects twins. Out of memory, all others keep theirs.
+    /// Makes two objects twins. Without memory all other twins stay.
     pub fn add(&mut self, at_server: Object, at_client: Object) -> Result<(), AllocError>
         ensures client { OnOk result (client_twin self.new at_server ≡ Some at_client) }
         ensures server { OnOk result (server_twin self.new at_client ≡ Some at_server) }
@@ -57,21 +57,21 @@ impl<A: Allocator + Clone + Drop> Twins<A> {
         Ok(())
     }
 
-    /// The client's twin of an object of the server's.
+    /// The client's twin of a server's object.
     pub fn at_client(&self, of_server: Object) -> Option<Object>
         ensures { result ≡ client_twin self.now of_server }
     {
         self.at_client.get(&key_of(of_server)).copied()
     }
 
-    /// The server's twin of an object of the client's.
+    /// The server's twin of a client's object.
     pub fn at_server(&self, of_client: Object) -> Option<Object>
         ensures { result ≡ server_twin self.now of_client }
     {
         self.at_server.get(&key_of(of_client)).copied()
     }
 
-    /// Takes out an object of the client's with its twin, which is returned. All others keep theirs.
+    /// Removes a client's object and its twin, which is returned. All other twins stay.
     pub fn remove(&mut self, of_client: Object) -> Option<Object>
         ensures twin { result ≡ server_twin self.old of_client }
         ensures gone { server_twin self.new of_client ≡ None }
@@ -88,9 +88,9 @@ impl<A: Allocator + Clone + Drop> Twins<A> {
         Some(twin)
     }
 
-    /// An argument of a request as one of the client's call: an object by its twin, a new object as
-    /// the place of one that the call makes. None where the object has no twin, and of a bind,
-    /// which is a call of its own.
+    /// An argument of a request as an argument of the client's call: an object becomes its twin, a
+    /// new object one that the call makes. `None` if the object has no twin, and for a bind, for
+    /// which there is a separate call.
     pub fn request_arg<'a>(&self, argument: GotRef<'a>) -> Option<Arg<'a>>
         ensures { IsForwarded (client_twin self.now) (lent_got argument.entry) result }
     {
@@ -100,7 +100,7 @@ impl<A: Allocator + Clone + Drop> Twins<A> {
         }
     }
 
-    /// An argument of an event as one of the server's call, likewise.
+    /// The same for an argument of an event and the server's call.
     pub fn event_arg<'a>(&self, argument: GotRef<'a>) -> Option<Arg<'a>>
         ensures { IsForwarded (server_twin self.now) (lent_got argument.entry) result }
     {

@@ -1,4 +1,4 @@
--- The values of arguments, without where they lie in memory.
+-- The values of arguments, apart from where they lie in memory.
 use Rattle.std.specs.Prelude.{ℕ, ℤ, List, Option, Some, None}
 use Rattle.wl_wire.specs.declared.fixed.Fixed as fixed
 use Rattle.wl_wire.specs.declared.value.Value.{Value}
@@ -6,8 +6,8 @@ use Rattle.wl_wire.specs.declared.value.Value.TheVariants as values
 use Rattle.wl_wire.specs.declared.value.ValueRef.{ValueRef}
 use Rattle.wl_wire.specs.declared.value.ValueRef.TheVariants as refs
 
--- One argument: O is what names an object, N what names a new object, F what stands for a
--- descriptor. On the wire, in a call, in a report and in what was meant only these three differ.
+-- One argument: O names an object, N a new object, and F represents a descriptor. Arguments on the
+-- wire, in a call, in a report and as meant by the sender differ in these three only.
 pub data Shape (O N F : Type 0) : Type 0 where
   Int : ℤ → Shape O N F
   Uint : ℕ → Shape O N F
@@ -19,7 +19,7 @@ pub data Shape (O N F : Type 0) : Type 0 where
   Array : List ℕ → Shape O N F
   Fd : F → Shape O N F
 
--- the same argument with objects, new objects and descriptors named otherwise
+-- the same argument with its objects, new objects and descriptors renamed
 abbrev pub reshaped : {O N F O' N' F' : Type 0} → (O → O') → (N → N') → (F → F') → Shape O N F
     → Shape O' N' F'
 reshaped o n f (Int z) = Int z
@@ -32,16 +32,16 @@ reshaped o n f (NewNamed iface version x) = NewNamed iface version (n x)
 reshaped o n f (Array bytes) = Array bytes
 reshaped o n f (Fd x) = Fd (f x)
 
--- an argument on the wire: objects and new objects by their ids, where 0 is the null object, and a
--- descriptor by nothing
+-- an argument on the wire: objects and new objects are ids, 0 is the null object, and a descriptor
+-- is nothing
 abbrev pub Argument : Type 0
 Argument = Shape ℕ ℕ (Unit {0})
 
--- how many 256ths a fixed-point number is
+-- a fixed-point number in 256ths
 abbrev pub units : fixed.Fixed → ℤ
 units z = z.parts
 
--- what an owned value is
+-- the value that an owned value holds
 abbrev pub plain : {A : Type 0} → Value A → Argument
 plain (values.Int z) = Int z
 plain (values.Uint n) = Uint n
@@ -53,7 +53,7 @@ plain (values.NewNamed iface version id) = NewNamed iface version id
 plain (values.Array bytes) = Array bytes
 plain values.Fd = Fd tt
 
--- what a lent value is
+-- the value that a borrowed value holds
 abbrev pub lent : ValueRef → Argument
 lent (refs.Int z) = Int z
 lent (refs.Uint n) = Uint n

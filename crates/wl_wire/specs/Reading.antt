@@ -1,5 +1,5 @@
--- What stands at the front of bytes, for an argument of a kind: the answer of a reader, as a
--- function of the bytes.
+-- Reading one argument of a kind from the front of bytes: a reader's result as a function of the
+-- bytes.
 use Rattle.std.specs.Prelude.{◌≡◌, ℕ, ◌+◌, ◌-◌, ◌==◌, ◌&&◌, nat_lt, if◌then◌else◌, List, take, drop}
 use Rattle.std.specs.Prelude.{length, slice_index, Some, None, Result, Ok, Err}
 use Rattle.wl_wire.specs.declared.kind.Kind.{Kind}
@@ -16,7 +16,7 @@ use Rattle.wl_wire.specs.Argument.{plain, lent}
 use Rattle.wl_wire.specs.Spelling.{padded, has_nul}
 pub use Rattle.wl_wire.specs.Word.{number_at, signed}
 
--- How many bytes an argument takes: its words, and the padded bytes that a length asks for.
+-- How many bytes an argument takes: its words, and the padded bytes that a length counts.
 abbrev pub asked : Kind → List ℕ → ℕ
 asked kinds.Int bytes = 4
 asked kinds.Uint bytes = 4
@@ -33,7 +33,7 @@ asked kinds.Fd bytes = 0
 abbrev pub counted_bytes : ℕ → List ℕ → List ℕ
 counted_bytes n bytes = take n (drop 4 bytes)
 
--- the string after a length of n, which counts the ending NUL
+-- the string after a length word n, which counts the ending NUL
 abbrev pub text_of : ℕ → List ℕ → Result (List ℕ) ArgFault
 text_of n bytes =
     if n == 0 then Err NullNotAllowed
@@ -42,12 +42,12 @@ text_of n bytes =
     then Err InnerNul else Ok (counted_bytes (n - 1) bytes))
     else Err NoEndingNul
 
--- the same fault, or this function of what was found
+-- the same fault, or f of what was found
 abbrev pub on_found : {X Y : Type 0} → (X → Y) → Result X ArgFault → Result Y ArgFault
 on_found f (Ok x) = Ok (f x)
 on_found f (Err fault) = Err fault
 
--- The argument that bytes are, where all that it asks for are there.
+-- The argument at the front of the bytes, if they are long enough for it.
 abbrev pub argument_of : Kind → List ℕ → Result Argument ArgFault
 argument_of kinds.Int bytes = Ok (Int (signed (number_at bytes)))
 argument_of kinds.Uint bytes = Ok (Uint (number_at bytes))
@@ -67,27 +67,27 @@ argument_of (kinds.NewByServer iface) bytes = Ok (New (number_at bytes))
 argument_of kinds.Array bytes = Ok (Array (counted_bytes (number_at bytes) bytes))
 argument_of kinds.Fd bytes = Ok (Fd tt)
 
--- What stands at the front of the bytes for an argument of the kind, and how many bytes it takes;
--- or the first fault.
+-- The argument of the kind at the front of the bytes and how many bytes it takes, or the first
+-- fault.
 abbrev pub reading : Kind → List ℕ → Result (Argument × ℕ) ArgFault
 reading kind bytes =
     if nat_lt (length bytes) (asked kind bytes) then Err Short
     else on_found (λ value. (value, asked kind bytes)) (argument_of kind bytes)
 
--- the value holds bytes of its own, if it is owned
+-- an owned value of this argument allocates bytes
 abbrev pub HoldsBytes : Argument → Type 0
 HoldsBytes (Str (Some text)) = Unit {0}
 HoldsBytes (NewNamed iface version id) = Unit {0}
 HoldsBytes (Array bytes) = Unit {0}
 HoldsBytes _ = ⊥
 
--- what a reader answers, seen without memory
+-- a reader's result, apart from memory
 abbrev pub seen : Result (ValueRef × ℕ) ArgFault → Result (Argument × ℕ) ArgFault
 seen (Ok found) = Ok (lent found.0, found.1)
 seen (Err fault) = Err fault
 
--- This is the answer of a reader that makes a value of its own: as `reading`, or out of memory,
--- which only a value with bytes can be.
+-- A reader that makes an owned value gives this result: the same as `reading`, or out of memory,
+-- which happens only for a value with bytes.
 abbrev pub IsValueRead : {A : Type 0} → Kind → List ℕ → Result (Value A × ℕ) ReadError → Type 0
 IsValueRead kind bytes (Ok found) = reading kind bytes ≡ Ok (plain found.0, found.1)
 IsValueRead kind bytes (Err (errors.Arg fault)) = reading kind bytes ≡ Err fault

@@ -1,4 +1,4 @@
--- How the values of a message's arguments stand on the wire.
+-- How the values of arguments are encoded on the wire.
 use Rattle.std.specs.Prelude.{◌≡◌, ◌≢◌, ℕ, ℤ, ◌+◌, ◌*◌, ◌/◌, ◌-◌, ◌<◌, ◌^◌, Bool, true, List, []}
 use Rattle.std.specs.Prelude.{◌∷◌, ◌++◌, length, replicate, Option, Some, None, FitsSigned}
 use Rattle.std.specs.Prelude.{◌==◌}
@@ -14,7 +14,7 @@ use Rattle.wl_wire.specs.Argument.{Argument, Int, Uint, Fixed, Str, Obj, New, Ne
 abbrev pub padded : ℕ → ℕ
 padded n = (n + 3) / 4 * 4
 
--- these bytes, and up to three more, of any value, to a multiple of 4
+-- these bytes, then up to three bytes of any value, to a multiple of 4
 pub record Padded (bytes spelled : List ℕ) : Type 0 where
   pub padding : List ℕ
   pub whole : spelled ≡ bytes ++ padding
@@ -24,13 +24,12 @@ pub record Padded (bytes spelled : List ℕ) : Type 0 where
 abbrev pub has_nul : List ℕ → Bool
 has_nul text = list_any (λ b. b == 0) text
 
--- a string that can stand on the wire: no byte is 0, and its length with the ending NUL is a word
+-- a string that the wire can carry: no byte is 0, and its length with the ending NUL fits in a word
 pub record IsText (text : List ℕ) : Type 0 where
   pub no_nul : All (λ b. b ≢ 0) text
   pub len : length text + 1 < 2 ^ 32
 
--- The bytes spell a string that is not null: its length with the ending NUL, the string, the NUL,
--- padding.
+-- The bytes spell a non-null string: its length with the ending NUL, the string, the NUL, padding.
 pub record SpellsText (text bytes : List ℕ) : Type 0 where
   pub text_fits : IsText text
   pub rest : List ℕ
@@ -45,25 +44,25 @@ pub data Spells : Kind → Argument → List ℕ → Type 0 where
       → Spells kinds.Uint (Uint n) bytes
   is_fixed : {z : ℤ} {bytes : List ℕ} → FitsSigned w32 z → bytes ≡ int_word z
       → Spells kinds.Fixed (Fixed z) bytes
-  -- the null string is a length of 0
+  -- the null string has the length 0
   is_null : {null : Bool} {bytes : List ℕ} → null ≡ true → bytes ≡ word 0
       → Spells (kinds.Str null) (Str None) bytes
   is_text : {null : Bool} {text bytes : List ℕ} → SpellsText text bytes
       → Spells (kinds.Str null) (Str (Some text)) bytes
-  -- the null object is the id 0
+  -- the null object has the id 0
   is_object : {null : Bool} {iface : Option Iface} {id : ℕ} {bytes : List ℕ} → id < 2 ^ 32
       → (id ≡ 0 → null ≡ true) → bytes ≡ word id → Spells (kinds.Obj null iface) (Obj id) bytes
   is_new : {iface : Iface} {id : ℕ} {bytes : List ℕ} → id < 2 ^ 32 → bytes ≡ word id
       → Spells (kinds.New (Some iface)) (New id) bytes
   is_new_by_server : {iface : Iface} {id : ℕ} {bytes : List ℕ} → id < 2 ^ 32 → bytes ≡ word id
       → Spells (kinds.NewByServer iface) (New id) bytes
-  -- without an interface: its name, the version, the id
+  -- a new object without an interface: its name, the version, the id
   is_named : {iface front bytes : List ℕ} {version id : ℕ} → SpellsText iface front
       → version < 2 ^ 32 → id < 2 ^ 32 → bytes ≡ front ++ word version ++ word id
       → Spells (kinds.New None) (NewNamed iface version id) bytes
   is_array : {array rest bytes : List ℕ} → length array < 2 ^ 32 → Padded array rest
       → bytes ≡ word (length array) ++ rest → Spells kinds.Array (Array array) bytes
-  -- a descriptor has no bytes
+  -- a descriptor takes no bytes
   is_descriptor : {bytes : List ℕ} → bytes ≡ [] → Spells kinds.Fd (Fd tt) bytes
 
 abbrev pub zeros : ℕ → List ℕ
@@ -73,7 +72,7 @@ zeros n = replicate n 0
 abbrev pub text_bytes : List ℕ → List ℕ
 text_bytes text = word (length text + 1) ++ text ++ zeros (padded (length text + 1) - length text)
 
--- The one spelling that a writer gives: its padding is zeros.
+-- The one spelling that a writer produces: its padding is zeros.
 abbrev pub canonical : Argument → List ℕ
 canonical (Int z) = int_word z
 canonical (Uint n) = word n
@@ -87,14 +86,14 @@ canonical (Array bytes) =
     word (length bytes) ++ bytes ++ zeros (padded (length bytes) - length bytes)
 canonical (Fd _) = []
 
--- the value has a spelling, as far as its strings and arrays go
+-- the value has a spelling if its strings and arrays allow it
 abbrev pub Fits : Argument → Type 0
 Fits (Str (Some text)) = IsText text
 Fits (NewNamed iface version id) = IsText iface
 Fits (Array bytes) = length bytes < 2 ^ 32
 Fits _ = Unit {0}
 
--- how many bytes spell a value
+-- how many bytes a spelling of the value takes
 abbrev pub spelled_len : Argument → ℕ
 spelled_len (Str (Some text)) = 4 + padded (length text + 1)
 spelled_len (NewNamed iface version id) = 12 + padded (length iface + 1)
@@ -102,7 +101,7 @@ spelled_len (Array bytes) = 4 + padded (length bytes)
 spelled_len (Fd _) = 0
 spelled_len _ = 4
 
--- The value is one of the kind, and all its numbers are in range: there are bytes that spell it.
+-- The value belongs to the kind and its numbers are in range, so some bytes spell it.
 abbrev pub Suits : Kind → Argument → Type 0
 Suits kinds.Int (Int z) = FitsSigned w32 z
 Suits kinds.Uint (Uint n) = n < 2 ^ 32

@@ -9,7 +9,7 @@ use std::marker::Model;
 
 /// Bytes of a string or an array, in memory of their own.
 ///
-/// It is made from a `Vec` and turns back into one without an allocation.
+/// Converts from and to a `Vec` without an allocation.
 #[derive(Debug, Drop)]
 pub struct Bytes<A: Allocator = Global> {
     items: Vec<u8, A>,
@@ -62,7 +62,7 @@ impl<A: Allocator> Bytes<A> {
         items
     }
 
-    /// The bytes, lent.
+    /// The bytes, borrowed.
     pub fn as_slice(&self) -> &[u8]
         ensures { result.now ≡ self.now }
     {

@@ -1,4 +1,4 @@
-//! Messages that are written where they are to lie.
+//! Messages that are written straight into their destination.
 ghost use Rattle.std.specs.Prelude.{◌≡◌, length};
 
 /// A message that can be written.
@@ -6,15 +6,15 @@ pub trait Encode {
     /// The bytes of the whole message.
     ghost message: { Self → Rattle.std.specs.Prelude.List Rattle.std.specs.Prelude.ℕ };
 
-    /// Whether it has such bytes.
+    /// Whether the message can be written.
     ghost fits: { Self → Type 0 };
 
-    /// How many bytes the message has.
+    /// How many bytes the whole message has.
     fn encoded_len(&self) -> usize
         requires { fits self.now }
         ensures { result ≡ length (message self.now) };
 
-    /// Writes the message over these bytes, which are as many.
+    /// Writes the message over `out`, which is exactly as long as the message.
     fn encode(&self, out: &mut [u8])
         requires fits { fits self.now }
         requires len { length out.old ≡ length (message self.now) }

@@ -5,16 +5,16 @@ ghost use Rattle.wl_wire.specs.Units.{HasFixed, IsFloor};
 
 use std::fmt;
 
-/// A signed fixed-point number: 24 bits, the sign among them, before the point and 8 behind it.
+/// A signed fixed-point number: 24 bits including the sign before the point, 8 bits after it.
 /// (Section "Wire Format", fixed.)
 #[derive(Clone, Copy, Debug, Default, PartialEq, Eq, PartialOrd, Ord, Hash)]
 pub struct Fixed {
-    /// The number of 256ths.
+    /// The number in 256ths.
     parts: i32,
 }
 
 impl Fixed {
-    /// The number of this many 256ths.
+    /// The number with this many 256ths.
     pub fn from_raw(raw: i32) -> Fixed
         ensures { units result ≡ raw }
     {
@@ -28,7 +28,7 @@ impl Fixed {
         self.parts
     }
 
-    /// A whole number from -8,388,608 to 8,388,607. Others have no fixed-point number.
+    /// A whole number from -8,388,608 to 8,388,607; `None` for any other.
     pub fn from_int(whole: i32) -> Option<Fixed>
         ensures range { IsSome result ↔ HasFixed whole }
         ensures value { IfSome result (λ f. units f ≡ whole *ℤ pos 256) }
@@ -37,7 +37,7 @@ impl Fixed {
         Some(Fixed::from_raw(raw))
     }
 
-    /// The whole number that is not above it, so -1 of -1/256.
+    /// The greatest whole number at or below this one: -1 for -1/256.
     pub fn to_int(self) -> i32
         ensures { IsFloor result (units self) }
     {
@@ -45,7 +45,7 @@ impl Fixed {
     }
 }
 
-/// Eight decimals, which show each 256th exactly.
+/// Prints eight decimals, which show each 256th exactly.
 impl fmt::Display for Fixed {
     ghost use Rattle.std.specs.Prelude.{Some};
     ghost use Rattle.wl_wire.specs.Argument.{units};

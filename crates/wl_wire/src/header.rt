@@ -3,20 +3,20 @@ ghost use Rattle.std.specs.Prelude.{◌≡◌, ◌≤◌, length, take};
 
 use byteorder::{ByteOrder, LittleEndian};
 
-/// The most bytes that a message has, its header counted, where both ends agreed on no more.
+/// The longest message in bytes, header included, unless both ends agreed on more.
 pub const MAX_MESSAGE_LEN: u16 = 4096;
 
-/// The number of bytes of a header, the fewest that a message has.
+/// The length of a header in bytes, and so of the shortest message.
 pub const HEADER_LEN: usize = 8;
 
 /// The first eight bytes of a message. (Section "Wire Format".)
 #[derive(Clone, Copy, Debug, PartialEq, Eq)]
 pub struct Header {
-    /// The id of the object that the message is for.
+    /// The id of the message's target object.
     pub object: u32,
-    /// The number of bytes of the whole message, these eight counted.
+    /// The length of the whole message in bytes, these eight included.
     pub size: u16,
-    /// The place of the message among the requests, or the events, of the object's interface.
+    /// The message's index among the requests, or the events, of the object's interface.
     pub opcode: u16,
 }
 
@@ -35,7 +35,7 @@ impl Header {
         bytes
     }
 
-    /// The header that these bytes are. Any eight bytes are one.
+    /// The header in these bytes. Any eight bytes are a header.
     pub fn from_bytes(bytes: [u8; HEADER_LEN]) -> Header
         ensures spelled { bytes ≡ header_bytes result }
         ensures computes { result ≡ header_at bytes }
@@ -43,7 +43,7 @@ impl Header {
         Header::at_front_of(&bytes)
     }
 
-    /// The header that the first eight bytes are.
+    /// The header in the first eight bytes.
     pub fn at_front_of(bytes: &[u8]) -> Header
         requires { 8 ≤ length bytes.now }
         ensures spelled { take 8 bytes.now ≡ header_bytes result }

@@ -1,9 +1,9 @@
-//! What kind of argument a signature asks for, and why bytes are none of that kind.
+//! The kind of argument that a signature asks for, and why bytes are not of that kind.
 
 use std::error::Error;
 use std::fmt::{self, Display, Formatter};
 
-/// An interface, by its place in the signature tables, counted from 0.
+/// An interface, by its index in the signature tables, from 0.
 #[derive(Clone, Copy, Debug, PartialEq, Eq)]
 pub struct Iface(pub u16);
 
@@ -18,38 +18,38 @@ pub enum Kind {
     Fixed,
     /// A string, and whether the null string is allowed.
     Str { null: bool },
-    /// The id of an object: whether 0, the null object, is allowed, and the object's interface.
-    /// No interface means any.
+    /// The id of an object: whether 0, the null object, is allowed, and the object's interface, or
+    /// `None` for any.
     Obj { null: bool, iface: Option<Iface> },
     /// The id of a new object that the client makes. Without an interface the argument is three
-    /// values: the interface's name as a string, the version, the id.
+    /// values: the interface's name as a string, the version and the id.
     New(Option<Iface>),
-    /// The id of a new object of this interface that the server makes.
+    /// The id of a new object of this interface, made by the server.
     NewByServer(Iface),
-    /// Bytes with their length.
+    /// Bytes, preceded by their length.
     Array,
-    /// A file descriptor. It has no bytes in the stream.
+    /// A file descriptor. It takes no bytes in the stream.
     Fd,
 }
 
-/// Why bytes begin with no spelling of a kind. The faults are tested in this order, each over the
-/// whole argument.
+/// Why bytes do not begin with a spelling of a kind. The faults are tested in this order, each over
+/// the whole argument.
 #[derive(Clone, Copy, Debug, PartialEq, Eq)]
 pub enum ArgFault {
-    /// A1: a word, or the padded bytes that a length asks for, are not all there.
+    /// A1: a word is incomplete, or fewer bytes are there than a length and its padding ask for.
     Short,
     /// A2: a null string or a null object where the kind does not allow it.
     NullNotAllowed,
     /// A3: the last byte that a string's length counts is not 0.
     NoEndingNul,
-    /// A4: a byte of a string before its last is 0.
+    /// A4: a byte of a string before the last one is 0.
     InnerNul,
 }
 
 /// Why no value was read.
 #[derive(Clone, Copy, Debug, PartialEq, Eq)]
 pub enum ReadError {
-    /// The bytes begin with no spelling of the kind.
+    /// The bytes do not begin with a spelling of the kind.
     Arg(ArgFault),
     /// Out of memory, for the value's bytes.
     Memory,

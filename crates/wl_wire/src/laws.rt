@@ -11,8 +11,8 @@ ghost use Rattle.wl_wire.specs.Reading.{reading};
 ghost use Rattle.wl_wire.specs.Spelling.{Spells, Suits, canonical, spelled_len};
 ghost use Rattle.wl_wire.specs.Word.{IsHeader, header_at, header_bytes, int_word, word};
 
-/// No spelling of a kind begins another: the bytes fix the value, and the number of bytes that
-/// spell it.
+/// No spelling of a kind is a prefix of another: the bytes determine the value and the length of
+/// its spelling.
 pub fn one_spelling()
     ensures { (kind : SpecKind) (v w : Argument) (a b x y : List ℕ) → Spells kind v a
         → Spells kind w b
@@ -24,32 +24,32 @@ pub fn canonical_spells()
     ensures { (kind : SpecKind) (v : Argument) → Suits kind v → Spells kind v (canonical v) }
 {}
 
-/// What spells a value for a kind shows that the value suits it, and is as long as any other
-/// spelling of it.
+/// Bytes that spell a value for a kind show that the value suits the kind, and all its spellings
+/// are equally long.
 pub fn spelled_suits()
     ensures { (kind : SpecKind) (v : Argument) (bytes : List ℕ) → Spells kind v bytes
         → Suits kind v × (length bytes ≡ spelled_len v) }
 {}
 
-/// What is spelled is what stands at the front, whatever follows.
+/// A spelled value is read, whatever follows it.
 pub fn spelled_is_read()
     ensures { (kind : SpecKind) (v : Argument) (front rest : List ℕ) → Spells kind v front
         → reading kind (front ++ rest) ≡ Ok (v, length front) }
 {}
 
-/// What stands at the front of bytes is spelled there.
+/// What is read is spelled at the front of the bytes.
 pub fn read_is_spelled()
     ensures { (kind : SpecKind) (v : Argument) (n : ℕ) (bytes : List ℕ) → All (λ b. b < 256) bytes
         → reading kind bytes ≡ Ok (v, n) → (n ≤ length bytes) × Spells kind v (take n bytes) }
 {}
 
-/// The fault of bytes is the first that stands.
+/// The fault reported is the first that applies.
 pub fn first_fault()
     ensures { (kind : SpecKind) (fault : SpecFault) (bytes : List ℕ) → All (λ b. b < 256) bytes
         → (reading kind bytes ≡ Err fault) ↔ IsFirstFault kind bytes fault }
 {}
 
-/// What is written for a kind is read back, whatever follows.
+/// A value written for a kind is read back, whatever follows it.
 pub fn written_is_read()
     ensures { (kind : SpecKind) (v : Argument) (rest : List ℕ) → Suits kind v
         → reading kind (canonical v ++ rest) ≡ Ok (v, spelled_len v) }
@@ -65,13 +65,13 @@ pub fn one_signed()
     ensures { (m n : ℤ) → FitsSigned w32 m → FitsSigned w32 n → int_word m ≡ int_word n → m ≡ n }
 {}
 
-/// The header that `to_bytes` wrote is the one that `from_bytes` reads, whatever follows.
+/// `from_bytes` reads the header that `to_bytes` wrote, whatever follows it.
 pub fn header_is_read()
     ensures { (h : SpecHeader) (rest : List ℕ) → IsHeader h
         → header_at (header_bytes h ++ rest) ≡ h }
 {}
 
-/// The bytes that `from_bytes` read are those that `to_bytes` writes.
+/// `to_bytes` writes the bytes that `from_bytes` read.
 pub fn header_is_written()
     ensures { (bytes : List ℕ) → All (λ b. b < 256) bytes → length bytes ≡ 8
         → header_bytes (header_at bytes) ≡ bytes }

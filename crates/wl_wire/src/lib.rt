@@ -1,9 +1,10 @@
 //! The words, headers and arguments of the Wayland wire format.
 //!
-//! A stream is a row of 32-bit words in host byte order, which is little-endian here. Each message
-//! is a header of two words and then its arguments, which carry no type: the message's signature
-//! gives it. This crate reads and writes one argument or header at a time, over bytes that are
-//! handed in and out. (Chapter "Wayland Protocol and Model of Operation", section "Wire Format".)
+//! A stream is a sequence of 32-bit words in host byte order, which is little-endian here. Each
+//! message is a header of two words followed by its arguments. Arguments carry no type: the
+//! message's signature gives it. This crate reads and writes one argument or header at a time, in
+//! memory that the caller provides. (Chapter "Wayland Protocol and Model of Operation", section
+//! "Wire Format".)
 #![tactic(auto)]
 
 mod bytes;

@@ -12,20 +12,20 @@ use crate::reading::read_ref;
 use crate::value::{Value, ValueRef};
 use std::alloc::{AllocError, Allocator};
 
-/// The argument of this kind at the front of the bytes, with the number of bytes that spell it.
-/// Only a string that is not null, a name and an array allocate.
+/// Reads the argument of this kind at the front of the bytes; returns it with the length of its
+/// spelling. Only a non-null string, an interface name and an array allocate.
 pub fn read_value<A: Allocator>(
     alloc: A,
     kind: Kind,
     bytes: &[u8],
 ) -> Result<(Value<A>, usize), ReadError>
-    // What is read is spelled so.
+    // What is read is spelled there.
     ensures found { IfOk result
         (λ x. (x.1 ≤ length bytes.now) × Spells kind (plain x.0) (take x.1 bytes.now)) }
-    // What is spelled so is read, unless memory runs out.
+    // What is spelled there is read, unless memory runs out.
     ensures only { (v : Argument) (n : ℕ) → n ≤ length bytes.now → Spells kind v (take n bytes.now)
         → MatchResult result (λ x. (plain x.0 ≡ v) × (x.1 ≡ n)) (λ e. e ≡ Memory) }
-    // Which fault it is.
+    // The fault is the first one.
     ensures fault { IfErr result (IsReason kind bytes.now) }
     ensures computes { IsValueRead kind bytes.now result }
 {
@@ -38,7 +38,7 @@ pub fn read_value<A: Allocator>(
     }
 }
 
-/// The same value with bytes of its own.
+/// An owned copy of the value.
 fn owned<A: Allocator>(alloc: A, value: ValueRef<'_>) -> Result<Value<A>, AllocError>
     ensures { MatchResult result (λ v. plain v ≡ lent value.entry)
         (λ _. HoldsBytes (lent value.entry)) }

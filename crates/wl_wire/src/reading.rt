@@ -15,17 +15,17 @@ use crate::text::has_nul;
 use crate::value::ValueRef;
 use crate::word::{int_at, padded_len, word_at};
 
-/// The argument of this kind at the front of the bytes, with the number of bytes that spell it.
-/// What stands behind it is not looked at, and padding may be any bytes.
+/// Reads the argument of this kind at the front of the bytes; returns it with the length of its
+/// spelling. What follows it is not looked at, and padding bytes may have any value.
 #[inline(always)]
 pub fn read_ref<'a>(kind: Kind, bytes: &'a [u8]) -> Result<(ValueRef<'a>, usize), ArgFault>
-    // What is read is spelled so.
+    // What is read is spelled there.
     ensures found { IfOk result
         (λ x. (x.1 ≤ length bytes.now) × Spells kind (lent x.0) (take x.1 bytes.now)) }
-    // What is spelled so is read.
+    // What is spelled there is read.
     ensures only { (v : Argument) (n : ℕ) → n ≤ length bytes.now → Spells kind v (take n bytes.now)
         → seen result ≡ Ok (v, n) }
-    // Which fault it is.
+    // The fault is the first one.
     ensures fault { IfErr result (IsFirstFault kind bytes.now) }
     ensures computes { seen result ≡ reading kind bytes.now }
 {
@@ -61,7 +61,7 @@ fn front_of<'a>(kind: Kind, bytes: &'a [u8]) -> Result<(ValueRef<'a>, usize), Ar
     }
 }
 
-/// The string at the front of bytes that hold its length.
+/// The string at the front of bytes that are known to contain its length.
 #[inline(always)]
 fn string_at<'a>(null: bool, bytes: &'a [u8]) -> Result<(ValueRef<'a>, usize), ArgFault>
     requires { 4 ≤ length bytes.now }
@@ -81,7 +81,8 @@ fn string_at<'a>(null: bool, bytes: &'a [u8]) -> Result<(ValueRef<'a>, usize), A
     }
 }
 
-/// The new object with its interface's name at the front of bytes that hold the name's length.
+/// The new object with its interface's name, at the front of bytes that are known to contain the
+/// name's length.
 fn named_at<'a>(bytes: &'a [u8]) -> Result<(ValueRef<'a>, usize), ArgFault>
     requires { 4 ≤ length bytes.now }
     ensures { seen result ≡ reading (new_kind None) bytes.now }
@@ -100,7 +101,7 @@ fn named_at<'a>(bytes: &'a [u8]) -> Result<(ValueRef<'a>, usize), ArgFault>
     Ok((value, 12 + name))
 }
 
-/// The array at the front of bytes that hold its length.
+/// The array at the front of bytes that are known to contain its length.
 #[inline(always)]
 fn array_at<'a>(bytes: &'a [u8]) -> Result<(ValueRef<'a>, usize), ArgFault>
     requires { 4 ≤ length bytes.now }
@@ -114,7 +115,7 @@ fn array_at<'a>(bytes: &'a [u8]) -> Result<(ValueRef<'a>, usize), ArgFault>
     Ok((ValueRef::Array(&bytes[4..4 + len]), end))
 }
 
-/// The string at the front, which is not null, without its ending NUL.
+/// The non-null string at the front, without its ending NUL.
 fn text_at<'a>(bytes: &'a [u8]) -> Result<&'a [u8], ArgFault>
     requires { 4 + padded (number_at bytes.now) ≤ length bytes.now }
     ensures { on_found (λ text. text.now) result ≡ text_of (number_at bytes.now) bytes.now }

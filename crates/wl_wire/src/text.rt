@@ -1,17 +1,17 @@
-//! The text of a string.
+//! The bytes of a string.
 ghost use Rattle.std.specs.Prelude.{◌≡◌, ◌≤◌, ◌+◌, length, take, drop};
 ghost use Rattle.wl_wire.specs.Spelling.{has_nul};
 
 use memchr::memchr;
 use std::simd::prelude::*;
 
-/// How many bytes are loaded at a time.
+/// How many bytes one load takes.
 const LANES: usize = 64;
 
-/// How many bytes are put together before they are looked at.
+/// How many bytes are combined before they are tested.
 const BLOCK: usize = 512;
 
-/// Whether a byte of the text is 0: a string on the wire has none before its ending NUL.
+/// Whether a byte of the text is 0. A string on the wire has no 0 before its ending NUL.
 pub fn has_nul(text: &[u8]) -> bool
     ensures { result ≡ has_nul text.now }
 {
@@ -24,7 +24,7 @@ pub fn has_nul(text: &[u8]) -> bool
     }
 }
 
-/// The same of a text of at least 64 bytes. The last 64 are looked at together.
+/// The same for a text of at least 64 bytes. The last 64 are always tested together.
 fn has_nul_by_lanes(text: &[u8]) -> bool
     requires { 64 ≤ length text.now }
     ensures { result ≡ has_nul text.now }
@@ -40,7 +40,7 @@ fn has_nul_by_lanes(text: &[u8]) -> bool
     has_zero(load(text, last))
 }
 
-/// The same of a text of at least 512 bytes. The last 512 are looked at together.
+/// The same for a text of at least 512 bytes. The last 512 are always tested together.
 fn has_nul_by_blocks(text: &[u8]) -> bool
     requires { 512 ≤ length text.now }
     ensures { result ≡ has_nul text.now }
@@ -56,7 +56,7 @@ fn has_nul_by_blocks(text: &[u8]) -> bool
     has_zero(least_of_8(text, last))
 }
 
-/// The 64 bytes from a place on.
+/// The 64 bytes from `at`.
 #[inline(always)]
 fn load(text: &[u8], at: usize) -> u8x64
     requires { at + 64 ≤ length text.now }
@@ -65,7 +65,7 @@ fn load(text: &[u8], at: usize) -> u8x64
     u8x64::from_slice(&text[at..])
 }
 
-/// The least bytes, lane by lane, of 2 loads from a place on.
+/// The least bytes, lane by lane, of 2 loads from `at`.
 #[inline(always)]
 fn least_of_2(text: &[u8], at: usize) -> u8x64
     requires { at + 128 ≤ length text.now }
@@ -75,7 +75,7 @@ fn least_of_2(text: &[u8], at: usize) -> u8x64
     load(text, at).simd_min(load(text, at + LANES))
 }
 
-/// The least bytes, lane by lane, of 4 loads from a place on.
+/// The least bytes, lane by lane, of 4 loads from `at`.
 #[inline(always)]
 fn least_of_4(text: &[u8], at: usize) -> u8x64
     requires { at + 256 ≤ length text.now }
@@ -85,7 +85,7 @@ fn least_of_4(text: &[u8], at: usize) -> u8x64
     least_of_2(text, at).simd_min(least_of_2(text, at + 2 * LANES))
 }
 
-/// The least bytes, lane by lane, of 8 loads from a place on.
+/// The least bytes, lane by lane, of 8 loads from `at`.
 #[inline(always)]
 fn least_of_8(text: &[u8], at: usize) -> u8x64
     requires { at + 512 ≤ length text.now }

@@ -1,4 +1,4 @@
-//! The value of one argument, owned or lent.
+//! The value of one argument, owned or borrowed.
 ghost use Rattle.std.specs.Prelude.{◌≡◌, ◌↔◌, IsTrue};
 ghost use Rattle.wl_wire.specs.Argument.{lent, plain};
 ghost use Rattle.wl_wire.specs.Spelling.{Fits, IsText, padded, spelled_len};
@@ -15,7 +15,7 @@ pub enum Value<A: Allocator = Global> {
     Int(i32),
     Uint(u32),
     Fixed(Fixed),
-    /// The string without its ending NUL, or none for the null string.
+    /// The string without its ending NUL; `None` for the null string.
     Str(Option<Bytes<A>>),
     /// An object's id; 0 is the null object.
     Obj(u32),
@@ -32,7 +32,7 @@ pub enum Value<A: Allocator = Global> {
 }
 
 impl<A: Allocator> Value<A> {
-    /// The same value, lent.
+    /// The same value, borrowed.
     pub fn lend(&self) -> ValueRef<'_>
         ensures { lent result ≡ plain self.now }
     {
@@ -55,7 +55,7 @@ impl<A: Allocator> Value<A> {
     }
 }
 
-/// The value of one argument, with its bytes lying elsewhere.
+/// The value of one argument, with its bytes borrowed.
 #[derive(Clone, Copy, Debug, PartialEq, Eq)]
 pub enum ValueRef<'a> {
     Int(i32),
@@ -74,8 +74,8 @@ pub enum ValueRef<'a> {
 }
 
 impl<'a> ValueRef<'a> {
-    /// Whether the value can stand on the wire: no byte of a string is 0, and each length fits in
-    /// 32 bits, a string's with its ending NUL.
+    /// Whether the wire can carry the value: no byte of a string is 0, and each length (of a
+    /// string, with its ending NUL) fits in 32 bits.
     pub fn fits(self) -> bool
         ensures { IsTrue result ↔ Fits (lent self.entry) }
     {
@@ -87,7 +87,7 @@ impl<'a> ValueRef<'a> {
         }
     }
 
-    /// The number of bytes that spell the value, which must pass `fits`.
+    /// The length of the value's spelling in bytes. The value must pass `fits`.
     pub fn spelled_len(self) -> usize
         requires { Fits (lent self) }
         ensures { result ≡ spelled_len (lent self.entry) }
@@ -102,7 +102,7 @@ impl<'a> ValueRef<'a> {
     }
 }
 
-/// Whether these bytes can stand on the wire as a string.
+/// Whether the wire can carry these bytes as a string.
 fn is_text(text: &[u8]) -> bool
     ensures { IsTrue result ↔ IsText text.now }
 {

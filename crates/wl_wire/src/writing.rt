@@ -10,8 +10,8 @@ use crate::word::padded_len;
 use byteorder::{ByteOrder, LittleEndian};
 use std::alloc::{AllocError, Allocator};
 
-/// Appends the bytes of a value that `fits`, padded with zeros. It allocates nothing where the
-/// vector has spare room for them.
+/// Appends the spelling of a value that `fits`, padded with zeros. It allocates nothing if the
+/// vector has spare room for it.
 #[inline(always)]
 pub fn encode_value<A: Allocator>(
     value: ValueRef<'_>,
@@ -45,7 +45,7 @@ pub fn encode_value<A: Allocator>(
     Ok(())
 }
 
-/// Appends bytes for which there is room.
+/// Appends bytes; the vector has room for them.
 #[inline(always)]
 fn append<A: Allocator>(out: &mut Vec<u8, A>, bytes: &[u8])
     requires { vec_len out.old + length bytes.now ≤ vec_capacity out.old }
@@ -97,8 +97,8 @@ fn append_padded<A: Allocator>(out: &mut Vec<u8, A>, len: u32, bytes: &[u8])
     append(out, &[0; 4][..extra]);
 }
 
-/// Writes the bytes of a value that `fits`, padded with zeros, at the front of these, and returns
-/// how many they are.
+/// Writes the spelling of a value that `fits`, padded with zeros, at the front of `out`, and
+/// returns its length.
 #[inline(always)]
 pub fn write_value(value: ValueRef<'_>, out: &mut [u8]) -> usize
     requires fits { Fits (lent value) }
@@ -157,7 +157,7 @@ fn write_padded(out: &mut [u8], len: u32, bytes: &[u8]) -> usize
     ensures len { result ≡ 4 + padded len }
 {
     let end = 4 + padded_len(len as usize);
-    // The zeros stand in the last word, of which the bytes may take the front.
+    // The zeros go into the last word; the bytes may then overwrite its front.
     write_word(&mut out[end - 4..], 0);
     write_word(out, len);
     out[4..4 + bytes.len()].copy_from_slice(bytes);
