@@ -1,6 +1,6 @@
 # The library for C, the tool `waywire-inspect` over it, and the libwayland-client over it that
 # `waywire-run` puts before the system's. `make` proves and builds the library where it is not built yet,
-# over what a run has proved in this clone (tools/library-of-c). `make install` installs all three, and
+# over what a run has proved in this clone (tools/toolchain.py). `make install` installs all three, and
 # the program `waywire` with its manual page where that is built (./waywire --build).
 # `make dist` packs all of that for machines that have no toolchain, and `make deb` for Debian. `make check` runs
 # the short tests of the library for C; tests/check-c has all of them.
@@ -17,7 +17,7 @@ CFLAGS ?= -O2
 LDFLAGS ?=
 OBJCOPY ?= objcopy
 # The folder of the toolchain: its C part gives the exports their memory.
-KIT ?= $(patsubst %/,%,$(dir $(shell rt doc)))
+KIT ?= $(shell python3 tools/toolchain.py kit)
 # The one place of the version's number is the program's.
 numbered = crates/program_arguments/src/job.rt
 VERSION := $(shell sed -n 's/^const VERSION: &str = "\(.*\)";/\1/p' $(numbered))
@@ -52,7 +52,7 @@ run_with = sed 's|^libraries=.*|libraries=$(1)|; s|^inspector=.*|inspector=$(2)|
 all: $(archive) $(shared) $(inspect) $(wayland) $(run)
 
 $(proved): $(sources)
-	tools/library-of-c
+	python3 tools/toolchain.py build waywire_c
 
 include/waywire-version.h: $(numbered) Makefile
 	@printf '%s\n' '/* Made by make. */' '#define WAYWIRE_VERSION "$(VERSION)"' \

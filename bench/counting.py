@@ -1,10 +1,12 @@
-"""What the measurements share: programs in C, and instructions counted by valgrind.
+"""What the measurements share: programs in C, instructions counted by valgrind, and processor time.
 
 Instructions are those in user code under callgrind. What one message takes is the difference of two
 runs, of which one sends more messages."""
 
 import os
 import re
+import resource
+import statistics
 import subprocess
 
 # Valgrind counts each byte of a string instruction, so copies are made without them.
@@ -32,9 +34,40 @@ def instructions(words, **env):
     return int(re.search(r"Collected *: *(\d+)", text)[1])
 
 
+def processor_time(words):
+    """The processor time of a run in nanoseconds: in user code, and with the kernel's."""
+    before = resource.getrusage(resource.RUSAGE_CHILDREN)
+    subprocess.run(words, check=True, stdout=subprocess.DEVNULL)
+    after = resource.getrusage(resource.RUSAGE_CHILDREN)
+    user, kernel = after.ru_utime - before.ru_utime, after.ru_stime - before.ru_stime
+    return user * 1e9, (user + kernel) * 1e9
+
+
+def time_of_one(words, batch, messages, sample, turns=5):
+    """The nanoseconds of one message, in user code and with the kernel's: the medians of some turns."""
+    first, more = rounds(batch, sample)
+    turned = []
+    for _ in range(turns):
+        few, many = (processor_time([*words, str(it)]) for it in (first, first + more))
+        turned.append([(after - before) / (more * batch * messages) for before, after in zip(few, many)])
+    return [statistics.median(it) for it in zip(*turned)]
+
+
+def processor():
+    """The name of this machine's processor."""
+    with open("/proc/cpuinfo", encoding="utf-8") as file:
+        named = re.search(r"(?m)^model name\s*: (.*)$", file.read())
+    return named[1] if named else "an unnamed processor"
+
+
+def rounds(batch, sample):
+    """How many batches the shorter of two runs sends, and how many more the longer."""
+    return sample // 4 // batch + 1, max(sample // batch, 1)
+
+
 def of_one(measure, words, batch, messages, sample):
     """What one message takes. A run's last word says how often a batch of so many times so many messages is sent."""
-    first, more = sample // 4 // batch + 1, max(sample // batch, 1)
+    first, more = rounds(batch, sample)
     taken = measure([*words, str(first + more)]) - measure([*words, str(first)])
     return taken / (more * batch * messages)
 

@@ -9,7 +9,7 @@ tools/table_text.py, which `checks` puts on the path: it is imported first.
 import re
 from dataclasses import dataclass
 
-from table_text import BadLine, Interface, lines_of
+from table_text import BadLine, Interface, is_name, lines_of
 
 MOST_IDS = 1_048_576
 # The ids of the objects that the server makes.
@@ -33,7 +33,11 @@ def parse_recording(data):
 
 
 class Fault(Exception):
-    """The rule that a message breaks, as a verdict prints it."""
+    """The rule that a message breaks, as a verdict prints it, and what the command says besides."""
+
+    def __init__(self, rule, hint=""):
+        super().__init__(rule)
+        self.hint = hint
 
 
 class Malformed(Exception):
@@ -115,6 +119,7 @@ class Session:
         self.taken = {">": 0, "<": 0}
         self.is_over = False
         self.broken = None
+        self.hint = ""
 
     def add(self, sign, data, tokens):
         """A piece, and the messages that it completes."""
@@ -127,6 +132,7 @@ class Session:
                 number = self.count[sign] + 1
                 where = f"{sign} message {number} at byte {self.offset[sign]}"
                 self.broken = f"broken: {where}: {fault}"
+                self.hint = fault.hint
                 self.is_over = True
 
     def front(self, sign):
@@ -270,9 +276,10 @@ class Session:
         lawful = any(
             (name, interface) == it[:2] and 1 <= version <= it[2] for it in self.globals
         )
-        found = self.tables.get(interface.decode("latin-1"))
+        interface = interface.decode("latin-1")
+        found = self.tables.get(interface)
         if not lawful or found is None or version > found.version:
-            raise Fault("F9 bad bind")
+            raise Fault("F9 bad bind", hint(found, interface, version))
         return number, Made(found, version)
 
     def follow(self, sign, target, to, message, made, values):
@@ -303,9 +310,26 @@ class Session:
         return f"lawful: {counts}, {left[0]} and {left[1]} bytes left"
 
 
-def judged(tables, data, limit=LIMIT):
-    """The lines of the trace of a recording, and its verdict. Raises `BadLine`."""
+def hint(found, name, version):
+    """What the command says on standard error after the verdict on a bind that its tables do not
+    know. `found` is the interface of this name in the tables, or None."""
+    if found is None:
+        return f"waywire: no table has {name}: see --tables\n" if is_name(name) else ""
+    if version <= found.version:
+        return ""
+    known = f"the tables have {name} up to version {found.version}"
+    return f"waywire: {known}, and it is bound at {version}: see --tables\n"
+
+
+def session_of(tables, data, limit=LIMIT):
+    """The session of a recording. Raises `BadLine`."""
     session = Session(tables, limit)
     for piece in parse_recording(data):
         session.add(*piece)
+    return session
+
+
+def judged(tables, data, limit=LIMIT):
+    """The lines of the trace of a recording, and its verdict. Raises `BadLine`."""
+    session = session_of(tables, data, limit)
     return session.lines, session.verdict()

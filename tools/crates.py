@@ -1,9 +1,6 @@
 """The crates of crates.txt: their kinds, and which crates each one uses.
 
     python3 tools/crates.py below CRATE     prints all crates that it uses, lowest first, and itself last
-    python3 tools/crates.py chains CRATE    prints a line for each of these, with the crates that it names:
-                                            first the one with the longest chain of crates above it
-    python3 tools/crates.py uses CRATE      prints what it names: crates, and libraries of the toolchain
     python3 tools/crates.py lines CRATE..   prints the lines of crates.txt for these crates
 
 This file alone reads crates.txt; scripts in shell ask it."""
@@ -101,11 +98,6 @@ def main(words):
     asked, name = words[:2]
     if asked == "below":
         print(*lowest_first(crates, name), sep="\n")
-    elif asked == "chains":
-        for one in longest_chain_first(crates, name):
-            print(one, *(it for it in crates[one].uses if it in crates))
-    elif asked == "uses":
-        print(*crates[name].uses, sep="\n")
     elif asked == "lines":
         print(*(crates[it].line for it in words[1:]), sep="\n")
     return 0

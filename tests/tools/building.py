@@ -16,7 +16,7 @@ from checks import LONG, TOP
 def copy_sources(room):
     """Copies into a folder what the programs are made of, and nothing that was built."""
     os.mkdir(f"{room}/tools")
-    tools = (f"tools/{it}" for it in ("crates.py", "libraries.sh", "programs.sh", "proving.sh"))
+    tools = ("tools/crates.py", "tools/toolchain.py")
     for name in ("crates", "crates.txt", "HANDLES", "waywire", *tools):
         whole = shutil.copytree if os.path.isdir(f"{TOP}/{name}") else shutil.copy
         hide = {"ignore": shutil.ignore_patterns("out")} if name == "crates" else {}

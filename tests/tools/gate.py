@@ -77,7 +77,9 @@ class TimedGate(unittest.TestCase):
                 unittest.mock.patch.dict(os.environ, path),
                 unittest.mock.patch.object(sys, "argv", ["timed-gate", *words]),
                 unittest.mock.patch.object(self.tool, "measured", measured),
-                unittest.mock.patch.object(self.tool, "clear", lambda: found.append("clear")),
+                unittest.mock.patch.object(
+                    self.tool.toolchain.Clone, "clear", lambda _: found.append("clear")
+                ),
             ):
                 self.tool.main()
         return found
@@ -119,9 +121,9 @@ class TimedGate(unittest.TestCase):
 
     def test_no_row_without_a_figure(self):
         """A crate of which a part was not timed is named, and the page has the marks of the figures."""
-        table = {"wl_line_text": {"proof": 1.0, "tests": 0.0, "mutants": 0.5}}
-        self.assertEqual(self.tool.lacking(table, ["wl_line_text"]), [])
-        self.assertEqual(self.tool.lacking(table, ["wl_line_text", "waywire"]), ["waywire (proof)"])
+        table = {"wl_text": {"proof": 1.0, "tests": 0.0, "mutants": 0.5}}
+        self.assertEqual(self.tool.lacking(table, ["wl_text"]), [])
+        self.assertEqual(self.tool.lacking(table, ["wl_text", "waywire"]), ["waywire (proof)"])
         table["test_layers"] = {"proof": 1.0, "tests": 0.0, "mutants": 0.0}
         self.assertEqual(self.tool.lacking(table, ["test_layers"]), ["test_layers (tests)"])
         page = read("docs/GATE.md")
@@ -210,15 +212,16 @@ class Quick(unittest.TestCase):
     def test_what_is_built_is_tested(self):
         """Over the proved program and the library for C more is run, and what is not run is named."""
         tools = ["tests/check-program", "tests/compare", "tests/refuse-memory"]
-        program = "crates/waywire/out/waywire"
+        program, pages = "crates/waywire/out/waywire", "tests/check-pages AtOnce"
         found = self.ran(self.tool.at_program, "waywire 1.0.0")
-        self.assertEqual(found, ([f"{it} {program}" for it in tools], []))
+        self.assertEqual(found, ([*(f"{it} {program}" for it in tools), pages], []))
         found, left = self.ran(self.tool.at_program, "this run is not proved")
-        self.assertEqual(found, [f"{it} {program}-unproved" for it in tools[:2]])
+        self.assertEqual(found, [*(f"{it} {program}-unproved" for it in tools[:2]), pages])
         self.assertIn(tools[2], left[0])
         found = self.ran(self.tool.at_library, "built")
         self.assertEqual(found, ([f"tests/check-c {program}", "tests/check-rust", "tests/check-stubs",
-                                  "tests/check-libwayland", "tests/check-picture"], []))
+                                  "tests/check-libwayland", "tests/check-picture",
+                                  "tests/check-pages OverTheLibrary"], []))
         found, left = self.ran(self.tool.at_library, "not built")
         self.assertEqual(found, ["tests/check-stubs Modules"])
         self.assertIn("tests/check-c", left[0])
@@ -273,7 +276,7 @@ class All(unittest.TestCase):
 
     PARTS = ["tests/check-layout", "tools/dev/timed-gate", "tests/check-program", "tests/compare",
              "tests/refuse-memory", "tests/check-tools", "tests/check-c", "tests/check-stubs",
-             "tests/check-rust", "tests/check-libwayland", "tests/check-picture"]
+             "tests/check-rust", "tests/check-libwayland", "tests/check-picture", "tests/check-pages"]
 
     def said(self, **parts):
         """The status and the output of a run, in which these parts, by the last words of their
@@ -293,7 +296,7 @@ class All(unittest.TestCase):
     def test_all_is_well(self):
         status, said = self.said(c="""echo 'skipped: a compositor: weston is not installed'
 echo '3 passed, 0 failed'""")
-        self.assertEqual((status, said.splitlines()[-1]), (0, "13 passed, 0 failed"))
+        self.assertEqual((status, said.splitlines()[-1]), (0, "14 passed, 0 failed"))
         skipped = "tests/check-c: a compositor: weston is not installed\n"
         self.assertIn(f"What was skipped:\n{skipped}", said)
         self.assertNotIn("What failed:", said)
@@ -312,7 +315,7 @@ exit 1""")
         self.assertTrue(said.startswith(wanted), said)
 
     def test_what_failed_and_why(self):
-        said = self.failing("11 passed, 1", c="""echo skipped: one: two
+        said = self.failing("12 passed, 1", c="""echo skipped: one: two
 printf 'failed: values: status 1\nvalues.c:7: no\n'
 echo skipped: three: four
 echo '1 passed, 1 failed'
@@ -322,26 +325,26 @@ exit 1""")
         self.assertNotIn("three", said)
 
     def test_an_exception(self):
-        said = self.failing("10 passed, 1", rust="exec python3 -c 'raise OSError(7, str(9))'")
+        said = self.failing("11 passed, 1", rust="exec python3 -c 'raise OSError(7, str(9))'")
         wanted = "which ended with status 1 and has no count of what passed and failed:\nTraceback "
         self.assertTrue(said.startswith(f"tests/check-rust, {wanted}"), said)
         self.assertIn("OSError: [Errno 7] 9\n", said)
 
     def test_a_signal(self):
         for signal, name, is_memory in ((9, "KILL", True), (15, "TERM", False)):
-            said = self.failing("10 passed, 1", picture=f"kill -{signal} $$")
+            said = self.failing("11 passed, 1", picture=f"kill -{signal} $$")
             self.assertIn(f"tests/check-picture, which ended by signal {signal} ({name}) and", said)
             self.assertEqual("for lack of memory" in said, is_memory, said)
 
     def test_a_status_that_no_count_explains(self):
-        said = self.failing("11 passed, 1", tools="echo '1 passed, 0 failed'; exit 3")
+        said = self.failing("12 passed, 1", tools="echo '1 passed, 0 failed'; exit 3")
         self.assertIn("tests/check-tools, which ended with status 3 though nothing of its", said)
 
     def test_the_gate(self):
         """A mutant that was not tried fails, and a proof that the system ended is told as that."""
         def gate(*lines):
             said = " ".join(f"'{it}'" for it in (*lines, "5 passed, 1 failed", "rt ci: 9"))
-            said = self.failing("15 passed, 1", gate=f"printf '%s\\n' {said}; exit 1")
+            said = self.failing("16 passed, 1", gate=f"printf '%s\\n' {said}; exit 1")
             head = "tools/dev/timed-gate, 5 passed, 1 failed:"
             self.assertEqual(said.splitlines()[: 1 + len(lines)], [head, *lines])
             self.assertIn("\nrt ci: 9\nin all: ", said)

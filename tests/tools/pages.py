@@ -104,8 +104,9 @@ class FrontPage(unittest.TestCase):
         self.assertEqual(program[program.index("ghost use") :], example)
 
     # What the library's own crates call, which the page leaves out.
-    INNER = {("Args", "new"), ("End", "core"), ("Passed", "append_to"),
-             ("Recording", "fill_last"), ("Recording", "prepare")}
+    INNER = {("Args", "new"), ("End", "core"), ("Header", "at_front_of"), ("Header", "from_bytes"),
+             ("Header", "to_bytes"), ("Passed", "append_to"), ("Recording", "fill_last"),
+             ("Recording", "prepare")}
 
     def test_calls(self):
         """The page lists each call of the types that `wl` exports, with its signature."""

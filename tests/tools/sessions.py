@@ -98,14 +98,15 @@ if "--help" in sys.argv:
     sys.exit()
 with open(sys.argv[-1], "rb") as file:
     try:
-        lines, verdict = reference.judged(table_text.core_tables(), file.read())
+        session = reference.session_of(table_text.core_tables(), file.read())
     except table_text.BadLine as error:
         print(f"waywire: {{error}}", file=sys.stderr)
         sys.exit(3)
-lines = lines if sys.argv[1] == "trace" else []
-is_broken = verdict.startswith("broken")
-lines = [*lines, verdict] if is_broken or sys.argv[1] == "check" else lines
+is_broken = session.broken is not None
+lines = session.lines if sys.argv[1] == "trace" else []
+lines = [*lines, session.verdict()] if is_broken or sys.argv[1] == "check" else lines
 print(*(it{change} for it in lines), sep="\\n", end="\\n" if lines else "")
+print(session.hint, end="", file=sys.stderr)
 sys.exit(is_broken)
 """
 

@@ -1,5 +1,6 @@
 """The crates as crates.txt lists them, their contracts and their definitions."""
 
+import collections
 import glob
 import os
 import re
@@ -9,8 +10,10 @@ import tempfile
 import textwrap
 import unittest
 
-from checks import TOOLS, TOP, module_of, read
+from checks import TOOLS, TOP, module_of, need, read
+import core_lists
 import crates
+import protocol
 import protocol_files
 
 
@@ -55,8 +58,6 @@ class Crates(unittest.TestCase):
             return subprocess.run([sys.executable, f"{TOOLS}/crates.py", *words], capture_output=True, text=True)
 
         self.assertEqual(said("below", "wl_sigs").stdout.split()[-1], "wl_sigs")
-        self.assertEqual(said("chains", "wl_sigs").stdout.splitlines()[-1].split()[0], "wl_sigs")
-        self.assertIn("core", said("uses", "waywire_c").stdout.split())
         line = said("lines", "waywire_c", "wl_wire").stdout.splitlines()[0]
         self.assertTrue(line.startswith("waywire_c staticlib: ") and line in read("crates.txt").splitlines())
         self.assertEqual(said("below", "no_crate").returncode, 2)
@@ -75,7 +76,8 @@ class Made(unittest.TestCase):
         self.assertEqual((ran.stdout + ran.stderr, ran.returncode), ("", 0))
 
     def test_first_lines(self):
-        made = {**dict.fromkeys(self.CORE, "core-files|stubs-from-xml"), **self.OTHERS}
+        made = dict.fromkeys((*self.CORE, *core_lists.WHOLE), "core-files|stubs-from-xml")
+        made.update(self.OTHERS)
         texts = glob.glob("examples/tables/*.tables", root_dir=TOP)
         by_hand = {f"examples/tables/{it}.tables" for it in protocol_files.BY_HAND}
         made.update(dict.fromkeys({*texts} - by_hand, "tools/tables-from-xml"))
@@ -83,6 +85,98 @@ class Made(unittest.TestCase):
             self.assertTrue(read(name).startswith("# Written by hand, "), name)
         for name, tool in made.items():
             self.assertRegex(read(name).split("\n")[0], rf"(?i)\bmade by \S*({tool})", name)
+
+
+class CoreLists(unittest.TestCase):
+    """The lists of interfaces that tools/dev/core-files makes in the crate wl_sigs."""
+
+    def changed(self, old, new):
+        """The lists that differ from those of the repository if a line of tools/core.xml is
+        another, with the lines that each of them has more."""
+        xml = read("tools/core.xml")
+        self.assertEqual(xml.count(old), 1, old)
+        with tempfile.TemporaryDirectory() as room:
+            with open(f"{room}/core.xml", "w", encoding="utf-8") as file:
+                file.write(xml.replace(old, new))
+            interfaces = protocol.read(f"{room}/core.xml").interfaces
+        found = {}
+        for name in core_lists.PARTS:
+            before = read(name)
+            made = core_lists.text_of(name, before, interfaces)
+            more = {*made.splitlines()} - {*before.splitlines()}
+            if more:
+                found[os.path.basename(name)] = sorted(it.strip() for it in more)
+        return found
+
+    def test_a_message_more(self):
+        last = '    <event name="popup_done">\n'
+        more = '<event name="gone" type="destructor"><arg name="x" type="array"/></event>\n'
+        self.assertEqual(self.changed(last, more + last), {
+            "Core.antt": ['message (codes "gone") 1 (array ∷ []) Target ∷'],
+            "Opcodes.antt": ['at_opcode event_wl_shell_surface.GONE (codes "gone") ∷'],
+            "core_interfaces.rt": ['message!(b"gone", 1, [Array], destroys),'],
+        })
+
+    def test_a_fixed_interface(self):
+        data = '<arg name="callback_data" type="uint"/>'
+        found = self.changed(data, data.replace("uint", "int"))
+        self.assertEqual(found, {
+            "Fixed.antt": ['message (codes "done") 1 (int ∷ []) Target ∷'],
+            "core_interfaces.rt": ['events: &[message!(b"done", 1, [Int], destroys)],'],
+        })
+
+    def test_an_interface_more(self):
+        """Each list has it, and its place where a message names it."""
+        last = '  <interface name="wl_fixes" version="1">\n'
+        more = """<interface name="wl_ball" version="2"><request name="throw">
+        <arg name="x" type="new_id" interface="wl_ball"/></request></interface>\n"""
+        found = self.changed(last, more + last)
+        lists = ["Fixed.antt", "Core.antt", "Opcodes.antt", "core_interfaces.rt"]
+        self.assertEqual([*found], lists)
+        self.assertEqual(found["Fixed.antt"], ["fixes = record { 0 = 19 }"])
+        self.assertLess({"ball = record { 0 = 18 }", "wl_ball ∷"}, {*found["Core.antt"]})
+        self.assertIn("const WL_BALL: Iface = Iface(18);", found["core_interfaces.rt"])
+        self.assertIn('in_interface (codes "wl_ball") [] ∷', found["Opcodes.antt"])
+
+    def test_what_has_no_word(self):
+        title = '<arg name="title" type="string"/>'
+        why = "set_title: .* no word for this string that may be null"
+        with self.assertRaisesRegex(protocol.BadProtocol, why):
+            self.changed(title, title.replace("/>", ' allow-null="true"/>'))
+
+    def test_marks(self):
+        text = f"a\n-- {core_lists.BEGINS}\n\nb\n\n-- {core_lists.ENDS}\nc\n"
+        made = core_lists.with_parts("x.antt", text, [["d", "e"]])
+        self.assertEqual(made, text.replace("\nb\n", "\nd\ne\n"))
+        for lacking in (core_lists.BEGINS, core_lists.ENDS):
+            with self.assertRaisesRegex(protocol.BadProtocol, f"x.antt lacks a line .*{lacking}"):
+                core_lists.with_parts("x.antt", text.replace(lacking, ""), [["d"]])
+
+    def test_layout(self):
+        """Code with messages of all widths is as `rt fmt` lays it out."""
+        need("rt")
+        words, interfaces = [*core_lists.KINDS], []
+
+        def argument(place, name):
+            kind, null, named = words[place % len(words)]
+            return protocol.Argument("x", kind, name if named else None, null, "")
+
+        for name in ("wl_a", "wl_sixteen_letters", "wl_callback"):
+            for count in (*range(8), 12, 16, 20):
+                args = [argument((count + it) * it, name) for it in range(count)]
+                one, *two = (
+                    protocol.Message("m" * width, 0, args, width == 12, count + 1, "", 0)
+                    for width in (count % 3 * 12 + 1, 1, 12)
+                )
+                interfaces.append(protocol.Interface(name, 1, [one], two, [], ""))
+        code = "\n".join(["//! Lists.", "", *core_lists.core_code(interfaces), ""])
+        with tempfile.TemporaryDirectory() as room:
+            os.mkdir(f"{room}/src")
+            with open(f"{room}/src/lib.rt", "w", encoding="utf-8") as file:
+                file.write(code)
+            subprocess.run(["rt", "fmt"], cwd=room, capture_output=True, check=True)
+            with open(f"{room}/src/lib.rt", encoding="utf-8") as file:
+                self.assertEqual(file.read(), code)
 
 
 class Contracts(unittest.TestCase):
@@ -187,6 +281,39 @@ class Definitions(unittest.TestCase):
             if len(files) > 1 and homes != self.ends and not of_a_table:
                 twice[name] = files
         self.assertEqual(twice, {})
+
+
+class Columns(unittest.TestCase):
+    """The lines in src/ and specs/ of the crates have at most 100 columns."""
+
+    # What cannot be broken: one string; the import of one name; what `rt fmt` makes one line of; a
+    # line of a recording in a text. The page of `wl` has a program behind `//! `, laid out as it is
+    # in its own crate (FrontPage).
+    whole = re.compile(
+        r'\s*b?".*"[,;)]*|(ghost )?use \S+\.\{[^,]*\};?|#\[tactic\(.*\)\]|[<>] [0-9a-f]+'
+    )
+
+    PAGE = "crates/wl/src/lib.rt"
+
+    # How many wider lines a crate still has. A new layout has the crate and all above it proved
+    # anew, so these lines go when their crate changes for another reason.
+    LEFT = {"program_jobs": 16, "wl_message": 2, "wl_object_map": 1, "wl_sigs": 17}
+
+    def test_width(self):
+        paths = [
+            it
+            for pattern in ("src/**/*.rt", "specs/**/*.antt")
+            for it in glob.glob(f"crates/*/{pattern}", root_dir=TOP, recursive=True)
+        ]
+        found = [
+            f"{path}:{number}"
+            for path in sorted(paths)
+            for number, line in enumerate(read(path).splitlines(), 1)
+            if len(line) > 100 + 4 * (path == self.PAGE) and not self.whole.fullmatch(line)
+        ]
+        self.assertGreater(len(paths), 300)
+        left = collections.Counter(it.split("/")[1] for it in found)
+        self.assertEqual(left, self.LEFT, "\n".join(found))
 
 
 class Functions(unittest.TestCase):

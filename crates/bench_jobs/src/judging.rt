@@ -1,12 +1,17 @@
-//! Recordings checked and traced, and sessions judged as they pass.
+//! Recordings that are checked and traced, and sessions that are judged as they pass.
 use crate::Amount;
 use crate::digest::Digest;
 use crate::session::{Session, Turn};
 use crate::spelling::{line, lines_of_bytes};
+use program_arguments::{Job, status};
+use program_jobs::{TablesFile, Writers, act};
 use std::alloc::Global;
+use std::io;
 use wl::{Direction, Inspector, Limit, Tables, Verdict};
-use wl_check::{check_text, trace_text};
-use wl_verdict::write_verdict;
+use wl_check::write_verdict;
+
+/// What the jobs call the file of their recording, which they are given open.
+const RECORDING: &str = "session.rec";
 
 /// A kind of session.
 #[derive(Clone, Copy)]
@@ -17,7 +22,7 @@ struct Course {
     open: u32,
     /// The most bytes of a title.
     title: u32,
-    /// Whether each byte is a piece of its own.
+    /// Whether each byte is a separate piece.
     bytes: bool,
 }
 
@@ -53,7 +58,7 @@ const BYTES: Course = Course {
     bytes: true,
 };
 
-/// A session that is played: its kind, how much of it, and by which dice.
+/// A session that is played: its kind, how much of it, and with which dice.
 #[derive(Clone, Copy)]
 struct Script {
     course: Course,
@@ -68,7 +73,7 @@ impl Script {
         Session::new(self.amount.dice(self.place), self.course.title)
     }
 
-    /// How many pieces bring the surfaces that stay open.
+    /// How many pieces make the surfaces that stay open.
     fn pieces_of_surfaces(self) -> u32 {
         self.amount.of(self.course.open) / AT_ONCE
     }
@@ -83,7 +88,7 @@ const AT_ONCE: u32 = 300;
 
 /// Takes the pieces of a session as they come.
 trait Pieces {
-    /// One piece, with so many tokens.
+    /// One piece, with this many tokens.
     fn piece(&mut self, direction: Direction, bytes: &[u8], tokens: usize) -> Option<()>;
 }
 
@@ -159,7 +164,7 @@ impl Pieces for TextPieces<'_> {
     }
 }
 
-/// Appends the line of a verdict to a digest.
+/// Adds the line of a verdict to a digest.
 fn add_verdict(alloc: Global, verdict: Verdict, digest: &mut Digest) -> Option<()> {
     let mut line = Vec::new(alloc);
     write_verdict(&mut line, &verdict).ok()?;
@@ -167,38 +172,52 @@ fn add_verdict(alloc: Global, verdict: Verdict, digest: &mut Digest) -> Option<(
     Some(())
 }
 
-/// What is done with the text of a recording.
-#[derive(Clone, Copy)]
-enum Work {
-    Check,
-    Trace,
+/// What is done with recordings: a job of the command, and where it prints.
+#[derive(Drop)]
+struct Command {
+    job: Job,
+    writers: Writers<Vec<u8>, Vec<u8>>,
 }
 
-fn work_on(
-    alloc: Global,
-    work: Work,
-    text: &[u8],
-    tables: &Tables,
-    digest: &mut Digest,
-) -> Option<()> {
-    match work {
-        Work::Check => {
-            let verdict = check_text(alloc, text, tables, Limit::USUAL).ok()?;
-            add_verdict(alloc, verdict, digest)
-        }
-        Work::Trace => {
-            let (lines, verdict) = trace_text(alloc, text, tables, Limit::USUAL).ok()?;
-            digest.bytes(lines.as_slice());
-            add_verdict(alloc, verdict, digest)
-        }
+/// The job of the command that checks a recording by the core tables.
+fn check_job(alloc: Global) -> Option<Job> {
+    let file = String::from_str(alloc, RECORDING).ok()?;
+    Some(Job::Check {
+        tables: Vec::new(alloc),
+        limit: Limit::USUAL,
+        file,
+    })
+}
+
+/// The job that prints it message by message.
+fn trace_job(alloc: Global) -> Option<Job> {
+    let file = String::from_str(alloc, RECORDING).ok()?;
+    Some(Job::Trace {
+        tables: Vec::new(alloc),
+        limit: Limit::USUAL,
+        file,
+    })
+}
+
+/// Does the job over a recording's text, as the program does it over a file. None where it does not
+/// print the whole answer.
+fn work_on(alloc: Global, command: &mut Command, text: &[u8], digest: &mut Digest) -> Option<()> {
+    let mut file = text;
+    let none: Vec<TablesFile<'_, io::Empty>> = Vec::new(alloc);
+    let Command { job, writers } = command;
+    let answer = act(alloc, alloc, job, none, &mut file, writers);
+    if answer != status::SUCCESS && answer != status::BROKEN_SESSION {
+        return None;
     }
+    digest.bytes(&writers.out);
+    writers.out.clear();
+    Some(())
 }
 
-/// Works on the text of a session, and once more where its last message breaks a rule.
+/// Works on the text of a session, and on the same text with a last message that breaks a rule.
 fn work_on_session(
     alloc: Global,
-    work: Work,
-    tables: &Tables,
+    command: &mut Command,
     script: Script,
     digest: &mut Digest,
 ) -> Option<()> {
@@ -210,17 +229,16 @@ fn work_on_session(
         bytes: script.course.bytes,
     };
     play(&mut pieces, &mut session, &mut turn, script)?;
-    work_on(alloc, work, &text, tables, digest)?;
+    work_on(alloc, command, &text, digest)?;
     session.break_rule(&mut turn)?;
     line(&mut text, Direction::ToServer, &turn.requests, 0)?;
-    work_on(alloc, work, &text, tables, digest)
+    work_on(alloc, command, &text, digest)
 }
 
 /// Works on the texts of all kinds of sessions.
 fn work_on_all(
     alloc: Global,
-    work: Work,
-    tables: &Tables,
+    command: &mut Command,
     amount: Amount,
     digest: &mut Digest,
 ) -> Option<()> {
@@ -231,29 +249,31 @@ fn work_on_all(
             amount,
             place,
         };
-        work_on_session(alloc, work, tables, script, digest)?;
+        work_on_session(alloc, command, script, digest)?;
     }
     Some(())
 }
 
+/// Does a job of the command over all kinds of sessions.
+fn work(alloc: Global, job: Job, amount: Amount, digest: &mut Digest) -> Option<()> {
+    let mut command = Command {
+        job,
+        writers: Writers {
+            out: Vec::new(alloc),
+            err: Vec::new(alloc),
+        },
+    };
+    work_on_all(alloc, &mut command, amount, digest)
+}
+
 /// Recordings checked.
-pub(crate) fn check(
-    alloc: Global,
-    tables: &Tables,
-    amount: Amount,
-    digest: &mut Digest,
-) -> Option<()> {
-    work_on_all(alloc, Work::Check, tables, amount, digest)
+pub(crate) fn check(alloc: Global, amount: Amount, digest: &mut Digest) -> Option<()> {
+    work(alloc, check_job(alloc)?, amount, digest)
 }
 
 /// Recordings printed message by message.
-pub(crate) fn trace(
-    alloc: Global,
-    tables: &Tables,
-    amount: Amount,
-    digest: &mut Digest,
-) -> Option<()> {
-    work_on_all(alloc, Work::Trace, tables, amount, digest)
+pub(crate) fn trace(alloc: Global, amount: Amount, digest: &mut Digest) -> Option<()> {
+    work(alloc, trace_job(alloc)?, amount, digest)
 }
 
 /// Passes pieces to an inspector, and digests its lines.
@@ -297,7 +317,7 @@ fn inspect_pieces(
     add_verdict(alloc, pieces.inspector.verdict(), pieces.digest)
 }
 
-/// Sessions judged as they pass, beside ten and beside 100,000 open objects.
+/// Sessions judged as they pass, with ten and with 100,000 open objects.
 pub(crate) fn inspect(
     alloc: Global,
     tables: &Tables,

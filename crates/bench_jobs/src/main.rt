@@ -1,8 +1,9 @@
-//! The jobs that a user of waywire waits for, on inputs that a number makes. Prints a digest of all
-//! that the library answered. bench/run times it, and bench/workloads.txt says with which words.
+//! The jobs that a user of waywire waits for, on inputs generated from a number. Prints a digest of
+//! all that the library returned. bench/run times it, and bench/workloads.txt has the words for
+//! each.
 //!
-//! The words are the jobs, the number, how large each is, in parts of a hundred, and how often it
-//! is done, each time on another input.
+//! The words are the jobs, the number, how large each job is, in percent, and how often it is done,
+//! each time on another input.
 #![tactic(auto)]
 
 mod dice;
@@ -25,18 +26,18 @@ use std::process::ExitCode;
 use std::{env, io};
 use wl::Tables;
 
-/// How a job is made and how much of it is done.
+/// How a job is generated, and how much of it is done.
 #[derive(Clone, Copy)]
 pub(crate) struct Amount {
     pub seed: u32,
-    /// In parts of a hundred.
+    /// In percent.
     pub parts: u32,
     /// How often the job was done before.
     pub round: u32,
 }
 
 impl Amount {
-    /// So much of this number.
+    /// This part of this number.
     pub(crate) fn of(self, number: u32) -> u32 {
         let part = u64::from(number).saturating_mul(u64::from(self.parts)) / 100;
         u32::try_from(part).unwrap_or(u32::MAX)
@@ -48,7 +49,7 @@ impl Amount {
     }
 }
 
-/// Does a job. None where something did not go as it should.
+/// Does a job. `None` if something went wrong.
 fn run(
     alloc: Global,
     job: &str,
@@ -58,8 +59,8 @@ fn run(
 ) -> Option<()> {
     match job {
         "messages" => messages::play(alloc, tables, amount, digest),
-        "check" => judging::check(alloc, tables, amount, digest),
-        "trace" => judging::trace(alloc, tables, amount, digest),
+        "check" => judging::check(alloc, amount, digest),
+        "trace" => judging::trace(alloc, amount, digest),
         "inspect" => judging::inspect(alloc, tables, amount, digest),
         "registries" => registries::serve(alloc, tables, amount, digest),
         "tables" => table_texts::read(alloc, amount, digest),
@@ -68,7 +69,7 @@ fn run(
     }
 }
 
-/// Does a job some times.
+/// Does a job several times.
 fn run_all(
     alloc: Global,
     job: &str,

@@ -1,13 +1,15 @@
 -- The command line of the program, and what its words ask for.
 use Rattle.std.specs.Prelude.{◌≡◌, ◌≢◌, ◌⊎◌, ◌<◌, ◌^◌, ℕ, List, [], ◌∷◌, Option, Some, None, String}
-use Rattle.std.specs.Prelude.{codes, map, option_map, true, pos, string_bytes, IsErrAnd}
+use Rattle.std.specs.Prelude.{codes, map, true, pos, string_bytes, IsErrAnd, Vec}
 use Rattle.std.specs.declared.result.Result.{Result}
 use Rattle.std.specs.declared.result.Result.TheVariants.{Ok, Err}
 use Rattle.std.specs.Cow.{cow_str_bytes}
 use Rattle.std.specs.Str.Parse.{IsNumeral, digits_value, without_leading_plus}
-use Rattle.clap.specs.Words.{App, IsAmong, Row, Rule, Shape, Text, fault_of, first_of, kind_of}
+use Rattle.clap.specs.Words.{App, IsAmong, Row, Rule, Shape, Text, all_of, fault_of, first_of}
+use Rattle.clap.specs.Words.{kind_of}
 use Rattle.clap.specs.Words.{new_app, new_rule, one_of, subcommand_of, with_rule, with_subcommand}
 use Rattle.clap.specs.Simple.{on_top}
+use Rattle.clap.specs.declared.builder.action.ArgAction.TheVariants.{Append}
 use Rattle.clap.specs.declared.builder.value_parser.ValueParser.TheVariants as parser
 use Rattle.clap.specs.declared.error.Error.{Error}
 use Rattle.clap.specs.declared.error.kind.ErrorKind.{ErrorKind}
@@ -18,14 +20,15 @@ use Rattle.program_arguments.specs.declared.job.Job.{Job}
 use Rattle.program_arguments.specs.declared.job.Job.TheVariants.{Trace, Check, Demo, Socket}
 use Rattle.program_arguments.specs.declared.job.Stop.{Stop}
 
--- `--tables FILE`, which may be missing
+-- `--tables FILE`, which is optional
 abbrev pub tables_argument : Rule
 tables_argument = record (new_rule (codes "tables")) {
   long = Some (codes "tables");
+  action = Some Append;
   value_names = 1;
 }
 
--- `--limit N`, a number from 4096 to 65532, and 4096 where it is not given
+-- `--limit N`, a number from 4096 to 65532; 4096 if it is not given
 abbrev pub limit_argument : Rule
 limit_argument = record (new_rule (codes "limit")) {
   long = Some (codes "limit");
@@ -34,15 +37,15 @@ limit_argument = record (new_rule (codes "limit")) {
   parser = Some (parser.Signed (pos 4096) (pos 65532));
 }
 
--- the argument that names a recording: one word, which has to be there
+-- the argument that names a recording: one word, which is required
 abbrev pub file_argument : Rule
 file_argument = record (new_rule (codes "FILE")) { required = true }
 
--- the argument that says where the socket is bound: one word, which has to be there
+-- the argument that says where the socket is bound: one word, which is required
 abbrev pub path_argument : Rule
 path_argument = record (new_rule (codes "PATH")) { required = true }
 
--- `--piece N`, a number from 1 to 4096, and 4096 where it is not given
+-- `--piece N`, a number from 1 to 4096; 4096 if it is not given
 abbrev pub piece_argument : Rule
 piece_argument = record (new_rule (codes "piece")) {
   long = Some (codes "piece");
@@ -68,7 +71,7 @@ demo_command = with_rule (new_app (codes "demo")) piece_argument
 abbrev pub socket_command : App
 socket_command = with_rule (new_app (codes "socket")) path_argument
 
--- the program, which has to be given one of them, or be asked for its version
+-- the program, which requires one of them, or a request for its version
 abbrev pub program : App
 program =
     on_top
@@ -84,7 +87,7 @@ command_line =
 abbrev pub texts_of : {A : Type 0} → List (String A) → List Text
 texts_of = map string_bytes
 
--- the digits spell the number, of 32 bits; a plus may stand in front of them
+-- the digits spell the number, of 32 bits; a plus may come before them
 abbrev pub SpellsU32 : Text → ℕ → Type 0
 SpellsU32 digits n =
     IsNumeral 10 (without_leading_plus digits)
@@ -97,20 +100,28 @@ IsNumber name arguments (Some n) =
 IsNumber name arguments None =
     (digits : Text) (n : ℕ) → one_of name arguments ≡ Some digits → SpellsU32 digits n → ⊥
 
--- the limit of the number that was given, or none where there is no limit of that number
+-- the limit with the number that was given, or none if no limit has that number
 abbrev pub IsLimitOf : List Row → Option Limit → Type 0
 IsLimitOf arguments (Some limit) = IsNumber (codes "limit") arguments (Some limit.bytes)
 IsLimitOf arguments None =
     (limit : Limit) → IsNumber (codes "limit") arguments (Some limit.bytes) → ⊥
 
--- the words that were given for the file of tables, if any was, and for the recording, unchanged
-abbrev pub NamesFiles : {A : Type 0} → List Row → Option (String A) → String A → Type 0
+-- all words that were given for an argument, in their order
+abbrev pub or_none : Option (List Text) → List Text
+or_none None = []
+or_none (Some words) = words
+
+abbrev pub given_for : Text → List Row → List Text
+given_for name arguments = or_none (all_of name arguments)
+
+-- the words that were given for table texts, in their order, and for the recording, unchanged
+abbrev pub NamesFiles : {A : Type 0} → List Row → Vec (String A) A → String A → Type 0
 NamesFiles arguments tables file =
-    (first_of (codes "tables") arguments ≡ option_map string_bytes tables)
+    (given_for (codes "tables") arguments ≡ map string_bytes tables.items)
     × (first_of (codes "FILE") arguments ≡ Some (string_bytes file))
 
--- What a command and its arguments ask for. A file has the name of the word that was given for it,
--- unchanged, and so has a path; a number is the one that was given, and a limit has that number.
+-- What a command and its arguments ask for. A file or a path has the name of the word that was
+-- given for it, unchanged; a number is the one that was given, and a limit has that number.
 abbrev pub IsGiven : Text → List Row → Job → Type 0
 IsGiven name arguments (Trace tables limit file) =
     (name ≡ codes "trace") × NamesFiles arguments tables file × IsLimitOf arguments (Some limit)
@@ -121,12 +132,12 @@ IsGiven name arguments (Demo piece) =
 IsGiven name arguments (Socket path) =
     (name ≡ codes "socket") × (first_of (codes "PATH") arguments ≡ Some (string_bytes path))
 
--- the job that a command and its arguments ask for, or none where they ask for none
+-- the job that a command and its arguments ask for, or none if they ask for none
 abbrev pub IsJobFor : Text → List Row → Option Job → Type 0
 IsJobFor name arguments (Some job) = IsGiven name arguments job
 IsJobFor name arguments None = (job : Job) → IsGiven name arguments job → ⊥
 
--- the same of the command that was named, if any was
+-- the same for the command that was named, if any was
 abbrev pub NamesJob : Option (Text × List Row) → Option Job → Type 0
 NamesJob found (Some job) =
     (name : Text) × (arguments : List Row) × (found ≡ Some (name, arguments))
@@ -135,51 +146,51 @@ NamesJob found None =
     (name : Text) (arguments : List Row) (job : Job)
     → found ≡ Some (name, arguments) → IsGiven name arguments job → ⊥
 
--- What the words of a command line ask for, the program's name first: they have no fault, and name
+-- What the words of a command line (the program's name first) ask for: they have no fault, and name
 -- a command with its arguments.
 pub record Asks (words : List Text) (job : Job) : Type 0 where
   pub faultless : fault_of command_line words ≡ []
   pub named : NamesJob (subcommand_of command_line words) (Some job)
 
--- what is said to one who asked for it: help, or the version
+-- the answer to a request for help or the version
 abbrev pub IsHelp : ErrorKind → Type 0
 IsHelp DisplayHelp = Unit {0}
 IsHelp DisplayVersion = Unit {0}
 IsHelp _ = ⊥
 
--- The words ask for help or the version. Behind the word `help` a name that is no command's may be
--- refused too, so that some words both ask for help and have a fault.
+-- The words ask for help or the version. A name after the word `help` that is no command's may be
+-- refused too, so some words both ask for help and have a fault.
 abbrev pub AsksHelp : List Text → Type 0
 AsksHelp words =
     (kind : ErrorKind) × IsAmong kind (fault_of command_line words) × IsHelp kind
 
--- the words have a fault, as a command that is not known, a word too many or too few
+-- the words have a fault, for example an unknown command, or too many or too few words
 abbrev pub HasFault : List Text → Type 0
 HasFault words =
     (kind : ErrorKind) × IsAmong kind (fault_of command_line words) × (IsHelp kind → ⊥)
 
--- they have none, and yet name no job, as with a limit that is no multiple of 4
+-- they have none, but name no job, for example because a limit is not a multiple of 4
 abbrev pub NamesNone : List Text → Type 0
 NamesNone words =
     (fault_of command_line words ≡ []) × NamesJob (subcommand_of command_line words) None
 
--- a stop of this status, with a text
+-- a stop with this status and a text
 abbrev pub Says : ℕ → Stop → Type 0
 Says status stop = (stop.status ≡ status) × (cow_str_bytes stop.text ≢ [])
 
--- one for lack of memory, which has none
+-- a stop for lack of memory, which has no text
 abbrev pub IsOutOfMemory : Stop → Type 0
 IsOutOfMemory stop = (stop.status ≡ 4) × (cow_str_bytes stop.text ≡ [])
 
 -- Why there is no job: help was asked for; or the words have a fault; or they name no job; or there
--- is no memory. The text is empty for lack of memory alone.
+-- is no memory. The text is empty only for lack of memory.
 pub data Stops (words : List Text) (stop : Stop) : Type 0 where
   helps : AsksHelp words → Says 0 stop → Stops words stop
   faulty : HasFault words → Says 2 stop → Stops words stop
   names_none : NamesNone words → Says 2 stop → Stops words stop
   no_memory : IsOutOfMemory stop → Stops words stop
 
--- there is no job, but a stop of this status or one for lack of memory
+-- there is no job, but a stop with this status or one for lack of memory
 abbrev pub StopsWith : ℕ → Result Job Stop → Type 0
 StopsWith status = λ result. IsErrAnd result (λ stop. Says status stop ⊎ IsOutOfMemory stop)
 
@@ -190,7 +201,7 @@ StopsFor DisplayVersion stop = Says 0 stop ⊎ IsOutOfMemory stop
 StopsFor OutOfMemory stop = IsOutOfMemory stop
 StopsFor _ stop = Says 2 stop ⊎ IsOutOfMemory stop
 
--- what is answered where the words were parsed, or could not be
+-- the answer, given the result of parsing the words
 abbrev pub IsAnswer : Result (Option Job) Error → Result Job Stop → Type 0
 IsAnswer (Ok (Some job)) result = result ≡ Ok job
 IsAnswer (Ok None) result = IsErrAnd result (Says 2)

@@ -1,6 +1,6 @@
 //! What the words of a command line ask for.
 ghost use Rattle.std.specs.Prelude.{◌≡◌, ◌≢◌, List, [], IfOk, IfErr, false, option_map};
-ghost use Rattle.std.specs.Prelude.{string_bytes};
+ghost use Rattle.std.specs.Prelude.{map, string_bytes};
 ghost use Rattle.clap.specs.Words.{HasKind, app_of, fault_of, first_of, found_of, kind_of};
 ghost use Rattle.clap.specs.Words.{rows_of, rule_of, subcommand_of, subcommand_rows_of};
 ghost use Rattle.std.specs.Cow.{cow_str_bytes};
@@ -9,55 +9,56 @@ ghost use Rattle.program_arguments.specs.Asking.{IsLimitOf};
 ghost use Rattle.program_arguments.specs.Asking.{IsNumber, IsOutOfMemory, NamesJob, NamesNone};
 ghost use Rattle.program_arguments.specs.Asking.{Says, Stops, StopsFor, StopsWith, check_command};
 ghost use Rattle.program_arguments.specs.Asking.{command_line, demo_command, file_argument};
-ghost use Rattle.program_arguments.specs.Asking.{limit_argument, path_argument, piece_argument};
+ghost use Rattle.program_arguments.specs.Asking.{given_for, limit_argument, path_argument};
+ghost use Rattle.program_arguments.specs.Asking.{piece_argument};
 ghost use Rattle.program_arguments.specs.Asking.{socket_command, tables_argument, texts_of};
 ghost use Rattle.program_arguments.specs.Asking.{trace_command};
 
 use crate::status;
 use clap::error::ErrorKind;
-use clap::{Arg, ArgMatches, Command, Error};
+use clap::{Arg, ArgAction, ArgMatches, Command, Error};
 use std::alloc::{AllocError, Global};
 use std::borrow::CowStr;
 use wl_message::Limit;
 
-/// The most bytes that the demonstration carries at once, unless it is told otherwise.
+/// The most bytes that the demonstration carries at once, by default.
 const MOST_PIECE: &str = "4096";
 
-/// The most bytes that a message has, unless it is told otherwise.
+/// The longest message in bytes, by default.
 const USUAL_LIMIT: &str = "4096";
 
-/// The version of this program and of the library, which `make` puts into the header too.
+/// The version of this program and of the library, which `make` also puts into the header.
 const VERSION: &str = "0.2.0";
 
-/// What is said of a command line where the parser has no words for it: it takes each number in
-/// range for a limit.
+/// The message for a command line that the parser accepts although it is wrong: the parser takes
+/// any number in range for a limit.
 const USAGE: &str = "error: no command of this program, or a limit that is no multiple of 4\n\n\
      Usage: waywire <COMMAND>\n";
 
 /// One run of the program.
 #[derive(Debug, Drop)]
 pub enum Job {
-    /// Print each message of the recording in the file of this name, and where a rule is broken
-    /// which. A file of tables, where one is named, is read before and adds its interfaces to the
-    /// core ones. Messages may be as long as the limit says.
+    /// Print each message of the recording in the file of this name and, if a rule is broken, which
+    /// one. `tables` names table texts, and folders of them, which are read first; their interfaces
+    /// are added to the core ones. `limit` is the longest message.
     Trace {
-        tables: Option<String>,
+        tables: Vec<String>,
         limit: Limit,
         file: String,
     },
-    /// Print whether the recording in the file of this name is lawful, by the same tables and
+    /// Print whether the recording in the file of this name is lawful, with the same tables and
     /// limit.
     Check {
-        tables: Option<String>,
+        tables: Vec<String>,
         limit: Limit,
         file: String,
     },
-    /// Print a session of both ends, in which at most this many bytes are carried at once: 1 to
-    /// 4096.
+    /// Print a session of both ends, in which at most this many bytes (1 to 4096) are carried at
+    /// once.
     Demo {
         piece: u32,
     },
-    /// Print the same session, played over a Unix socket that is bound at this path and removed at
+    /// Print the same session, played over a Unix socket that is bound to this path and removed at
     /// the end.
     Socket {
         path: String,
@@ -67,11 +68,11 @@ pub enum Job {
 /// Why there is no job.
 #[derive(Debug, Drop)]
 pub struct Stop {
-    /// The exit status: 0 where help or the version was asked for, 2 for a command line that is
-    /// none of this program's, 4 for lack of memory.
+    /// The exit status: 0 if help or the version was asked for, 2 if the command line is wrong, 4
+    /// for lack of memory.
     pub status: u8,
     /// What to print: help and the version to standard output, a fault to standard error. It is
-    /// empty for lack of memory alone.
+    /// empty only for lack of memory.
     pub text: CowStr<'static, Global>,
 }
 
@@ -125,7 +126,7 @@ fn socket<'a>(alloc: Global) -> Result<Command<'a>, AllocError>
         .arg(path(alloc))
 }
 
-/// The argument that names a text of tables.
+/// The argument that names a table text.
 fn tables<'a>(alloc: Global) -> Arg<'a>
     ensures rule { rule_of result ≡ tables_argument }
     ensures local { result.global ≡ false }
@@ -133,7 +134,8 @@ fn tables<'a>(alloc: Global) -> Arg<'a>
     Arg::new(alloc, "tables")
         .long("tables")
         .value_name("FILE")
-        .help("A text of tables: further interfaces, with their messages")
+        .action(ArgAction::Append)
+        .help("Further interfaces: a table text, or a folder of *.tables; may be repeated")
 }
 
 /// The argument that says how long a message may be.
@@ -197,6 +199,28 @@ fn word_of(
     }
 }
 
+/// All words that a command was given for the argument of this name, in their order.
+fn words_of(alloc: Global, matches: &ArgMatches<'_>, name: &str) -> Result<Vec<String>, AllocError>
+    ensures { IfOk result (λ r. map string_bytes r.items
+        ≡ given_for name.now (rows_of (found_of matches.now))) }
+{
+    match matches.get_strs(name) {
+        Some(words) => texts(alloc, words),
+        None => Ok(Vec::new(alloc)),
+    }
+}
+
+/// Copies of words.
+fn texts(alloc: Global, words: &[&str]) -> Result<Vec<String>, AllocError>
+    ensures { IfOk result (λ r. map string_bytes r.items ≡ map (λ word. word.now) words.now) }
+{
+    let mut copies = Vec::new(alloc);
+    'words: for word in words {
+        copies.push(String::from_str(alloc, word)?)?;
+    }
+    Ok(copies)
+}
+
 /// The number that a command was given for the argument of this name, or none.
 fn number_of(matches: &ArgMatches<'_>, name: &str) -> Option<u32>
     ensures { IsNumber name.now (rows_of (found_of matches.now)) result }
@@ -214,7 +238,7 @@ fn limit_of(matches: &ArgMatches<'_>) -> Option<Limit>
     }
 }
 
-/// The job that a command of this name asks for with what it was given, or none.
+/// The job that a command with this name asks for with its arguments, or none.
 fn named(alloc: Global, name: &str, given: &ArgMatches<'_>) -> Result<Option<Job>, AllocError>
     ensures { IfOk result (IsJobFor name.now (rows_of (found_of given.now))) }
 {
@@ -223,7 +247,7 @@ fn named(alloc: Global, name: &str, given: &ArgMatches<'_>) -> Result<Option<Job
             let Some(limit) = limit_of(given) else {
                 return Ok(None);
             };
-            let tables = word_of(alloc, given, "tables")?;
+            let tables = words_of(alloc, given, "tables")?;
             Ok(word_of(alloc, given, "FILE")?.map(|file| Job::Trace {
                 tables,
                 limit,
@@ -234,7 +258,7 @@ fn named(alloc: Global, name: &str, given: &ArgMatches<'_>) -> Result<Option<Job
             let Some(limit) = limit_of(given) else {
                 return Ok(None);
             };
-            let tables = word_of(alloc, given, "tables")?;
+            let tables = words_of(alloc, given, "tables")?;
             Ok(word_of(alloc, given, "FILE")?.map(|file| Job::Check {
                 tables,
                 limit,
@@ -257,7 +281,7 @@ fn chosen(alloc: Global, matches: &ArgMatches<'_>) -> Result<Option<Job>, AllocE
     }
 }
 
-/// The job that the words ask for, or none where they were parsed and name no job.
+/// The job that the words ask for; `None` if they were parsed and name no job.
 fn parsed(alloc: Global, words: &[String]) -> Result<Option<Job>, Error>
     ensures asked { IfOk result (λ r. (fault_of command_line (texts_of words.now) ≡ [])
         × NamesJob (subcommand_of command_line (texts_of words.now)) r) }
@@ -276,7 +300,7 @@ fn no_memory() -> Stop
     }
 }
 
-/// A stop for words that name no job, though the parser takes them.
+/// A stop for words that name no job, although the parser accepts them.
 fn no_job() -> Stop
     ensures { Says 2 result }
 {
@@ -286,7 +310,7 @@ fn no_job() -> Stop
     }
 }
 
-/// A stop with what the parser says, or with what is always said where that is nothing.
+/// A stop with the parser's text, or with `USAGE` if that is empty.
 fn stopped(status: u8, text: String) -> Stop
     ensures says { Says status result }
     ensures kept { string_bytes text ≢ [] → cow_str_bytes result.text ≡ string_bytes text }
@@ -329,13 +353,13 @@ fn answer(alloc: Global, parsed: Result<Option<Job>, Error>) -> Result<Job, Stop
 
 /// The job that a command line asks for. The first word is the program's name.
 ///
-/// Help and the version are no job: they stop with the status 0. A command that is not known, a
-/// word too many and a word too few are faults of usage: they stop with the status 2.
+/// Help and the version are no job: they stop with status 0. An unknown command, and too many or
+/// too few words, stop with status 2.
 pub fn job_of(alloc: Global, words: &[String]) -> Result<Job, Stop>
     ensures asked { IfOk result (Asks (texts_of words.now)) }
     ensures stopped { IfErr result (Stops (texts_of words.now)) }
 
-    // and each cause has its status, but for lack of memory
+    // and each cause has its status, except for lack of memory
     ensures helped { AsksHelp (texts_of words.now) → (HasFault (texts_of words.now) → ⊥)
         → StopsWith 0 result }
     ensures faulty { HasFault (texts_of words.now) → (AsksHelp (texts_of words.now) → ⊥)

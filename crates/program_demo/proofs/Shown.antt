@@ -12,11 +12,11 @@ use Rattle.theory_connection.specs.Pair.{PairState, new_pair}
 use Rattle.theory_connection.specs.Stands.{Stands}
 use Rattle.program_demo.specs.Session.{demo_steps}
 use Rattle.program_demo.specs.Playing.{Plays}
-use Rattle.program_session.specs.Agreement.{agreement_line}
-use Rattle.program_session.specs.Session.{sizes}
+use Rattle.program_demo.specs.Agreement.{agreement_line}
+use Rattle.program_demo.specs.Moves.{sizes}
 use Rattle.program_demo.specs.Demo.{IsShown, TellsOfPair}
 
--- the lines of what was lent, and behind them the last line
+-- the lines of what was borrowed, followed by the last line
 pub whole_text : (tables : List Interface) (lent pieces : List Piece) (lines text : List ℕ) (agree : Bool)
     (counted objects : ℕ)
     → lines ≡ trace_of tables (session_of usual_limit lent) → lent ≡ pieces → counted ≡ objects

@@ -9,13 +9,13 @@ use Rattle.theory_connection.specs.Pair.{PairState, new_pair}
 use Rattle.theory_connection.specs.Stands.{Stands}
 use Rattle.theory_connection.specs.Runs.{Agree}
 use Rattle.wl_session.specs.Room.{HaveSameRows, NoEventMakes, client_count, object_count}
-use Rattle.program_session.specs.Agreement.{agreement_line}
-use Rattle.program_session.specs.Session.{sizes}
+use Rattle.program_demo.specs.Agreement.{agreement_line}
+use Rattle.program_demo.specs.Moves.{sizes}
 use Rattle.program_demo.specs.Session.{demo_steps}
 use Rattle.program_demo.specs.Playing.{Plays}
 
 -- The text is the trace of what was carried between the two ends of this pair, and a last line:
--- whether both have the same objects, and how many these are.
+-- whether both have the same objects, and how many.
 pub record TellsOfPair (tables : List Interface) (pair : PairState) (text : List ℕ) : Type 0 where
   pub agree : Bool
   pub exact : IsTrue agree ↔ Agree pair.client.core.view pair.server.core.view
@@ -29,8 +29,8 @@ pub record TellsOfPair (tables : List Interface) (pair : PairState) (text : List
   pub whole : text ≡ trace_of tables (session_of usual_limit pair.recording)
       ++ agreement_line agree (object_count pair.client.core.view pair.server.core.view)
 
--- The text tells of two ends that began new, after the session of both, of which each carry moved
--- at most `piece` bytes. Those ends stand for the opening world.
+-- The text is that of two new ends after the session of both, in which each carry moved at most
+-- `piece` bytes. The new ends represent the opening world.
 pub record IsShown (tables : List Interface) (piece : ℕ) (text : List ℕ) : Type 0 where
   pub last : PairState
   pub begins : Stands (new_pair tables sizes sizes) opening_world

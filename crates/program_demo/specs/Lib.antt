@@ -1,3 +1,5 @@
+pub mod Agreement
+pub mod Moves
 pub mod Session
 pub mod Playing
 pub mod Demo

@@ -2,10 +2,10 @@
 use Rattle.std.specs.Prelude.{ℕ, List, [], ◌∷◌, ◌++◌, map}
 use Rattle.wl_sigs.specs.Tables.{Interface}
 use Rattle.theory_connection.specs.Pair.{Move, CarryToServer, CarryToClient, ClientNext, ServerNext}
-use Rattle.program_session.specs.Session.{adding_globals, getting_registry, announcing_globals}
-use Rattle.program_session.specs.Session.{binding_globals, finishing_callback, drawing_surface}
+use Rattle.program_demo.specs.Moves.{adding_globals, getting_registry, announcing_globals}
+use Rattle.program_demo.specs.Moves.{binding_globals, finishing_callback, drawing_surface}
 
--- A part of a session: a move once, or again and again until it does nothing more.
+-- A part of a session: a move made once, or repeated until it does nothing more.
 pub data DemoStep : Type 0 where
   Once : Move → DemoStep
   Until : Move → DemoStep
@@ -13,8 +13,8 @@ pub data DemoStep : Type 0 where
 abbrev pub each_once : List Move → List DemoStep
 each_once moves = map Once moves
 
--- all that waits is carried to the server, at most `piece` bytes at once, and read there; and
--- likewise to the client
+-- all that waits is carried to the server, at most `piece` bytes at once, and read there; or the
+-- same to the client
 abbrev pub to_server : ℕ → List DemoStep
 to_server piece = Until (CarryToServer piece) ∷ Until ServerNext ∷ []
 

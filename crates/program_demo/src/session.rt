@@ -3,9 +3,9 @@ ghost use Rattle.std.specs.Prelude.{◌≡◌, IfOk, List, [], ◌∷◌, map, S
 ghost use Rattle.wl_sigs.specs.Tables.{place_of};
 ghost use Rattle.wl_session.specs.Meaning.{args_of, move_of, moves_of};
 ghost use Rattle.theory_connection.specs.Pair.{AddGlobal, ClientBind, ClientSend, ServerSend};
-ghost use Rattle.program_session.specs.Session as session;
+ghost use Rattle.program_demo.specs.Moves as session;
 
-use program_session::{CALLBACK, COMPOSITOR, DISPLAY, REGISTRY, SURFACE};
+use crate::objects::{CALLBACK, COMPOSITOR, DISPLAY, REGISTRY, SURFACE};
 use std::alloc::{AllocError, Allocator};
 use wl_objects::{DISPLAY as DISPLAY_INTERFACE, Object};
 use wl_session::{Move, SendArg};
@@ -37,7 +37,7 @@ pub fn getting_registry<A: Allocator + Clone + Drop>(alloc: &A) -> Result<Moves<
     list_of(alloc, request(DISPLAY, wl_display::GET_REGISTRY, args))
 }
 
-/// The server writes what it owes to the registry.
+/// The server writes the events that the registry still needs.
 pub fn announcing_globals<A: Allocator + Clone + Drop>(alloc: &A) -> Result<Moves<A>, AllocError>
     ensures { IfOk result (λ moves. moves_of moves.items ≡ session.announcing_globals) }
 {
@@ -56,7 +56,7 @@ pub fn binding_globals<A: Allocator + Clone + Drop>(alloc: &A) -> Result<Moves<A
     Ok(moves)
 }
 
-/// The server is done with the callback.
+/// The server answers the callback.
 pub fn finishing_callback<A: Allocator + Clone + Drop>(alloc: &A) -> Result<Moves<A>, AllocError>
     ensures { IfOk result (λ moves. moves_of moves.items ≡ session.finishing_callback) }
 {
@@ -76,8 +76,8 @@ pub fn drawing_surface<A: Allocator + Clone + Drop>(alloc: &A) -> Result<Moves<A
     Ok(moves)
 }
 
-/// The move that adds a global. A name that is not in the tables stands for wl_display, which no
-/// server can add.
+/// The move that adds a global. A name that is not in the tables means wl_display, which no server
+/// can add.
 fn global<A: Allocator>(tables: &Tables, name: &[u8], version: u32) -> Move<A>
     ensures { move_of result ≡ AddGlobal (session.interface_or_display tables.now name.now)
         version }

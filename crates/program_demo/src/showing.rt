@@ -1,17 +1,18 @@
-//! What is printed of the session.
+//! What is printed for the session.
 ghost use Rattle.std.specs.Prelude.{IfOk};
 ghost use Rattle.program_demo.specs.Demo.{IsShown, TellsOfPair};
 
+use crate::agreement::write_agreement;
+use crate::objects::SIZES;
 use crate::playing::play;
-use program_session::{SIZES, write_agreement};
 use std::alloc::{AllocError, Allocator};
 use wl_message::Limit;
 use wl_objects::{SlotTable, Table};
 use wl_session::{Pair, trace};
 use wl_sigs::Tables;
 
-/// What the program prints: the lines of what was carried, and whether both ends have the same
-/// objects then. Each carry moves at most `piece` bytes. The error is lack of memory.
+/// What the program prints: the lines of what was carried, and whether both ends then have the same
+/// objects. Each carry moves at most `piece` bytes. The error is lack of memory.
 pub fn demo<A: Allocator + Clone + Drop>(
     alloc: A,
     tables: &Tables,

@@ -1,6 +1,6 @@
 -- What writes one after another append.
 use Rattle.std.proofs.Common.{◌≡◌, ◌∙◌, ◌⊎◌, ◌+◌, ◌-◌, ◌<◌, ◌≤◌, ℕ, List, [], ◌++◌, length, drop}
-use Rattle.std.proofs.Common.{take, Option, Some, None, refl, sym, subst, ap, inl, inr, arith}
+use Rattle.std.proofs.Common.{take, Option, Some, None, sym, subst, inl, inr, arith}
 use Rattle.std.proofs.lemmas.Grind.{common_steps}
 use Rattle.std.proofs.lemmas.Bool.{cases_lt}
 use Rattle.std.proofs.lemmas.List.{take_all}
@@ -76,6 +76,7 @@ wrote_none a b c bytes at next le is so_far keeps = (
 )
 
 -- a line, in the parts in which it is written
-pub line_is : (begins first second third fourth text ends : List ℕ) → first ++ (second ++ (third ++ fourth)) ≡ text
-    → begins ++ (first ++ (second ++ (third ++ (fourth ++ ends)))) ≡ begins ++ (text ++ ends)
-line_is begins first second third fourth text ends is = grind (arith, common_steps)
+pub line_is : (begins first second third fourth fifth sixth text ends : List ℕ)
+    → first ++ (second ++ (third ++ (fourth ++ (fifth ++ sixth)))) ≡ text
+    → begins ++ ((first ++ (second ++ third)) ++ ((fourth ++ (fifth ++ sixth)) ++ ends)) ≡ begins ++ (text ++ ends)
+line_is begins first second third fourth fifth sixth text ends is = grind (arith, common_steps)

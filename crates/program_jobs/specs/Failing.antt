@@ -1,5 +1,5 @@
 -- The program's failures.
-use Rattle.std.specs.Prelude.{◌≡◌, ◌≢◌, ℕ, ◌<◌, List, ◌++◌, length, codes, Option, IfSome}
+use Rattle.std.specs.Prelude.{◌≡◌, ◌≢◌, ℕ, ◌<◌, List, ◌++◌, length, codes, Option, Some, None, IfSome}
 use Rattle.std.specs.declared.result.Result.{Result}
 use Rattle.std.specs.declared.result.Result.TheVariants.{Ok, Err}
 use Rattle.std.specs.Fmt.{decimal}
@@ -10,28 +10,36 @@ use Rattle.wl_recording.specs.declared.recording.RecordingError.TheVariants as r
 use Rattle.wl_recording.specs.Text.{IsFirstBad}
 use Rattle.std.specs.declared.io.ErrorKind.{ErrorKind}
 use Rattle.std.specs.declared.io.ErrorKind.TheVariants.{OutOfMemory}
-use Rattle.wl_interface_text.specs.declared.fault.TableFault.{TableFault}
-use Rattle.wl_interface_text.specs.declared.fault.TableFault.TheVariants as texts
+use Rattle.wl_text.specs.declared.fault.TableFault.{TableFault}
+use Rattle.wl_text.specs.declared.fault.TableFault.TheVariants as faults
 use Rattle.program_socket.specs.declared.error.SocketError.{SocketError}
 use Rattle.program_socket.specs.declared.error.SocketError.TheVariants as sockets
+use Rattle.program_jobs.specs.Texts.{NamedText, said_line}
 use Rattle.program_jobs.specs.declared.failure.Failure.{Failure}
 use Rattle.program_jobs.specs.declared.failure.Failure.TheVariants.{CannotRead, TooLong, BadLine}
 use Rattle.program_jobs.specs.declared.failure.Failure.TheVariants.{BadTablesLine, BreaksRule}
 use Rattle.program_jobs.specs.declared.failure.Failure.TheVariants.{CannotWrite, SocketFailed}
 use Rattle.program_jobs.specs.declared.failure.Failure.TheVariants.{Memory}
 
--- what the faults of a recording are to the program
+-- the program's failure for a fault of a recording
 abbrev pub recording_failure : RecordingError → Failure
 recording_failure (recordings.BadLine line) = BadLine line
 recording_failure recordings.Memory = Memory
 
--- what those of a text of tables are
-abbrev pub tables_failure : TableFault → Failure
-tables_failure (texts.BadLine line) = BadTablesLine line
-tables_failure (texts.BadTable line rule) = BreaksRule line rule
-tables_failure texts.Memory = Memory
+-- the program's failure for a fault of a table text
+abbrev pub IsTablesFailure : List (List ℕ) → List NamedText → TableFault → Failure → Type 0
+IsTablesFailure given texts (faults.BadLine line) (BadTablesLine None own) =
+    said_line given texts line ≡ (None, own)
+IsTablesFailure given texts (faults.BadLine line) (BadTablesLine (Some file) own) =
+    said_line given texts line ≡ (Some file.now, own)
+IsTablesFailure given texts (faults.BadTable line rule) (BreaksRule None own said) =
+    (said_line given texts line ≡ (None, own)) × (said ≡ rule)
+IsTablesFailure given texts (faults.BadTable line rule) (BreaksRule (Some file) own said) =
+    (said_line given texts line ≡ (Some file.now, own)) × (said ≡ rule)
+IsTablesFailure given texts faults.Memory Memory = Unit {0}
+IsTablesFailure given texts _ _ = ⊥
 
--- and what those of a session over a socket are
+-- the program's failure for an error of a session over a socket
 abbrev pub socket_failure : SocketError → Failure
 socket_failure sockets.Failed = SocketFailed
 socket_failure sockets.Memory = Memory
@@ -43,11 +51,11 @@ IsSocketFailure kind Memory = kind ≡ OutOfMemory
 IsSocketFailure kind (CannotRead name) = ⊥
 IsSocketFailure kind TooLong = ⊥
 IsSocketFailure kind (BadLine line) = ⊥
-IsSocketFailure kind (BadTablesLine line) = ⊥
-IsSocketFailure kind (BreaksRule line rule) = ⊥
+IsSocketFailure kind (BadTablesLine file line) = ⊥
+IsSocketFailure kind (BreaksRule file line rule) = ⊥
 IsSocketFailure kind CannotWrite = ⊥
 
--- what a call of the socket gave, or why it failed, which the kind of its error decides
+-- the result of a call of the socket, or why it failed, which the kind of its error decides
 abbrev pub IsCalled : {T : Type 0} → Result T Error → Result T Failure → Type 0
 IsCalled (Ok given) (Ok job) = job ≡ given
 IsCalled (Ok given) (Err why) = ⊥
@@ -60,19 +68,24 @@ status_of Memory = 4
 status_of (CannotRead name) = 3
 status_of TooLong = 3
 status_of (BadLine line) = 3
-status_of (BadTablesLine line) = 3
-status_of (BreaksRule line rule) = 3
+status_of (BadTablesLine file line) = 3
+status_of (BreaksRule file line rule) = 3
 status_of CannotWrite = 3
 status_of SocketFailed = 3
 
--- what is printed of a failure
+-- the text of a failure
 abbrev pub failure_text : Failure → List ℕ
 failure_text (CannotRead name) = codes "cannot read " ++ name.now
 failure_text TooLong = codes "file too long"
 failure_text (BadLine line) = codes "line " ++ decimal line ++ codes ": bad line"
-failure_text (BadTablesLine line) = codes "tables line " ++ decimal line ++ codes ": bad line"
-failure_text (BreaksRule line rule) =
+failure_text (BadTablesLine None line) = codes "tables line " ++ decimal line ++ codes ": bad line"
+failure_text (BadTablesLine (Some file) line) =
+    codes "tables " ++ file.now ++ codes " line " ++ decimal line ++ codes ": bad line"
+failure_text (BreaksRule None line rule) =
     codes "tables line " ++ decimal line ++ codes ": breaks V" ++ decimal rule
+failure_text (BreaksRule (Some file) line rule) =
+    codes "tables " ++ file.now ++ codes " line " ++ decimal line ++ codes ": breaks V"
+    ++ decimal rule
 failure_text CannotWrite = codes "cannot write"
 failure_text SocketFailed = codes "socket failed"
 failure_text Memory = codes "out of memory"
@@ -81,14 +94,14 @@ failure_text Memory = codes "out of memory"
 abbrev pub failure_line : Failure → List ℕ
 failure_line failure = codes "waywire: " ++ failure_text failure ++ codes "\n"
 
--- a failure of reading the file of this name, of which all bytes may be known
+-- a failure to read the file of this name; all its bytes may be known
 abbrev pub IsReadFailure : List ℕ → Option (List ℕ) → Failure → Type 0
 IsReadFailure file known (CannotRead name) = name.now ≡ file
 IsReadFailure file known TooLong = IfSome known (λ all. 16777216 < length all)
 IsReadFailure file known Memory = Unit {0}
 IsReadFailure file known (BadLine line) = ⊥
-IsReadFailure file known (BadTablesLine line) = ⊥
-IsReadFailure file known (BreaksRule line rule) = ⊥
+IsReadFailure file known (BadTablesLine other line) = ⊥
+IsReadFailure file known (BreaksRule other line rule) = ⊥
 IsReadFailure file known CannotWrite = ⊥
 IsReadFailure file known SocketFailed = ⊥
 
@@ -98,7 +111,7 @@ IsRefusal text (BadLine n) = IsFirstBad text n
 IsRefusal text Memory = Unit {0}
 IsRefusal text (CannotRead name) = ⊥
 IsRefusal text TooLong = ⊥
-IsRefusal text (BadTablesLine line) = ⊥
-IsRefusal text (BreaksRule line rule) = ⊥
+IsRefusal text (BadTablesLine file line) = ⊥
+IsRefusal text (BreaksRule file line rule) = ⊥
 IsRefusal text CannotWrite = ⊥
 IsRefusal text SocketFailed = ⊥

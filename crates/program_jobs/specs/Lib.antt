@@ -1,4 +1,6 @@
 pub mod Verdict
+pub mod Hint
+pub mod Texts
 pub mod Failing
 pub mod Output
 pub mod Running

@@ -1,18 +1,20 @@
--- What the program prints of a recording.
-use Rattle.std.specs.Prelude.{◌≡◌, ℕ, ◌<◌, ◌≤◌, ◌⊎◌, List, ◌++◌, length, Option, Some, None, IfSome}
-use Rattle.std.specs.Prelude.{IsSome, IsSomeAnd, Result, Ok, Err, String, string_bytes}
+-- What the program prints for a recording.
+use Rattle.std.specs.Prelude.{◌≡◌, ℕ, ◌⊎◌, List, [], ◌∷◌, ◌++◌, Option, Ok, Err, map}
+use Rattle.std.specs.Prelude.{string_bytes}
+use Rattle.std.specs.List.{Contains}
 use Rattle.std.specs.Io.KnownBytes.{Appends}
 use Rattle.wl_sigs.specs.Tables.{Interface}
 use Rattle.wl_sigs.specs.Core.{core_tables}
 use Rattle.wl_sigs.specs.Outcome.{outcome}
-use Rattle.wl_interface_text.specs.declared.fault.TableFault.{TableFault}
-use Rattle.wl_interface_text.specs.declared.fault.TableFault.TheVariants as texts
+use Rattle.wl_text.specs.declared.fault.TableFault.{TableFault}
+use Rattle.wl_recording.specs.declared.piece.Direction.TheVariants.{ToServer}
 use Rattle.wl_recording.specs.Piece.{Piece}
 use Rattle.wl_recording.specs.Text.{TextRecords, IsFirstBad}
 use Rattle.wl_check.specs.declared.verdict.Verdict.{Verdict}
+use Rattle.wl_check.specs.Merged.{stream_of}
 use Rattle.wl_check.specs.Session.{IsVerdictOf, session_of}
 use Rattle.wl_check.specs.Trace.{trace_of}
-use Rattle.wl_verdict.specs.Verdict.{verdict_line}
+use Rattle.wl_check.specs.Verdict.{verdict_line}
 use Rattle.program_arguments.specs.declared.job.Job.{Job}
 use Rattle.program_arguments.specs.declared.job.Job.TheVariants.{Trace, Check, Demo, Socket}
 use Rattle.program_demo.specs.Demo.{IsShown}
@@ -22,62 +24,57 @@ use Rattle.program_jobs.specs.declared.failure.Failure.TheVariants.{CannotRead, 
 use Rattle.program_jobs.specs.declared.failure.Failure.TheVariants.{BadTablesLine, BreaksRule}
 use Rattle.program_jobs.specs.declared.failure.Failure.TheVariants.{CannotWrite, SocketFailed}
 use Rattle.program_jobs.specs.declared.failure.Failure.TheVariants.{Memory}
-use Rattle.program_jobs.specs.Failing.{failure_line, status_of}
+use Rattle.program_jobs.specs.Failing.{IsTablesFailure, failure_line, status_of}
+use Rattle.program_jobs.specs.Hint.{hint_of}
+use Rattle.program_jobs.specs.Texts.{AreRead, IsFileRead, IsTooLong, NamedText, Source, as_one}
 use Rattle.program_jobs.specs.Writing.{AppendsFront}
 use Rattle.program_jobs.specs.Verdict.{last_line, verdict_status}
 
--- The text is a recording, and the output is the line of the verdict on it by this limit and these
--- tables.
-pub record IsChecked (limit : ℕ) (tables : List Interface) (text output : List ℕ) (status : ℕ)
+-- The text is a recording, and the output is the line of the verdict on it with this limit and
+-- these tables.
+pub record IsChecked (limit : ℕ) (tables : List Interface) (text output hint : List ℕ) (status : ℕ)
     : Type 0 where
   pub pieces : List Piece
   pub recorded : TextRecords text pieces
   pub verdict : Verdict
   pub answers : IsVerdictOf tables (session_of limit pieces) verdict
   pub whole : output ≡ verdict_line verdict
+  pub hinted : hint ≡ hint_of tables (stream_of ToServer pieces) verdict
   pub status_is : status ≡ verdict_status verdict
 
 -- The text is a recording, and the output is the lines of its messages before the verdict's end,
--- and where a rule is broken the verdict's line behind them.
-pub record IsTraced (limit : ℕ) (tables : List Interface) (text output : List ℕ) (status : ℕ)
+-- followed by the verdict's line if a rule is broken.
+pub record IsTraced (limit : ℕ) (tables : List Interface) (text output hint : List ℕ) (status : ℕ)
     : Type 0 where
   pub pieces : List Piece
   pub recorded : TextRecords text pieces
   pub verdict : Verdict
   pub answers : IsVerdictOf tables (session_of limit pieces) verdict
   pub whole : output ≡ trace_of tables (session_of limit pieces) ++ last_line verdict
+  pub hinted : hint ≡ hint_of tables (stream_of ToServer pieces) verdict
   pub status_is : status ≡ verdict_status verdict
 
--- the most bytes of a file
-abbrev pub most_bytes : ℕ
-most_bytes = 16777216
+-- The tables of a job: the core ones, extended by the texts that were read, joined to one text. With
+-- no text they are the core ones.
+abbrev pub LoadsTables : List Source → List Interface → Type 0
+LoadsTables [] tables = tables ≡ core_tables
+LoadsTables (source ∷ sources) tables =
+    (texts : List NamedText) × AreRead (source ∷ sources) texts
+    × (outcome core_tables (as_one texts) ≡ Ok tables)
 
--- The text is all that a reader gives, where that is known, and no more than may be read.
-pub record IsFileRead (known : Option (List ℕ)) (text : List ℕ) : Type 0 where
-  pub within : length text ≤ most_bytes
-  pub all : IfSome known (λ all. text ≡ all)
-
--- The tables of a job: the core ones, and behind them those of a text that was read, where a file
--- of tables is named.
-abbrev pub LoadsTables : {A : Type 0} → Option (String A) → Option (List ℕ) → List Interface
-    → Type 0
-LoadsTables None known tables = tables ≡ core_tables
-LoadsTables (Some name) known tables =
-    (text : List ℕ) × IsFileRead known text × (outcome core_tables text ≡ Ok tables)
-
--- What a job prints, and the status that goes with it. A job that has a file prints what it says of
--- a text that was read, by its tables.
-abbrev pub IsDone : Job → Option (List ℕ) → Option (List ℕ) → List ℕ → ℕ → Type 0
-IsDone (Trace tables limit file) known_tables known output status =
-    (all : List Interface) × LoadsTables tables known_tables all
-    × ((text : List ℕ) × IsFileRead known text × IsTraced limit.bytes all text output status)
-IsDone (Check tables limit file) known_tables known output status =
-    (all : List Interface) × LoadsTables tables known_tables all
-    × ((text : List ℕ) × IsFileRead known text × IsChecked limit.bytes all text output status)
-IsDone (Demo piece) known_tables known output status =
-    IsShown core_tables piece output × (status ≡ 0)
-IsDone (Socket path) known_tables known output status =
-    IsShownOverStreams core_tables output × (status ≡ 0)
+-- What a job prints, its hint on standard error, and its status. A job with a file prints its result
+-- for a text that was read, with its tables.
+abbrev pub IsDone : Job → List Source → Option (List ℕ) → List ℕ → List ℕ → ℕ → Type 0
+IsDone (Trace tables limit file) sources known output hint status =
+    (all : List Interface) × LoadsTables sources all
+    × ((text : List ℕ) × IsFileRead known text × IsTraced limit.bytes all text output hint status)
+IsDone (Check tables limit file) sources known output hint status =
+    (all : List Interface) × LoadsTables sources all
+    × ((text : List ℕ) × IsFileRead known text × IsChecked limit.bytes all text output hint status)
+IsDone (Demo piece) sources known output hint status =
+    IsShown core_tables piece output × (hint ≡ []) × (status ≡ 0)
+IsDone (Socket path) sources known output hint status =
+    IsShownOverStreams core_tables output × (hint ≡ []) × (status ≡ 0)
 
 -- the job reads a recording
 abbrev pub ReadsFile : Job → Type 0
@@ -93,12 +90,12 @@ NamesFile (Check tables limit file) name = string_bytes file ≡ name
 NamesFile (Demo piece) name = ⊥
 NamesFile (Socket path) name = ⊥
 
--- the job reads a text of tables, whose file has this name
-abbrev pub NamesTables : Job → List ℕ → Type 0
-NamesTables (Trace tables limit file) name = IsSomeAnd tables (λ path. string_bytes path ≡ name)
-NamesTables (Check tables limit file) name = IsSomeAnd tables (λ path. string_bytes path ≡ name)
-NamesTables (Demo piece) name = ⊥
-NamesTables (Socket path) name = ⊥
+-- the words by which the job names table texts, and folders of them
+abbrev pub tables_named : Job → List (List ℕ)
+tables_named (Trace tables limit file) = map string_bytes tables.items
+tables_named (Check tables limit file) = map string_bytes tables.items
+tables_named (Demo piece) = []
+tables_named (Socket path) = []
 
 -- the job binds a socket
 abbrev pub BindsSocket : Job → Type 0
@@ -114,59 +111,53 @@ NamesPath (Trace tables limit file) name = ⊥
 NamesPath (Check tables limit file) name = ⊥
 NamesPath (Demo piece) name = ⊥
 
--- the job reads a text of tables
-abbrev pub ReadsTables : Job → Type 0
-ReadsTables job = (name : List ℕ) × NamesTables job name
+-- the texts that were read give no tables, because of a fault that this failure reports
+abbrev pub GivesNone : List (List ℕ) → List Source → Failure → Type 0
+GivesNone given sources why =
+    (texts : List NamedText) × AreRead sources texts
+    × ((fault : TableFault) × (outcome core_tables (as_one texts) ≡ Err fault)
+    × IsTablesFailure given texts fault why)
 
--- the tables of a job that reads a recording
-abbrev pub HasTables : Job → Option (List ℕ) → List Interface → Type 0
-HasTables (Trace tables limit file) known all = LoadsTables tables known all
-HasTables (Check tables limit file) known all = LoadsTables tables known all
-HasTables (Demo piece) known all = ⊥
-HasTables (Socket path) known all = ⊥
+-- the job reads a recording, and its tables have no fault
+abbrev pub FindsTables : Job → List Source → Type 0
+FindsTables job sources = ReadsFile job × ((all : List Interface) × LoadsTables sources all)
 
--- the job reads a recording, and its tables are not at fault
-abbrev pub FindsTables : Job → Option (List ℕ) → Type 0
-FindsTables job known = (all : List Interface) × HasTables job known all
+-- Why table texts give no tables; `given` are the words of the command line that name them. A text
+-- is too long if and only if its file has more bytes than may be read. A fault is one of the joined
+-- text, and is reported by the file and its line.
+abbrev pub IsTablesRefusal : List (List ℕ) → List Source → Failure → Type 0
+IsTablesRefusal given sources (CannotRead name) =
+    (source : Source) × Contains sources source × (source.name ≡ name.now)
+IsTablesRefusal given sources TooLong =
+    (source : Source) × Contains sources source × IsTooLong source.known
+IsTablesRefusal given sources (BadTablesLine file own) =
+    GivesNone given sources (BadTablesLine file own)
+IsTablesRefusal given sources (BreaksRule file own rule) =
+    GivesNone given sources (BreaksRule file own rule)
+IsTablesRefusal given sources Memory = Unit {0}
+IsTablesRefusal given sources (BadLine n) = ⊥
+IsTablesRefusal given sources CannotWrite = ⊥
+IsTablesRefusal given sources SocketFailed = ⊥
 
--- a text that was read gives no tables, for this fault
-abbrev pub GivesNone : Option (List ℕ) → TableFault → Type 0
-GivesNone known fault = (text : List ℕ) × IsFileRead known text
-    × (outcome core_tables text ≡ Err fault)
-
--- more bytes are known than may be read
-abbrev pub IsTooLong : Option (List ℕ) → Type 0
-IsTooLong known = IfSome known (λ all. most_bytes < length all)
-
--- Why a job prints nothing. A file is too long exactly where it has more bytes than may be read.
--- The recording is at fault only where the tables are not, whether it cannot be read, is too long
--- or has a bad line.
-abbrev pub IsRefused : Job → Option (List ℕ) → Option (List ℕ) → Failure → Type 0
-IsRefused job known_tables known (CannotRead name) =
-    (FindsTables job known_tables × NamesFile job name.now) ⊎ NamesTables job name.now
-IsRefused job known_tables known TooLong =
-    (FindsTables job known_tables × IsTooLong known) ⊎ (ReadsTables job × IsTooLong known_tables)
-IsRefused job known_tables known (BadLine n) =
-    FindsTables job known_tables × ((text : List ℕ) × IsFileRead known text × IsFirstBad text n)
-IsRefused job known_tables known (BadTablesLine n) =
-    ReadsTables job × GivesNone known_tables (texts.BadLine n)
-IsRefused job known_tables known (BreaksRule n rule) =
-    ReadsTables job × GivesNone known_tables (texts.BadTable n rule)
-IsRefused job known_tables known CannotWrite = ⊥
-IsRefused job known_tables known SocketFailed = BindsSocket job
-IsRefused job known_tables known Memory = Unit {0}
-
--- why a file of this name, if any is named, gives no tables
-abbrev pub IsTablesRefusal : {A : Type 0} → Option (String A) → Option (List ℕ) → Failure → Type 0
-IsTablesRefusal named known (CannotRead name) = IsSomeAnd named (λ path. string_bytes path ≡ name.now)
-IsTablesRefusal named known TooLong = IsSome named × IsTooLong known
-IsTablesRefusal named known (BadTablesLine n) = IsSome named × GivesNone known (texts.BadLine n)
-IsTablesRefusal named known (BreaksRule n rule) =
-    IsSome named × GivesNone known (texts.BadTable n rule)
-IsTablesRefusal named known Memory = Unit {0}
-IsTablesRefusal named known (BadLine n) = ⊥
-IsTablesRefusal named known CannotWrite = ⊥
-IsTablesRefusal named known SocketFailed = ⊥
+-- Why a job prints nothing. A file is too long if and only if it has more bytes than may be read.
+-- The recording is reported (unreadable, too long, or with a bad line) only if the tables have no
+-- fault.
+abbrev pub IsRefused : Job → List Source → Option (List ℕ) → Failure → Type 0
+IsRefused job sources known (CannotRead name) =
+    (FindsTables job sources × NamesFile job name.now)
+    ⊎ IsTablesRefusal (tables_named job) sources (CannotRead name)
+IsRefused job sources known TooLong =
+    (FindsTables job sources × IsTooLong known)
+    ⊎ IsTablesRefusal (tables_named job) sources TooLong
+IsRefused job sources known (BadLine n) =
+    FindsTables job sources × ((text : List ℕ) × IsFileRead known text × IsFirstBad text n)
+IsRefused job sources known (BadTablesLine file own) =
+    IsTablesRefusal (tables_named job) sources (BadTablesLine file own)
+IsRefused job sources known (BreaksRule file own rule) =
+    IsTablesRefusal (tables_named job) sources (BreaksRule file own rule)
+IsRefused job sources known CannotWrite = ⊥
+IsRefused job sources known SocketFailed = BindsSocket job
+IsRefused job sources known Memory = Unit {0}
 
 -- why a session over a socket prints nothing
 abbrev pub IsSocketRefusal : Failure → Type 0
@@ -175,25 +166,32 @@ IsSocketRefusal Memory = Unit {0}
 IsSocketRefusal (CannotRead name) = ⊥
 IsSocketRefusal TooLong = ⊥
 IsSocketRefusal (BadLine n) = ⊥
-IsSocketRefusal (BadTablesLine n) = ⊥
-IsSocketRefusal (BreaksRule n rule) = ⊥
+IsSocketRefusal (BadTablesLine file n) = ⊥
+IsSocketRefusal (BreaksRule file n rule) = ⊥
 IsSocketRefusal CannotWrite = ⊥
 
--- What a job over two readers, those of its tables and its recording, and two writers does: it
--- prints all and says nothing; or it prints nothing, for the failure of its status; or its output
--- was made, and was not taken, or not all of it. A failure's line goes to standard error, as far as
--- that takes it.
-pub data Acted {O E : Type 0} (contents : O → Option (List ℕ)) (said : E → Option (List ℕ))
-    (job : Job) (known_tables known : Option (List ℕ)) (out out' : O) (err err' : E) (status : ℕ)
+-- Without a hint nothing is written to standard error; a hint is written as far as it is taken.
+pub record IsHinted {E : Type 0} (said : E → Option (List ℕ)) (hint : List ℕ) (err err' : E)
     : Type 0 where
-  printed : (output : List ℕ) → IsDone job known_tables known output status
-      → Appends (contents out) (contents out') output → err' ≡ err
-      → Acted contents said job known_tables known out out' err err' status
-  refused : (why : Failure) → status ≡ status_of why → IsRefused job known_tables known why
+  pub none : hint ≡ [] → err' ≡ err
+  pub some : AppendsFront (said err) (said err') hint
+
+-- What a job does with readers of its tables and its recording, and two writers. It prints all of
+-- its output, and then its hint on standard error; or it prints nothing, and has a failure with its
+-- status; or its output was made but not taken, or not all of it. A failure's line goes to standard
+-- error, as far as that takes it.
+pub data Acted {O E : Type 0} (contents : O → Option (List ℕ)) (said : E → Option (List ℕ))
+    (job : Job) (sources : List Source) (known : Option (List ℕ)) (out out' : O) (err err' : E)
+    (status : ℕ)
+    : Type 0 where
+  printed : (output hint : List ℕ) → IsDone job sources known output hint status
+      → Appends (contents out) (contents out') output → IsHinted said hint err err'
+      → Acted contents said job sources known out out' err err' status
+  refused : (why : Failure) → status ≡ status_of why → IsRefused job sources known why
       → out' ≡ out → AppendsFront (said err) (said err') (failure_line why)
-      → Acted contents said job known_tables known out out' err err' status
-  not_taken : (output : List ℕ) (other : ℕ) → status ≡ 3
-      → IsDone job known_tables known output other
+      → Acted contents said job sources known out out' err err' status
+  not_taken : (output hint : List ℕ) (other : ℕ) → status ≡ 3
+      → IsDone job sources known output hint other
       → AppendsFront (contents out) (contents out') output
       → AppendsFront (said err) (said err') (failure_line CannotWrite)
-      → Acted contents said job known_tables known out out' err err' status
+      → Acted contents said job sources known out out' err err' status

@@ -1,10 +1,10 @@
--- What a command prints of a verdict, and the exit status that goes with it.
+-- What a command prints for a verdict, and its exit status.
 use Rattle.std.specs.Prelude.{ℕ, List, []}
 use Rattle.wl_check.specs.declared.verdict.Verdict.{Verdict}
 use Rattle.wl_check.specs.declared.verdict.Verdict.TheVariants.{Lawful, Broken}
-use Rattle.wl_verdict.specs.Verdict.{verdict_line}
+use Rattle.wl_check.specs.Verdict.{verdict_line}
 
--- what stands behind the lines of a trace: the verdict's line where a rule is broken
+-- what follows the lines of a trace: the verdict's line if a rule is broken
 abbrev pub last_line : Verdict → List ℕ
 last_line (Lawful requests events left_to_server left_to_client) = []
 last_line (Broken direction index offset fault) = verdict_line (Broken direction index offset fault)

@@ -5,20 +5,20 @@ ghost use Rattle.program_jobs.specs.declared.failure.Failure.TheVariants as fail
 ghost use Rattle.std.specs.IoError.{error_kind};
 ghost use Rattle.program_jobs.specs.Failing.{IsSocketFailure, failure_line, failure_text};
 ghost use Rattle.program_jobs.specs.Failing.{status_of};
-ghost use Rattle.program_jobs.specs.Failing.{recording_failure, socket_failure, tables_failure};
+ghost use Rattle.program_jobs.specs.Failing.{recording_failure, socket_failure};
 ghost use Rattle.program_jobs.specs.Writing.{AppendsFront};
 
-use crate::writing::write_whole;
+use crate::writing::{write_three, write_whole};
 use itoa::Buffer;
 use program_arguments::status;
 use program_socket::SocketError;
-use std::alloc::AllocError;
+use std::alloc::{AllocError, AllocFailed};
+use std::fmt::{self, Display, Formatter};
 use std::io::{self, ErrorKind, Write};
 use thiserror::Error;
 use wl_recording::RecordingError;
-use wl_sigs::TableFault;
 
-/// Why a job has no output. Its text is what standard error says behind `waywire: `.
+/// Why a job has no output. Standard error gets its text after `waywire: `.
 #[derive(Clone, Copy, Debug, PartialEq, Eq, Error)]
 pub enum Failure<'a> {
     /// The file of this name cannot be opened, or its reading failed.
@@ -27,20 +27,28 @@ pub enum Failure<'a> {
     /// The file has more than 16,777,216 bytes.
     #[error("file too long")]
     TooLong,
-    /// This line is no line of a recording. Lines are counted from 1.
+    /// This line cannot be in a recording. Lines are counted from 1.
     #[error("line {0}: bad line")]
     BadLine(usize),
-    /// This line has none of the forms of a text of tables.
-    #[error("tables line {0}: bad line")]
-    BadTablesLine(usize),
-    /// This line of a text of tables breaks a rule of valid tables, and this is the rule.
-    #[error("tables line {line}: breaks V{rule}")]
-    BreaksRule { line: usize, rule: u8 },
+    /// This line has none of the forms of a table text. `file` is `None` if the command line names
+    /// only the file with this line.
+    #[error("tables {}line {line}: bad line", FileName(*file))]
+    BadTablesLine {
+        file: Option<&'a str>,
+        line: usize,
+    },
+    /// This line of a table text breaks this rule of valid tables.
+    #[error("tables {}line {line}: breaks V{rule}", FileName(*file))]
+    BreaksRule {
+        file: Option<&'a str>,
+        line: usize,
+        rule: u8,
+    },
     /// The output was not taken.
     #[error("cannot write")]
     CannotWrite,
-    /// A call of the socket failed, its input ended early, or the two ends over it do not have the
-    /// same objects.
+    /// A call of the socket failed, its input ended early, or the two ends connected by it do not
+    /// have the same objects.
     #[error("socket failed")]
     SocketFailed,
     /// There is no memory.
@@ -48,9 +56,22 @@ pub enum Failure<'a> {
     Memory,
 }
 
-/// A text in four parts, so that it can be written without allocating. Contracts name its bytes by
-/// these parts: what is derived for `Display` has no contract.
-struct LineParts<'a>(&'a str, &'a str, &'a str, &'a str);
+/// The name of a file, to be written before one of its lines, if it is to be named.
+#[derive(Drop)]
+struct FileName<'a>(Option<&'a str>);
+
+impl Display for FileName<'_> {
+    fn fmt<W: fmt::Write>(&self, f: &mut Formatter<W>) -> fmt::Result {
+        match self.0 {
+            Some(name) => write!(f, "{name} "),
+            None => Ok(()),
+        }
+    }
+}
+
+/// A text in six parts, so that it can be written without allocating. Contracts name its bytes by
+/// these parts, because the derived `Display` has no contract.
+struct LineParts<'a>(&'a str, &'a str, &'a str, &'a str, &'a str, &'a str);
 
 impl Failure<'_> {
     /// Why a call of the socket failed.
@@ -73,35 +94,40 @@ impl Failure<'_> {
         }
     }
 
-    /// Its text. `line` and `rule` are room for numbers.
+    /// Its text. `line` and `rule` are buffers for numbers.
     fn parts<'b>(&'b self, line: &'b mut Buffer, rule: &'b mut Buffer) -> LineParts<'b>
-        ensures { result.0.now ++ (result.1.now ++ (result.2.now ++ result.3.now))
-            ≡ failure_text self.now }
+        ensures { result.0.now ++ (result.1.now ++ (result.2.now ++ (result.3.now
+            ++ (result.4.now ++ result.5.now)))) ≡ failure_text self.now }
     {
         match self {
-            Failure::CannotRead(name) => LineParts("cannot read ", name, "", ""),
-            Failure::TooLong => LineParts("file too long", "", "", ""),
-            Failure::BadLine(n) => LineParts("line ", line.format(*n), ": bad line", ""),
-            Failure::BadTablesLine(n) => LineParts(
-                "tables line ",
-                line.format(*n),
-                ": bad line",
-                "",
-            ),
-            Failure::BreaksRule { line: n, rule: r } => LineParts(
-                "tables line ",
-                line.format(*n),
-                ": breaks V",
-                rule.format(*r),
-            ),
-            Failure::CannotWrite => LineParts("cannot write", "", "", ""),
-            Failure::SocketFailed => LineParts("socket failed", "", "", ""),
-            Failure::Memory => LineParts("out of memory", "", "", ""),
+            Failure::CannotRead(name) => LineParts("cannot read ", name, "", "", "", ""),
+            Failure::TooLong => LineParts("file too long", "", "", "", "", ""),
+            Failure::BadLine(n) => LineParts("line ", line.format(*n), ": bad line", "", "", ""),
+            Failure::BadTablesLine { file, line: n } => match file {
+                None => LineParts("tables line ", line.format(*n), ": bad line", "", "", ""),
+                Some(name) => {
+                    LineParts("tables ", name, " line ", line.format(*n), ": bad line", "")
+                }
+            },
+            Failure::BreaksRule {
+                file,
+                line: n,
+                rule: r,
+            } => {
+                let (n, r) = (line.format(*n), rule.format(*r));
+                match file {
+                    None => LineParts("tables line ", n, ": breaks V", r, "", ""),
+                    Some(name) => LineParts("tables ", name, " line ", n, ": breaks V", r),
+                }
+            }
+            Failure::CannotWrite => LineParts("cannot write", "", "", "", "", ""),
+            Failure::SocketFailed => LineParts("socket failed", "", "", "", "", ""),
+            Failure::Memory => LineParts("out of memory", "", "", "", "", ""),
         }
     }
 
-    /// Writes the line of this failure to `err`, which is standard error. Where that fails, a
-    /// beginning of the line was written.
+    /// Writes the line of this failure to `err`, which is standard error. If that fails, only a
+    /// front part of the line was written.
     pub fn write_line<E: Write>(&self, err: &mut E) -> io::Result<()>
         ensures whole { OnOk result
             (Appends (E.contents err.old) (E.contents err.new) (failure_line self.now)) }
@@ -110,16 +136,17 @@ impl Failure<'_> {
     {
         let mut line = Buffer::new();
         let mut rule = Buffer::new();
-        let LineParts(first, second, third, fourth) = self.parts(&mut line, &mut rule);
+        let LineParts(first, second, third, fourth, fifth, sixth) = self.parts(
+            &mut line, &mut rule,
+        );
         write_whole(err, b"waywire: ")?;
-        write_whole(err, first.as_bytes())?;
-        write_whole(err, second.as_bytes())?;
-        write_whole(err, third.as_bytes())?;
-        write_whole(err, fourth.as_bytes())?;
+        write_three(err, first, second, third)?;
+        write_three(err, fourth, fifth, sixth)?;
         write_whole(err, b"\n")
     }
 
-    /// Says so on `err`, and returns the exit status. Where `err` fails, nothing more is said.
+    /// Writes the failure's line to `err`, and returns the exit status. If `err` fails, nothing
+    /// more is written.
     pub fn report<E: Write>(&self, err: &mut E) -> u8
         ensures status { result ≡ status_of self.now }
         ensures said { AppendsFront (E.contents err.old) (E.contents err.new)
@@ -138,6 +165,14 @@ impl From<AllocError> for Failure<'_> {
     }
 }
 
+impl<T: Drop> From<AllocFailed<T>> for Failure<'_> {
+    ghost from_gives = { λ _ e. e ≡ failures.Memory };
+
+    fn from(_error: AllocFailed<T>) -> Self {
+        Failure::Memory
+    }
+}
+
 impl From<RecordingError> for Failure<'_> {
     ghost from_gives = { λ error e. e ≡ recording_failure error };
 
@@ -145,18 +180,6 @@ impl From<RecordingError> for Failure<'_> {
         match error {
             RecordingError::BadLine { line } => Failure::BadLine(line),
             RecordingError::Memory => Failure::Memory,
-        }
-    }
-}
-
-impl From<TableFault> for Failure<'_> {
-    ghost from_gives = { λ fault e. e ≡ tables_failure fault };
-
-    fn from(fault: TableFault) -> Self {
-        match fault {
-            TableFault::BadLine { line } => Failure::BadTablesLine(line),
-            TableFault::BadTable { line, rule } => Failure::BreaksRule { line, rule },
-            TableFault::Memory => Failure::Memory,
         }
     }
 }

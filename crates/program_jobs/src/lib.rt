@@ -1,18 +1,23 @@
 //! The jobs of the command `waywire`: what each prints, and a run of the whole program.
 //!
-//! A job works over any reader and any writers. Its output is complete before any of it is
-//! written. `program_arguments` says which job the words of a command line ask for.
+//! A job works with any reader and any writers. Its output is complete before any of it is written.
+//! `program_arguments` says which job the words of a command line ask for.
 #![tactic(auto)]
 
 mod acting;
 mod failure;
+mod folder;
+mod hint;
 mod running;
 mod socket;
+mod tables;
 mod verdict;
 mod writing;
 
 pub use acting::{Writers, act};
 pub use failure::Failure;
+pub use folder::texts_among;
 pub use program_arguments::{Job, Stop, job_of};
 pub use running::{ExitStatus, run};
 pub use socket::BoundSocket;
+pub use tables::TablesFile;

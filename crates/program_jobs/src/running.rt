@@ -1,24 +1,27 @@
-//! A run of the whole program, over whatever opens files, and any writers.
-ghost use Rattle.std.specs.Prelude.{◌≡◌, string_bytes};
+//! A run of the whole program, with anything that opens files, and any writers.
+ghost use Rattle.std.specs.Prelude.{◌≡◌, IfOk, IfErr, map, string_bytes};
 ghost use Rattle.std.specs.Fn.{FnOnceReturnsAt, FnReturnsAt};
 ghost use Rattle.std.specs.IoError.{error_kind};
 ghost use Rattle.std.specs.Process.{exit_status};
-ghost use Rattle.program_jobs.specs.Running.{IsOpenFailure, Opened, OpensFile, RunsWords, StopTold};
-ghost use Rattle.program_jobs.specs.Running.{Unread};
+ghost use Rattle.program_jobs.specs.Running.{AreOpened, FailsForOne, Finds};
+ghost use Rattle.program_jobs.specs.Running.{IsOpenFailure, Opened, OpensFile, OpensFiles};
+ghost use Rattle.program_jobs.specs.Running.{RunsWords, StopTold, Unread};
+ghost use Rattle.program_jobs.specs.Texts.{sources_of};
 
 use crate::acting::{Writers, act, finish};
 use crate::failure::Failure;
 use crate::socket::{BoundSocket, run_over_socket};
+use crate::tables::TablesFile;
 use crate::writing::{write_through, write_whole};
 use program_arguments::{Job, Stop, job_of, status};
 use std::alloc::Global;
 use std::io::{self, Eprint, ErrorKind, Read, Write};
 use std::process::{ExitCode, Termination};
 
-/// What is said of words that are no text.
+/// The message for words that are not text.
 const NO_TEXT: &[u8] = b"error: a word of the command line is not UTF-8\n";
 
-/// How a run ended, which is what the program ends with. Only `run` makes one.
+/// How a run ended; the program's exit status. Only `run` makes one.
 #[derive(Debug, Drop)]
 pub struct ExitStatus {
     status: u8,
@@ -32,33 +35,37 @@ impl Termination for ExitStatus {
     }
 }
 
-/// Does what the words of a command line ask for, of which the first is the program's name.
+/// Does what the words of a command line ask for; the first word is the program's name.
 ///
-/// `opener` opens the files that a job reads, all of them before one is read, and `binder` binds
-/// the socket of one that needs it. Help and the version are printed as a job's output is.
-pub fn run<R, F, S, B, O, E>(
+/// `finder` returns the names of the files with the table texts that a word names. `opener` opens the
+/// files that a job reads, all of them before one is read, and `binder` binds the socket of a job
+/// that needs one. Help and the version are printed like a job's output.
+pub fn run<R, L, F, S, B, O, E>(
     alloc: Global,
     words: io::Result<Vec<String>>,
+    finder: L,
     opener: F,
     binder: B,
     writers: &mut Writers<O, E>,
 ) -> ExitStatus
 where
     R: Read + Drop,
+    L: Fn(&str) -> io::Result<Vec<String>>,
     F: Fn(&str) -> io::Result<R>,
     S: BoundSocket,
     B: FnOnce(&str) -> io::Result<S>,
     O: Write,
     E: Write,
+    requires finds { L.IsAlwaysCallable finder }
     requires opens { F.IsAlwaysCallable opener }
     requires binds { B.IsAlwaysCallable binder }
-    ensures { RunsWords words R.remaining O.contents E.contents (FnReturnsAt F.Fn opener)
-        (FnOnceReturnsAt B.FnOnce binder) S.removes writers.old.out writers.new.out writers.old.err
+    ensures { RunsWords words R.remaining O.contents E.contents (FnReturnsAt L.Fn finder)
+        (FnReturnsAt F.Fn opener) (FnOnceReturnsAt B.FnOnce binder) S.removes writers.old.out writers.new.out writers.old.err
         writers.new.err result.status }
 {
     let status = match words {
         Ok(words) => match job_of(alloc, words.as_slice()) {
-            Ok(job) => run_job(alloc, &job, opener, binder, writers),
+            Ok(job) => run_job(alloc, &job, finder, opener, binder, writers),
             Err(stop) => report_stop(&stop, writers),
         },
         Err(error) => not_read(&error, &mut writers.err),
@@ -66,7 +73,7 @@ where
     ExitStatus { status }
 }
 
-/// Says why the words of a command line could not be read, and returns the status.
+/// Reports why the words of a command line could not be read, and returns the status.
 fn not_read<E: Write>(error: &io::Error, err: &mut E) -> u8
     ensures { Unread E.contents (error_kind error.now) err.old err.new result }
 {
@@ -78,7 +85,7 @@ fn not_read<E: Write>(error: &io::Error, err: &mut E) -> u8
 }
 
 /// Prints help or the version to `out`, and anything else to `err`, and returns the exit status:
-/// that of the stop, or 3 where `out` does not take the text.
+/// that of the stop, or 3 if `out` does not take the text.
 fn report_stop<O: Write, E: Write>(stop: &Stop, writers: &mut Writers<O, E>) -> u8
     ensures { StopTold O.contents E.contents stop.now writers.old.out writers.new.out
         writers.old.err writers.new.err result }
@@ -107,25 +114,28 @@ fn open_failure<'a>(name: &'a str, error: &io::Error) -> Failure<'a>
 }
 
 /// Opens what the job reads, or binds its socket, does it, and returns the status.
-fn run_job<R, F, S, B, O, E>(
+fn run_job<R, L, F, S, B, O, E>(
     alloc: Global,
     job: &Job,
+    finder: L,
     opener: F,
     binder: B,
     writers: &mut Writers<O, E>,
 ) -> u8
 where
     R: Read + Drop,
+    L: Fn(&str) -> io::Result<Vec<String>>,
     F: Fn(&str) -> io::Result<R>,
     S: BoundSocket,
     B: FnOnce(&str) -> io::Result<S>,
     O: Write,
     E: Write,
+    requires finds { L.IsAlwaysCallable finder }
     requires opens { F.IsAlwaysCallable opener }
     requires binds { B.IsAlwaysCallable binder }
-    ensures { Opened R.remaining O.contents E.contents (FnReturnsAt F.Fn opener)
-        (FnOnceReturnsAt B.FnOnce binder) S.removes job.now writers.old.out writers.new.out
-        writers.old.err writers.new.err result }
+    ensures { Opened R.remaining O.contents E.contents (FnReturnsAt L.Fn finder)
+        (FnReturnsAt F.Fn opener) (FnOnceReturnsAt B.FnOnce binder) S.removes job.now
+        writers.old.out writers.new.out writers.old.err writers.new.err result }
 {
     match job {
         Job::Trace {
@@ -137,21 +147,11 @@ where
             tables,
             limit: _limit,
             file: name,
-        } => match tables {
-            Some(tables) => match opener(tables.as_str()) {
-                Ok(mut tables) => run_over_file(alloc, job, &mut tables, name, &opener, writers),
-                Err(error) => open_failure(tables.as_str(), &error).report(&mut writers.err),
-            },
-            None => run_over_file(alloc, job, &mut io::empty(), name, &opener, writers),
-        },
-        Job::Demo { .. } => act(
-            alloc,
-            alloc,
-            job,
-            &mut io::empty(),
-            &mut io::empty(),
-            writers,
-        ),
+        } => run_over_files(alloc, job, (tables, name), &finder, &opener, writers),
+        Job::Demo { .. } => {
+            let none: Vec<TablesFile<'_, io::Empty>> = Vec::new(alloc);
+            act(alloc, alloc, job, none, &mut io::empty(), writers)
+        }
         Job::Socket { path } => match binder(path.as_str()) {
             Ok(bound) => finish(run_over_socket(alloc, alloc, bound), writers),
             Err(error) => Failure::of_socket(&error).report(&mut writers.err),
@@ -159,25 +159,108 @@ where
     }
 }
 
-/// Opens the recording of this name, does the job over it and its tables, and returns the status.
+/// Finds the table texts that these words name, does the job with them and the recording, and
+/// returns the status.
+fn run_over_files<R, L, F, O, E>(
+    alloc: Global,
+    job: &Job,
+    names: (&Vec<String>, &String),
+    finder: &L,
+    opener: &F,
+    writers: &mut Writers<O, E>,
+) -> u8
+where
+    R: Read + Drop,
+    L: Fn(&str) -> io::Result<Vec<String>>,
+    F: Fn(&str) -> io::Result<R>,
+    O: Write,
+    E: Write,
+    requires finds { L.IsAlwaysCallable finder.now }
+    requires opens { F.IsAlwaysCallable opener.now }
+    ensures { OpensFiles R.remaining O.contents E.contents (FnReturnsAt L.Fn finder.now)
+        (FnReturnsAt F.Fn opener.now) job.now (map string_bytes names.entry.0.now.items)
+        (string_bytes names.entry.1.now) writers.old.out writers.new.out writers.old.err
+        writers.new.err result }
+{
+    let (tables, name) = names;
+    match all_found(alloc, tables.as_slice(), finder) {
+        Ok(found) => match all_opened(alloc, found.as_slice(), opener) {
+            Ok(files) => run_over_file(alloc, job, files, name, opener, writers),
+            Err(failure) => failure.report(&mut writers.err),
+        },
+        Err(failure) => failure.report(&mut writers.err),
+    }
+}
+
+/// The names of the files that hold the table texts that these words name, in their order.
+fn all_found<'a, L>(
+    alloc: Global,
+    words: &'a [String],
+    finder: &L,
+) -> Result<Vec<String>, Failure<'a>>
+where
+    L: Fn(&str) -> io::Result<Vec<String>>,
+    requires { L.IsAlwaysCallable finder.now }
+    ensures found { IfOk result (λ found. Finds (FnReturnsAt L.Fn finder.now)
+        (map string_bytes words.now) (map string_bytes found.items)) }
+    ensures refused { IfErr result (FailsForOne (FnReturnsAt L.Fn finder.now)
+        (map string_bytes words.now)) }
+{
+    let mut all = Vec::new(alloc);
+    'words: for word in words {
+        match finder(word.as_str()) {
+            Ok(mut found) => all.append(&mut found)?,
+            Err(error) => return Err(open_failure(word.as_str(), &error)),
+        }
+    }
+    Ok(all)
+}
+
+/// The files of these names, opened in their order.
+fn all_opened<'a, R, F>(
+    alloc: Global,
+    names: &'a [String],
+    opener: &F,
+) -> Result<Vec<TablesFile<'a, R>>, Failure<'a>>
+where
+    R: Read + Drop,
+    F: Fn(&str) -> io::Result<R>,
+    requires { F.IsAlwaysCallable opener.now }
+    ensures opened { IfOk result (λ files. AreOpened (FnReturnsAt F.Fn opener.now)
+        (map string_bytes names.now) files.items) }
+    ensures refused { IfErr result (FailsForOne (FnReturnsAt F.Fn opener.now)
+        (map string_bytes names.now)) }
+{
+    let mut files = Vec::new(alloc);
+    'names: for word in names {
+        let name = word.as_str();
+        match opener(name) {
+            Ok(file) => files.push(TablesFile { name, file })?,
+            Err(error) => return Err(open_failure(name, &error)),
+        }
+    }
+    Ok(files)
+}
+
+/// Opens the recording of this name, does the job with it and its tables, and returns the status.
 fn run_over_file<T, R, F, O, E>(
     alloc: Global,
     job: &Job,
-    tables: &mut T,
+    tables: Vec<TablesFile<'_, T>>,
     name: &String,
     opener: &F,
     writers: &mut Writers<O, E>,
 ) -> u8
 where
-    T: Read,
+    T: Read + Drop,
     R: Read + Drop,
     F: Fn(&str) -> io::Result<R>,
     O: Write,
     E: Write,
     requires opens { F.IsAlwaysCallable opener.now }
     ensures { OpensFile R.remaining O.contents E.contents (FnReturnsAt F.Fn opener.now) job.now
-        (T.remaining tables.old) (string_bytes name.now) writers.old.out writers.new.out
-        writers.old.err writers.new.err result }
+        (sources_of T.remaining tables.entry.items) (string_bytes name.now) writers.old.out
+        writers.new.out writers.old.err writers.new.err result }
 {
     match opener(name.as_str()) {
         Ok(mut file) => act(alloc, alloc, job, tables, &mut file, writers),

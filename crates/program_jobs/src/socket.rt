@@ -1,5 +1,5 @@
 //! The session of both ends over a socket that is bound, connected to itself, and removed.
-ghost use Rattle.std.specs.Prelude.{◌≡◌, IfOk, IfErr, Ok, OnOk};
+ghost use Rattle.std.specs.Prelude.{◌≡◌, [], IfOk, IfErr, Ok, OnOk};
 ghost use Rattle.wl_sigs.specs.Core.{core_tables};
 ghost use Rattle.program_socket.specs.Socket.{IsShownOverStreams};
 ghost use Rattle.program_jobs.specs.Failing.{IsCalled};
@@ -13,14 +13,14 @@ use std::alloc::{Allocator, Global};
 use std::io::{self, Read, Write};
 use wl_sigs::Tables;
 
-/// A socket that the program has bound at a path.
+/// A socket that the program has bound to a path.
 ///
-/// What is generic over it cannot drop it, so that each way out of a session removes the path.
+/// Generic code cannot drop it, so every exit of a session must remove the path.
 pub trait BoundSocket {
     ghost use Rattle.std.specs.Prelude.{Result, ⊤};
     ghost use Rattle.std.specs.declared.io.Error.{Error};
 
-    // What comes of the removal of this socket's path.
+    // The result of removing this socket's path.
     ghost removes: { Self → Result ⊤ Error → Type 0 } = { λ _ _. ⊤ };
 
     /// One end of a connection, closed when it is dropped.
@@ -37,15 +37,15 @@ pub trait BoundSocket {
         ensures { removes self result };
 }
 
-/// What the session over a bound socket prints, where its path was removed. That is tried whatever
-/// came of the session.
+/// What the session over a bound socket prints, if its path was removed. The removal is tried
+/// however the session ended.
 pub(crate) fn run_over_socket<A: Allocator + Clone + Drop, B: BoundSocket>(
     alloc: A,
     global: Global,
     bound: B,
 ) -> Result<Printed<A>, Failure<'static>>
     ensures shows { IfOk result (λ o. IsShownOverStreams core_tables o.text.items
-        × (o.status ≡ 0)) }
+        × (o.hint.items ≡ []) × (o.status ≡ 0)) }
     ensures refused { IfErr result IsSocketRefusal }
     ensures removed { OnOk result (B.removes bound (Ok tt)) }
 {
@@ -53,8 +53,10 @@ pub(crate) fn run_over_socket<A: Allocator + Clone + Drop, B: BoundSocket>(
     let removed = called(bound.remove());
     let text = text?;
     removed?;
+    let hint = Vec::new(text.allocator().clone()?);
     Ok(Printed {
         text,
+        hint,
         status: status::SUCCESS,
     })
 }
@@ -73,7 +75,7 @@ fn play_session<A: Allocator + Clone + Drop, B: BoundSocket>(
     Ok(socket_text(alloc, &Tables::core(global)?, client, server)?)
 }
 
-/// What a call of the socket gave, or why it failed.
+/// The result of a call of the socket, or why it failed.
 fn called<T: Drop>(call: io::Result<T>) -> Result<T, Failure<'static>>
     ensures { IsCalled call result }
 {

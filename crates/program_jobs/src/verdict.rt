@@ -1,13 +1,12 @@
-//! What a command makes of a verdict.
+//! What a command does with a verdict.
 ghost use Rattle.std.specs.Prelude.{◌≡◌, ◌≤◌, ◌++◌, OnOk};
 ghost use Rattle.program_jobs.specs.Verdict.{last_line, verdict_status};
 
 use program_arguments::status;
 use std::alloc::{AllocError, Allocator};
-use wl_check::Verdict;
-use wl_verdict::write_verdict;
+use wl_check::{Verdict, write_verdict};
 
-/// Appends the line of a verdict where a rule is broken, and else nothing.
+/// Appends the line of a verdict if a rule is broken, else nothing.
 pub fn write_broken<A: Allocator>(out: &mut Vec<u8, A>, verdict: &Verdict) -> Result<(), AllocError>
     ensures { OnOk result (out.new.items ≡ out.old.items ++ last_line verdict.now) }
 {

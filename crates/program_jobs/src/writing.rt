@@ -1,12 +1,12 @@
-//! Bytes, written whole or up to where the writer fails.
-ghost use Rattle.std.specs.Prelude.{OnOk};
+//! Writing bytes, all of them or until the writer fails.
+ghost use Rattle.std.specs.Prelude.{OnOk, ◌++◌};
 ghost use Rattle.std.specs.Io.KnownBytes.{Appends};
 ghost use Rattle.program_jobs.specs.Writing.{AppendsFront};
 
 use std::io::{self, ErrorKind, Write};
 
-/// Writes all the bytes. Where a write fails or takes nothing, a beginning of them was written. An
-/// interrupted write is made again.
+/// Writes all the bytes. If a write fails or takes nothing, only a front part of them was written.
+/// An interrupted write is repeated.
 pub(crate) fn write_whole<O: Write>(out: &mut O, bytes: &[u8]) -> io::Result<()>
     ensures whole { OnOk result (Appends (O.contents out.old) (O.contents out.new) bytes.now) }
     ensures front { AppendsFront (O.contents out.old) (O.contents out.new) bytes.now }
@@ -29,7 +29,25 @@ pub(crate) fn write_whole<O: Write>(out: &mut O, bytes: &[u8]) -> io::Result<()>
     Err(io::Error::from(ErrorKind::Interrupted))
 }
 
-/// Writes all the bytes and flushes the writer. Where that fails, a beginning of them was written.
+/// Writes three texts, one after another. If that fails, only a front part of them was written.
+pub(crate) fn write_three<O: Write>(
+    out: &mut O,
+    first: &str,
+    second: &str,
+    third: &str,
+) -> io::Result<()>
+    ensures whole { OnOk result (Appends (O.contents out.old) (O.contents out.new)
+        (first.now ++ (second.now ++ third.now))) }
+    ensures front { AppendsFront (O.contents out.old) (O.contents out.new)
+        (first.now ++ (second.now ++ third.now)) }
+{
+    write_whole(out, first.as_bytes())?;
+    write_whole(out, second.as_bytes())?;
+    write_whole(out, third.as_bytes())
+}
+
+/// Writes all the bytes and flushes the writer. If that fails, only a front part of them was
+/// written.
 pub(crate) fn write_through<O: Write>(out: &mut O, bytes: &[u8]) -> io::Result<()>
     ensures whole { OnOk result (Appends (O.contents out.old) (O.contents out.new) bytes.now) }
     ensures front { AppendsFront (O.contents out.old) (O.contents out.new) bytes.now }

@@ -1,4 +1,4 @@
--- What it is to play the session over two streams.
+-- What it means to play the session over two streams.
 use Rattle.std.specs.Prelude.{◌≡◌, ℕ, List, [], ◌∷◌, ◌++◌, length, map}
 use Rattle.std.specs.declared.result.Result.TheVariants.{Ok}
 use Rattle.wl_sigs.specs.Tables.{Interface}
@@ -11,9 +11,9 @@ use Rattle.wl_recording.specs.declared.piece.Direction.TheVariants as ways
 use Rattle.wl_recording.specs.Piece.{passed}
 use Rattle.theory_connection.specs.Pair.{Move, Reply, ClientSend, ClientBind, ServerSend, AddGlobal}
 use Rattle.theory_connection.specs.Pair.{Announce, Does, new_pair}
-use Rattle.program_session.specs.Session.{adding_globals, getting_registry, announcing_globals}
-use Rattle.program_session.specs.Session.{binding_globals, finishing_callback, drawing_surface}
-use Rattle.program_session.specs.Session.{sizes}
+use Rattle.program_demo.specs.Moves.{adding_globals, getting_registry, announcing_globals}
+use Rattle.program_demo.specs.Moves.{binding_globals, finishing_callback, drawing_surface}
+use Rattle.program_demo.specs.Moves.{sizes}
 use Rattle.program_socket.specs.Streams.{KnownStream, Connected, Sends, Receives}
 
 -- the call was not refused, and there was memory for it
@@ -25,7 +25,7 @@ IsAccepted (AddGlobal (Ok name)) = Unit {0}
 IsAccepted (Announce (Ok count)) = Unit {0}
 IsAccepted _ = ⊥
 
--- One of the ends does a move as its call says, and accepts it. No stream is used.
+-- One of the ends makes a move as its call says, and accepts it. No stream is used.
 pub record Accepts {C S : Type 0} (move : Move) (now next : Connected C S) : Type 0 where
   pub reply : Reply
   pub accepted : IsAccepted reply
@@ -33,8 +33,8 @@ pub record Accepts {C S : Type 0} (move : Move) (now next : Connected C S) : Typ
   pub client_stream : next.client_stream ≡ now.client_stream
   pub server_stream : next.server_stream ≡ now.server_stream
 
--- The turn of the client: all that it has written goes into its stream, and the server's stream
--- gives as many bytes. These passed as one piece, and the server reads them.
+-- The client's turn: all that it has written goes into its stream, and the server's stream returns
+-- as many bytes. These passed as one piece, and the server reads them.
 pub record ToServer {C S : Type 0} (c : KnownStream C) (s : KnownStream S)
     (now next : Connected C S)
     : Type 0 where
@@ -51,7 +51,7 @@ pub record ToServer {C S : Type 0} (c : KnownStream C) (s : KnownStream S)
     recording = now.pair.recording ++ passed ways.ToServer bytes 0;
   }
 
--- the turn of the server, likewise
+-- the server's turn: the same in the other direction
 pub record ToClient {C S : Type 0} (c : KnownStream C) (s : KnownStream S)
     (now next : Connected C S)
     : Type 0 where
@@ -73,8 +73,8 @@ pub data SocketStep : Type 0 where
   ClientTurn : SocketStep
   ServerTurn : SocketStep
 
--- What a part does. A turn writes to one stream and reads from the other; what the first has left
--- to give and what the second was given may change by that, as the other end answers.
+-- The effect of a part. A turn writes to one stream and reads from the other; this may change what
+-- the first will return and what the second has been given, since the other end answers.
 abbrev pub PlaysPart : {C S : Type 0} → KnownStream C → KnownStream S → SocketStep → Connected C S
     → Connected C S
     → Type 0
@@ -93,7 +93,8 @@ PlaysOver {C = C} {S = S} c s (part ∷ parts) now last =
 abbrev pub calls : List Move → List SocketStep
 calls moves = map Call moves
 
--- The calls of the demonstration. After those of one end all that it has written goes to the other.
+-- The calls of the demonstration. After the calls of one end, all that it has written goes to the
+-- other.
 abbrev pub socket_steps : List Interface → List SocketStep
 socket_steps tables =
     calls (adding_globals tables)
@@ -103,7 +104,7 @@ socket_steps tables =
     ++ calls finishing_callback ++ ServerTurn ∷ []
     ++ calls drawing_surface ++ ClientTurn ∷ ServerTurn ∷ []
 
--- new ends over these tables, and two streams
+-- new ends with these tables, and two streams
 abbrev pub begin : {C S : Type 0} → List Interface → C → S → Connected C S
 begin tables client_stream server_stream = record {
   pair = new_pair tables sizes sizes;

@@ -3,14 +3,14 @@ ghost use Rattle.std.specs.Prelude.{◌≡◌, IfOk, OnOk};
 ghost use Rattle.wl_objects.specs.Writing.{given};
 ghost use Rattle.theory_connection.specs.Pair.{AddGlobal, Announce, ClientBind, ClientSend};
 ghost use Rattle.theory_connection.specs.Pair.{ServerSend};
-ghost use Rattle.program_session.specs.Session as session;
+ghost use Rattle.program_demo.specs.Moves as session;
 ghost use Rattle.program_socket.specs.Streams.{known_stream};
 ghost use Rattle.program_socket.specs.Playing.{Accepts, PlaysOver, calls};
 ghost use Rattle.program_socket.specs.Sessions.{connected};
 
 use crate::error::SocketError;
 use crate::session::Session;
-use program_session::{CALLBACK, COMPOSITOR, DISPLAY, REGISTRY, SURFACE};
+use program_demo::{CALLBACK, COMPOSITOR, DISPLAY, REGISTRY, SURFACE};
 use std::io::{Read, Write};
 use wl_objects::{Arg, Object, Table};
 use wl_sigs::{Tables, event, request};
@@ -36,7 +36,7 @@ impl<'t, T: Table + Drop, C: Read + Write + Drop, S: Read + Write + Drop> Sessio
         self.send_request(DISPLAY, request::wl_display::GET_REGISTRY, &[Arg::New])
     }
 
-    /// The server writes what it owes to the registry.
+    /// The server writes the events that the registry still needs.
     pub(crate) fn announce_globals(&mut self) -> Result<(), SocketError>
         ensures { OnOk result (PlaysOver (known_stream C.remaining C.contents)
             (known_stream S.remaining S.contents) (calls session.announcing_globals)
@@ -56,7 +56,7 @@ impl<'t, T: Table + Drop, C: Read + Write + Drop, S: Read + Write + Drop> Sessio
         self.send_request(DISPLAY, request::wl_display::SYNC, &[Arg::New])
     }
 
-    /// The server is done with the callback.
+    /// The server answers the callback.
     pub(crate) fn finish_callback(&mut self) -> Result<(), SocketError>
         ensures { OnOk result (PlaysOver (known_stream C.remaining C.contents)
             (known_stream S.remaining S.contents) (calls session.finishing_callback)

@@ -10,7 +10,7 @@ ghost use Rattle.program_socket.specs.Socket.{Ends};
 
 use crate::error::SocketError;
 use crate::turn::{deliver, flush_all, receive};
-use program_session::SIZES;
+use program_demo::SIZES;
 use std::alloc::Allocator;
 use std::io::{Read, Write};
 use wl_client::Client;
@@ -27,14 +27,14 @@ pub struct SessionOutcome<A: Allocator> {
     pub recording: Recording<A>,
     /// Whether both ends have the same objects.
     pub agree: bool,
-    /// How many objects these are.
+    /// How many objects they have.
     pub objects: usize,
 }
 
 /// Plays the session of the demonstration over two connected streams, turn by turn: one end writes
 /// all that waits, then the other reads until as many bytes have come.
 ///
-/// A read or write that fails is made again, `retries` times in all; the next failure ends the
+/// A read or write that fails is repeated, `retries` times in total; the next failure ends the
 /// session with `Failed`. So does an end of input before all has come.
 pub fn socket_session<A, C, S>(
     alloc: A,
@@ -67,7 +67,7 @@ pub(crate) struct Session<'t, T: Table, C, S> {
     pub(crate) server_stream: S,
     pub(crate) recording: Recording<T::Alloc>,
     pub(crate) retries: usize,
-    /// For what is read.
+    /// Allocates what is read.
     pub(crate) alloc: T::Alloc,
 }
 
@@ -147,7 +147,7 @@ impl<'t, T: Table + Drop, C: Read + Write + Drop, S: Read + Write + Drop> Sessio
         deliver(self.alloc.clone()?, &mut self.client, &bytes)
     }
 
-    /// What passed, and whether both ends have the same objects now.
+    /// What passed, and whether both ends now have the same objects.
     fn ended(self) -> SessionOutcome<T::Alloc>
         ensures agree { IsTrue result.agree
             ↔ Agree self.entry.client.core.view self.entry.server.core.view }

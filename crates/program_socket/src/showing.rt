@@ -1,20 +1,20 @@
-//! What is printed of the session.
+//! What is printed for the session.
 ghost use Rattle.std.specs.Prelude.{IfOk};
 ghost use Rattle.program_socket.specs.Streams.{known_stream};
 ghost use Rattle.program_socket.specs.Socket.{ShowsSession};
 
 use crate::error::SocketError;
 use crate::session::{SessionOutcome, socket_session};
-use program_session::write_agreement;
+use program_demo::write_agreement;
 use std::alloc::{AllocError, Allocator};
 use std::io::{Read, Write};
 use wl_message::Limit;
 use wl_session::trace;
 use wl_sigs::Tables;
 
-/// What the program prints of the session over two connected streams: the lines of what passed, and
-/// a last line, which says that both ends have the same objects, and how many. Where they do not,
-/// this fails. No read or write is made again.
+/// What the program prints for the session over two connected streams: the lines of what passed,
+/// and a last line, which says that both ends have the same objects, and how many. If they do not,
+/// this fails. No read or write is repeated.
 pub fn socket_text<A, C, S>(
     alloc: A,
     tables: &Tables,

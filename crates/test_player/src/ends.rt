@@ -1,10 +1,10 @@
-//! One end of a connection, played at.
+//! Playing scenes at one end of a connection.
 
 use crate::acting::Actor;
 use crate::bytes::{Chunk, read_chunk, read_chunks, write_chunk};
 use crate::playable::Playable;
 use crate::repeated::Repeated;
-use crate::replies::{OUT_OF_MEMORY, put_name, write_stop};
+use crate::replies::{OUT_OF_MEMORY, UNREADABLE, put_name, write_stop};
 use crate::stage::Stage;
 use crate::trouble::Trouble;
 use crate::words::Words;
@@ -80,7 +80,7 @@ impl<'a, E: Playable + Drop> AtEnd<'a, E> {
         }
     }
 
-    /// Appends what is asked for by one word.
+    /// Appends what one word asks for.
     fn query(&self, verb: &str, reply: &mut String) -> Result<(), AllocError> {
         match verb {
             "room" => {
@@ -91,7 +91,7 @@ impl<'a, E: Playable + Drop> AtEnd<'a, E> {
             "objects" => write!(reply, "{}", count_of(self.end.objects())),
             "made" => write_object(reply, self.end.made()),
             "replaced" => write_object(reply, self.end.replaced()),
-            _ => reply.push_str("unreadable"),
+            _ => reply.push_str(UNREADABLE),
         }
     }
 
@@ -101,8 +101,7 @@ impl<'a, E: Playable + Drop> AtEnd<'a, E> {
         Ok(write_amount(reply, fed.bytes, fed.tokens)?)
     }
 
-    /// Takes into slices of the lengths that the words give, and appends what was taken, or how
-    /// much.
+    /// Takes into slices of the lengths in the words, and appends what was taken, or how much.
     fn take(
         &mut self,
         words: &mut Words<'_>,
@@ -120,7 +119,7 @@ impl<'a, E: Playable + Drop> AtEnd<'a, E> {
         Ok(write_chunk(reply, &bytes, &tokens)?)
     }
 
-    /// Reads pieces; where a reading of them was refused memory, those that are left.
+    /// Reads pieces; after a reading of them that was refused memory, those that are left.
     fn read(&mut self, words: &str, reply: &mut String) -> Result<(), Trouble> {
         let chunks = read_chunks(self.alloc, words)?;
         let pieces = pieces_of(self.alloc, &chunks)?;
@@ -179,7 +178,7 @@ fn pieces_of(alloc: Global, chunks: &[Chunk]) -> Result<Vec<Piece<'_>>, AllocErr
     Ok(pieces)
 }
 
-/// Appends how far a reading came, and why it stopped.
+/// Appends how far a reading got, and why it stopped.
 fn write_end(reply: &mut String, pieces: usize, end: ReadAll) -> Result<(), AllocError> {
     write!(reply, "{pieces} pieces")?;
     if end.part.bytes > 0 || end.part.tokens > 0 {
@@ -217,7 +216,7 @@ fn write_live(
     write!(reply, " {version}")
 }
 
-/// Appends the objects of each range of ids: of its first 200 ids, and how many there are.
+/// Appends the objects of each range of ids: those with its first 200 ids, and how many there are.
 fn write_objects<T: Table>(text: &mut String, objects: &Objects<T>) -> Result<(), AllocError> {
     write_range(text, objects, Maker::Client, DISPLAY_ID)?;
     write_range(text, objects, Maker::Server, FIRST_SERVER_ID)

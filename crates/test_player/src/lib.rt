@@ -1,8 +1,9 @@
-//! Scenes: calls of an end, a pair or a part of one, and what each of them must answer, as text.
+//! Scenes: calls of an end, of a pair or of a part of one, with the answer that each must give, as
+//! text.
 //!
 //! This crate reads the text of scenes and of their calls, plays them at a client, a server, a pair
-//! or a recording, and says which results differ from those that the scenes demand. The program
-//! `test_scenes` prints that. The form is in crates/test_scenes/README.md.
+//! or a recording, and says which results differ from what the scenes demand. The program
+//! `test_scenes` prints that. crates/test_scenes/README.md has the form.
 #![tactic(auto)]
 
 mod acting;
@@ -30,7 +31,7 @@ pub use acting::Actor;
 pub use own::own_verdict;
 pub use playable::Playable;
 pub use replies::{OUT_OF_MEMORY, put_name, write_stop, write_verdict};
-pub use scene::read_scenes;
+pub use scene::{Unread, read_scenes};
 pub use stage::Props;
 pub use sweeping::play_scene;
 pub use trouble::Trouble;

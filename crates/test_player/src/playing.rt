@@ -1,27 +1,27 @@
-//! Scenes, played.
+//! Playing scenes.
 
 use crate::line::{Line, Memory};
-use crate::replies::OUT_OF_MEMORY;
+use crate::replies::{OUT_OF_MEMORY, UNREADABLE};
 use crate::scene::{Row, is_told};
 use crate::stage::{Props, Stage};
 use crate::trouble::Trouble;
 use std::alloc::{AllocError, Global};
 use std::fmt::Write;
 
-/// The allocation that is refused in one playing of a scene: of which row, and which of its
-/// allocations, counted from 0.
+/// The allocation that is refused when a scene is played once: its row, and its number among the
+/// row's allocations, from 0.
 #[derive(Clone, Copy)]
 pub struct Refusal {
     pub row: usize,
     pub number: u64,
 }
 
-/// How one playing of a scene ended.
+/// How playing a scene once ended.
 #[derive(Drop)]
 pub struct SceneOutcome {
     /// Whether the refused allocation was asked for.
     pub met: bool,
-    /// What is wrong; empty where nothing is.
+    /// What is wrong; empty if nothing is.
     pub wrong: String,
 }
 
@@ -65,7 +65,7 @@ pub fn play<S: Stage>(
     Ok(played)
 }
 
-/// The number of the refused allocation, where it is one of this row.
+/// The number of the refused allocation, if it is one of this row.
 fn refused_at(refusal: Option<Refusal>, row: usize) -> Option<u64> {
     match refusal {
         Some(refusal) if refusal.row == row => Some(refusal.number),
@@ -99,7 +99,7 @@ fn play_line<S: Stage>(
     Ok(())
 }
 
-/// The making of what the scene is played at, which is done.
+/// Making what the scene is played at, which has been done already.
 fn play_begin(
     props: Props<'_>,
     turn: Turn<'_>,
@@ -121,7 +121,7 @@ fn choose(props: Props<'_>, turn: Turn<'_>) {
     }
 }
 
-/// Makes a call once; and once more where it was refused memory, which must show.
+/// Makes a call once; and again if it was refused memory, which must be reported.
 fn play_once<S: Stage>(
     props: Props<'_>,
     stage: &mut S,
@@ -143,8 +143,8 @@ fn play_once<S: Stage>(
     Ok(())
 }
 
-/// Makes the call again that was refused memory. Where it did not say so, or something changed, the
-/// reply says that.
+/// Repeats a call that was refused memory. If it did not say so, or something changed, the reply
+/// says that.
 fn is_kept<S: Stage>(
     props: Props<'_>,
     stage: &mut S,
@@ -154,7 +154,7 @@ fn is_kept<S: Stage>(
 ) -> Result<(), AllocError> {
     let is_reading = turn.line.call.starts_with("read ");
     if reply.as_str() != OUT_OF_MEMORY {
-        // the room for a report may be asked for where nothing waits, and is not needed then
+        // a reading may ask for a report's room even if nothing waits, and then does not need it
         return match is_reading {
             true => Ok(()),
             false => reply.push_str(", without memory"),
@@ -175,12 +175,12 @@ fn answer<S: Stage>(stage: &mut S, turn: Turn<'_>, reply: &mut String) -> Result
     match stage.play(turn.line.call, reply) {
         Ok(()) => Ok(()),
         Err(Trouble::Memory) => Err(AllocError),
-        Err(Trouble::Unreadable) => reply.push_str("unreadable"),
+        Err(Trouble::Unreadable) => reply.push_str(UNREADABLE),
     }
 }
 
-/// Whether a reply is right: what is wanted; else one that is no refusal; where `*` is wanted, one
-/// of an end that goes on.
+/// Whether a reply is right: it is the wanted one; or, if none is given, it is no refusal; or, if
+/// `*` is wanted, the end has not failed.
 fn is_right(alloc: Global, turn: Turn<'_>, reply: &str) -> Result<bool, AllocError> {
     match turn.line.wanted {
         Some("*") => Ok(goes_on(reply)),
@@ -189,12 +189,12 @@ fn is_right(alloc: Global, turn: Turn<'_>, reply: &str) -> Result<bool, AllocErr
     }
 }
 
-/// Whether a reply is that of an end that has not failed, and that had memory.
+/// Whether a reply is that of an end that has not failed and had memory.
 fn goes_on(reply: &str) -> bool {
     !reply.starts_with("fault")
         && !reply.starts_with("error")
         && !reply.starts_with("stray")
-        && !matches!(reply, "failed" | "unreadable" | OUT_OF_MEMORY)
+        && !matches!(reply, "failed" | UNREADABLE | OUT_OF_MEMORY)
         && !reply.contains("without memory")
 }
 

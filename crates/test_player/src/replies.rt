@@ -10,6 +10,9 @@ use wl_server::{GlobalError, OwnedRequest};
 use wl_session::{Carried, Direction, Reply, Verdict};
 use wl_sigs::{Side, Tables};
 
+/// The reply of a call that cannot be read.
+pub const UNREADABLE: &str = "unreadable: no such call here, or a word that is not of its form";
+
 /// The reply of a call that is out of memory.
 pub const OUT_OF_MEMORY: &str = "out of memory";
 

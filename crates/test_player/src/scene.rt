@@ -10,7 +10,7 @@ pub struct Row<'a> {
     pub text: &'a str,
 }
 
-/// A scene: its name, where it plays, and its rows. Those of a setup stand in the place of `given`.
+/// A scene: its name, where it plays, and its rows. A setup's rows replace the row `given`.
 #[derive(Drop)]
 pub struct Scene<'a> {
     pub name: &'a str,
@@ -28,9 +28,17 @@ struct Reader<'a> {
     in_setup: bool,
 }
 
-/// The scenes of a text, in order. A row that stands in none of them cannot be read, nor one that
-/// asks for a setup that does not stand above it.
-pub fn read_scenes(alloc: Global, text: &str) -> Result<Vec<Scene<'_>>, Trouble> {
+/// Where a text of scenes cannot be read, and why.
+#[derive(Clone, Copy)]
+pub struct Unread {
+    /// The line, counted from 1.
+    pub line: usize,
+    pub why: Trouble,
+}
+
+/// The scenes of a text, in order. A row outside any scene cannot be read, and neither can one that
+/// asks for a setup that is not above it.
+pub fn read_scenes(alloc: Global, text: &str) -> Result<Vec<Scene<'_>>, Unread> {
     let mut reader = Reader {
         alloc,
         scenes: Vec::new(alloc),
@@ -38,7 +46,10 @@ pub fn read_scenes(alloc: Global, text: &str) -> Result<Vec<Scene<'_>>, Trouble>
         in_setup: false,
     };
     for (place, line) in text.lines().enumerate() {
-        reader.take(place, line.trim())?;
+        if let Err(why) = reader.take(place, line.trim()) {
+            let line = place.saturating_add(1);
+            return Err(Unread { line, why });
+        }
     }
     Ok(reader.scenes)
 }

@@ -1,3 +1,4 @@
+use crate::words::no_tables;
 use program_arguments::Job;
 use program_jobs::{Failure, Writers, act};
 use std::alloc::{AllocError, Global};
@@ -26,7 +27,7 @@ impl Write for Failing {
     }
 }
 
-/// Whether this holds of the jobs that trace and check a file.
+/// Whether this holds for the jobs that trace and check a file.
 fn holds_of_both<F: FnOnce(Global, &Job, &Job) -> bool>(
     alloc: Global,
     scene: F,
@@ -34,12 +35,12 @@ fn holds_of_both<F: FnOnce(Global, &Job, &Job) -> bool>(
     requires { F.IsAlwaysCallable scene }
 {
     let trace = Job::Trace {
-        tables: None,
+        tables: Vec::new(alloc),
         limit: Limit::USUAL,
         file: String::from_str(alloc, "session.rec")?,
     };
     let check = Job::Check {
-        tables: None,
+        tables: Vec::new(alloc),
         limit: Limit::USUAL,
         file: String::from_str(alloc, "session.rec")?,
     };
@@ -99,7 +100,7 @@ const LAWFUL: [(&[u8], &[u8], &[u8]); 9] = [
           -> wl_shm@3.create_pool(new id wl_shm_pool@4, fd 1, 4096)\n",
         b"lawful: 3 requests, 1 events, 0 and 0 bytes left\n",
     ),
-    // An error ends the session: what follows in either direction is left.
+    // An error ends the session: what follows in either direction is left over.
     (
         b"< 010000000000180000000000010000000100000000000000ffff\n> 00\n> 0900000000000800\n",
         b"<- wl_display@1.error(nil, 1, \"\")\n",
@@ -119,7 +120,7 @@ const BROKEN: [(&[u8], &[u8], &[u8]); 12] = [
         b"",
         b"broken: > message 1 at byte 0: F6 bad new id, argument 0\n",
     ),
-    // A size of 7, and behind a message one of 4100.
+    // A size of 7, and after a message one of 4100.
     (
         b"> 0100000000000700\n",
         b"",
@@ -187,7 +188,7 @@ const BROKEN: [(&[u8], &[u8], &[u8]); 12] = [
           -> wl_registry@2.bind(1, \"wl_shm\", 1, new id wl_shm@3)\n",
         b"broken: > message 3 at byte 44: F8 missing descriptor\n",
     ),
-    // A global of which no event told.
+    // A global that no event announced.
     (
         b"> 0100000001000c0002000000\n\
           > 02000000000020000100000007000000776c5f73686d00000100000003000000\n",
@@ -207,15 +208,15 @@ const REFUSED: [(&[u8], &[u8]); 3] = [
     ),
 ];
 
-/// Whether a job ends with this status and writes this output, its last part behind the first, and
-/// nothing to standard error.
+/// Whether a job ends with this status and writes this output (the second part after the first),
+/// and nothing to standard error.
 fn prints(alloc: Global, job: &Job, text: &[u8], status: u8, first: &[u8], last: &[u8]) -> bool {
     let mut file = text;
     let mut writers = Writers {
         out: Vec::new(alloc),
         err: Vec::new(alloc),
     };
-    let answer = act(alloc, alloc, job, &mut io::empty(), &mut file, &mut writers);
+    let answer = act(alloc, alloc, job, no_tables(alloc), &mut file, &mut writers);
     answer == status && writers.out.strip_prefix(first) == Some(last) && writers.err.is_empty()
 }
 
@@ -251,17 +252,17 @@ fn traces_and_checks_broken_sessions(rt: HostRuntime) -> Result<(), Fail> {
     Ok(())
 }
 
-/// Whether a job ends with this status, writes no output, and this to standard error.
+/// Whether a job ends with this status, writes no output, and writes this to standard error.
 fn says<R: Read>(alloc: Global, job: &Job, file: &mut R, status: u8, said: &[u8]) -> bool {
     let mut writers = Writers {
         out: Vec::new(alloc),
         err: Vec::new(alloc),
     };
-    let answer = act(alloc, alloc, job, &mut io::empty(), file, &mut writers);
+    let answer = act(alloc, alloc, job, no_tables(alloc), file, &mut writers);
     answer == status && writers.out.is_empty() && writers.err.as_slice() == said
 }
 
-/// The same of a file of this text.
+/// The same for a file with this text.
 fn says_of(alloc: Global, job: &Job, text: &[u8], status: u8, said: &[u8]) -> bool {
     let mut file = text;
     says(alloc, job, &mut file, status, said)
@@ -289,7 +290,7 @@ fn reads_the_longest(alloc: Global, trace: &Job, _check: &Job) -> bool {
     says(alloc, trace, &mut longest, 0, b"")
 }
 
-/// Whether a file without end is refused.
+/// Whether an endless file is refused.
 fn reads_none_longer(alloc: Global, trace: &Job, _check: &Job) -> bool {
     let mut endless = io::repeat(b'#');
     says(alloc, trace, &mut endless, 3, b"waywire: file too long\n")
@@ -302,7 +303,7 @@ fn reads_no_longer_file(rt: HostRuntime) -> Result<(), Fail> {
     Ok(())
 }
 
-/// Whether a file that cannot be read is told of.
+/// Whether a file that cannot be read is reported.
 fn says_that_reading_failed(alloc: Global, _trace: &Job, check: &Job) -> bool {
     says(
         alloc,
@@ -313,7 +314,7 @@ fn says_that_reading_failed(alloc: Global, _trace: &Job, check: &Job) -> bool {
     )
 }
 
-/// Whether an output that cannot be written is told of.
+/// Whether an output that cannot be written is reported.
 fn says_that_writing_failed(alloc: Global, _trace: &Job, check: &Job) -> bool {
     let mut file = LAWFUL[0].0;
     let mut writers = Writers {
@@ -324,7 +325,7 @@ fn says_that_writing_failed(alloc: Global, _trace: &Job, check: &Job) -> bool {
         alloc,
         alloc,
         check,
-        &mut io::empty(),
+        no_tables(alloc),
         &mut file,
         &mut writers,
     );
@@ -342,7 +343,7 @@ fn answers_the_same(alloc: Global, _trace: &Job, check: &Job) -> bool {
         alloc,
         alloc,
         check,
-        &mut io::empty(),
+        no_tables(alloc),
         &mut file,
         &mut writers,
     ) == 3
@@ -356,11 +357,11 @@ fn says_which_stream_failed(rt: HostRuntime) -> Result<(), Fail> {
     Ok(())
 }
 
-/// What is said for lack of memory.
+/// The message for lack of memory.
 const NO_MEMORY: &[u8] = b"waywire: out of memory\n";
 
-/// Whether a trace in this memory is out of memory, and does nothing else, where an allocation was
-/// refused, and else all of this session.
+/// Whether a trace in this memory is out of memory, and does nothing else, if an allocation was
+/// refused; else whether it traces all of this session.
 fn is_refused_or_whole(
     alloc: Global,
     memory: RefusingAllocator,
@@ -377,7 +378,7 @@ fn is_refused_or_whole(
         memory,
         alloc,
         job,
-        &mut io::empty(),
+        no_tables(alloc),
         &mut file,
         &mut writers,
     );
@@ -388,7 +389,8 @@ fn is_refused_or_whole(
     }
 }
 
-/// Refuses each allocation in turn. Whether all is said as it should be, and at last it is granted.
+/// Refuses each allocation in turn. True if the output is right each time, and finally none is
+/// refused.
 fn is_refused_in_turn(
     alloc: Global,
     memory: &RefusingAllocator,
@@ -405,7 +407,7 @@ fn is_refused_in_turn(
     Ok(false)
 }
 
-/// Whether a trace is refused each of its allocations in turn, and then made.
+/// Whether each allocation of a trace is refused in turn, and the trace is finally made.
 fn traces_at_last(alloc: Global, trace: &Job, _check: &Job) -> bool {
     match RefusingAllocator::new(alloc) {
         Ok(memory) => matches!(is_refused_in_turn(alloc, &memory, trace), Ok(true)),

@@ -1,15 +1,14 @@
 //! Worked commands, from their words to what is printed.
-use crate::words::asked;
+use crate::words::{asked, no_tables};
 use program_arguments::Job;
 use program_jobs::{Writers, act};
 use std::alloc::{AllocError, Global};
-use std::io;
 use std::test::Fail;
 
 /// A command and what it does.
 #[derive(Clone, Copy)]
 struct Run {
-    /// The words behind the program's name.
+    /// The words after the program's name.
     words: [&'static str; 2],
     /// The file that they name.
     file: &'static [u8],
@@ -97,18 +96,18 @@ const RUNS: [Run; 9] = [
     },
 ];
 
-/// Whether a job over the file of this run does what the run does.
+/// Whether a job with the file of this run does what the run says.
 fn does(alloc: Global, job: &Job, run: &Run) -> bool {
     let mut file = run.file;
     let mut writers = Writers {
         out: Vec::new(alloc),
         err: Vec::new(alloc),
     };
-    let status = act(alloc, alloc, job, &mut io::empty(), &mut file, &mut writers);
+    let status = act(alloc, alloc, job, no_tables(alloc), &mut file, &mut writers);
     status == run.status && writers.out.as_slice() == run.out && writers.err.as_slice() == run.err
 }
 
-/// Whether the words of this run ask for a job that does what the run does.
+/// Whether the words of this run ask for a job that does what the run says.
 fn is_done(alloc: Global, run: &Run) -> Result<bool, AllocError> {
     match asked(alloc, &run.words)? {
         Ok(job) => Ok(does(alloc, &job, run)),
@@ -124,7 +123,7 @@ fn does_what_its_words_ask_for(rt: HostRuntime) -> Result<(), Fail> {
     Ok(())
 }
 
-/// A piece of no bytes is a fault of usage, so that no job is done.
+/// A piece size of 0 is a fault of usage, so no job is done.
 #[test]
 fn stops_at_a_piece_of_no_bytes(rt: HostRuntime) -> Result<(), Fail> {
     let answer = asked(rt.alloc(), &["demo", "--piece", "0"])?;

@@ -1,5 +1,5 @@
-//! The lines of the whole session, by words of a command line.
-use crate::words::asked;
+//! The lines of the whole session, from the words of a command line.
+use crate::words::{asked, no_tables};
 use program_arguments::Job;
 use program_jobs::{Writers, act};
 use std::alloc::{AllocError, Global};
@@ -29,8 +29,8 @@ fn shows(alloc: Global, job: &Job) -> bool {
         out: Vec::new(alloc),
         err: Vec::new(alloc),
     };
-    let (mut tables, mut file) = (io::empty(), io::empty());
-    let status = act(alloc, alloc, job, &mut tables, &mut file, &mut writers);
+    let mut file = io::empty();
+    let status = act(alloc, alloc, job, no_tables(alloc), &mut file, &mut writers);
     status == 0 && writers.out.as_slice() == LINES && writers.err.is_empty()
 }
 
@@ -61,14 +61,21 @@ fn is_refused(alloc: Global, memory: RefusingAllocator<Global>) -> bool {
         err: Vec::new(alloc),
     };
     let job = Job::Demo { piece: 4096 };
-    let (mut tables, mut file) = (io::empty(), io::empty());
-    let status = act(memory, alloc, &job, &mut tables, &mut file, &mut writers);
+    let mut file = io::empty();
+    let status = act(
+        memory,
+        alloc,
+        &job,
+        no_tables(alloc),
+        &mut file,
+        &mut writers,
+    );
     status == 4
         && writers.out.is_empty()
         && writers.err.as_slice() == b"waywire: out of memory\n".as_slice()
 }
 
-/// Refuses each allocation in turn. Whether each is met so, and at last none is refused.
+/// Refuses each allocation in turn. True if each refusal is reported, and finally none is refused.
 fn is_refused_in_turn(alloc: Global, memory: &RefusingAllocator) -> Result<bool, AllocError> {
     let mut is_so = true;
     for number in 0u64..2000 {

@@ -4,17 +4,39 @@ use std::alloc::{AllocError, Global};
 use std::test::Fail;
 
 /// Each failure and its text.
-const FAILURES: [(Failure<'static>, &str); 8] = [
+const FAILURES: [(Failure<'static>, &str); 10] = [
     (Failure::CannotRead("a b.rec"), "cannot read a b.rec"),
     (Failure::TooLong, "file too long"),
     (Failure::BadLine(2), "line 2: bad line"),
     (
-        Failure::BadTablesLine(16_777_216),
+        Failure::BadTablesLine {
+            file: None,
+            line: 16_777_216,
+        },
         "tables line 16777216: bad line",
     ),
     (
-        Failure::BreaksRule { line: 30, rule: 10 },
+        Failure::BadTablesLine {
+            file: Some("a b.tables"),
+            line: 2,
+        },
+        "tables a b.tables line 2: bad line",
+    ),
+    (
+        Failure::BreaksRule {
+            file: None,
+            line: 30,
+            rule: 10,
+        },
         "tables line 30: breaks V10",
+    ),
+    (
+        Failure::BreaksRule {
+            file: Some("b.tables"),
+            line: 3,
+            rule: 9,
+        },
+        "tables b.tables line 3: breaks V9",
     ),
     (Failure::CannotWrite, "cannot write"),
     (Failure::SocketFailed, "socket failed"),

@@ -2,8 +2,8 @@ use program_arguments::{Job, Stop, job_of};
 use std::alloc::{AllocError, Global};
 use std::test::Fail;
 
-/// Command lines that ask for no job, and a part of what is said.
-const FAULTY: [(&[&str], &str); 16] = [
+/// Command lines that ask for no job, and a part of the message for each.
+const FAULTY: [(&[&str], &str); 15] = [
     (&["waywire"], "Usage: waywire"),
     (&["waywire", "draw"], "unrecognized subcommand 'draw'"),
     (&["waywire", "trace"], "<FILE>"),
@@ -16,10 +16,6 @@ const FAULTY: [(&[&str], &str); 16] = [
     (&["waywire", "check", "a", "b"], "unexpected argument 'b'"),
     (&["waywire", "check", "--tables", "a"], "<FILE>"),
     (&["waywire", "check", "a", "--tables"], "--tables <FILE>"),
-    (
-        &["waywire", "trace", "--tables", "a", "--tables", "b", "c"],
-        "cannot be used multiple times",
-    ),
     (
         &["waywire", "demo", "--tables", "a"],
         "unexpected argument '--tables'",
@@ -51,15 +47,15 @@ const DEMOS: [(&[&str], u32); 4] = [
 /// What a command line asks for.
 #[derive(Clone, Copy)]
 enum Wanted<'a> {
-    /// The job that reads a file of tables of the first name, if there is one, and then the
-    /// recording of the other.
-    Trace(Option<&'a str>, &'a str),
-    Check(Option<&'a str>, &'a str),
-    /// The job that checks a recording of this name by this limit.
+    /// The job that reads the table file of the first name, if there is one, and then the recording
+    /// of the other.
+    Trace(&'a [&'a str], &'a str),
+    Check(&'a [&'a str], &'a str),
+    /// The job that checks a recording of this name with this limit.
     CheckBy(u16, &'a str),
     /// The demonstration, with this number of bytes at once.
     Demo(u32),
-    /// No job, but this status, and a text of which this is a part.
+    /// No job, but this status, and a text that contains this one.
     Stop(u8, &'a str),
 }
 
@@ -76,13 +72,13 @@ fn add_all(alloc: Global, all: &mut Vec<String>, words: &[&str]) -> Result<(), A
     Ok(())
 }
 
-/// Whether a file of this name is named, or none.
-fn is_named(found: &Option<String>, wanted: Option<&str>) -> bool {
-    match (found, wanted) {
-        (Some(found), Some(wanted)) => found.as_str() == wanted,
-        (None, None) => true,
-        _ => false,
+/// Whether these are the names.
+fn are_named(found: &[String], wanted: &[&str]) -> bool {
+    let mut is_so = found.len() == wanted.len();
+    for (name, other) in found.iter().zip(wanted.iter()) {
+        is_so = name.as_str() == *other && is_so;
     }
+    is_so
 }
 
 fn is_job(job: &Job, wanted: Wanted<'_>) -> bool {
@@ -102,7 +98,7 @@ fn is_job(job: &Job, wanted: Wanted<'_>) -> bool {
                 file,
             },
             Wanted::Check(text, name),
-        ) => is_named(tables, text) && limit.bytes == 4096 && file.as_str() == name,
+        ) => are_named(tables.as_slice(), text) && limit.bytes == 4096 && file.as_str() == name,
         (Job::Check { limit, file, .. }, Wanted::CheckBy(bytes, name)) => {
             limit.bytes == bytes && file.as_str() == name
         }
@@ -140,7 +136,7 @@ fn answers(alloc: Global, words: &[&str], wanted: Wanted<'_>) -> Result<bool, Al
 #[test]
 fn reads_the_file_of_a_trace(rt: HostRuntime) -> Result<(), Fail> {
     let words = ["waywire", "trace", "a b.rec"];
-    assert!(rt; answers(rt.alloc(), &words, Wanted::Trace(None, "a b.rec"))?);
+    assert!(rt; answers(rt.alloc(), &words, Wanted::Trace(&[], "a b.rec"))?);
     Ok(())
 }
 
@@ -149,21 +145,31 @@ fn reads_the_file_of_a_check(rt: HostRuntime) -> Result<(), Fail> {
     let words = ["waywire", "check", "-x.rec"];
     assert!(rt; answers(rt.alloc(), &words, Wanted::Stop(2, ""))?);
     let words = ["waywire", "check", "./-x.rec"];
-    assert!(rt; answers(rt.alloc(), &words, Wanted::Check(None, "./-x.rec"))?);
+    assert!(rt; answers(rt.alloc(), &words, Wanted::Check(&[], "./-x.rec"))?);
     Ok(())
 }
 
-/// The option of the tables stands before or behind the recording, and its word may be joined to
+/// The option of the tables may come before or after the recording, and its word may be joined to
 /// it.
 #[test]
 fn reads_the_file_of_tables(rt: HostRuntime) -> Result<(), Fail> {
-    let wanted = Wanted::Trace(Some("t"), "f");
+    let wanted = Wanted::Trace(&["t"], "f");
     let words = ["waywire", "trace", "--tables", "t", "f"];
     assert!(rt; answers(rt.alloc(), &words, wanted)?);
     let words = ["waywire", "trace", "f", "--tables=t"];
     assert!(rt; answers(rt.alloc(), &words, wanted)?);
     let words = ["waywire", "check", "f", "--tables", "t"];
-    assert!(rt; answers(rt.alloc(), &words, Wanted::Check(Some("t"), "f"))?);
+    assert!(rt; answers(rt.alloc(), &words, Wanted::Check(&["t"], "f"))?);
+    Ok(())
+}
+
+/// It may be given several times, and keeps its order.
+#[test]
+fn reads_all_files_of_tables(rt: HostRuntime) -> Result<(), Fail> {
+    let words = ["waywire", "trace", "--tables", "b", "f", "--tables=a"];
+    assert!(rt; answers(rt.alloc(), &words, Wanted::Trace(&["b", "a"], "f"))?);
+    let words = ["waywire", "check", "--tables", "t", "--tables", "t", "f"];
+    assert!(rt; answers(rt.alloc(), &words, Wanted::Check(&["t", "t"], "f"))?);
     Ok(())
 }
 
@@ -180,7 +186,7 @@ fn reads_the_limit(rt: HostRuntime) -> Result<(), Fail> {
     }
     let words = ["waywire", "check", "--limit=-4096", "f"];
     assert!(rt; answers(rt.alloc(), &words, Wanted::Stop(2, "limit"))?);
-    // a word that begins with `-` is an option of its own
+    // a word that begins with `-` is a separate option
     let words = ["waywire", "check", "--limit", "-4096", "f"];
     assert!(rt; answers(rt.alloc(), &words, Wanted::Stop(2, "-4"))?);
     Ok(())

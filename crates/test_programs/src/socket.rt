@@ -7,7 +7,7 @@ use std::cell::{Cell, RefCell};
 use std::io::{self, Error, ErrorKind, Read, Write};
 use std::test::Fail;
 
-/// The bytes on their way in one direction, which wait in memory.
+/// The bytes on their way in one direction, kept in memory.
 type Way = RefCell<Vec<u8>>;
 
 /// One end of a connection.
@@ -17,7 +17,7 @@ struct SocketEnd<'a> {
     output: &'a Way,
 }
 
-/// The error where a way is in use, which it never is.
+/// The error if a direction's bytes are in use, which they never are.
 fn busy() -> Error {
     Error::from(ErrorKind::ResourceBusy)
 }
@@ -69,7 +69,8 @@ impl<'a> BoundSocket for Socket<'a> {
         })
     }
 
-    /// There is no other end before the socket is connected to, for which a real one would wait.
+    /// There is no other end before something connects to the socket; a real socket would wait for
+    /// that.
     fn accept(&self) -> io::Result<SocketEnd<'a>> {
         if !self.is_connected.get() {
             return Err(Error::from(ErrorKind::WouldBlock));
@@ -107,6 +108,7 @@ fn writes(alloc: Global, is_stuck: bool, written: (&[u8], &[u8])) -> Result<bool
     let _ending = run(
         alloc,
         Ok(words),
+        |_name: &str| Ok(Vec::new(alloc)),
         |_name: &str| Ok(io::empty()),
         |_path: &str| {
             Ok(Socket {
@@ -126,7 +128,7 @@ fn shows_the_session_and_removes_the_path(rt: HostRuntime) -> Result<(), Fail> {
     Ok(())
 }
 
-/// A path that stays is a failure, though the session went well.
+/// A path that stays is a failure, although the session went well.
 #[test]
 fn says_that_the_path_was_not_removed(rt: HostRuntime) -> Result<(), Fail> {
     assert!(rt; writes(rt.alloc(), true, (b"", b"waywire: socket failed\n"))?);

@@ -1,12 +1,12 @@
-//! Traces and checks by the tables of a text.
+//! Traces and checks with the tables of a text.
 use program_arguments::Job;
-use program_jobs::{Writers, act};
+use program_jobs::{TablesFile, Writers, act};
 use std::alloc::{AllocError, Global};
 use std::io::{self, ErrorKind, Read};
 use std::test::Fail;
 use wl_message::{Limit, ScriptReader, Step};
 
-/// A text of tables.
+/// A table text.
 const VIEWPORTER: &[u8] = b"interface wp_viewporter 1
 request destroy D
 request get_viewport n(wp_viewport) o(wl_surface)
@@ -28,10 +28,13 @@ const LINES: &[u8] = b"-> wl_display@1.get_registry(new id wl_registry@2)
 -> wl_registry@2.bind(1, \"wp_viewporter\", 1, new id wp_viewporter@3)
 ";
 
-/// The verdict on it, by these tables and without them.
+/// The verdict on it, with these tables and without them.
 const LAWFUL: &[u8] = b"lawful: 2 requests, 1 events, 0 and 0 bytes left\n";
 
 const BROKEN: &[u8] = b"broken: > message 2 at byte 12: F9 bad bind\n";
+
+/// What standard error says where no table has the interface.
+const HINT: &[u8] = b"waywire: no table has wp_viewporter: see --tables\n";
 
 /// Texts that are not taken as tables, and what standard error says.
 const REFUSED: [(&[u8], &[u8]); 13] = [
@@ -81,7 +84,7 @@ const REFUSED: [(&[u8], &[u8]); 13] = [
         b"interface a 1\nevent made N",
         b"waywire: tables line 2: bad line\n",
     ),
-    // The first line that breaks a rule, and not the least rule of all lines.
+    // The first line that breaks a rule, not the lowest rule of all lines.
     (
         b"interface a 1\nrequest r o(b)\ninterface a 1",
         b"waywire: tables line 2: breaks V9\n",
@@ -91,87 +94,202 @@ const REFUSED: [(&[u8], &[u8]); 13] = [
 /// A text that is no recording.
 const NO_RECORDING: &[u8] = b"> 012\n";
 
-/// The word for the file of tables.
-fn named(alloc: Global) -> Result<Option<String>, AllocError> {
-    Ok(Some(String::from_str(alloc, "a.tables")?))
+/// The name of the file of tables.
+const NAME: &str = "a.tables";
+
+/// Words for files of tables.
+fn named(alloc: Global, names: &[&str]) -> Result<Vec<String>, AllocError> {
+    let mut all = Vec::new(alloc);
+    for name in names {
+        all.push(String::from_str(alloc, name)?)?;
+    }
+    Ok(all)
 }
 
-/// The job that traces a recording by the tables of a text.
+/// The job that traces a recording with the tables of a text.
 fn trace_by_tables(alloc: Global) -> Result<Job, AllocError> {
     Ok(Job::Trace {
-        tables: named(alloc)?,
+        tables: named(alloc, &[NAME])?,
         limit: Limit::USUAL,
         file: String::from_str(alloc, "a.rec")?,
     })
 }
 
-/// The job that checks a recording by these tables, if any.
-fn check_by(alloc: Global, tables: Option<String>) -> Result<Job, AllocError> {
+/// The job that checks a recording with these tables, if any.
+fn check_by(alloc: Global, names: &[&str]) -> Result<Job, AllocError> {
     Ok(Job::Check {
-        tables,
+        tables: named(alloc, names)?,
         limit: Limit::USUAL,
         file: String::from_str(alloc, "a.rec")?,
     })
 }
 
-/// Whether a job over this text of tables and this recording ends with this status, and writes
+/// The texts, each in the file of its name.
+fn files_of<'a>(
+    alloc: Global,
+    texts: &[(&'a str, &'a [u8])],
+) -> Result<Vec<TablesFile<'a, &'a [u8]>>, AllocError> {
+    let mut files = Vec::new(alloc);
+    for (name, text) in texts {
+        files.push(TablesFile {
+            name: *name,
+            file: *text,
+        })?;
+    }
+    Ok(files)
+}
+
+/// Whether a job over these texts of tables and this recording ends with this status, and writes
 /// these bytes to standard output and to standard error.
 fn answers(
     alloc: Global,
     job: &Job,
-    texts: (&[u8], &[u8]),
+    texts: (&[(&str, &[u8])], &[u8]),
     status: u8,
     written: (&[u8], &[u8]),
-) -> bool {
-    let (mut tables, mut file) = texts;
+) -> Result<bool, AllocError> {
+    let (tables, mut file) = texts;
     let mut writers = Writers {
         out: Vec::new(alloc),
         err: Vec::new(alloc),
     };
-    let answer = act(alloc, alloc, job, &mut tables, &mut file, &mut writers);
-    answer == status && writers.out.as_slice() == written.0 && writers.err.as_slice() == written.1
+    let files = files_of(alloc, tables)?;
+    let answer = act(alloc, alloc, job, files, &mut file, &mut writers);
+    Ok(
+        answer == status
+            && writers.out.as_slice() == written.0
+            && writers.err.as_slice() == written.1,
+    )
 }
 
 #[test]
 fn traces_and_checks_by_the_tables_of_a_text(rt: HostRuntime) -> Result<(), Fail> {
     let alloc = rt.alloc();
-    let texts = (VIEWPORTER, SESSION);
+    let texts: [(&str, &[u8]); 1] = [(NAME, VIEWPORTER)];
     let trace = trace_by_tables(alloc)?;
-    assert!(rt; answers(alloc, &trace, texts, 0, (LINES, b"")));
-    let check = check_by(alloc, named(alloc)?)?;
-    assert!(rt; answers(alloc, &check, texts, 0, (LAWFUL, b"")));
-    // The empty text adds nothing, and a text that is not named is not read.
-    assert!(rt; answers(alloc, &check, (b"", SESSION), 1, (BROKEN, b"")));
-    let bare = check_by(alloc, None)?;
-    assert!(rt; answers(alloc, &bare, texts, 1, (BROKEN, b"")));
+    assert!(rt; answers(alloc, &trace, (&texts, SESSION), 0, (LINES, b""))?);
+    let check = check_by(alloc, &[NAME])?;
+    assert!(rt; answers(alloc, &check, (&texts, SESSION), 0, (LAWFUL, b""))?);
+    // The empty text adds nothing.
+    let empty: [(&str, &[u8]); 1] = [(NAME, b"")];
+    assert!(rt; answers(alloc, &check, (&empty, SESSION), 1, (BROKEN, HINT))?);
+    let bare = check_by(alloc, &[])?;
+    assert!(rt; answers(alloc, &bare, (&[], SESSION), 1, (BROKEN, HINT))?);
     Ok(())
 }
 
-/// The recording has a bad line each time: the tables come first.
+/// Texts of tables in two files, and what standard error says.
+const REFUSED_TOGETHER: [(&[u8], &[u8], &[u8]); 6] = [
+    (
+        b"interface a 1\n",
+        b"request",
+        b"waywire: tables b line 1: bad line\n",
+    ),
+    // The seam: the last line of the first text and the first line of the second are two lines.
+    (
+        b"interface a 1\nrequest",
+        b" r",
+        b"waywire: tables a line 2: bad line\n",
+    ),
+    (
+        b"interface a 1",
+        b"interface b 1\n\nfoo",
+        b"waywire: tables b line 3: bad line\n",
+    ),
+    // An interface of the first file stands in the second again.
+    (
+        b"\ninterface a 1\n",
+        b"# b\ninterface a 1",
+        b"waywire: tables b line 2: breaks V1\n",
+    ),
+    // The first names an interface that none of them has.
+    (
+        b"interface a 1\nrequest r o(c)\n",
+        b"interface b 1",
+        b"waywire: tables a line 2: breaks V9\n",
+    ),
+    // A bad line comes before a broken rule, also in a later file.
+    (
+        b"interface wl_seat 9",
+        b"interface",
+        b"waywire: tables b line 1: bad line\n",
+    ),
+];
+
+/// Two texts are taken as one, and a fault names the file and its line.
 #[test]
-fn refuses_texts_that_give_no_tables(rt: HostRuntime) -> Result<(), Fail> {
+fn names_the_file_of_several(rt: HostRuntime) -> Result<(), Fail> {
     let alloc = rt.alloc();
-    let check = check_by(alloc, named(alloc)?)?;
-    for (text, said) in REFUSED {
-        assert!(rt; answers(alloc, &check, (text, NO_RECORDING), 3, (b"", said)));
+    let check = check_by(alloc, &["a", "b"])?;
+    for (first, second, said) in REFUSED_TOGETHER {
+        let texts = [("a", first), ("b", second)];
+        assert!(rt; answers(alloc, &check, (&texts, NO_RECORDING), 3, (b"", said))?);
     }
     Ok(())
 }
 
-/// Whether a job over these tables and this recording ends with 3, prints nothing, and says this.
-fn says<T: Read, R: Read>(
+/// A file of a folder is named, also where it is the only one there.
+#[test]
+fn names_the_file_of_a_folder(rt: HostRuntime) -> Result<(), Fail> {
+    let alloc = rt.alloc();
+    let check = check_by(alloc, &["f"])?;
+    let texts: [(&str, &[u8]); 1] = [("f/a.tables", b"interface")];
+    let said = b"waywire: tables f/a.tables line 1: bad line\n";
+    assert!(rt; answers(alloc, &check, (&texts, NO_RECORDING), 3, (b"", said))?);
+    Ok(())
+}
+
+/// An interface may be declared in one file, extended in the next, and named by an earlier one.
+#[test]
+fn takes_several_texts_as_one(rt: HostRuntime) -> Result<(), Fail> {
+    let alloc = rt.alloc();
+    let check = check_by(alloc, &["a", "b"])?;
+    let (first, second) = VIEWPORTER.split_at(94);
+    let texts = [("a", first), ("b", second)];
+    assert!(rt; answers(alloc, &check, (&texts, SESSION), 0, (LAWFUL, b""))?);
+    let texts: [(&str, &[u8]); 2] = [
+        ("a", b"interface wp_viewporter 1\nrequest get n(other)"),
+        (
+            "b",
+            b"interface other 1\nextend wp_viewporter 2\nrequest r @2",
+        ),
+    ];
+    assert!(rt; answers(alloc, &check, (&texts, SESSION), 0, (LAWFUL, b""))?);
+    Ok(())
+}
+
+/// The recording has a bad line each time; the tables are reported first.
+#[test]
+fn refuses_texts_that_give_no_tables(rt: HostRuntime) -> Result<(), Fail> {
+    let alloc = rt.alloc();
+    let check = check_by(alloc, &[NAME])?;
+    for (text, said) in REFUSED {
+        let texts = [(NAME, text)];
+        assert!(rt; answers(alloc, &check, (&texts, NO_RECORDING), 3, (b"", said))?);
+    }
+    Ok(())
+}
+
+/// Whether a job with these tables and this recording ends with 3, prints nothing, and writes this
+/// message.
+fn says<T: Read + Drop, R: Read>(
     alloc: Global,
     job: &Job,
-    tables: &mut T,
+    tables: T,
     file: &mut R,
     said: &[u8],
-) -> bool {
+) -> Result<bool, AllocError> {
     let mut writers = Writers {
         out: Vec::new(alloc),
         err: Vec::new(alloc),
     };
-    let status = act(alloc, alloc, job, tables, file, &mut writers);
-    status == 3 && writers.out.is_empty() && writers.err.as_slice() == said
+    let mut files = Vec::new(alloc);
+    files.push(TablesFile {
+        name: NAME,
+        file: tables,
+    })?;
+    let status = act(alloc, alloc, job, files, file, &mut writers);
+    Ok(status == 3 && writers.out.is_empty() && writers.err.as_slice() == said)
 }
 
 /// A reader that fails at its first call.
@@ -181,31 +299,30 @@ fn failing() -> ScriptReader<'static> {
 
 const FAILS: &[Step] = &[Step::Fail(ErrorKind::BrokenPipe)];
 
-/// The recording fails, or has no end, each time: the tables come first.
+/// The recording fails, or is endless, each time; the tables are reported first.
 #[test]
 fn refuses_bad_tables_before_any_recording(rt: HostRuntime) -> Result<(), Fail> {
     let alloc = rt.alloc();
-    let check = check_by(alloc, named(alloc)?)?;
+    let check = check_by(alloc, &[NAME])?;
     for (text, said) in REFUSED {
-        let (mut first, mut second) = (text, text);
-        assert!(rt; says(alloc, &check, &mut first, &mut failing(), said));
-        assert!(rt; says(alloc, &check, &mut second, &mut io::repeat(b'#'), said));
+        assert!(rt; says(alloc, &check, text, &mut failing(), said)?);
+        assert!(rt; says(alloc, &check, text, &mut io::repeat(b'#'), said)?);
     }
     Ok(())
 }
 
-/// Tables that fail or have no end come before a recording that has a bad line, and sound tables
-/// before a recording that fails.
+/// Tables that fail or are endless are reported before a recording with a bad line, and a recording
+/// that fails only if the tables are sound.
 #[test]
 fn names_the_file_that_is_at_fault(rt: HostRuntime) -> Result<(), Fail> {
     let alloc = rt.alloc();
-    let check = check_by(alloc, named(alloc)?)?;
-    let (mut first, mut second, mut sound) = (NO_RECORDING, NO_RECORDING, VIEWPORTER);
+    let check = check_by(alloc, &[NAME])?;
+    let (mut first, mut second) = (NO_RECORDING, NO_RECORDING);
     let said = b"waywire: cannot read a.tables\n";
-    assert!(rt; says(alloc, &check, &mut failing(), &mut first, said));
+    assert!(rt; says(alloc, &check, failing(), &mut first, said)?);
     let said = b"waywire: file too long\n";
-    assert!(rt; says(alloc, &check, &mut io::repeat(b'#'), &mut second, said));
+    assert!(rt; says(alloc, &check, io::repeat(b'#'), &mut second, said)?);
     let said = b"waywire: cannot read a.rec\n";
-    assert!(rt; says(alloc, &check, &mut sound, &mut failing(), said));
+    assert!(rt; says(alloc, &check, VIEWPORTER, &mut failing(), said)?);
     Ok(())
 }

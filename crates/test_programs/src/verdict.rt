@@ -1,13 +1,12 @@
-//! The line of a verdict that no file is long enough for.
+//! The line of a verdict for which no file is long enough.
 use std::alloc::{AllocError, Global};
 use std::test::Fail;
-use wl_check::check;
+use wl_check::{check, write_verdict};
 use wl_message::Limit;
 use wl_recording::{Direction, Recording};
 use wl_sigs::Tables;
-use wl_verdict::write_verdict;
 
-/// wl_display.sync for each id from 2 to the last one, and for the id behind it.
+/// wl_display.sync for each id from 2 to the last one, and for the id after it.
 fn requests(alloc: Global) -> Result<Vec<u8>, AllocError> {
     let mut bytes = Vec::new(alloc);
     for id in 2u32..1_048_578 {

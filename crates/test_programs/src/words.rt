@@ -1,11 +1,18 @@
 //! What the words of a command line ask for.
 use program_arguments::{Job, Stop, job_of};
+use program_jobs::TablesFile;
 use std::alloc::{AllocError, Global};
+use std::io::Empty;
 
-/// What these words ask for, behind the program's name.
+/// What these words after the program's name ask for.
 pub fn asked(alloc: Global, words: &[&str]) -> Result<Result<Job, Stop>, AllocError> {
     let all = command_line(alloc, words)?;
     Ok(job_of(alloc, all.as_slice()))
+}
+
+/// No file of tables.
+pub fn no_tables(alloc: Global) -> Vec<TablesFile<'static, Empty>> {
+    Vec::new(alloc)
 }
 
 /// A command line: the program's name, and these words.

@@ -1,4 +1,5 @@
 //! Output that is interrupted, and output that is flushed.
+use crate::words::no_tables;
 use program_arguments::Job;
 use program_jobs::{Writers, act};
 use std::alloc::{AllocError, Global};
@@ -53,13 +54,13 @@ impl Write for Buffered {
 /// The job that checks a recording.
 fn check(alloc: Global) -> Result<Job, AllocError> {
     Ok(Job::Check {
-        tables: None,
+        tables: Vec::new(alloc),
         limit: Limit::USUAL,
         file: String::from_str(alloc, "a.rec")?,
     })
 }
 
-/// Does the job over a recording of this text and these writers, and returns the status.
+/// Does the job with a recording of this text and these writers, and returns the status.
 fn status_over<O: Write, E: Write>(
     alloc: Global,
     text: &[u8],
@@ -67,10 +68,10 @@ fn status_over<O: Write, E: Write>(
 ) -> Result<u8, AllocError> {
     let mut file = text;
     let job = check(alloc)?;
-    Ok(act(alloc, alloc, &job, &mut io::empty(), &mut file, writers))
+    Ok(act(alloc, alloc, &job, no_tables(alloc), &mut file, writers))
 }
 
-/// An interrupted write is made again, of the output as of what is said of a failure.
+/// An interrupted write is repeated, both of the output and of a failure's line.
 #[test]
 fn writes_on_after_an_interruption(rt: HostRuntime) -> Result<(), Fail> {
     let alloc = rt.alloc();
@@ -90,7 +91,7 @@ fn writes_on_after_an_interruption(rt: HostRuntime) -> Result<(), Fail> {
     Ok(())
 }
 
-/// The output is flushed, so that all of it has passed where the status is that of the verdict.
+/// The output is flushed, so that all of it has passed if the status is the verdict's.
 #[test]
 fn flushes_the_output(rt: HostRuntime) -> Result<(), Fail> {
     let alloc = rt.alloc();

@@ -13,14 +13,13 @@ use Rattle.wl_object_map.specs.declared.object.Entry.{Entry}
 use Rattle.wl_object_map.specs.declared.object.State.{State}
 use Rattle.wl_object_map.specs.declared.object.State.TheVariants as states
 use Rattle.wl_objects.specs.declared.error.NextError.{NextError}
-use Rattle.wl_objects.specs.Reading.{descriptors}
 use Rattle.wl_connection.specs.Receiving.{Found, found, found_at, reported}
 use Rattle.wl_client.specs.Reports.{Report, report, needs_memory, plain_report, next_answer, after_next, state_past}
 use Rattle.wl_client.specs.Reports.{made_by_event, opens_row, event_opens}
 use Rattle.wl_client.specs.Reports as reports
 use Rattle.std.proofs.Common.{inl, inr, is_some}
 use Rattle.std.specs.Prelude.{option_map}
-use Rattle.wl_sigs.specs.Tables.{Interface}
+use Rattle.wl_sigs.specs.Tables.{Interface, descriptors}
 use Rattle.wl_objects.specs.Messages.{NewObject}
 use Rattle.theory_connection.specs.Answers.{birth_at}
 use Rattle.theory_connection.specs.Meant.{Known, Born, Message, Coming, Event, Delete, renamed, made_in}
@@ -53,7 +52,7 @@ pub answer_is : (p : PairState) (f : Found) → p.client.core.failed ≡ false �
     → Answered p f
 answer_is p f l r = record { answer = rw (l, r) refl; leaves = rw (l, r) refl }
 
--- whether what stands in front opens an object at an id that was never used
+-- whether what is at the front opens an object at an id that was never used
 abbrev opens_in : PairState → Bool
 opens_in p = event_opens p.client.core (found p.client.core event_side)
 
@@ -283,7 +282,7 @@ at_front p w asked told s z reply p' d (Bad n) e =
     absurd (never_bad p.server.core.outbox p.client.core.inbox _ n s.events.in_boxes e)
 at_front p w asked told s z reply p' d (Whole n) e = at_whole p w asked told s n z e reply p' d
 
--- a read by the client keeps what stands
+-- after a read by the client the pair represents the next world
 pub client_next_keeps : (p : PairState) (w : World) (asked : List (Message Known)) (told : List (Coming Known))
     → StandsBy p w asked told → NotEnded p w
     → (reply : Result (Option Report) NextError) (p' : PairState)

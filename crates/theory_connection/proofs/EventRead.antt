@@ -11,7 +11,7 @@ use Rattle.wl_wire.specs.declared.kind.Kind.TheVariants as kinds
 use Rattle.wl_wire.specs.Argument.{Uint}
 use Rattle.wl_sigs.specs.declared.signature.Side.TheVariants.{Request as request_side, Event as event_side}
 use Rattle.wl_sigs.specs.declared.signature.Destroys.TheVariants.{Nothing}
-use Rattle.wl_sigs.specs.Tables.{Interface, signature_at}
+use Rattle.wl_sigs.specs.Tables.{Interface, signature_at, descriptors}
 use Rattle.wl_sigs.specs.Valid.{Valid}
 use Rattle.wl_sigs.specs.Tables as sigs
 use Rattle.wl_sigs.specs.Fixed.{display, registry}
@@ -22,7 +22,6 @@ use Rattle.wl_object_map.specs.declared.object.Entry.{Entry}
 use Rattle.wl_object_map.specs.declared.object.State.{State}
 use Rattle.wl_object_map.specs.declared.object.State.TheVariants as states
 use Rattle.wl_object_map.specs.Objects.{Objects, look, closed}
-use Rattle.wl_objects.specs.Reading.{descriptors}
 use Rattle.wl_objects.specs.Messages.{is_error, is_delete_id, same_iface, made, made_by, opens}
 use Rattle.wl_objects.specs.Messages.{after, ended_id, after_delete_id}
 use Rattle.wl_connection.specs.Core.{Core}
@@ -151,7 +150,7 @@ after_event st m n teaches = record {
 abbrev pub teaches : Message Known → Entry → Bool
 teaches m entry = is_registry m.target.born && lives entry.state
 
--- what is told of an event that is neither wl_display.error nor delete_id
+-- the report of an event that is neither wl_display.error nor delete_id
 pub record EventAnswer (p : PairState) (m : Message Known) (n : ℕ) (entry : Entry)
     (signature : sigs.MessageSignature) : Type 0 where
   pub tells_it : report p.client.core (the_found n m entry signature)
@@ -216,7 +215,7 @@ event_answer p m n entry tables f valid same d s =
       makes = makes;
     }
 
--- ---- the pair stands again
+-- ---- the pair represents the next world
 
 open_is : (s : State) (b : Born) → is_open_row (Some (as_row s b)) ≡ lives s
 open_is states.Live b = refl
@@ -238,7 +237,7 @@ learned_is p w m asked told s t =
     (map nameless (map (rearg born_of) m.args))) (s.globals.remembered i))
     ∙ ap (λ (l : List Remembered). cond (teaches m t.entry) l p.client.globals) same
 
--- a pair stands again after the client has read an event
+-- after the client has read an event the pair represents the next world
 pub event_stands : (p : PairState) (w : World) (m : Message Known) (cs : List (Coming Known))
     (asked : List (Message Known)) (s : StandsBy p w asked (Event m ∷ cs)) (n : ℕ) (i : InEvent p w m cs asked s n)
     → IfThere Mortal m.ends
@@ -442,7 +441,7 @@ delete_answer p x n entry signature range y row c =
       makes_none = none;
     }
 
--- a pair stands again after the client has read a delete
+-- after the client has read a delete the pair represents the next world
 pub delete_stands : (p : PairState) (w : World) (x : Known) (cs : List (Coming Known)) (asked : List (Message Known))
     (s : StandsBy p w asked (Delete x ∷ cs)) (n : ℕ) (i : InDelete p x cs s.meet.middle n)
     → StandsBy (with_client p (after_delete p.client x n)) (delete_read w x.born (map (recoming born_of) cs)) asked cs

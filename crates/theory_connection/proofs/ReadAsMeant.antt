@@ -19,7 +19,7 @@ use Rattle.wl_wire.specs.Reading.{reading}
 use Rattle.wl_wire.proofs.Canonicals.{reading-canonical, canonical-len, header_at-bytes}
 use Rattle.wl_sigs.specs.declared.signature.Side.{Side}
 use Rattle.wl_sigs.specs.declared.signature.Side.TheVariants.{Request, Event}
-use Rattle.wl_sigs.specs.Tables.{Interface, signature_at}
+use Rattle.wl_sigs.specs.Tables.{Interface, signature_at, descriptors, is_descriptor_kind}
 use Rattle.wl_message.specs.Cut.{greatest_limit}
 use Rattle.wl_object_map.specs.declared.object.Object.{Object}
 use Rattle.wl_object_map.specs.declared.object.Entry.{Entry}
@@ -29,7 +29,7 @@ use Rattle.wl_object_map.specs.Objects.{Objects, look, next_birth, maker_of}
 use Rattle.wl_objects.specs.declared.lookup.NewId.{NewId}
 use Rattle.wl_objects.specs.declared.lookup.NewId.TheVariants.{Free}
 use Rattle.wl_objects.specs.Reading.{Reader, value_fault, iface_of, is_of, arguments_at, value_or_fault}
-use Rattle.wl_objects.specs.Reading.{descriptors, is_descriptor_kind, in_state, reported_argument}
+use Rattle.wl_objects.specs.Reading.{in_state, reported_argument}
 use Rattle.wl_objects.specs.Reading.{reports_of, head_or, tokens_after, new_fault}
 use Rattle.wl_objects.specs.Writing.{spelled as spelled_values, message_len, message_bytes}
 use Rattle.wl_objects.specs.Messages.{reader_of, maker_by, received, is_error, NewObject, made_by, made}
@@ -44,7 +44,7 @@ use Rattle.theory_connection.specs.Stands.{FitsSignature, SuitKinds, NamesRightl
 use Rattle.theory_connection.proofs.MadeFor.{MadeFor}
 use Rattle.wl_objects.specs.Messages.{or_else}
 
--- the object of an argument is held where its reader stands, and the rows of the world show it
+-- the reader has the object of an argument, and the rows of the world show it
 pub record HeldAt (view : Objects) (rows : Birth → Option Row) (x : Known) : Type 0 where
   pub some : 0 < x.id
   pub entry : Entry
@@ -349,7 +349,7 @@ made_read tables version (kind ∷ ks) (a ∷ args) f =
 
 -- ---- the header of a message
 
--- a message's bytes begin with its header, and what stands behind it are its values
+-- a message's bytes begin with its header, and its values follow
 pub record Parted (bytes : List ℕ) (id opcode : ℕ) (vs : List Argument) : Type 0 where
   pub object : (header_at bytes).object ≡ id
   pub opcode_is : (header_at bytes).opcode ≡ opcode

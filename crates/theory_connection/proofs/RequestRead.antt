@@ -10,7 +10,7 @@ use Rattle.std.proofs.lemmas.List.{append-nil}
 use Rattle.wl_sigs.specs.declared.signature.Side.TheVariants.{Request as request_side, Event as event_side}
 use Rattle.wl_sigs.specs.declared.signature.Destroys.{Destroys}
 use Rattle.wl_sigs.specs.declared.signature.Destroys.TheVariants.{Nothing, Target, Arg as ends_arg}
-use Rattle.wl_sigs.specs.Tables.{destroys_one}
+use Rattle.wl_sigs.specs.Tables.{destroys_one, descriptors}
 use Rattle.wl_sigs.specs.Fixed.{registry}
 use Rattle.wl_sigs.specs.Valid.{Valid}
 use Rattle.wl_message.specs.declared.limit.Limit.{Limit}
@@ -24,7 +24,7 @@ use Rattle.wl_object_map.specs.declared.object.Maker.{Maker}
 use Rattle.wl_object_map.specs.declared.object.Maker.TheVariants.{Client, Server}
 use Rattle.wl_object_map.specs.Objects.{Objects, ObjectsAreSound, look, maker_of}
 use Rattle.wl_objects.specs.Messages.{opens, made as made_message, is_bind, reader_of, after}
-use Rattle.wl_objects.specs.Reading.{descriptors, reports_of}
+use Rattle.wl_objects.specs.Reading.{reports_of}
 use Rattle.wl_connection.specs.Core.{Core, past, with_view}
 use Rattle.wl_connection.specs.Receiving.{Found, found}
 use Rattle.wl_connection.specs.Sending.{with_following}
@@ -334,7 +334,7 @@ pub begins_delete : (o : Option Known) → IfThere (λ x. BeginsWithDelete x (de
 begins_delete None = tt
 begins_delete (Some x) = refl
 
--- ---- the pair stands again
+-- ---- the pair represents the next world
 
 -- an id of the client's that has a row is no more than the greatest
 pub low_there : (v : Objects) → ObjectsAreSound v → (x : Known) → ThereRow (server_rows v) x → OfClient x
@@ -372,7 +372,7 @@ pub plain_event : (test : Born → Bool) (s : Rows Born) (n o : Option Known) �
     → IfThere (λ x. x.born.iface ≢ registry) n → MadePlain test s → MadePlain test (server_ends o (server_told s n))
 plain_event test s n o f g p = plain_ends test (server_told s n) o (plain_tells test s n f g p)
 
--- a pair stands again after the server has read a request
+-- after the server has read a request the pair represents the next world
 pub server_read_stands : (p : PairState) (w : World) (m : Message Known) (ms : List (Message Known))
     (told : List (Coming Known)) (s : StandsBy p w (m ∷ ms) told) (n : ℕ)
     → AsksAt (test_of p) (all_asks ms) (server_rows p.server.core.view) s.meet.middle m.target (objects m.args)

@@ -1,7 +1,7 @@
 //! The command `waywire`: prints and checks recorded sessions of Wayland clients.
 #![tactic(auto)]
 
-use program_jobs::{BoundSocket, ExitStatus, Writers, run};
+use program_jobs::{BoundSocket, ExitStatus, Writers, run, texts_among};
 use std::fs::{self, File};
 use std::os::unix::net::{SocketAddr, UnixListener, UnixStream};
 use std::{env, io};
@@ -49,6 +49,26 @@ fn bind<'a>(rt: &'a HostRuntime, path: &str) -> io::Result<Socket<'a>> {
     })
 }
 
+/// The files that have the table texts of a name: those of a folder, or the file of this name.
+fn texts_of(rt: &HostRuntime, name: &str) -> io::Result<Vec<String>> {
+    let mut paths = Vec::new(rt.alloc());
+    if !is_folder(rt, name) {
+        paths.push(String::from_str(rt.alloc(), name)?)?;
+        return Ok(paths);
+    }
+    for entry in fs::read_dir(rt, name)? {
+        paths.push(String::from_str(rt.alloc(), entry?.path().as_str())?)?;
+    }
+    Ok(texts_among(paths)?)
+}
+
+fn is_folder(rt: &HostRuntime, name: &str) -> bool {
+    match fs::metadata(rt, name) {
+        Ok(metadata) => metadata.is_dir(),
+        Err(_) => false,
+    }
+}
+
 /// The words of the command line, the program's name first.
 fn words(rt: &HostRuntime) -> io::Result<Vec<String>> {
     Ok(env::args(rt)?.collect(rt.alloc())?)
@@ -62,6 +82,7 @@ fn main(rt: HostRuntime) -> ExitStatus {
     run(
         rt.alloc(),
         words(&rt),
+        |name: &str| texts_of(&rt, name),
         |name: &str| File::open(&rt, name),
         |path: &str| bind(&rt, path),
         &mut writers,

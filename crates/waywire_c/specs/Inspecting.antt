@@ -1,4 +1,4 @@
--- What the calls of an inspector take and tell.
+-- What the calls of an inspector take and report.
 use Rattle.std.specs.Prelude.{◌≡◌, ◌⊎◌, ℕ, Bool, true, false, nat_eq, if◌then◌else◌, List, length}
 use Rattle.std.specs.Prelude.{Option, Some, None}
 use Rattle.wl_sigs.specs.Tables.{Interface}
@@ -7,10 +7,10 @@ use Rattle.wl_recording.specs.declared.piece.Direction.TheVariants.{ToServer, To
 use Rattle.wl_check.specs.declared.verdict.Verdict.{Verdict}
 use Rattle.wl_check.specs.declared.verdict.Verdict.TheVariants.{Lawful, Broken}
 use Rattle.wl_check.specs.Session.{Session, IsVerdictOf}
-use Rattle.wl_verdict.specs.Verdict.{verdict_line}
+use Rattle.wl_check.specs.Verdict.{verdict_line}
 
--- Which way a sender's pieces go: those of the client, which is 0, to the server, and those of the
--- server, which is 1, to the client.
+-- The direction of a sender's pieces: the client's (0) go to the server, and the server's (1) to
+-- the client.
 abbrev pub direction_of : ℕ → Option Direction
 direction_of sender =
     if nat_eq sender 0 then Some ToServer else (if nat_eq sender 1 then Some ToClient else None)
@@ -19,7 +19,7 @@ direction_of sender =
 abbrev pub IsTried : ℕ → Type 0
 IsTried status = (status ≡ 0) ⊎ (status ≡ 11)
 
--- how a call that passes a piece ends: a number that is no sender is a bad value
+-- the status of a call that passes a piece: a number that is no sender is a bad value
 abbrev pub PassEnds : Option Direction → ℕ → Type 0
 PassEnds None status = status ≡ 62
 PassEnds (Some direction) status = IsTried status
@@ -28,7 +28,7 @@ abbrev pub is_broken : Verdict → Bool
 is_broken (Lawful requests events left_to_server left_to_client) = false
 is_broken (Broken direction index offset fault) = true
 
--- The verdict on a session is told: by its line, the line's length, and whether a rule is broken.
+-- The verdict on a session is reported: its line, the line's length, and whether a rule is broken.
 pub record TellsVerdict (tables : List Interface) (session : Session) (line : List ℕ) (len : ℕ)
     (broken : Bool) : Type 0 where
   pub verdict : Verdict

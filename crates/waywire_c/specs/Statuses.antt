@@ -1,11 +1,12 @@
--- The number that stands for each refusal and each fault.
-use Rattle.std.specs.Prelude.{◌≡◌, ◌⊎◌, ℕ, Bool, true, false, if◌then◌else◌, List, Option, Some, None}
+-- The number of each refusal and each fault.
+use Rattle.std.specs.Prelude.{◌≡◌, ◌⊎◌, ℕ, Bool, true, false, if◌then◌else◌, List, Option, Some}
+use Rattle.std.specs.Prelude.{None}
 use Rattle.std.specs.declared.result.Result.{Result}
 use Rattle.std.specs.declared.result.Result.TheVariants.{Ok, Err}
 use Rattle.wl_wire.specs.declared.kind.ArgFault.{ArgFault}
 use Rattle.wl_wire.specs.declared.kind.ArgFault.TheVariants as spellings
-use Rattle.wl_interface_text.specs.declared.fault.TableFault.{TableFault}
-use Rattle.wl_interface_text.specs.declared.fault.TableFault.TheVariants as tables
+use Rattle.wl_text.specs.declared.fault.TableFault.{TableFault}
+use Rattle.wl_text.specs.declared.fault.TableFault.TheVariants as tables
 use Rattle.wl_sigs.specs.Tables.{Interface}
 use Rattle.wl_object_map.specs.declared.object.Object.{Object}
 use Rattle.wl_objects.specs.declared.error.SendError.{SendError}
@@ -60,7 +61,7 @@ next_status errors.Failed = 1
 next_status errors.Memory = 11
 next_status errors.OutFull = 51
 
--- the status of a call that is refused with one of these, or not at all
+-- the status of a call that is refused with one of these, or accepted
 abbrev pub send_outcome : Option SendError → ℕ
 send_outcome None = 0
 send_outcome (Some why) = send_status why
@@ -74,12 +75,12 @@ abbrev pub read_outcome : {R : Type 0} → Result R NextError → ℕ
 read_outcome (Ok report) = 0
 read_outcome (Err why) = next_status why
 
--- the status of looking for what is there or is not
+-- the status of a look-up
 abbrev pub find_outcome : {X : Type 0} → Option X → ℕ
 find_outcome None = 64
 find_outcome (Some found) = 0
 
--- the status of a call that may make an object, and that of one that gives a name
+-- the status of a call that may make an object, and of one that returns a name
 abbrev pub made_outcome : Result (Option Object) SendError → ℕ
 made_outcome (Ok new) = 0
 made_outcome (Err why) = send_status why
@@ -88,12 +89,12 @@ abbrev pub name_outcome : Result ℕ GlobalError → ℕ
 name_outcome (Ok name) = 0
 name_outcome (Err why) = global_status why
 
--- the status of a call that makes something, or why it does not
+-- the status of a call that makes something or returns why it does not
 abbrev pub making_outcome : {X : Type 0} → Result X ℕ → ℕ
 making_outcome (Ok made) = 0
 making_outcome (Err status) = status
 
--- the status of a call that refuses nothing but a failed end
+-- the status of a call that is refused only at a failed end
 abbrev pub failed_outcome : Bool → ℕ
 failed_outcome true = 1
 failed_outcome false = 0
@@ -108,24 +109,24 @@ abbrev pub table_outcome : {X : Type 0} → Result X TableFault → ℕ
 table_outcome (Ok found) = 0
 table_outcome (Err why) = table_status why
 
--- TB1, TB2, TB3, and that of tables that an end over these cannot take
+-- TB1, TB2, TB3, and the status for tables that a client with these tables cannot take
 abbrev pub more_tables_outcome : List Interface → Result (List Interface) TableFault → ℕ
 more_tables_outcome tables (Ok more) = if has_first_server_object tables more then 73 else 0
 more_tables_outcome tables (Err why) = table_status why
 
--- The status of a call is this one; or, where that is an acceptance for which memory may be needed,
--- that of out of memory.
+-- The status of a call is this one; or, if this is an acceptance that may need memory, that of out
+-- of memory.
 abbrev pub OrMemory : Bool → ℕ → ℕ → Type 0
 OrMemory wants status result =
     (result ≡ status) ⊎ ((result ≡ 11) × (wants ≡ true) × (status ≡ 0))
 
--- the place of the argument that a refusal names, if it names one
+-- the index of the argument that a refusal names, if it names one
 abbrev pub refused_place : SendError → Option ℕ
 refused_place (refusals.WrongArgs place) = Some place
 refused_place (refusals.BadObject place) = Some place
 refused_place _ = None
 
--- the place of the argument that a fault names; 0 where it names none
+-- the index of the argument that a fault names; 0 if it names none
 abbrev pub fault_place : Fault → ℕ
 fault_place (faults.BadArgument place spelling) = place
 fault_place (faults.BadObject place) = place
@@ -139,7 +140,7 @@ spelling_number spellings.NullNotAllowed = 2
 spelling_number spellings.NoEndingNul = 3
 spelling_number spellings.InnerNul = 4
 
--- the same of a fault; 0 of those that are no misspelling
+-- the same for a fault; 0 if it is no misspelling
 abbrev pub fault_spelling : Fault → ℕ
 fault_spelling (faults.BadArgument place spelling) = spelling_number spelling
 fault_spelling _ = 0

@@ -1,9 +1,9 @@
-//! What C calls of a client alone. Of a server each call says so, and does nothing.
+//! Calls for clients only. With a server each returns `OTHER_END`, and does nothing.
 ghost use Rattle.std.specs.Prelude.{◌≡◌, ◌≢◌, ◌↔◌, ◌⊎◌, List, true, Some, Ok, Err};
 ghost use Rattle.wl_sigs.specs.Outcome.{outcome};
 ghost use Rattle.wl_sigs.specs.Tables.{Interface};
-ghost use Rattle.wl_interface_text.specs.declared.fault.TableFault.TheVariants.{BadLine as bad_line};
-ghost use Rattle.wl_interface_text.specs.declared.fault.TableFault.TheVariants.{BadTable as bad_table};
+ghost use Rattle.wl_text.specs.declared.fault.TableFault.TheVariants.{BadLine as bad_line};
+ghost use Rattle.wl_text.specs.declared.fault.TableFault.TheVariants.{BadTable as bad_table};
 ghost use Rattle.wl_client.specs.Calls.{after_bind, bind_answer};
 ghost use Rattle.wl_connection.specs.MoreTables.{with_tables};
 ghost use Rattle.wl_client.specs.State.{with_core};
@@ -26,7 +26,7 @@ use crate::values::{CObject, CSizes};
 use std::alloc::Global;
 use wl_connection::End;
 
-/// Makes a client with wl_display alone and empty queues, and writes where it is to `client`.
+/// Makes a client with wl_display alone and empty queues, and writes its address to `client`.
 #[unsafe(no_mangle)]
 pub extern "C" fn waywire_c_client_new(
     alloc: Global,
@@ -46,7 +46,7 @@ pub extern "C" fn waywire_c_client_new(
     }
 }
 
-/// Writes the object that the last message read has made to `made`, or id 0 where it has made none.
+/// Writes the object that the last message read made to `made`, or id 0 if it made none.
 #[unsafe(no_mangle)]
 pub extern "C" fn waywire_c_client_made(end: &mut EndHandle, made: &mut CObject) -> u32
     ensures answer { IfClient end.old.held (λ client. result ≡ 0) }
@@ -130,9 +130,9 @@ pub extern "C" fn waywire_c_client_bind_unannounced(
     }
 }
 
-/// Reads a text over the client's own tables, gives the client those that come out, and writes where
-/// they are to `more`. If a line of the text is bad, its number is written to `line`, and the rule
-/// that it breaks to `rule`.
+/// Reads a text over the client's own tables, gives the resulting tables to the client, and writes
+/// their address to `more`. If a line of the text is bad, its number is written to `line`, and the
+/// rule that it breaks to `rule`.
 #[unsafe(no_mangle)]
 pub extern "C" fn waywire_c_client_more_tables(
     alloc: Global,

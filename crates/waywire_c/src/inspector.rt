@@ -1,4 +1,4 @@
-//! What C calls of an inspector.
+//! Calls of an inspector.
 ghost use Rattle.std.specs.Prelude.{◌≡◌, ◌≢◌, ◌↔◌, ℕ, List, IfSome, length as len};
 ghost use Rattle.wl_message.specs.Cut.{IsLimit};
 ghost use Rattle.wl_recording.specs.Piece.{Piece};
@@ -16,11 +16,10 @@ use crate::statuses::{BAD_VALUE, NO_MEMORY, OK};
 use crate::tables_handle::TablesHandle;
 use crate::values::extent;
 use std::alloc::Global;
-use wl_check::Verdict;
+use wl_check::{Verdict, write_verdict};
 use wl_recording::Direction;
-use wl_verdict::write_verdict;
 
-/// Makes an inspector before the first piece, and writes where it is to `inspector`.
+/// Makes an inspector that no piece has passed, and writes its address to `inspector`.
 #[unsafe(no_mangle)]
 pub extern "C" fn waywire_c_inspector_new(
     alloc: Global,
@@ -40,13 +39,13 @@ pub extern "C" fn waywire_c_inspector_new(
     }
 }
 
-/// Frees an inspector, and what it lent.
+/// Frees an inspector, and what it lends.
 #[unsafe(no_mangle)]
 pub extern "C" fn waywire_c_inspector_free(inspector: InspectorHandle) {
     drop(inspector.opened());
 }
 
-/// Which way the pieces of a sender go. 0 is the client, and 1 the server.
+/// The direction of a sender's pieces. 0 is the client, and 1 the server.
 pub fn direction_of(sender: u32) -> Option<Direction>
     ensures { result ≡ direction_of sender }
 {
@@ -57,7 +56,7 @@ pub fn direction_of(sender: u32) -> Option<Direction>
     }
 }
 
-/// Judges the messages that a piece of a sender completes, and prints their lines.
+/// Judges the messages that a sender's piece completes, and prints their lines.
 #[unsafe(no_mangle)]
 pub extern "C" fn waywire_c_inspector_pass(
     inspector: &mut InspectorHandle,
@@ -81,7 +80,7 @@ pub extern "C" fn waywire_c_inspector_pass(
     }
 }
 
-/// Writes where the lines of the last piece begin to `lines`, and their length to `length`.
+/// Writes to `lines` where the lines of the last piece begin, and their length to `length`.
 #[unsafe(no_mangle)]
 pub extern "C" fn waywire_c_inspector_lines(
     inspector: &mut InspectorHandle,
@@ -94,7 +93,7 @@ pub extern "C" fn waywire_c_inspector_lines(
     (*lines, *length) = extent(inspector.get_mut().inspector.lines());
 }
 
-/// Writes where the line of the verdict on all pieces so far begins to `line`, its length to
+/// Writes to `line` where the line of the verdict on all pieces so far begins, its length to
 /// `length`, and whether a message breaks a rule to `broken`.
 #[unsafe(no_mangle)]
 pub extern "C" fn waywire_c_inspector_verdict(
@@ -123,7 +122,7 @@ pub extern "C" fn waywire_c_inspector_verdict(
     }
 }
 
-/// Whether a verdict says that a message breaks a rule.
+/// Whether a message breaks a rule, according to a verdict.
 fn is_broken(verdict: &Verdict) -> bool
     ensures { result ≡ is_broken verdict.now }
 {

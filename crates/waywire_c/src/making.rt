@@ -1,10 +1,10 @@
-//! What handles lead to is made.
+//! Making the targets of handles.
 ghost use Rattle.std.specs.Prelude.{◌≡◌, ◌≢◌, ◌⊎◌, ◌↔◌, [], Ok, Err, IfOk, MatchResult};
 ghost use Rattle.wl_message.specs.Arrived.{AreSizes};
 ghost use Rattle.wl_message.specs.Cut.{IsLimit};
 ghost use Rattle.wl_sigs.specs.Core.{core_tables};
 ghost use Rattle.wl_sigs.specs.Outcome.{outcome};
-ghost use Rattle.wl_interface_text.specs.declared.fault.TableFault.TheVariants.{Memory};
+ghost use Rattle.wl_text.specs.declared.fault.TableFault.TheVariants.{Memory};
 ghost use Rattle.wl_connection.specs.MoreTables.{Extend};
 ghost use Rattle.wl_client.specs.State.{new_state as new_client};
 ghost use Rattle.wl_server.specs.State.{new_state as new_server};
@@ -37,7 +37,7 @@ fn boxed<T: Drop>(alloc: Global, value: T) -> Result<Box<T>, AllocError>
     }
 }
 
-/// Tables, which are kept until the process ends.
+/// Tables that are kept until the process ends.
 fn kept(alloc: Global, tables: Tables) -> Result<Box<HeldTables>, AllocError>
     ensures { IfOk result (λ kept. kept.value.tables.now ≡ tables) }
 {
@@ -57,13 +57,14 @@ pub fn core_tables(alloc: Global) -> Result<Box<HeldTables>, AllocError>
     kept(alloc, Tables::core(alloc)?)
 }
 
-/// These tables and those of a text.
+/// These tables with those of a text added.
 pub fn more_tables(
     alloc: Global,
     tables: &Tables,
     text: &[u8],
 ) -> Result<Box<HeldTables>, TableFault>
-    ensures made { MatchResult result (λ kept. outcome tables.now text.now ≡ Ok kept.value.tables.now)
+    ensures made { MatchResult result
+        (λ kept. outcome tables.now text.now ≡ Ok kept.value.tables.now)
         (λ why. (outcome tables.now text.now ≡ Err why) ⊎ (why ≡ Memory)) }
     ensures extend { IfOk result (λ kept. Extend tables.now kept.value.tables.now) }
 {
@@ -75,7 +76,7 @@ pub fn more_tables(
     }
 }
 
-/// A client over these tables.
+/// A client with these tables.
 pub fn client(
     alloc: Global,
     tables: &'static Tables,
@@ -88,8 +89,8 @@ pub fn client(
     boxed(alloc, HeldEnd::Client(client))
 }
 
-/// A client over these tables with the sizes of C. Otherwise a status: `BAD_SIZES` where no end can
-/// have them, else `NO_MEMORY`.
+/// A client with these tables and the sizes given by C. Otherwise a status: `BAD_SIZES` if no end
+/// can have them, else `NO_MEMORY`.
 pub fn client_by(
     alloc: Global,
     tables: &'static Tables,
@@ -109,7 +110,7 @@ pub fn client_by(
     }
 }
 
-/// A server over these tables.
+/// A server with these tables.
 pub fn server(
     alloc: Global,
     tables: &'static Tables,
@@ -122,7 +123,7 @@ pub fn server(
     boxed(alloc, HeldEnd::Server(server))
 }
 
-/// A server over these tables with the sizes of C, or a status, as for a client.
+/// A server with these tables and the sizes given by C; otherwise a status, as for a client.
 pub fn server_by(
     alloc: Global,
     tables: &'static Tables,
@@ -142,7 +143,7 @@ pub fn server_by(
     }
 }
 
-/// An inspector by these tables and this limit, which nothing has passed yet.
+/// An inspector with these tables and this limit, which no piece has passed.
 pub fn inspector(
     alloc: Global,
     tables: &'static Tables,
@@ -166,8 +167,8 @@ pub fn inspector(
     )
 }
 
-/// An inspector by these tables with a limit of C, which nothing has passed yet. Otherwise a
-/// status: `BAD_SIZES` where no message has the limit, else `NO_MEMORY`.
+/// An inspector with these tables and a limit given by C, which no piece has passed. Otherwise a
+/// status: `BAD_SIZES` if no message has the limit, else `NO_MEMORY`.
 pub fn inspector_by(
     alloc: Global,
     tables: &'static Tables,

@@ -1,5 +1,6 @@
-//! What C calls to read a recording.
-ghost use Rattle.std.specs.Prelude.{◌≡◌, ◌≢◌, ℕ, ◌⊎◌, ◌∷◌, ◌++◌, List, [], length as len, take, Some};
+//! The call to read a recording.
+ghost use Rattle.std.specs.Prelude.{◌≡◌, ◌≢◌, ℕ, ◌⊎◌, ◌∷◌, ◌++◌, List, [], length as len, take};
+ghost use Rattle.std.specs.Prelude.{Some};
 ghost use Rattle.wl_recording.specs.declared.recording.RecordingError.TheVariants.{BadLine as bad_line};
 ghost use Rattle.wl_recording.specs.Piece.{Piece, recorded_piece};
 ghost use Rattle.wl_recording.specs.Text.{IsFirstBad, IsReadUpTo, TextRecords};
@@ -10,23 +11,23 @@ use crate::statuses::{BAD_LINE, BAD_VALUE, FULL, NO_MEMORY, NOT_FOUND, OK};
 use std::alloc::Global;
 use wl_recording::{Direction, Passed, PieceReader, RecordingError};
 
-/// A piece but for its bytes, and how far the text was read.
+/// A piece without its bytes, and how far the text was read.
 #[repr(C)]
 #[derive(Clone, Copy)]
 pub struct CPiece {
-    /// Who sent it: 0 is the client, and 1 the server.
+    /// The sender: 0 is the client, and 1 the server.
     pub sender: u32,
     pub tokens: u32,
     /// How many bytes it has.
     pub length: usize,
-    /// How many bytes of the text are left behind the piece's line.
+    /// How many bytes of the text are left after the piece's line.
     pub left: usize,
-    /// How many lines were read, the piece's the last.
+    /// How many lines were read, including the piece's.
     pub number: usize,
 }
 
-/// Reads on to the next piece of a text, of which this is left behind as many lines as `number`
-/// says. Its bytes are written to the front of `bytes`, if they have room there.
+/// Reads up to the end of the next piece's line in a text, of which this is left after as many
+/// lines as `number` says. The piece's bytes are written to the front of `bytes`, if they fit.
 #[unsafe(no_mangle)]
 pub extern "C" fn waywire_c_recording_next(
     alloc: Global,
@@ -57,7 +58,7 @@ pub extern "C" fn waywire_c_recording_next(
     }
 }
 
-/// The status of an error, whose line is told.
+/// The status of an error; its line is written to `piece`.
 fn put_error(error: RecordingError, piece: &mut CPiece) -> u32
     ensures bad { result ≡ 71 → error ≡ bad_line piece.new.number }
     ensures status { (result ≡ 71) ⊎ (result ≡ 11) }
@@ -99,7 +100,7 @@ fn put_piece(
     OK
 }
 
-/// Who sends what goes this way.
+/// The sender of what goes in this direction.
 fn sender_of(direction: Direction) -> u32
     ensures { direction_of result ≡ Some direction }
 {

@@ -1,11 +1,11 @@
-//! What C calls of tables.
+//! Calls of tables.
 ghost use Rattle.std.specs.Prelude.{◌≡◌, ◌⊎◌, ◌≢◌, Err, MatchOption, length as len};
 ghost use Rattle.wl_sigs.specs.Tables.{interface_at, place_of};
 ghost use Rattle.wl_sigs.specs.Outcome.{outcome};
-ghost use Rattle.wl_interface_text.specs.declared.fault.TableFault.TheVariants.{};
-ghost use Rattle.wl_interface_text.specs.declared.fault.TableFault.TheVariants.{BadLine as bad_line};
-ghost use Rattle.wl_interface_text.specs.declared.fault.TableFault.TheVariants.{};
-ghost use Rattle.wl_interface_text.specs.declared.fault.TableFault.TheVariants.{BadTable as bad_table};
+ghost use Rattle.wl_text.specs.declared.fault.TableFault.TheVariants.{};
+ghost use Rattle.wl_text.specs.declared.fault.TableFault.TheVariants.{BadLine as bad_line};
+ghost use Rattle.wl_text.specs.declared.fault.TableFault.TheVariants.{};
+ghost use Rattle.wl_text.specs.declared.fault.TableFault.TheVariants.{BadTable as bad_table};
 ghost use Rattle.waywire_c.specs.Inspecting.{IsTried};
 ghost use Rattle.waywire_c.specs.Statuses.{find_outcome, table_outcome, table_status};
 ghost use Rattle.waywire_c.specs.Values.{iface_at};
@@ -19,7 +19,7 @@ use std::alloc::Global;
 use wl_sigs::TableFault;
 use wl_wire::Iface;
 
-/// Makes the core tables, and writes where they are to `tables`.
+/// Makes the core tables, and writes their address to `tables`.
 #[unsafe(no_mangle)]
 pub extern "C" fn waywire_c_tables_core(alloc: Global, tables: &mut *const u8) -> u32
     ensures { IsTried result }
@@ -33,7 +33,7 @@ pub extern "C" fn waywire_c_tables_core(alloc: Global, tables: &mut *const u8) -
     }
 }
 
-/// Makes tables of these and those of a text, and writes where they are to `more`. Where a line of
+/// Makes tables from these and those of a text, and writes their address to `more`. If a line of
 /// the text is bad, its number is written to `line`, and the rule that it breaks to `rule`.
 #[unsafe(no_mangle)]
 pub extern "C" fn waywire_c_tables_read(
@@ -62,7 +62,7 @@ pub extern "C" fn waywire_c_tables_read(
     }
 }
 
-/// Why a text is not read: writes where it is at fault to `line` and `rule`, and returns the status.
+/// Writes where a text is at fault to `line` and `rule`, and returns the status.
 pub fn put_fault(why: TableFault, line: &mut usize, rule: &mut u32) -> u32
     ensures status { result ≡ table_status why }
     ensures bad_line { result ≡ 71 → why ≡ bad_line line.new }
@@ -87,7 +87,7 @@ pub fn put_fault(why: TableFault, line: &mut usize, rule: &mut u32) -> u32
     }
 }
 
-/// Writes the place of the interface of this name to `interface`.
+/// Writes the index of the interface of this name to `interface`.
 #[unsafe(no_mangle)]
 pub extern "C" fn waywire_c_tables_interface(
     tables: TablesHandle,
@@ -107,7 +107,7 @@ pub extern "C" fn waywire_c_tables_interface(
     }
 }
 
-/// Writes where the name of the interface at a place begins to `name`, and its length to `length`.
+/// Writes to `name` where the name of the interface at an index begins, and its length to `length`.
 #[unsafe(no_mangle)]
 pub extern "C" fn waywire_c_tables_name(
     tables: TablesHandle,
@@ -129,7 +129,7 @@ pub extern "C" fn waywire_c_tables_name(
     }
 }
 
-/// Writes the newest version of the interface at a place to `version`.
+/// Writes the newest version of the interface at an index to `version`.
 #[unsafe(no_mangle)]
 pub extern "C" fn waywire_c_tables_version(
     tables: TablesHandle,

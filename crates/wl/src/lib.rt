@@ -2,15 +2,15 @@
 //!
 //! A [`Client`] and a [`Server`] write and read the messages of the Wayland protocol. They know
 //! which objects each end has, and an object that arrives is the one that its writer meant. Nothing
-//! here does I/O: an end computes over bytes and tokens that are handed in and out. The caller
-//! chooses which socket carries these, when it is read, and on which thread. So a toolkit, a
-//! compositor, a proxy and a test use the same two types.
+//! here does I/O: an end takes and returns bytes and tokens. The caller chooses which socket
+//! carries these, when it is read, and on which thread. So a toolkit, a compositor, a proxy and a
+//! test use the same two types.
 //!
 //! The contract of each call says what it returns and what it leaves, and is proved. More is proved
-//! of two ends of this library that start together, over a transport that keeps bytes in order and
-//! descriptors in step. Up to the first error that the server posts, each end reads exactly the
-//! messages that the other wrote, however the bytes are cut. Once both streams are drained, both
-//! ends have the same objects, those of the server too.
+//! about two ends of this library that start together, over a transport that keeps bytes in order
+//! and descriptors in step. Up to the first error that the server posts, each end reads exactly the
+//! messages that the other wrote, however the bytes are split. Once both streams are drained, both
+//! ends have the same objects, including the server's.
 //!
 //! # The loop
 //!
@@ -22,14 +22,14 @@
 //! 3. **The socket.** The caller writes these bytes and descriptors to its socket, and reads what
 //!    the other end wrote.
 //! 4. **Feed.** `feed` moves what was read into the end's inbox, as much as it has room for, and
-//!    returns how much that was. Bytes may be cut anywhere, down to single ones.
+//!    returns how much that was. The bytes may be split anywhere.
 //! 5. **Next.** `next` reads one message and returns a report that borrows from the end, or `None`
-//!    as long as no message is whole. The caller goes on until `None`, and sends its replies on the
-//!    way. `next_owned` returns an owned report, for a caller that keeps it.
+//!    if no whole message waits. Call it until it returns `None`, and send replies in between.
+//!    `next_owned` returns an owned report, for a caller that keeps it.
 //!
 //! [`Client::read_all`] and [`Server::read_all`] are steps 4 and 5 for a list of pieces. If no
-//! descriptors pass, `flush` writes what waits to a stream (steps 2 and 3), and `fill` reads from
-//! one (steps 3 and 4). No call waits by itself, and none calls back.
+//! descriptors are sent, `flush` writes what waits to a stream (steps 2 and 3), and `fill` reads
+//! from one (steps 3 and 4). No call blocks unless the stream does, and there are no callbacks.
 //!
 //! The calls that both ends have, such as `take` and `feed`, are those of the trait [`End`]: import
 //! it to call them, and write code for either end over it.
@@ -39,17 +39,17 @@
 //!
 //! # Tokens
 //!
-//! File descriptors are not among the bytes. A token is a `u32` of the caller's choice that stands
-//! for one, say its number. [`Arg::Fd`] sends a token, `take` returns it together with the
+//! File descriptors are not among the bytes. A token is a `u32` chosen by the caller to represent
+//! one, for example its number. [`Arg::Fd`] sends a token, `take` returns it together with the
 //! first byte of its message, and the caller passes the descriptor along with these bytes. On the
-//! other side the caller feeds a token for each descriptor that came, with the bytes that they came
-//! with, and the report has it as [`GotRef::Fd`]. No token is given to another message, and none is
-//! lost while the end has not failed. No descriptor is ever closed here.
+//! other side the caller feeds a token for each descriptor that came, together with its bytes, and
+//! the report has it as [`GotRef::Fd`]. No token is given to another message, and none is lost
+//! while the end has not failed. No descriptor is ever closed here.
 //!
 //! When a connection ends, take what is still to be sent, and then call `take_waiting_tokens`. It
-//! gives the end up: it moves the tokens that wait into a slice of the caller's, first those that
-//! were not read and then those that were not sent, and returns how many it moved. Repeat this call
-//! until it returns 0, with room for 20 tokens or more, and close what they stand for.
+//! gives the end up: it moves the tokens that wait into the caller's slice, first those not read,
+//! then those not sent, and returns how many it moved. Repeat the call until it returns 0, with a
+//! slice for 20 tokens or more, and close the descriptors that they represent.
 //!
 //! # Who owns what
 //!
@@ -57,34 +57,35 @@
 //!   those that a text declares ([`Tables::read_more`]). Make them once; any number of ends borrows
 //!   them.
 //! - An end owns its objects, its inbox and its outbox. [`Sizes`] says how large these two queues
-//!   are, which never grow, and how long a message may be ([`Limit`]). The objects are kept in a
-//!   [`Table`]: [`SlotTable`], whose calls take constant time, except an opening that doubles its
-//!   vector, or its plain twin [`MapTable`].
-//! - An [`Object`] is a plain value: an id and a birth, which tells it from every other object that
-//!   ever had that id. A call that names an object which is gone is refused; it never reaches a
-//!   later object with the same id. The client makes objects with ids below [`FIRST_SERVER_ID`],
-//!   and where the tables have events that make some, the server makes those with ids from there
-//!   on. A request destroys one of these like any other object, but no delete_id comes for it: the
-//!   client has it, destroyed, until an event makes one with its id.
+//!   are (they never grow) and how long a message may be ([`Limit`]). The objects are kept in a
+//!   [`Table`]: a [`SlotTable`], whose calls take constant time, except an opening that doubles its
+//!   vector, or the simpler [`MapTable`].
+//! - An [`Object`] is a plain value: an id and a birth, which distinguishes it from every other
+//!   object that ever had that id. A call with an object that is gone is refused; it never reaches
+//!   a later object with the same id. The client makes objects with ids below [`FIRST_SERVER_ID`].
+//!   If the tables have events by which the server makes objects, these have ids from
+//!   [`FIRST_SERVER_ID`] on. A request destroys an object of the server like any other, but no
+//!   delete_id follows: the object stays a zombie at the client until an event makes a new one with
+//!   its id.
 //! - A report of `next` ([`Incoming`], [`Request`]) borrows its strings, arrays and tokens from the
 //!   end, until the end's next call of any kind: code that keeps it longer does not compile.
 //!   [`Args`] goes through the arguments. A report of `next_owned` ([`OwnedIncoming`],
 //!   [`OwnedRequest`]) owns them. `next_with_entry` and `next_owned_with_entry` also say what the
 //!   object was before the message ([`Entry`]), and `shown` of the first prints it. After an event
 //!   for an object that the client has destroyed ([`Incoming::Discarded`]), the caller closes the
-//!   descriptors that its tokens stand for.
-//! - What allocates is given an allocator first, and returns an error if memory runs out. After an
-//!   end's `new` these allocate: the opening of an object, [`Server::add_global`], and the reports
-//!   of `next_owned` and `read_all`.
+//!   descriptors that its tokens represent.
+//! - Whatever allocates takes an allocator first, and returns an error if memory runs out. After an
+//!   end's `new` only these allocate: the opening of an object, [`Server::add_global`], and the
+//!   reports of `next_owned` and `read_all`.
 //!
 //! # What a report holds
 //!
-//! A client's [`Incoming`] and its owned twin have these cases:
+//! A client's [`Incoming`] and its owned variant have these cases:
 //!
 //! - `Event { target, opcode, args }`: an event for a live object.
 //! - `Discarded { target, opcode, tokens }`: an event for an object that the client has destroyed.
-//!   If it made an object, that is open, and [`Client::made`] returns it. If that replaced a live
-//!   object, [`Client::replaced`] returns the live one.
+//!   If the event made an object, that object is open, and [`Client::made`] returns it. If it
+//!   replaced a live object, [`Client::replaced`] returns that one.
 //! - `Deleted { object }`: wl_display.delete_id; the object is gone, and its id is free again.
 //! - `Stray { id }`: a delete_id for no object, for wl_display, or for an object that the server
 //!   made; nothing changed.
@@ -102,66 +103,68 @@
 //!   `Dead(object)`, which the reader has destroyed.
 //! - `New(object)`: the object that the message made.
 //! - `Bound { iface, version, object }`: the object that a bind made, and the name and version of
-//!   its interface. Of all messages wl_registry.bind alone has one.
+//!   its interface. Only wl_registry.bind has one.
 //! - `Array(..)`: the bytes.
 //! - `Fd(u32)`: the token of a descriptor.
 //!
-//! So the arguments of a bind are two where a server reads it: `Uint(name)`, the global's name, and
-//! `Bound { iface, version, object }`. A pattern with `New` or `Str` in its place compiles, and
-//! never matches a bind.
+//! So a server reads two arguments of a bind: `Uint(name)`, the global's name, and
+//! `Bound { iface, version, object }`. A pattern with `New` or `Str` in place of `Bound` compiles,
+//! but never matches a bind.
 //!
 //! `next_with_entry` returns an [`IncomingWithEntry`] or a [`RequestWithEntry`]:
 //!
-//! - `incoming: Incoming`, `entry: Option<Entry>`: what the client had of the target of an event,
-//!   of the object that delete_id ended, or of the object that an error names. It is `None` at
-//!   `Stray`, and where an error names no object that the client has.
-//! - `request: Request`, `entry: Entry`: what the server had of the target, also where the request
-//!   has destroyed it.
+//! - `incoming: Incoming`, `entry: Option<Entry>`: the client's entry, before the message, of the
+//!   target of an event, of the object that delete_id ended, or of the object that an error names.
+//!   It is `None` for `Stray`, and if an error names no object that the client has.
+//! - `request: Request`, `entry: Entry`: the server's entry of the target before the request, even
+//!   if the request destroyed it.
 //!
 //! An [`Entry`] has the object's `birth`, `iface`, `version` and `state`. `shown` of both takes the
-//! tables, and `{}` prints what it returns as the line of the message in a trace: an object whose
-//! interface the signature leaves open as `unknown@7`, a descriptor by its token, the arguments of
-//! a `Discarded` as `..`. The owned twins have the same fields, and no `shown`.
+//! tables, and `{}` prints its result as the line of the message in a trace, with three
+//! differences: an object whose interface the signature leaves open is `unknown@7`, a descriptor is
+//! its token, and the arguments of a `Discarded` are `..`. The owned variants have the same fields,
+//! and no `shown`.
 //!
 //! # What an error leaves
 //!
 //! - [`SendError`] and [`GlobalError`]: nothing was written and nothing has changed. After `Full`,
 //!   take and send again.
 //! - [`NextError::Memory`] and [`NextError::OutFull`]: nothing has changed. The message stays, and
-//!   can be read again. A client's `next` never returns the second. It returns the first only at an
-//!   event that makes an object whose id the server has never used before.
+//!   can be read again. A client's `next` never returns the second. It returns the first only for
+//!   an event that makes an object whose id the server has never used before.
 //! - [`NextError::Fault`]: the other end broke a rule, and this end has failed for good. It reads
-//!   and writes nothing more, but `take` still returns what waits: at a server that ends with the
-//!   wl_display.error that says why. Take it, write it, and close the socket.
+//!   and writes nothing more, but `take` still returns what waits, which at a server ends with the
+//!   wl_display.error that gives the reason. Take it, write it, and close the socket.
 //! - [`Incoming::Error`]: the server has ended the connection, and the client has failed for good.
 //!
 //! All errors print in plain words, and convert to any type that takes a [`std::error::Error`].
 //!
 //! # Beyond one end
 //!
-//! A [`Pair`] is a client and a server with nothing between them, for tests; it plays a list of
-//! [`Move`]s. A [`Recording`] is what passed at one point of a connection; a [`Tee`] records what
-//! is read from a stream. [`trace`] prints a recording message by message, and [`check`] says
-//! whether it is lawful, and where not. An [`Inspector`] does both while a session goes on, piece
-//! by piece as it passes. [`Twins`] is what a proxy keeps: which objects of its two ends stand for
-//! each other; the crate `proxy` is one. [`same_rows`] says whether a client and a server have the
-//! same objects, and [`object_count`] how many.
+//! A [`Pair`] is a client and a server joined directly, for tests; it plays a list of [`Move`]s. A
+//! [`Recording`] is what passed at one point of a connection; a [`Tee`] records what is read from a
+//! stream. [`trace`] prints a recording message by message, and [`check`] says whether it is lawful
+//! and, if not, where. An [`Inspector`] does both while a session goes on, for each piece as it
+//! passes. [`Twins`] keeps, for a proxy, which objects of its two ends correspond to each other;
+//! the crate `proxy` is an example. [`same_rows`] says whether a client and a server have the same
+//! objects, and [`object_count`] how many.
 //!
 //! # A client and a server
 //!
 //! The crate `hello` is this program, with a buffer in place of a socket. The lines with `ghost`
-//! and `requires` are for the proof, and the `for` loops have an upper bound since every loop here
-//! is proved to end. `session` owns the two ends and does little else: each way out of a function
-//! drops what it owns, and the drop of an end is a long proof.
+//! and `requires` are for the proof, and the `for` loops have an upper bound because every loop
+//! here is proved to end. `session` owns the two ends and does little else: each exit of a function
+//! drops what the function owns, and the drop of an end is a long proof.
 //!
-//! Its line of `crates.txt` names `wl_message` beside `wl`: it slices by what `take` returned, and
+//! Its line in `crates.txt` names `wl_message` besides `wl`: it slices by what `take` returned, and
 //! its file `proofs/Amounts.antt` proves with a lemma of that crate that this is within the slice.
 //! A program that slices by `taken.bytes.min(4096)`, as the crate `proxy` does, needs no such file.
 //!
 //! `rt try` runs a program without proof, on an interpreter for at most 20,000,000 steps and also
 //! compiled with checks. A longer program gets the line `interpreter: no-answer: the run did not
-//! finish within 20000000 steps: the program may loop forever`. That says nothing against it, and
-//! the line `checked:` tells how the compiled run ended. `--steps N` gives the interpreter more.
+//! finish within 20000000 steps: the program may loop forever`. This does not mean that the program
+//! is wrong; the line `checked:` says how the compiled run ended. `--steps N` allows the
+//! interpreter more steps.
 //!
 //! ```
 //! ghost use Rattle.std.specs.Prelude.{◌≤◌, length};
@@ -195,14 +198,14 @@
 //!     Ok(())
 //! }
 //!
-//! /// What a client and a server over these tables wrote to each other.
+//! /// What a client and a server with these tables wrote to each other.
 //! fn session(alloc: Global, tables: &Tables) -> Result<Recording> {
 //!     let mut client = Client::new(alloc, tables, SIZES)?;
 //!     let mut server = Server::new(alloc, tables, SIZES)?;
 //!     talk(tables, &mut client, &mut server, Recording::new(alloc))
 //! }
 //!
-//! /// The client makes a surface, and hears when the server has read all that it wrote.
+//! /// The client makes a surface, and waits until the server has read all that it wrote.
 //! fn talk(
 //!     tables: &Tables,
 //!     client: &mut Client<'_>,
@@ -340,17 +343,17 @@
 //! # The calls
 //!
 //! `T` is the table of objects, `T::Alloc` its allocator, and `A` an allocator. The contracts are
-//! in the sources, and `docs/CONTRACTS.md` lists their clauses. These calls ask for something:
+//! in the sources, and `docs/CONTRACTS.md` lists their clauses. These calls have a precondition:
 //!
-//! - `new` of a client, a server and a pair for sizes that [`Sizes::is_allowed`] allows, and that
-//!   of a pair for one limit in both;
-//! - `more_tables` for tables that extend the client's, as those do that [`Tables::read_more`] makes
-//!   of them (the law `texts_extend` of `wl_connection`);
-//! - [`Recording::add`] for at most 65,536 tokens;
-//! - `make_zombie` of a table for a live object, `close` and `reopen` for an id that has one,
-//!   `reopen` where [`Table::has_room`] says so too, and none of them for id 1.
+//! - `new` of a client, a server and a pair: [`Sizes::is_allowed`] holds for the sizes; for a pair,
+//!   both have the same limit;
+//! - `more_tables`: the tables extend the client's, as those that [`Tables::read_more`] makes from
+//!   them do (the law `texts_extend` of `wl_connection`);
+//! - [`Recording::add`]: at most 65,536 tokens;
+//! - `make_zombie` of a table: the id has a live object; `close` and `reopen`: the id has an entry;
+//!   `reopen`: also [`Table::has_room`] holds; and none of the three takes id 1.
 //!
-//! What the library's own crates call of these types is left out: `core` of an end, `prepare` and
+//! Calls that only the library's own crates make are left out: `core` of an end, `prepare` and
 //! `fill_last` of a recording, `append_to` of a piece that passed.
 //!
 //! ```text
@@ -468,6 +471,7 @@
 //!     fn since(&self) -> u32
 //!     fn kinds(&self) -> &[Kind]
 //!     fn has_new_object(&self) -> bool
+//!     fn descriptors(&self) -> usize
 //!     fn destroys(&self) -> Destroys
 //! Destroys
 //!     fn destroys_one(self) -> bool
@@ -536,6 +540,15 @@
 //!     fn lines(&self) -> &[u8]
 //!     fn judged_count(&self) -> u64
 //!     fn verdict(&self) -> Verdict
+//! Follower<'t, A>
+//!     fn new(alloc: A, tables: &'t Tables, limit: Limit) -> Result<Self, AllocError>
+//!     fn feed(&mut self, direction: Direction, bytes: &[u8]) -> Result<(), AllocError>
+//!     fn ahead(&self, direction: Direction) -> Option<Followed<'_>>
+//!     fn go_past(&mut self, direction: Direction) -> Result<(), AllocError>
+//!     fn object(&self, id: u32) -> Option<Entry>
+//!     fn client_id_count(&self) -> usize
+//!     fn server_id_count(&self) -> usize
+//!     fn announced_version(&self, name: u32, interface: Iface) -> u32
 //! Twins<A>
 //!     fn new(alloc: A) -> Result<Self, AllocError>
 //!     fn add(&mut self, at_server: Object, at_client: Object) -> Result<(), AllocError>
@@ -592,6 +605,14 @@
 //! Verdict:
 //!     Lawful { requests: usize, events: usize, left_to_server: usize, left_to_client: usize },
 //!     Broken { direction: Direction, index: usize, offset: usize, fault: Fault }
+//! Followed<'a> { number: u64, index: usize, offset: usize, header: Header, bytes: &'a [u8],
+//!     target: Option<Entry>, is_read: bool, changes: MessageChanges }
+//! Header { object: u32, size: u16, opcode: u16 }
+//! MessageChanges { direction: Direction, made: Option<NewObject>, deleted: Option<u32>,
+//!     destroyed: Option<u32>, advertised: Option<AdvertisedGlobal>, tokens: usize, is_error: bool }
+//! NewObject { id: u32, iface: Iface, version: u32 }
+//! AdvertisedGlobal { name: u32, iface: Iface, version: u32 }
+//! NO_INTERFACE: Iface, in place of one that the tables lack
 //! Carried: Moved(Fed), Memory
 //! ```
 //!
@@ -599,7 +620,7 @@
 //! at most a given number of bytes. Its [`Reply`] has the same case with what the call returns.
 #![tactic(auto)]
 
-pub use wl_check::Inspector;
+pub use wl_check::{AdvertisedGlobal, Followed, Follower, Inspector, MessageChanges, NO_INTERFACE};
 pub use wl_client::{
     Client, FirstServerObject, Incoming, IncomingWithEntry, OwnedIncoming, OwnedIncomingWithEntry,
     ShownIncoming, Tokens,
@@ -607,8 +628,8 @@ pub use wl_client::{
 pub use wl_connection::{End, ReadAll};
 pub use wl_message::{Amounts, Fed, FillError, FlushError, Limit, Peek, Piece, Sizes, Taken};
 pub use wl_objects::{
-    Arg, Args, Entry, FIRST_SERVER_ID, Fault, Got, GotRef, Maker, MapTable, Named, NextError,
-    Object, Objects, OwnedArgs, SendError, SlotTable, State, Table, TableError,
+    Arg, Args, Entry, FIRST_SERVER_ID, Fault, Got, GotRef, Maker, MapTable, Named, NewObject,
+    NextError, Object, Objects, OwnedArgs, SendError, SlotTable, State, Table, TableError,
 };
 pub use wl_server::{
     GlobalError, OwnedRequest, OwnedRequestWithEntry, Request, RequestWithEntry, Server,
@@ -619,4 +640,4 @@ pub use wl_session::{
 };
 pub use wl_sigs::{Destroys, Side, Signature, TableFault, Tables, event, request};
 pub use wl_twins::Twins;
-pub use wl_wire::{ArgFault, Bytes, Fixed, Iface, Kind};
+pub use wl_wire::{ArgFault, Bytes, Fixed, Header, Iface, Kind};

@@ -17,7 +17,7 @@ use Rattle.wl_wire.specs.Word.{header_at}
 use Rattle.wl_message.specs.Cut.{is_size}
 use Rattle.wl_wire.specs.Reading.{reading as value_at}
 use Rattle.wl_sigs.specs.declared.signature.Side.{Side}
-use Rattle.wl_sigs.specs.Tables.{MessageSignature, Interface, signature_at, place_of}
+use Rattle.wl_sigs.specs.Tables.{MessageSignature, Interface, signature_at, place_of, descriptors}
 use Rattle.wl_object_map.specs.declared.object.Entry.{Entry}
 use Rattle.wl_objects.specs.declared.lookup.NewId.{NewId}
 use Rattle.wl_objects.specs.declared.lookup.NewId.TheVariants.{Free, Wrong, TooMany}
@@ -27,7 +27,6 @@ use Rattle.wl_object_map.specs.Ranges.{first_server_id, max_server_id, is_of_ser
 use Rattle.wl_object_map.specs.View.{max_ids}
 use Rattle.wl_objects.specs.Reading.{Reader, forgiving_kind, forgiving, new_fault, value_fault, unless}
 use Rattle.wl_objects.specs.Reading.{value_or_fault as judged_value, before, and_those, arguments_at}
-use Rattle.wl_objects.specs.Reading.{descriptors}
 use Rattle.wl_objects.specs.Messages.{Received, NewObject, made, made_by, or_else}
 use Rattle.wl_objects.specs.Messages.{is_error, received_whole, received_as, received_by, received}
 use Rattle.wl_objects.specs.Messages.{new_id_of}

@@ -8,6 +8,7 @@ pub mod Seen
 pub mod Trace
 pub mod SessionState
 pub mod Text
+pub mod Verdict
 pub mod Samples
 pub mod Printed
 pub mod Passing

@@ -1,5 +1,6 @@
-//! A recording's messages, cut off the bytes of their directions.
-ghost use Rattle.std.specs.Prelude.{◌≡◌, ◌≤◌, ◌<◌, ◌+◌, ◌^◌, ◌++◌, ◌∷◌, ◌⊎◌, ℕ, true, List, [], drop};
+//! A recording's messages, cut from the bytes of their directions.
+ghost use Rattle.std.specs.Prelude.{◌≡◌, ◌≤◌, ◌<◌, ◌+◌, ◌^◌, ◌++◌, ◌∷◌, ◌⊎◌, ℕ, true, List, []};
+ghost use Rattle.std.specs.Prelude.{drop};
 ghost use Rattle.std.specs.Prelude.{length, take, IfErr, IfNone, IfOk, IfSome, MatchOption, OnErr};
 ghost use Rattle.std.specs.Prelude.{OnOk};
 ghost use Rattle.wl_message.specs.Cut.{front, is_size};
@@ -15,15 +16,15 @@ use wl_message::Limit;
 use wl_recording::{Appended, Direction, PieceReader, RecordingError};
 use wl_wire::Header;
 
-/// How much room is kept at most for bytes that wait, beside what they take: most messages have
-/// fewer, and so the next finds room.
+/// The most spare room, in bytes, that is kept for waiting bytes: most messages are shorter, so the
+/// next one fits.
 const ROOM_KEPT: usize = 64;
 
 /// A message of the list.
 #[derive(Clone, Copy, Debug)]
 pub(crate) struct FramedMessage {
     pub direction: Direction,
-    /// Where it begins within its direction.
+    /// Where it begins in its direction.
     pub start: usize,
     /// The size in its header.
     pub size: u16,
@@ -31,7 +32,7 @@ pub(crate) struct FramedMessage {
     pub tokens: u128,
 }
 
-/// The bytes of a direction that wait for the rest of their message. Their room for more is no part
+/// The bytes of a direction that wait for the rest of their message. Their spare room is not part
 /// of their value.
 #[derive(Debug, Drop)]
 pub(crate) struct WaitingBytes<A: Allocator = Global> {
@@ -49,9 +50,9 @@ impl<A: Allocator> Model for WaitingBytes<A> {
 /// What pieces brought in one direction.
 #[derive(Debug, Drop)]
 pub(crate) struct Stream<A: Allocator = Global> {
-    /// The bytes behind the last message that was judged, as long as there are messages to judge.
+    /// The bytes after the last judged message, as long as there are messages to judge.
     pub bytes: WaitingBytes<A>,
-    /// How many bytes there were in all.
+    /// The total number of bytes.
     pub len: usize,
     pub tokens: u128,
 }
@@ -64,8 +65,8 @@ pub(crate) struct LentPiece<'a> {
     pub tokens: usize,
 }
 
-/// The size of the message in front of these bytes. None where its header, or the rest of a message
-/// whose size is good, is still to come.
+/// The size of the message at the front of these bytes. `None` if its header, or the rest of a
+/// message with a good size, is still to come.
 pub(crate) fn size_in_front(bytes: &[u8], limit: Limit) -> Option<u16>
     ensures front { result ≡ size_of (front limit.bytes bytes.now) }
     ensures header { IfSome result (λ size. 8 ≤ length bytes.now) }
@@ -99,7 +100,8 @@ pub(crate) fn empty_stream<A: Allocator>(alloc: A) -> Stream<A>
     }
 }
 
-/// Reads on to the next piece of a text, and appends its bytes to those that wait in its direction.
+/// Reads up to the end of the next piece of a text, and appends its bytes to those that wait in its
+/// direction.
 pub(crate) fn append_next<A: Allocator>(
     reader: &mut PieceReader<'_>,
     to_server: &mut WaitingBytes<A>,
@@ -153,8 +155,8 @@ impl<A: Allocator> WaitingBytes<A> {
         self.items.extend_from_slice(bytes)
     }
 
-    /// Puts back what stood here before more was appended, by how many there were. Room that was
-    /// made for more is given back, where there is memory to move these to.
+    /// Restores the first `len` bytes, which were here before more was appended. The room made for
+    /// more is given back, if there is memory to move them.
     pub(crate) fn go_back(&mut self, len: usize)
         ensures { self.new ≡ take len self.old }
     {
@@ -162,7 +164,7 @@ impl<A: Allocator> WaitingBytes<A> {
         self.items.shrink_to_fit();
     }
 
-    /// Leaves those from a place on, and the room of those before it.
+    /// Removes the bytes before a place, and keeps the room.
     pub(crate) fn remove_front(&mut self, place: usize)
         requires { place ≤ length self.old }
         ensures { self.new ≡ drop place self.old }
@@ -174,7 +176,7 @@ impl<A: Allocator> WaitingBytes<A> {
         }
     }
 
-    /// Leaves those from a place on. Those before it leave little room behind.
+    /// Removes the bytes before a place, and keeps little spare room.
     pub(crate) fn keep_from(&mut self, place: usize)
         requires { place ≤ length self.old }
         ensures { self.new ≡ drop place self.old }

@@ -1,13 +1,14 @@
-//! One message judged by what is known at its place.
+//! Judging one message with what is known at its place.
 ghost use Rattle.std.specs.Prelude.{◌≡◌, ◌≤◌, ◌^◌, ◌<◌, ◌++◌, min, true, length, Some, OnOk, IfOk};
 ghost use Rattle.wl_sigs.specs.Valid.{Valid};
 ghost use Rattle.wl_message.specs.Cut.{is_size};
+ghost use Rattle.wl_sigs.specs.Tables.{descriptors};
 ghost use Rattle.wl_objects.specs.Messages.{is_error};
-ghost use Rattle.wl_objects.specs.Reading.{descriptors};
 ghost use Rattle.wl_objects.specs.Seen.{received_of};
 ghost use Rattle.wl_check.specs.Changes.{advertised, changes, first_number, is_global, side_of};
 ghost use Rattle.wl_trace_line.specs.Line.{line};
-ghost use Rattle.wl_check.specs.Rules.{allows_bind, is_disallowed_bind, judged_message, judged_front};
+ghost use Rattle.wl_check.specs.Rules.{allows_bind, is_disallowed_bind, judged_message};
+ghost use Rattle.wl_check.specs.Rules.{judged_front};
 ghost use Rattle.wl_check.specs.Rules.{reader_by};
 ghost use Rattle.wl_check.specs.Seen.{call_of, changes_in, known_in, taken_of_direction};
 ghost use Rattle.wl_check.specs.Trace.{judged_line, wanted};
@@ -27,8 +28,8 @@ use wl_sigs::{Destroys, Side, Tables};
 use wl_trace_line::write_line;
 use wl_wire::{Header, Iface, ValueRef};
 
-/// How many bytes are asked for at least where a line is to be appended: most lines have fewer, and
-/// so take one request.
+/// The least room, in bytes, that is requested when a line is appended: most lines are shorter, so
+/// one request suffices.
 const LINE_ROOM: usize = 128;
 
 /// Requests go to the server, events to the client.
@@ -41,9 +42,9 @@ pub(crate) fn side_of(direction: Direction) -> Side
     }
 }
 
-/// Judges the message of a frame, which begins these bytes: what it does, or the first rule that it
-/// breaks. What is wanted of a message that keeps the rules is appended to the text. Its arguments
-/// are read into those of the message before.
+/// Judges a frame's message, at the front of these bytes: its changes, or the first rule that it
+/// breaks. The wanted output for a message that keeps the rules is appended to the text. Its
+/// arguments are read over those of the message before.
 pub(crate) fn judge<A: Allocator>(
     args: &mut ParsedArgs,
     rules: &Rules<'_>,
@@ -76,14 +77,14 @@ pub(crate) fn judge<A: Allocator>(
     judge_message(args, rules.tables, known, frame, &whole, sink)
 }
 
-/// The header of a message, and what stands behind it.
+/// The header of a message, and the bytes after it.
 #[derive(Clone, Copy)]
 struct WholeMessage<'a> {
     header: Header,
     body: &'a [u8],
 }
 
-/// Judges a whole message, its header and what stands behind that.
+/// Judges a whole message: its header and the bytes after it.
 fn judge_message<A: Allocator>(
     args: &mut ParsedArgs,
     tables: &Tables,
@@ -127,7 +128,7 @@ fn judge_message<A: Allocator>(
     Ok(Ok(changes))
 }
 
-/// Appends what is wanted of a message, before the message changes what is known.
+/// Appends the wanted output for a message, before the message changes what is known.
 fn write<A: Allocator>(
     sink: &mut Sink<A>,
     side: Side,
@@ -152,14 +153,14 @@ fn write<A: Allocator>(
     }
 }
 
-/// The number of tokens, or the greatest `usize` where there are more.
+/// The number of tokens; saturates.
 fn count(tokens: u128) -> usize
     ensures { result ≡ min tokens 18446744073709551615 }
 {
     usize::try_from(tokens).unwrap_or(usize::MAX)
 }
 
-/// Whether a message that does this is a bind that no `global` event allows.
+/// Whether a message with these changes is a bind that no `global` event allows.
 fn is_disallowed_bind<A: Allocator>(
     tables: &Tables,
     known: &KnownState<A>,
@@ -198,7 +199,7 @@ fn allows_bind<A: Allocator>(
     }
 }
 
-/// The number that is the first argument.
+/// The first argument, if it is a number.
 fn first_number(values: &Values<'_>) -> Option<u32>
     ensures { result ≡ first_number values.now }
 {
@@ -238,7 +239,10 @@ fn advertised(tables: &Tables, values: &Values<'_>) -> Option<AdvertisedGlobal>
     }
 }
 
-/// What a message that was read does.
+/// The changes by a message that was read.
+// Inlined by hand: the command has the checker for two allocators, so the compiler leaves it out of
+// line, and the changes of each message then go through memory.
+#[inline(always)]
 pub(crate) fn changes_of(
     tables: &Tables,
     direction: Direction,

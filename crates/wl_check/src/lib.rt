@@ -1,8 +1,8 @@
 //! Whether recorded sessions are lawful.
 //!
-//! A recording holds what passed between a client and a server, piece by piece. Its messages are
-//! put into one list and each is judged by what stands before it. The verdict names the first that
-//! breaks a rule.
+//! A recording holds what passed between a client and a server, piece by piece. Its messages form
+//! one list, and each is judged with what is known from those before it. The verdict names the
+//! first message that breaks a rule.
 #![tactic(auto)]
 
 mod changes;
@@ -28,4 +28,4 @@ pub use checking::{check, check_text};
 pub use following::{Followed, Follower, NO_INTERFACE};
 pub use inspector::Inspector;
 pub use tracing::{trace, trace_text};
-pub use verdict::Verdict;
+pub use verdict::{Verdict, write_verdict};

@@ -1,5 +1,6 @@
-//! A session, judged piece by piece.
-ghost use Rattle.std.specs.Prelude.{◌≡◌, ◌⊎◌, ◌∷◌, ◌++◌, ℕ, List, [], map, take, true, length, Some};
+//! Judging a session piece by piece.
+ghost use Rattle.std.specs.Prelude.{◌≡◌, ◌⊎◌, ◌∷◌, ◌++◌, ℕ, List, [], map, take, true, length};
+ghost use Rattle.std.specs.Prelude.{Some};
 ghost use Rattle.std.specs.Prelude.{IfErr, IfOk, OnErr, OnOk};
 ghost use Rattle.wl_recording.specs.declared.recording.RecordingError.TheVariants.{BadLine, Memory};
 ghost use Rattle.wl_recording.specs.Piece.{Piece, recorded_piece};
@@ -24,7 +25,8 @@ use wl_objects::ParsedArgs;
 use wl_recording::{Appended, Direction, Passed, PieceReader, RecordingError};
 use wl_sigs::Tables;
 
-/// A session that is judged as its pieces pass. Of its bytes it keeps those of started messages.
+/// A session that is judged as its pieces pass. Of its bytes only those of started messages are
+/// kept.
 #[derive(Drop)]
 pub(crate) struct Scanner<A: Allocator = Global> {
     pub state: SessionState<A>,
@@ -32,8 +34,8 @@ pub(crate) struct Scanner<A: Allocator = Global> {
     pub to_client: Stream<A>,
 }
 
-/// Judges the messages that the bytes of a piece complete, behind those that wait for more, and
-/// leaves what waits now. Where memory runs out, what waited before stands in front.
+/// Judges the messages that a piece's bytes complete, after those that wait, and leaves what waits
+/// now. Without memory, what waited before is at the front.
 #[inline(always)]
 fn judge_bytes<A: Allocator + Clone>(
     state: &mut SessionState<A>,
@@ -75,7 +77,7 @@ fn judge_bytes<A: Allocator + Clone>(
     Ok(())
 }
 
-/// The same, but where memory runs out, all is as it was, if what was overwritten was written down.
+/// The same, but without memory nothing changes, if overwritten values were recorded.
 fn judge_or_go_back<A: Allocator + Clone>(
     state: &mut SessionState<A>,
     waiting: &mut WaitingBytes<A>,
@@ -115,9 +117,9 @@ fn judge_or_go_back<A: Allocator + Clone>(
     }
 }
 
-/// Judges the messages that a piece completes of its stream. It keeps what is left, unless the
-/// session has ended or a message broke a rule; then it only counts. Where memory runs out, nothing
-/// has changed, if what was overwritten was written down.
+/// Judges the messages that a piece completes in its stream. It keeps what is left, unless the
+/// session has ended or a message broke a rule; then it only counts. Without memory nothing
+/// changes, if overwritten values were recorded.
 fn judge_piece<A: Allocator + Clone>(
     state: &mut SessionState<A>,
     stream: &mut Stream<A>,
@@ -148,7 +150,7 @@ fn judge_piece<A: Allocator + Clone>(
     ensures stream { OnErr result (undone_by journal.old.undo state.old.progress.known.held
         ≡ Some state.old.progress.known.held → stream.new ≡ stream.old) }
 {
-    // More than these numbers count does not fit into any memory.
+    // No memory can hold more than these numbers can count.
     let Some(len) = stream.len.checked_add(piece.bytes.len()) else {
         return Err(AllocError);
     };
@@ -162,7 +164,7 @@ fn judge_piece<A: Allocator + Clone>(
     }
     let waiting = &mut stream.bytes;
     match journal.undo {
-        // Nothing is put back, so nothing is kept for that.
+        // Nothing will be restored, so nothing is recorded for that.
         UndoList::Off => judge_bytes(state, waiting, piece, tokens, rules, journal)?,
         UndoList::On(_) => judge_or_go_back(state, waiting, piece, tokens, rules, journal)?,
     }
@@ -171,8 +173,8 @@ fn judge_piece<A: Allocator + Clone>(
     Ok(())
 }
 
-/// The same, where the bytes of the piece were appended to those that wait. Nothing is gone back to,
-/// and the room of what was judged is kept for the next piece.
+/// The same if the piece's bytes were already appended to those that wait. Nothing is restored, and
+/// the room of judged bytes is kept for the next piece.
 fn judge_waiting<A: Allocator + Clone>(
     state: &mut SessionState<A>,
     stream: &mut Stream<A>,
@@ -182,7 +184,8 @@ fn judge_waiting<A: Allocator + Clone>(
 ) -> Result<(), AllocError>
     requires valid { Valid rules.now.tables.now }
     requires come { ∥ ((ps : List Piece) × (p : Piece)
-        × HasCome rules.now.limit.bytes rules.now.tables.now ps p piece.now state.old stream.old) ∥₁ }
+        × HasCome rules.now.limit.bytes rules.now.tables.now ps p piece.now state.old
+        stream.old) ∥₁ }
     ensures along { OnOk result ((ps : List Piece) (p : Piece)
         → HasCome rules.now.limit.bytes rules.now.tables.now ps p piece.now state.old stream.old
         → Along rules.now.limit.bytes rules.now.tables.now p.direction (ps ++ p ∷ []) state.new
@@ -197,7 +200,7 @@ fn judge_waiting<A: Allocator + Clone>(
     ensures other { OnOk result (OthersStay piece.now.direction state.old state.new) }
     ensures output { journal.new.sink.output ≡ journal.old.sink.output }
 {
-    // More than these numbers count does not fit into any memory.
+    // No memory can hold more than these numbers can count.
     let Some(len) = stream.len.checked_add(piece.len) else {
         return Err(AllocError);
     };
@@ -229,8 +232,8 @@ impl<A: Allocator + Clone> Scanner<A> {
         })
     }
 
-    /// Judges the messages that a piece completes, and writes what is wanted of them. Where memory
-    /// runs out, nothing has changed, if what was overwritten was written down.
+    /// Judges the messages that a piece completes, and writes the wanted output for them. Without
+    /// memory nothing changes, if overwritten values were recorded.
     pub(crate) fn judge(
         &mut self,
         piece: &LentPiece<'_>,
@@ -263,7 +266,7 @@ impl<A: Allocator + Clone> Scanner<A> {
     }
 
     /// Judges the messages that a piece completes, whose bytes were appended to the stream of its
-    /// direction, and writes what is wanted of them.
+    /// direction, and writes the wanted output for them.
     fn judge_appended(
         &mut self,
         piece: &Appended,
@@ -312,7 +315,7 @@ impl<A: Allocator> Scanner<A> {
     }
 }
 
-/// Goes through the pieces of a recording, and writes what is wanted of each message.
+/// Goes through the pieces of a recording, and writes the wanted output for each message.
 pub(crate) fn scan<A: Allocator + Clone>(
     alloc: &A,
     pieces: &[Passed<A>],
@@ -349,7 +352,7 @@ pub(crate) fn scan<A: Allocator + Clone>(
     Ok((journal.sink.text, verdict))
 }
 
-/// Goes through the text of a recording, of which it keeps one piece at a time.
+/// Goes through the text of a recording, keeping one piece at a time.
 pub(crate) fn scan_text<A: Allocator + Clone>(
     alloc: &A,
     text: &[u8],

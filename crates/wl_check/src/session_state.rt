@@ -1,5 +1,6 @@
 //! A session's messages, judged one after another.
-ghost use Rattle.std.specs.Prelude.{◌≡◌, ◌≤◌, ◌++◌, ◌^◌, ◌<◌, ℕ, true, false, drop, length, OnOk, Some};
+ghost use Rattle.std.specs.Prelude.{◌≡◌, ◌≤◌, ◌++◌, ◌^◌, ◌<◌, ℕ, true, false, drop, length, OnOk};
+ghost use Rattle.std.specs.Prelude.{Some};
 ghost use Rattle.std.specs.Prelude.{IfOk};
 ghost use Rattle.wl_sigs.specs.Valid.{Valid};
 ghost use Rattle.wl_check.specs.Held.{undone_by, Held};
@@ -18,7 +19,7 @@ use wl_objects::{Fault, ParsedArgs};
 use wl_recording::Direction;
 use wl_sigs::Tables;
 
-/// What is written of a session.
+/// The output that is wanted for a session.
 #[derive(Clone, Copy, Debug)]
 pub(crate) enum Output {
     Nothing,
@@ -40,39 +41,39 @@ pub(crate) enum SessionStatus {
 /// How far a session was judged.
 #[derive(Drop)]
 pub(crate) struct SessionState<A: Allocator = Global> {
-    /// What is known behind the messages that keep the rules, and what was counted of them.
+    /// What is known after the messages that keep the rules, and the counts of them.
     pub progress: Progress<A>,
-    /// How many these are.
+    /// How many such messages there are.
     pub count: u64,
     pub status: SessionStatus,
 }
 
-/// By what messages are judged.
+/// What messages are judged with.
 #[derive(Clone, Copy)]
 pub(crate) struct Rules<'t> {
     pub tables: &'t Tables,
     pub limit: Limit,
 }
 
-/// Where what is wanted of judged messages goes.
+/// The destination of the wanted output.
 #[derive(Drop)]
 pub(crate) struct Sink<A: Allocator = Global> {
     pub output: Output,
-    /// What was written of them.
+    /// The output so far.
     pub text: Vec<u8, A>,
 }
 
 /// What is written while messages are judged.
 #[derive(Drop)]
 pub(crate) struct Journal<A: Allocator = Global> {
-    /// The arguments of the last message, into which those of the next are read.
+    /// The arguments of the last message; those of the next are read over them.
     pub args: ParsedArgs,
     pub sink: Sink<A>,
-    /// What the messages overwrite of what is known.
+    /// What the messages overwrite in what is known.
     pub undo: UndoList<A>,
 }
 
-/// All of a state but what is held.
+/// All of a state except what is held.
 #[derive(Clone, Copy)]
 pub(crate) struct Numbers {
     used: u32,
@@ -98,9 +99,9 @@ impl<A: Allocator + Clone> SessionState<A> {
         })
     }
 
-    /// Judges the messages that stand whole in these bytes of a direction, and returns where the
-    /// bytes of the next begin. One that breaks a rule or ends the session is the last, and there is
-    /// no next behind it.
+    /// Judges the whole messages at the front of these bytes of a direction, and returns where the
+    /// next message begins. One that breaks a rule or ends the session is the last, and none
+    /// follows it.
     pub(crate) fn judge_all(
         &mut self,
         bytes: &[u8],
@@ -110,7 +111,8 @@ impl<A: Allocator + Clone> SessionState<A> {
         journal: &mut Journal<A>,
     ) -> Result<usize, AllocError>
         requires valid { Valid rules.now.tables.now }
-        requires follows { ∥ ((s : Session) × CutFollows rules.now.limit.bytes rules.now.tables.now s
+        requires follows { ∥ ((s : Session)
+            × CutFollows rules.now.limit.bytes rules.now.tables.now s
             self.old direction tokens bytes.now) ∥₁ }
         ensures place { IfOk result (λ place. place ≤ length bytes.now) }
         ensures judged { IfOk result (λ place. (s : Session)
@@ -148,7 +150,7 @@ impl<A: Allocator + Clone> SessionState<A> {
         }
     }
 
-    /// Judges the next message, which begins these bytes, and writes what is wanted of it.
+    /// Judges the next message, at the front of these bytes, and writes the wanted output for it.
     fn judge_next(
         &mut self,
         bytes: &[u8],
@@ -203,7 +205,7 @@ impl<A: Allocator> SessionState<A> {
         }
     }
 
-    /// All but what is held.
+    /// All of the state except what is held.
     pub(crate) fn numbers(&self) -> Numbers
         ensures { result ≡ numbers_in self.now }
     {
@@ -224,8 +226,7 @@ impl<A: Allocator> SessionState<A> {
         }
     }
 
-    /// Goes back to where these were the numbers, and all was held as it was before what was
-    /// written down.
+    /// Restores these numbers, and what was held before the recorded changes.
     pub(crate) fn go_back(&mut self, numbers: Numbers, undo: &mut UndoList<A>)
         ensures { (held : Held) → undone_by undo.old self.old.progress.known.held ≡ Some held
             → self.new ≡ gone_back held numbers self.old }

@@ -1,5 +1,6 @@
--- What a client's bind returns and writes that asks nothing of what was announced.
-use Rattle.std.specs.Prelude.{◌≡◌, ℕ, ◌≤◌, not, if◌then◌else◌, List, [], Option, Some, None, option_map}
+-- What `bind_unannounced`, which ignores what was announced, returns and writes.
+use Rattle.std.specs.Prelude.{◌≡◌, ℕ, ◌≤◌, not, if◌then◌else◌, List, [], Option, Some, None}
+use Rattle.std.specs.Prelude.{option_map}
 use Rattle.std.specs.Option.{option_and_then}
 use Rattle.std.specs.declared.result.Result.{Result}
 use Rattle.std.specs.declared.result.Result.TheVariants.{Err}
@@ -18,7 +19,7 @@ use Rattle.wl_connection.specs.Sending.{fits, with_sent, opening_answer}
 use Rattle.wl_client.specs.State.{State, Global}
 use Rattle.wl_client.specs.Calls.{can_bind, iface_or}
 
--- the global of this name and interface, in the version that the tables have
+-- the global with this name and interface, at the version that the tables have
 abbrev pub any_global : List Interface → ℕ → List ℕ → Option Global
 any_global tables name iface =
     option_and_then (λ place. option_map
@@ -29,7 +30,7 @@ abbrev pub version_or : Option Global → ℕ
 version_or None = 1
 version_or (Some global) = global.version
 
--- the object that the bind makes, at the next id: it has the version of the tables
+-- the object that the bind makes, at the next id, with the version of the tables
 abbrev pub unannounced_object : State → ℕ → List ℕ → NewObject
 unannounced_object state name iface = record {
   id = next_id Client state.core.view;
@@ -47,14 +48,14 @@ unannounced_at state name iface version (Some entry) =
     then opening_answer state.core Client (Some (unannounced_object state name iface))
     else Err refusals.Full
 
--- What `bind_unannounced` returns, where no memory is needed: S1, S2, S3, S7, S9, S10; else the new
+-- What `bind_unannounced` returns, if no memory is needed: S1, S2, S3, S7, S9, S10; else the new
 -- object.
 abbrev pub unannounced_answer : State → Object → ℕ → List ℕ → ℕ → Result (Option Object) SendError
 unannounced_answer state target name iface version =
     if state.core.failed then Err refusals.Failed
     else unannounced_at state name iface version (live_row state.core.view target)
 
--- The client after such a bind that was answered Ok: the message has the version that was asked for.
+-- The client after `bind_unannounced` returned Ok: the message has the version that was asked for.
 abbrev pub after_unannounced : State → Object → ℕ → List ℕ → ℕ → State
 after_unannounced state target name iface version = record state {
   core =
@@ -64,7 +65,7 @@ after_unannounced state target name iface version = record state {
       (unannounced_object state name iface).iface (unannounced_object state name iface).version);
 }
 
--- The tables have an interface of this name that has this version.
+-- The tables have an interface with this name, and it has this version.
 pub record HasVersion (tables : List Interface) (iface : List ℕ) (version : ℕ) : Type 0 where
   pub place : ℕ
   pub interface : Interface

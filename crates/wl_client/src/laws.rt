@@ -1,8 +1,7 @@
-//! What holds of what a client reads. These functions do nothing: each is called for what it
-//! ensures.
+//! Laws of what a client reads. These functions do nothing; each is called for what it ensures.
 ghost use Rattle.std.specs.Prelude.{◌≡◌, ◌↔◌, ℕ, true, false, List, Some, Err};
 ghost use Rattle.wl_sigs.specs.declared.signature.Side.TheVariants.{Event as event_side};
-ghost use Rattle.wl_connection.specs.Reads.{AnyCutReads, HasOneReading, ReadsWhole};
+ghost use Rattle.theory_cuts.specs.Cuts.{AnyCutReads, HasOneReading, ReadsWhole};
 ghost use Rattle.wl_sigs.specs.Fixed.{registry};
 ghost use Rattle.wl_sigs.specs.Valid.{Valid};
 ghost use Rattle.wl_object_map.specs.declared.object.Object.{Object};
@@ -14,17 +13,17 @@ ghost use Rattle.wl_client.specs.State.{State};
 ghost use Rattle.wl_client.specs.Streams.{client_reading};
 ghost use Rattle.wl_client.specs.Unannounced.{HasVersion, unannounced_answer};
 
-/// What waits is read in one way, also when more comes behind it.
+/// What waits is read in only one way, also if more follows.
 pub fn one_reading()
     ensures { HasOneReading client_reading }
 {}
 
-/// It does not matter how a stream is cut, where its pieces are in step.
+/// If pieces are in step, it does not matter how the stream is split.
 pub fn any_cut_reads()
     ensures { AnyCutReads client_reading event_side }
 {}
 
-/// What is read begins what waits: as many whole messages as there are reports.
+/// What is read is the front of what waits: as many whole messages as there are reports.
 pub fn whole_messages_are_read()
     ensures { ReadsWhole client_reading }
 {}
@@ -35,8 +34,8 @@ pub fn binds_are_spelled()
         → BindSpells state registry name iface version }
 {}
 
-/// A bind that the server judges is refused for its interface and version (S7) exactly where the
-/// tables have no interface of this name that has this version.
+/// `bind_unannounced` refuses an interface and version (S7) if and only if the tables have no
+/// interface of this name with this version.
 pub fn unannounced_binds_are_known()
     ensures { (state : State) (target : Object) (entry : Entry) (name version : ℕ) (iface : List ℕ)
         → Valid state.core.tables → state.core.failed ≡ false

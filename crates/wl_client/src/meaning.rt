@@ -1,8 +1,8 @@
-//! What a message is to a client: what is reported of it, and what it changes.
+//! The meaning of a message to a client: its report, and its changes.
 ghost use Rattle.std.specs.Prelude.{◌≡◌, ◌≢◌, ℕ, List, Some, None, true, false};
 ghost use Rattle.wl_sigs.specs.declared.signature.Destroys.TheVariants.{Target};
 ghost use Rattle.wl_sigs.specs.declared.signature.Side.TheVariants.{Event};
-ghost use Rattle.wl_sigs.specs.Tables.{Interface, destroys_argument};
+ghost use Rattle.wl_sigs.specs.Tables.{Interface, destroys_argument, descriptors};
 ghost use Rattle.wl_sigs.specs.Fixed.{display};
 ghost use Rattle.wl_object_map.specs.Objects.{Objects as ObjectsView, look};
 ghost use Rattle.wl_connection.specs.Core.{HasDisplay};
@@ -16,7 +16,6 @@ ghost use Rattle.wl_objects.specs.declared.parsed.ParsedArg.{ParsedArg};
 ghost use Rattle.wl_objects.specs.Messages.{after_delete_id, is_error, opens, reader_of};
 ghost use Rattle.wl_objects.specs.Messages.{same_iface};
 ghost use Rattle.wl_objects.specs.Parsed.{AreParsed, spelled_in};
-ghost use Rattle.wl_objects.specs.Reading.{descriptors};
 ghost use Rattle.wl_objects.specs.Seen.{received_of};
 
 use crate::arguments::{id_at, number_at};
@@ -26,7 +25,7 @@ use wl_object_map::FIRST_SERVER_ID;
 use wl_objects::{Entry, Object, Objects, ParsedArgs, Received, State, Table, is_delete_id};
 use wl_sigs::{Side, Tables};
 
-/// What is reported of a message, what it changes, and the entry of the object that it is about.
+/// The report of a message, its changes, and the entry of the object that it is about.
 pub(crate) fn meaning_of<T: Table>(
     tables: &Tables,
     objects: &Objects<T>,
@@ -88,7 +87,7 @@ pub(crate) fn meaning_of<T: Table>(
     }
 }
 
-/// No change of objects and globals.
+/// No change to objects and globals.
 fn no_change(last: bool) -> Change
     ensures { result ≡ record {
       made = None;
@@ -121,7 +120,7 @@ fn error_outline(args: &ParsedArgs, body: &[u8]) -> Outline
     }
 }
 
-/// What wl_display.delete_id of an id is: the object of the id, if it has one, is gone.
+/// The meaning of wl_display.delete_id for an id: its object, if it has one, is removed.
 fn meaning_of_delete_id<T: Table>(objects: &Objects<T>, id: u32) -> (Outline, Change, Option<Entry>)
     ensures outline { (tables : List Interface) (body tokens : List ℕ) (args : List ParsedArg)
         → outlined body args tokens result.0

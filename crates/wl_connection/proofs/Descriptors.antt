@@ -14,10 +14,11 @@ use Rattle.wl_wire.specs.declared.kind.ArgFault.TheVariants.{Short, NullNotAllow
 use Rattle.wl_wire.specs.Argument.{Argument, Int, Uint, Fixed, Str, Obj, New, NewNamed, Array, Fd}
 use Rattle.wl_wire.specs.Spelling.{padded}
 use Rattle.wl_wire.specs.Reading.{reading, asked, on_found, argument_of, text_of, number_at}
+use Rattle.wl_sigs.specs.Tables.{descriptors, is_descriptor_kind}
 use Rattle.wl_objects.specs.declared.error.Fault.{Fault}
 use Rattle.wl_objects.specs.Reading.{Reader, forgiving_kind, value_fault, unless, value_or_fault, before}
-use Rattle.wl_objects.specs.Reading.{and_those, arguments_at, descriptors, is_descriptor}
-use Rattle.wl_objects.specs.Reading.{is_descriptor_kind, reported_argument, reports_of}
+use Rattle.wl_objects.specs.Reading.{and_those, arguments_at, is_descriptor}
+use Rattle.wl_objects.specs.Reading.{reported_argument, reports_of}
 
 -- how many of the values are descriptors
 abbrev pub fds : List Argument → ℕ
@@ -128,7 +129,7 @@ all_read r place (kind ∷ ks) bytes =
     has_judged r place kind ks bytes (reading (forgiving_kind r.forgives kind) bytes) (arguments_at r (suc place) ks)
     (read_as (forgiving_kind r.forgives kind) bytes) (λ rest. all_read r (suc place) ks rest)
 
--- ---- they are reported by the first tokens, whatever tokens stand behind these
+-- ---- they are reported with the first tokens, whatever tokens follow these
 
 pub reports_stay : (r : Reader) (tokens more : List ℕ) (vs : List Argument) → fds vs ≤ length tokens
     → reports_of r (tokens ++ more) vs ≡ reports_of r tokens vs

@@ -1,4 +1,4 @@
--- What an end finds in front stays there when more comes in behind it.
+-- What an end finds at the front stays there when more comes in.
 use Rattle.std.proofs.Common.{◌≡◌, ℕ, ◌+◌, ◌*◌, ◌/◌, ◌%◌, ◌<◌, ◌≤◌, ◌⊎◌, inl, inr, Bool, true}
 use Rattle.std.proofs.Common.{false, cond, List, [], ◌++◌, length, length-append, take, drop, refl}
 use Rattle.std.proofs.Common.{sym, ap, subst, ◌∙◌, arith, ltb}
@@ -16,7 +16,7 @@ use Rattle.wl_wire.specs.declared.header.Header.{Header}
 use Rattle.wl_wire.specs.Argument.{Argument}
 use Rattle.wl_wire.specs.Word.{number_at}
 use Rattle.wl_sigs.specs.declared.signature.Side.{Side}
-use Rattle.wl_sigs.specs.Tables.{Interface, MessageSignature, signature_at}
+use Rattle.wl_sigs.specs.Tables.{Interface, MessageSignature, signature_at, descriptors}
 use Rattle.wl_message.specs.Arrived.{in_front}
 use Rattle.wl_message.specs.Cut.{Front, More, Bad, Whole}
 use Rattle.wl_message.specs.InStep.{Need}
@@ -25,7 +25,7 @@ use Rattle.wl_message.proofs.Cuts.{whole_stays, bad_stays}
 use Rattle.wl_object_map.specs.declared.object.Entry.{Entry}
 use Rattle.wl_objects.specs.declared.error.Fault.{Fault}
 use Rattle.wl_objects.specs.declared.error.Fault.TheVariants as faults
-use Rattle.wl_objects.specs.Reading.{Reader, forgiving, arguments_at, descriptors, reports_of}
+use Rattle.wl_objects.specs.Reading.{Reader, forgiving, arguments_at, reports_of}
 use Rattle.wl_objects.specs.Messages.{Received, is_error, received_whole}
 use Rattle.wl_objects.specs.Messages.{received_as, received_by, received}
 use Rattle.wl_connection.specs.Core.{Core, with_arrived}
@@ -118,9 +118,9 @@ pub meets : (tables : List Interface) (side : Side) (reader : Reader) (header : 
     → Meets (λ w. received tables side reader header body w)
 meets tables side reader header body = by_meets tables side reader header body (reader.object header.object)
 
--- ---- what is found, whatever comes behind it
+-- ---- what is found, whatever follows it
 
--- what stands in front, with more behind it
+-- what is at the front, with more after it
 pub data Finds (core : Core) (side : Side) : Type 0 where
   nothing : in_front core.inbox ≡ More → Finds core side
   fault : (what : Fault) → ((bytes tokens : List ℕ) → found (with_arrived core bytes tokens) side ≡ Err what)
@@ -187,7 +187,7 @@ arrived_twice core a s b t =
 
 -- ---- a message that was found
 
--- the message is found there whatever comes behind it, and all that it takes is there
+-- the message is found there whatever follows it, and all that it takes is there
 pub record IsFound (core : Core) (side : Side) (f : Found) : Type 0 where
   pub low : 8 ≤ f.size
   pub there : f.size ≤ length core.inbox.bytes
@@ -269,7 +269,7 @@ reported_own core side f h =
     sym (reports_stay (reader_in core side) own (drop n core.inbox.tokens) f.message.values
     (omega (arith, len, h.count))) ∙ ap (λ (l : List ℕ). reports_of (reader_in core side) l f.message.values) whole
 
--- what comes behind it stays behind it
+-- what follows it stays after it
 pub past_stays : (core : Core) (side : Side) (f : Found) (bytes tokens : List ℕ) → IsFound core side f
     → past_found (with_arrived core bytes tokens) f ≡ with_arrived (past_found core f) bytes tokens
 past_stays core side f bytes tokens h =
@@ -286,7 +286,7 @@ past_stays core side f bytes tokens h =
       };
     }
 
--- fewer bytes wait behind it
+-- fewer bytes wait after it
 pub past_shorter : (core : Core) (side : Side) (f : Found) → IsFound core side f
     → length (past_found core f).inbox.bytes < length core.inbox.bytes
 past_shorter core side f h = omega (arith, length-drop f.size core.inbox.bytes, h.low, h.there)

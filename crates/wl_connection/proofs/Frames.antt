@@ -1,4 +1,4 @@
--- What stands in front of an end, where the frame of a message was told.
+-- What is at the front of an end that has found the frame of a message.
 use Rattle.std.proofs.Common.{◌≡◌, ℕ, ◌<◌, ◌≤◌, List, ◌++◌, length, take, drop, get_or, sym, ap, ◌∙◌}
 use Rattle.std.proofs.Common.{arith}
 use Rattle.std.proofs.lemmas.List.{take-append-drop, append_assoc}
@@ -14,13 +14,13 @@ use Rattle.wl_sigs.specs.declared.signature.Side.{Side}
 use Rattle.wl_message.specs.declared.inbox.Frame.{Frame}
 use Rattle.wl_message.specs.Arrived.{TellsFront, in_front}
 use Rattle.wl_message.specs.Cut.{Front, Whole, message_size}
-use Rattle.wl_objects.specs.Reading.{descriptors, is_descriptor_kind}
+use Rattle.wl_sigs.specs.Tables.{descriptors, is_descriptor_kind}
 use Rattle.wl_objects.specs.Messages.{received}
 use Rattle.wl_connection.specs.Core.{Core}
 use Rattle.wl_connection.specs.Receiving.{reader_in, found, found_at, found_in, header_of}
 use Rattle.wl_connection.proofs.ReceivedMessage.{first-tokens}
 
--- a frame as it is told
+-- a frame as it was found
 pub record IsFrame (core : Core) (h : Header) (body : List ℕ) (waiting : ℕ) : Type 0 where
   pub header : IsHeader h
   pub whole : in_front core.inbox ≡ Whole h.size

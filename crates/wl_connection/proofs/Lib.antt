@@ -13,7 +13,6 @@ pub mod Ends
 pub mod NewIds
 pub mod ReadsGoOn
 pub mod TwoParts
-pub mod AnyCut
 pub mod Roles
 pub mod MadeByEvent
 pub mod ServerRange

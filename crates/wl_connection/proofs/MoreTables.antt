@@ -13,7 +13,7 @@ use Rattle.wl_sigs.specs.Extended.{extended}
 use Rattle.wl_sigs.specs.Extending.{first_line_broken}
 use Rattle.wl_sigs.specs.Outcome.{extended_unless, outcome, outcome_of}
 use Rattle.wl_sigs.specs.Valid.{Valid}
-use Rattle.wl_interface_text.specs.Text.{WrittenInterface, interfaces_from}
+use Rattle.wl_text.specs.Text.{WrittenInterface, interfaces_from}
 use Rattle.wl_sigs.proofs.Lookups.{found, signature_from}
 use Rattle.wl_sigs.proofs.ServerObjectsTold.{told_by}
 use Rattle.wl_object_map.specs.Objects.{Objects}

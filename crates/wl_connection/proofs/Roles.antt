@@ -1,5 +1,4 @@
--- What follows from what an end is to the other: it has one reading, whatever the cut, and goes on
--- reading.
+-- What follows from what an end is to the other: what it reads next, and that it goes on reading.
 use Rattle.std.proofs.Common.{◌≡◌, ◌≢◌, ℕ, ◌<◌, inl, inr, Bool, true, false, cond, List, [], length}
 use Rattle.std.proofs.Common.{refl, sym, ap, subst, ◌∙◌}
 use Rattle.std.specs.declared.option.Option.{Option}
@@ -17,7 +16,6 @@ use Rattle.wl_connection.specs.Outcomes.{AnswersOrMemory, answers_with, read_as,
 use Rattle.wl_connection.specs.Reads.{Answer, IsCoreOf, with_arrivals, Reads, fault, full, nothing}
 use Rattle.wl_connection.specs.Reads.{ReadsUntil, ReadsReport, ReadsNothing, ReadsNext}
 use Rattle.wl_connection.specs.Roles.{Role, front_answer, role_answer, front_left, role_after, role_reading}
-use Rattle.wl_connection.proofs.AnyCut.{IsOfMessage, IsFaultAgain, IsFault, stays, comes, IsReading}
 use Rattle.wl_connection.proofs.FoundStays.{IsFound, is_found, past_shorter, none_short}
 use Rattle.wl_connection.proofs.ReceivedMessage.{some_report}
 
@@ -72,11 +70,11 @@ module _ {S R : Type 0} (role : Role S R) where
       → role_after role state ≡ front_left role state (role.in_front state)
   leaves state h = ap (λ (b : Bool). cond b state (front_left role state (role.in_front state))) h
 
-  failed_answer : (state : S) → (role.core state).failed ≡ true → role_answer role state ≡ Err errors.Failed
+  pub failed_answer : (state : S) → (role.core state).failed ≡ true → role_answer role state ≡ Err errors.Failed
   failed_answer state h = ap
       (λ (b : Bool). cond b (Err errors.Failed) (front_answer role (role.core state) (role.in_front state))) h
 
-  not_failed : (state : S) (b : Bool) → (role.core state).failed ≡ b → role_answer role state ≢ Err errors.Failed
+  pub not_failed : (state : S) (b : Bool) → (role.core state).failed ≡ b → role_answer role state ≢ Err errors.Failed
       → (role.core state).failed ≡ false
   not_failed state true h n = absurd (n (failed_answer state h))
   not_failed state false h n = h
@@ -85,19 +83,13 @@ module _ {S R : Type 0} (role : Role S R) where
   sound_none state e = not_failed state (role.core state).failed refl (λ h. cc (h, e))
 
 -- the message that is read next: it is found, and what is answered and left
-record ReadsMessage {S R : Type 0} (role : Role S R) (state : S) (r : R) : Type 0 where
-  sound : (role.core state).failed ≡ false
-  message : Found
-  front : role.in_front state ≡ Ok (Some message)
-  room : role.is_full (role.core state) message ≡ false
-  is : role.report (role.core state) message ≡ r
-  left : role_after role state ≡ role.past state message
-
--- a fault of what stands in front
-record Fails {S R : Type 0} (role : Role S R) (state : S) (what : Fault) (offset : ℕ) : Type 0 where
-  sound : (role.core state).failed ≡ false
-  front : role.in_front state ≡ Err what
-  offset_is : (role.core state).read ≡ offset
+pub record ReadsMessage {S R : Type 0} (role : Role S R) (state : S) (r : R) : Type 0 where
+  pub sound : (role.core state).failed ≡ false
+  pub message : Found
+  pub front : role.in_front state ≡ Ok (Some message)
+  pub room : role.is_full (role.core state) message ≡ false
+  pub is : role.report (role.core state) message ≡ r
+  pub left : role_after role state ≡ role.past state message
 
 module _ {S R : Type 0} (role : Role S R) where
   read_by : (state : S) (r : R) (f : Found) (b : Bool) → (role.core state).failed ≡ false
@@ -121,31 +113,10 @@ module _ {S R : Type 0} (role : Role S R) where
   read_front state r (Ok None) s e a = absurd (cc a)
   read_front state r (Ok (Some f)) s e a = read_by state r f (role.is_full (role.core state) f) s e refl a
 
-  read : (state : S) (r : R) → role_answer role state ≡ Ok (Some r) → ReadsMessage role state r
+  pub read : (state : S) (r : R) → role_answer role state ≡ Ok (Some r) → ReadsMessage role state r
   read state r e =
       let s = not_failed role state (role.core state).failed refl (λ h. cc (h, e)) in
       read_front state r (role.in_front state) s refl (sym (answers role state s) ∙ e)
-
-  no_fault : (state : S) (f : Found) (what : Fault) (offset : ℕ) (b : Bool)
-      → cond b (Err errors.OutFull) (Ok (Some (role.report (role.core state) f))) ≢ Err (errors.Fault what offset)
-  no_fault state f what offset true a = cc a
-  no_fault state f what offset false a = cc a
-
-  fails_by : (state : S) (what : Fault) (offset : ℕ) (x : Result (Option Found) Fault)
-      → (role.core state).failed ≡ false → role.in_front state ≡ x
-      → front_answer role (role.core state) x ≡ Err (errors.Fault what offset) → Fails role state what offset
-  fails_by state what offset (Err other) s e a =
-      let same : other ≡ what = cc a in
-      record { sound = s; front = e ∙ ap Err same; offset_is = cc a }
-  fails_by state what offset (Ok None) s e a = absurd (cc a)
-  fails_by state what offset (Ok (Some f)) s e a =
-      absurd (no_fault state f what offset (role.is_full (role.core state) f) a)
-
-  fails : (state : S) (what : Fault) (offset : ℕ) → role_answer role state ≡ Err (errors.Fault what offset)
-      → Fails role state what offset
-  fails state what offset e =
-      let s = not_failed role state (role.core state).failed refl (λ h. cc (h, e)) in
-      fails_by state what offset (role.in_front state) s refl (sym (answers role state s) ∙ e)
 
   not_nothing : (state : S) (f : Found) (b : Bool)
       → cond b (Err errors.OutFull) (Ok (Some (role.report (role.core state) f))) ≢ Ok None
@@ -203,20 +174,20 @@ module _ {S R : Type 0} (role : Role S R) where
 -- ---- what comes behind what is read stays there
 
 module _ {S R : Type 0} (role : Role S R) (i : IsRole role) where
-  later_sound : (state : S) (bytes tokens : List ℕ) → (role.core state).failed ≡ false
+  pub later_sound : (state : S) (bytes tokens : List ℕ) → (role.core state).failed ≡ false
       → (role.core (later role state bytes tokens)).failed ≡ false
   later_sound state bytes tokens h = ap (λ (c : Core). c.failed)
       (i.laws.new state (with_arrived (role.core state) bytes tokens)) ∙ h
 
-  later_read : (state : S) (bytes tokens : List ℕ)
+  pub later_read : (state : S) (bytes tokens : List ℕ)
       → (role.core (later role state bytes tokens)).read ≡ (role.core state).read
   later_read state bytes tokens = ap (λ (c : Core). c.read)
       (i.laws.new state (with_arrived (role.core state) bytes tokens))
 
-  found_there : (state : S) (r : R) (m : ReadsMessage role state r) → IsFound (role.core state) role.reads m.message
+  pub found_there : (state : S) (r : R) (m : ReadsMessage role state r) → IsFound (role.core state) role.reads m.message
   found_there state r m = is_found (role.core state) role.reads m.message (i.is_there state m.message m.front)
 
-  answer_stays : (state : S) (r : R) (bytes tokens : List ℕ) → role_answer role state ≡ Ok (Some r)
+  pub answer_stays : (state : S) (r : R) (bytes tokens : List ℕ) → role_answer role state ≡ Ok (Some r)
       → role_answer role (later role state bytes tokens) ≡ Ok (Some r)
   answer_stays state r bytes tokens e =
       let m = read role state r e in
@@ -227,7 +198,7 @@ module _ {S R : Type 0} (role : Role S R) (i : IsRole role) where
       (i.room_stays state m.message bytes tokens ∙ m.room)
       ∙ ap (λ (x : R). Ok (Some x)) (i.report_stays state m.message bytes tokens (found_there state r m) ∙ m.is)
 
-  after_stays : (state : S) (r : R) (bytes tokens : List ℕ) → role_answer role state ≡ Ok (Some r)
+  pub after_stays : (state : S) (r : R) (bytes tokens : List ℕ) → role_answer role state ≡ Ok (Some r)
       → role_after role (later role state bytes tokens) ≡ later role (role_after role state) bytes tokens
   after_stays state r bytes tokens e =
       let m = read role state r e in
@@ -238,64 +209,6 @@ module _ {S R : Type 0} (role : Role S R) (i : IsRole role) where
       (i.room_stays state m.message bytes tokens ∙ m.room)
       ∙ i.past_stays state m.message bytes tokens (found_there state r m)
       ∙ ap (λ (s : S). later role s bytes tokens) (sym m.left)
-
-  -- the same fault with more behind it
-  fault_again : (state : S) (what : Fault) (offset : ℕ) (bytes tokens : List ℕ) → Fails role state what offset
-      → role.in_front (later role state bytes tokens) ≡ Err what
-      → IsFaultAgain (role_reading role) state what offset bytes tokens
-  fault_again state what offset bytes tokens f h =
-      let more = later role state bytes tokens in
-      let s = later_sound state bytes tokens f.sound in
-      record {
-        is = answers role more s ∙ ap (front_answer role (role.core more)) h
-            ∙ ap (λ (n : ℕ). Err (errors.Fault what n)) (later_read state bytes tokens ∙ f.offset_is);
-        leaves = leaves role more s ∙ ap (front_left role more) h ∙ i.failing_stays state what bytes tokens
-            ∙ ap (λ (s : S). later role s bytes tokens)
-            (sym (leaves role state f.sound ∙ ap (front_left role state) f.front));
-      }
-
-  fault_leaves : (state : S) (what : Fault) (offset : ℕ) → role_answer role state ≡ Err (errors.Fault what offset)
-      → (role.core (role_after role state)).inbox.bytes ≡ (role.core state).inbox.bytes
-  fault_leaves state what offset e =
-      let f = fails role state what offset e in
-      ap (λ (s : S). (role.core s).inbox.bytes) (leaves role state f.sound ∙ ap (front_left role state) f.front)
-      ∙ i.failing_waits state what
-
-  message_of : (state : S) (r : R) → role_answer role state ≡ Ok (Some r)
-      → IsOfMessage (role_reading role) role.reads state
-  message_of state r e =
-      let m = read role state r e in
-      record {
-        message = m.message;
-        there = i.is_there state m.message m.front;
-        left = ap (λ (s : S). waiting_part (role.core s)) m.left ∙ i.past_waits state m.message;
-        kept = ap (λ (s : S). (role.core s).inbox.limit) m.left ∙ i.past_limit state m.message;
-      }
-
-  fault_by : (state : S) (what : Fault) (offset : ℕ) → Fails role state what offset → FrontFault role state what
-      → IsFault (role_reading role) role.reads state what offset
-  fault_by state what offset f (own h) =
-      stays (λ bytes tokens. fault_again state what offset bytes tokens f (h bytes tokens))
-  fault_by state what offset f (of_found e h) =
-      comes e (λ bytes tokens g. fault_again state what offset bytes tokens f (h bytes tokens g))
-
-  fault_of : (state : S) (what : Fault) (offset : ℕ) → role_answer role state ≡ Err (errors.Fault what offset)
-      → IsFault (role_reading role) role.reads state what offset
-  fault_of state what offset e =
-      let f = fails role state what offset e in
-      fault_by state what offset f (i.fault_stays state what f.front)
-
-  pub is_reading : IsReading (role_reading role) role.reads
-  is_reading = record {
-    laws = i.laws;
-    failed = failed_answer role;
-    report_stays = answer_stays;
-    leaves_more = after_stays;
-    message = message_of;
-    sound = λ state what offset e. (fails role state what offset e).sound;
-    fault = fault_of;
-    fault_leaves = fault_leaves;
-  }
 
   -- ---- what is read next
 

@@ -16,7 +16,7 @@ use Rattle.wl_wire.specs.Argument.{Argument, Int, Uint, Fixed, Str, Obj, New, Ne
 use Rattle.wl_wire.proofs.Canonicals.{canonical-spells, header_at-bytes, header_bytes-at}
 use Rattle.wl_wire.proofs.Numbers.{number_at_fits}
 use Rattle.wl_sigs.specs.declared.signature.Side.{Side}
-use Rattle.wl_sigs.specs.Tables.{Interface, MessageSignature, signature_at}
+use Rattle.wl_sigs.specs.Tables.{Interface, MessageSignature, signature_at, descriptors}
 use Rattle.wl_message.specs.Arrived.{in_front}
 use Rattle.wl_message.specs.Cut.{usual_limit, Front, More, Bad, Whole, IsSize, told_size}
 use Rattle.wl_message.proofs.Fronts.{front_stands, parts_of}
@@ -28,7 +28,7 @@ use Rattle.wl_object_map.specs.Objects.{Objects, ObjectsAreSound, look, next_id}
 use Rattle.wl_object_map.specs.ObjectsLaws.{next-low}
 use Rattle.wl_objects.specs.declared.error.Fault.{Fault}
 use Rattle.wl_objects.specs.declared.error.Fault.TheVariants as faults
-use Rattle.wl_objects.specs.Reading.{Reader, forgiving, arguments_at, descriptors}
+use Rattle.wl_objects.specs.Reading.{Reader, forgiving, arguments_at}
 use Rattle.wl_objects.specs.Spelling.{SpellsAll}
 use Rattle.wl_objects.specs.Spelling as spelling
 use Rattle.wl_wire.specs.Spelling.{Suits}
@@ -268,7 +268,7 @@ header_size bytes h i e =
     let t : told_size (header_bytes h ++ drop 8 bytes) ≡ h.size = told_header h.size h.opcode i.size i.opcode in
     sym (ap told_size s ∙ t)
 
--- what stands in front, and how it was read
+-- what is at the front, and how it was read
 abbrev IsFront : Core → Side → Front → Found → Type 0
 IsFront core side fr f = (fr ≡ Whole f.size) × (f.opcode ≡ (header_of core.inbox.bytes).opcode)
     × (received core.tables side (reader_in core side) (header_of core.inbox.bytes)

@@ -1,26 +1,25 @@
--- How an end reads a stream, however it is cut into pieces, and whichever end it is.
-use Rattle.std.specs.Prelude.{◌≡◌, ◌≢◌, ◌⊎◌, ℕ, ◌<◌, Bool, true, false, List, [], ◌∷◌, length, map, take}
+-- How either end reads a stream that arrives in any pieces.
+use Rattle.std.specs.Prelude.{◌≡◌, ◌≢◌, ◌⊎◌, ℕ, ◌<◌, Bool, true, false, List, [], ◌∷◌, length, map}
+use Rattle.std.specs.Prelude.{take}
 use Rattle.std.specs.Prelude.{drop, Option, Some, None}
 use Rattle.std.specs.declared.result.Result.{Result}
 use Rattle.std.specs.declared.result.Result.TheVariants.{Ok, Err}
-use Rattle.wl_sigs.specs.declared.signature.Side.{Side}
 use Rattle.wl_message.specs.declared.amounts.Amounts.{Amounts}
 use Rattle.wl_message.specs.Arrived.{free_tokens}
-use Rattle.wl_message.specs.InStep.{Part, Need, InStep, part_bytes, part_tokens}
+use Rattle.wl_message.specs.InStep.{Part, part_bytes, part_tokens}
 use Rattle.wl_objects.specs.declared.error.Fault.{Fault}
 use Rattle.wl_objects.specs.declared.error.NextError.{NextError}
 use Rattle.wl_objects.specs.declared.error.NextError.TheVariants as errors
 use Rattle.wl_connection.specs.declared.streams.ReadAll.{ReadAll}
 use Rattle.wl_connection.specs.Core.{Core, with_arrived, no_room}
-use Rattle.wl_connection.specs.Streams.{BeginWith, Wants, IsTaken, taken_bytes, taken_tokens}
-use Rattle.wl_connection.specs.Streams.{untaken, NoneFits, waiting_part}
+use Rattle.wl_connection.specs.Streams.{IsTaken, taken_bytes, taken_tokens, NoneFits}
 
--- what a reading returns: a report, nothing where no whole message waits, or why none can be read
+-- the result of a read: a report, nothing if no whole message waits, or why none can be read
 abbrev pub Answer : Type 0 → Type 0
 Answer R = Result (Option R) NextError
 
--- How an end reads: what `next_owned` returns and leaves where memory is not refused, and after
--- which report nothing more is read.
+-- How an end reads: what `next_owned` returns and leaves if memory is not refused, and after which
+-- report nothing more is read.
 pub record Reading (S R : Type 0) : Type 0 where
   pub core : S → Core
   pub with_core : S → Core → S
@@ -33,20 +32,19 @@ abbrev pub reading_of : {S R : Type 0} → (S → Core) → (S → Core → S)
 reading_of core with_core answer after is_last =
     record { core = core; with_core = with_core; answer = answer; after = after; is_last = is_last }
 
--- what an end consists of besides its core stays as it is where the core is replaced
+-- replacing the core leaves the rest of an end unchanged
 pub record IsCoreOf {S : Type 0} (core : S → Core) (with_core : S → Core → S) : Type 0 where
   pub kept : (state : S) → with_core state (core state) ≡ state
   pub new : (state : S) (c : Core) → core (with_core state c) ≡ c
   pub again : (state : S) (c d : Core) → with_core (with_core state c) d ≡ with_core state d
 
--- the end with more that came in
+-- the end after more has come in
 abbrev pub with_arrivals : {S R : Type 0} → Reading S R → S → List ℕ → List ℕ → S
 with_arrivals e state bytes tokens = e.with_core state (with_arrived (e.core state) bytes tokens)
 
 -- All that waits is read: these are the reports of the messages, in order, why the reading stopped,
--- if it did, and the state that is left. Without a stop and without a last report no whole message
--- and no bad header is left. At a server whose outbox is too full for a delete_id the request
--- stays.
+-- if it did, and the state left. Without a stop and without a last report, no whole message and no
+-- bad header is left. At a server whose outbox has no room for a delete_id, the request stays.
 pub data Reads {S R : Type 0} (e : Reading S R) : S → List R → Option NextError → S → Type 0 where
   none : {state : S} → e.answer state ≡ Ok None → Reads e state [] None state
   fault : {state : S} {what : Fault} {offset : ℕ} → e.answer state ≡ Err (errors.Fault what offset)
@@ -60,42 +58,42 @@ pub data Reads {S R : Type 0} (e : Reading S R) : S → List R → Option NextEr
       → Reads e (e.after state) reports stop end → Reads e state (report ∷ reports) stop end
 
 -- Some of what waits is read, from the first message on: these are the reports, none of them a last
--- one, and the state that is left.
+-- one, and the state left.
 pub data ReadsSome {S R : Type 0} (e : Reading S R) : S → List R → S → Type 0 where
   nothing : {state : S} → ReadsSome e state [] state
   more : {state end : S} {report : R} {reports : List R}
       → e.answer state ≡ Ok (Some report) → e.is_last report ≡ false
       → ReadsSome e (e.after state) reports end → ReadsSome e state (report ∷ reports) end
 
--- a message stands in front that can be read and reported
+-- the first message can be read and reported
 abbrev pub HasReport : {S R : Type 0} → Reading S R → S → Type 0
 HasReport {R = R} e state = (report : R) × (e.answer state ≡ Ok (Some report))
 
--- Where memory was refused some of what waits is read, up to a message that can be read; else all
--- of it.
+-- If memory was refused, some of what waits is read, up to a message that can be read; else all of
+-- it.
 abbrev pub ReadsUntil : {S R : Type 0} → Reading S R → S → List R → Option NextError → S → Type 0
 ReadsUntil e state reports (Some errors.Memory) end =
     ReadsSome e state reports end × HasReport e end
 ReadsUntil e state reports stop end = Reads e state reports stop end
 
--- Something was taken of the piece at this place, counted from 0: all of it, or a part.
+-- All or part of the piece at this index, from 0, was taken.
 abbrev pub IsBegun : ReadAll → ℕ → Type 0
 IsBegun answer place =
     (place < answer.pieces) ⊎ ((place ≡ answer.pieces) × (answer.part ≢ no_room))
 
--- All that came before the piece at this place is read, without a stop and without a last report.
-pub record IsReadBefore {S R : Type 0} (e : Reading S R) (state : S) (pieces : List Part) (place : ℕ)
-    : Type 0 where
+-- All that came before the piece at this index is read, without a stop and without a last report.
+pub record IsReadBefore {S R : Type 0} (e : Reading S R) (state : S) (pieces : List Part)
+    (place : ℕ) : Type 0 where
   pub reports : List R
   pub end : S
   pub reads : Reads e (with_arrivals e state (part_bytes (take place pieces))
       (part_tokens (take place pieces))) reports None end
   pub goes_on : (e.core end).failed ≡ false
 
--- Pieces are read, as far as the result says: as if all that was taken of them had come at once.
--- Nothing but a stop and a last report ends it before a piece whose tokens find room. Nothing is
--- taken of a piece before all that came earlier is read; nothing where a stop or a last report is
--- among that.
+-- Pieces are read as far as the result says, as if all that was taken of them had come at once.
+-- Only a stop or a last report ends the reading before a piece whose tokens fit. Nothing is taken
+-- of a piece before all that came earlier is read, and nothing if that ends in a stop or a last
+-- report.
 pub record ReadsAll {S R : Type 0} (e : Reading S R) (state : S) (pieces : List Part)
     (reports : List R) (answer : ReadAll) (end : S) : Type 0 where
   pub taken : IsTaken pieces answer.pieces answer.part
@@ -105,13 +103,13 @@ pub record ReadsAll {S R : Type 0} (e : Reading S R) (state : S) (pieces : List 
   pub to_the_end : answer.stop ≡ None → (e.core end).failed ≡ false
       → (answer.part ≡ no_room) × NoneFits (free_tokens (e.core end).inbox) pieces answer.pieces
 
--- what the reports say that stand behind these others
+-- what the reports after the first ones say
 abbrev pub appended : {X R : Type 0} → (X → R) → List X → List X → List R
 appended seen before after = map seen (drop (length before) after)
 
 -- ---- one reading
 
--- A message is read, and would be read so with more behind it, which would stay behind.
+-- A message is read; it would be read in the same way if more followed, which would stay.
 pub record ReadsReport {S R : Type 0} (e : Reading S R) (state : S) (report : R) (end : S)
     : Type 0 where
   pub is : e.answer state ≡ Ok (Some report)
@@ -129,7 +127,7 @@ pub record ReadsNothing {S R : Type 0} (e : Reading S R) (state : S) : Type 0 wh
   pub sound : (e.core state).failed ≡ false
   pub short : length (e.core state).inbox.bytes < (e.core state).inbox.limit.bytes
 
--- What one reading returns and leaves, at an end that has not failed.
+-- What one read returns and leaves at an end that has not failed.
 abbrev pub ReadsNext : {S R X : Type 0} → Reading S R → (X → R) → S → Answer X → S → Type 0
 ReadsNext e seen state (Ok (Some report)) end = ReadsReport e state (seen report) end
 ReadsNext e seen state (Ok None) end = (end ≡ state) × ReadsNothing e state
@@ -137,21 +135,20 @@ ReadsNext e seen state (Err why) end = ReadsUntil e state [] (Some why) end
 
 -- ---- the parts of a reading
 
--- Some of what waits is read, and would be read so with more behind it, which would stay behind.
+-- Some of what waits is read; it would be read in the same way if more followed, which would stay.
 abbrev pub ReadsOn : {S R : Type 0} → Reading S R → S → List R → S → Type 0
 ReadsOn e state reports end = (bytes tokens : List ℕ)
     → ReadsSome e (with_arrivals e state bytes tokens) reports (with_arrivals e end bytes tokens)
 
--- What waits is read: all of it, with nothing left to read; or up to a stop, or to a last report,
--- where there is none.
+-- What waits is read: all of it, with nothing left to read; or up to a stop; or up to a last
+-- report, with no stop.
 abbrev pub WaitingIsRead : {S R X : Type 0} → Reading S R → S → List R → Result X (Option NextError)
     → S → Type 0
 WaitingIsRead e state reports (Ok _) end = ReadsOn e state reports end × ReadsNothing e end
 WaitingIsRead e state reports (Err stop) end =
     ReadsUntil e state reports stop end × (stop ≡ None → (e.core end).failed ≡ true)
 
--- A piece is read, whose tokens find room: it is taken whole; or part of it, where the reading
--- stopped.
+-- A piece whose tokens fit is read: it is taken whole; or in part, if the reading stopped.
 abbrev pub PieceIsRead : {S R X : Type 0} → Reading S R → S → Part → List R → Result X ReadAll → S
     → Type 0
 PieceIsRead e state piece reports (Ok _) end =
@@ -165,60 +162,3 @@ PieceIsRead e state piece reports (Err ended) end =
     × (ended.stop ≡ None → (e.core end).failed ≡ true)
     × (ended.part.bytes < length piece.bytes) × (ended.part.tokens ≡ length piece.tokens)
     × (ended.pieces ≡ 0)
-
--- ---- pieces that come in step
-
--- What waits begins with messages of these needs: each is read before the next stands in front.
--- Messages of this side come in.
-pub data BeginsWithNeeds {S R : Type 0} (e : Reading S R) (side : Side) : S → List Need
-    → Type 0 where
-  here : {state : S} → BeginsWithNeeds e side state []
-  ends : {state : S} {need : Need} → (e.core state).failed ≡ false → Wants (e.core state) side need
-      → BeginsWithNeeds e side state (need ∷ [])
-  goes_on : {state : S} {need : Need} {needs : List Need} {report : R}
-      → e.answer state ≡ Ok (Some report) → Wants (e.core state) side need
-      → BeginsWithNeeds e side (e.after state) needs → BeginsWithNeeds e side state (need ∷ needs)
-
--- the pieces bring the messages in step, with which what waits begins
-abbrev pub ComeInStep : {S R : Type 0} → Reading S R → Side → S → List Part → Type 0
-ComeInStep e side state pieces =
-    (needs : List Need) → BeginsWithNeeds e side state needs → InStep needs pieces
-
--- ---- what holds of how an end reads
-
--- What waits is read in one way. What is read of it is read in the same way when more comes behind
--- it, and that stays behind.
-pub record HasOneReading {S R : Type 0} (e : Reading S R) : Type 0 where
-  pub reports : (state last end : S) (reports others : List R) (stop halt : Option NextError)
-      → Reads e state reports stop last → Reads e state others halt end → reports ≡ others
-  pub stop : (state last end : S) (reports others : List R) (stop halt : Option NextError)
-      → Reads e state reports stop last → Reads e state others halt end → stop ≡ halt
-  pub left : (state last end : S) (reports others : List R) (stop halt : Option NextError)
-      → Reads e state reports stop last → Reads e state others halt end → last ≡ end
-  pub stays : (state last : S) (reports : List R) (bytes tokens : List ℕ)
-      → ReadsSome e state reports last
-      → ReadsSome e (with_arrivals e state bytes tokens) reports (with_arrivals e last bytes tokens)
-
--- It does not matter how a stream is cut, where its pieces are in step: what was read up to a
--- fault, or to the last report that there is, is what would be read had all pieces come at once,
--- and what was not taken of them stays behind.
-abbrev pub AnyCutReads : {S R : Type 0} → Reading S R → Side → Type 0
-AnyCutReads {S = S} {R = R} e side =
-    (state last : S) (pieces : List Part) (count : ℕ) (some : Amounts)
-    (reports : List R) (stop : Option NextError) → IsTaken pieces count some
-    → ComeInStep e side (with_arrivals e state (part_bytes pieces) (part_tokens pieces))
-    (waiting_part (e.core state) ∷ pieces)
-    → Reads e (with_arrivals e state (taken_bytes pieces count some)
-    (taken_tokens pieces count some))
-    reports stop last → (e.core last).failed ≡ true
-    → Reads e (with_arrivals e state (part_bytes pieces) (part_tokens pieces)) reports stop
-    (with_arrivals e last (part_bytes (untaken pieces count some))
-    (part_tokens (untaken pieces count some)))
-
--- What is read begins what waits: as many whole messages as there are reports, cut off by the sizes
--- in their headers, and then what is left.
-abbrev pub ReadsWhole : {S R : Type 0} → Reading S R → Type 0
-ReadsWhole {S = S} {R = R} e =
-    (state last : S) (reports : List R) (stop : Option NextError) → Reads e state reports stop last
-    → BeginWith (e.core state).inbox.limit.bytes (e.core state).inbox.bytes (length reports)
-    (e.core last).inbox.bytes

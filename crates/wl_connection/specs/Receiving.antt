@@ -1,4 +1,4 @@
--- What an end finds in front of its waiting bytes.
+-- What an end finds at the front of its waiting bytes.
 use Rattle.std.specs.Prelude.{ℕ, ◌%◌, ◌/◌, Bool, true, false, List, [], ◌∷◌, take, drop, length}
 use Rattle.std.specs.Prelude.{Option, Some, None}
 use Rattle.std.specs.declared.result.Result.{Result}
@@ -8,13 +8,14 @@ use Rattle.wl_wire.specs.Reading.{number_at}
 use Rattle.wl_sigs.specs.declared.signature.Side.{Side}
 use Rattle.wl_message.specs.Arrived.{in_front}
 use Rattle.wl_message.specs.Cut.{Front, More, Bad, Whole}
+use Rattle.wl_sigs.specs.Tables.{descriptors}
 use Rattle.wl_objects.specs.declared.error.Fault.{Fault}
 use Rattle.wl_objects.specs.declared.error.Fault.TheVariants as faults
-use Rattle.wl_objects.specs.Reading.{Reader, descriptors, Reported, reports_of}
+use Rattle.wl_objects.specs.Reading.{Reader, Reported, reports_of}
 use Rattle.wl_objects.specs.Messages.{Received, received, reader_of}
 use Rattle.wl_connection.specs.Core.{Core, past}
 
--- the header that the first eight bytes are
+-- the header in the first eight bytes
 abbrev pub header_of : List ℕ → Header
 header_of bytes = record {
   object = number_at bytes;
@@ -22,13 +23,13 @@ header_of bytes = record {
   opcode = number_at (drop 4 bytes) % 65536;
 }
 
--- a message that stands in front: its number of bytes, its opcode, and what was read
+-- a message at the front: its length in bytes, its opcode, and what was read
 pub record Found : Type 0 where
   pub size : ℕ
   pub opcode : ℕ
   pub message : Received
 
--- what an end knows that reads messages of a side
+-- what an end knows when it reads messages of a side
 abbrev pub reader_in : Core → Side → Reader
 reader_in core side = reader_of core.tables side core.view
 
@@ -45,13 +46,13 @@ found_at core side (Whole size) =
     (received core.tables side (reader_in core side) (header_of core.inbox.bytes)
     (drop 8 (take size core.inbox.bytes)) (length core.inbox.tokens))
 
--- What stands in front of the waiting bytes: no whole message yet, a message, or a fault; messages
+-- What is at the front of the waiting bytes: no whole message yet, a message, or a fault. Messages
 -- of this side come in.
 abbrev pub found : Core → Side → Result (Option Found) Fault
 found core side = found_at core side (in_front core.inbox)
 
--- the arguments of a message of this side as they are reported: objects by the rows before the
--- message, descriptors as the first tokens that wait
+-- the arguments of a message of this side as reported: objects by the rows before the message,
+-- descriptors by the first waiting tokens
 abbrev pub reported : Core → Side → Received → List Reported
 reported core side message = reports_of (reader_in core side) core.inbox.tokens message.values
 
@@ -63,7 +64,7 @@ takes message = descriptors message.signature.kinds
 abbrev pub own_tokens : Core → Received → List ℕ
 own_tokens core message = take (takes message) core.inbox.tokens
 
--- the end after the message in front was taken
+-- the end after the first message was taken
 abbrev pub past_found : Core → Found → Core
 past_found core f = past core f.size (takes f.message)
 

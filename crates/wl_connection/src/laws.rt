@@ -1,4 +1,4 @@
-//! What holds of what an end reads. These functions do nothing: each is called for what it ensures.
+//! Laws of what an end reads. These functions do nothing; each is called for what it ensures.
 ghost use Rattle.std.specs.Prelude.{◌≡◌, ◌<◌, ℕ, false, List, [], ◌∷◌, ◌++◌, length};
 ghost use Rattle.std.specs.declared.option.Option.{Option};
 ghost use Rattle.std.specs.declared.option.Option.TheVariants.{None, Some};
@@ -6,8 +6,6 @@ ghost use Rattle.std.specs.declared.result.Result.{Result};
 ghost use Rattle.std.specs.declared.result.Result.TheVariants.{Ok, Err};
 ghost use Rattle.wl_sigs.specs.declared.signature.Side.{Side};
 ghost use Rattle.wl_sigs.specs.declared.signature.Side.TheVariants.{Event as event_side};
-ghost use Rattle.wl_message.specs.declared.amounts.Amounts.{Amounts};
-ghost use Rattle.wl_message.specs.InStep.{Part, Need, part_bytes, part_tokens, InStep};
 ghost use Rattle.wl_sigs.specs.Tables.{Interface, MessageSignature};
 ghost use Rattle.wl_sigs.specs.Rules.{has_server_objects};
 ghost use Rattle.wl_sigs.specs.Outcome.{outcome};
@@ -24,13 +22,12 @@ ghost use Rattle.wl_connection.specs.MoreTables.{Extend};
 ghost use Rattle.wl_connection.specs.Receiving.{Found, found, reported, past_found};
 ghost use Rattle.wl_connection.specs.Sending.{IsSendAnswer, OpensNothing, opens_object};
 ghost use Rattle.wl_connection.specs.Spelled.{CallsSpell, FoundSpells};
-ghost use Rattle.wl_connection.specs.Streams.{IsTaken, taken_bytes, taken_tokens, untaken, longer};
 
 use wl_sigs::places_and_opcodes_stay;
 
-/// A message that stands in front is found there whatever comes behind it: it is reported by the
-/// same tokens, and what comes stays behind it. So is a fault, but for missing descriptors, which
-/// may still come.
+/// A message at the front is found there whatever follows it: it is reported with the same tokens,
+/// and what follows remains. The same holds for a fault, except for missing descriptors, which may
+/// still come.
 pub fn found_stays()
     ensures message { (core : Core) (side : Side) (f : Found) (bytes tokens : List ℕ)
         → found core side ≡ Ok (Some f)
@@ -50,24 +47,8 @@ pub fn found_stays()
         → length core.inbox.bytes < core.inbox.limit.bytes }
 {}
 
-/// What was taken of pieces, and what was not, are all; and pieces in step stay so when what was
-/// taken of them joins what waits.
-pub fn taking_keeps_pieces()
-    ensures bytes { (pieces : List Part) (count : ℕ) (some : Amounts)
-        → taken_bytes pieces count some ++ part_bytes (untaken pieces count some)
-        ≡ part_bytes pieces }
-    ensures tokens { (pieces : List Part) (count : ℕ) (some : Amounts)
-        → taken_tokens pieces count some ++ part_tokens (untaken pieces count some)
-        ≡ part_tokens pieces }
-    ensures step { (needs : List Need) (waits : Part) (pieces : List Part) (count : ℕ)
-        (some : Amounts)
-        → IsTaken pieces count some → InStep needs (waits ∷ pieces)
-        → InStep needs (longer waits (taken_bytes pieces count some)
-        (taken_tokens pieces count some) ∷ untaken pieces count some) }
-{}
-
-/// A message is a spelling of its values: one that was written, by a call that passed its checks,
-/// and one that is found in front of what waits. In wl_display.error the object may be null.
+/// A message is a spelling of its values, both if a call wrote it after passing its checks, and if
+/// it is found at the front of what waits. In wl_display.error the object may be null.
 pub fn messages_are_spelled()
     ensures written { (core : Core) (side : Side) (target : Object) (opcode : ℕ)
         (given : List Given) (signature : MessageSignature)
@@ -75,8 +56,8 @@ pub fn messages_are_spelled()
     ensures read { (core : Core) (side : Side) (f : Found) → FoundSpells core side f }
 {}
 
-/// A call that opens no object returns none where it is accepted, and neither S10 nor S11. An event
-/// opens none where the tables have no events by which the server makes objects.
+/// A call that opens no object returns none if it is accepted, and neither S10 nor S11. An event
+/// opens none if the tables have no events by which the server makes objects.
 pub fn openings_alone_need_memory()
     ensures nothing { (core : Core) (side : Side) (target : Object) (opcode : ℕ)
         (given : List Given) (result : Result (Option Object) SendError)
@@ -90,7 +71,7 @@ pub fn openings_alone_need_memory()
         → opens_object (checked limit tables event_side view target opcode given) ≡ false }
 {}
 
-/// What is read of a text over tables extends these tables.
+/// The tables read from a text over given tables extend these.
 pub fn texts_extend()
     ensures { (tables more : List Interface) (text : List ℕ) → outcome tables text ≡ Ok more
         → Extend tables more }

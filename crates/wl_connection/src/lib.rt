@@ -1,8 +1,8 @@
-//! What the two ends of a Wayland connection have in common: the signature tables, the objects,
-//! the two queues, and what is written and read through them.
+//! What the two ends of a Wayland connection have in common: the signature tables, the objects, the
+//! two queues, and what is written and read through them.
 //!
-//! Requests are what a client writes and a server reads, events the other way round; so a side
-//! says which end is meant.
+//! A client writes requests and reads events, a server the reverse; so a `Side` says which messages
+//! are meant.
 #![tactic(auto)]
 
 mod end;
@@ -19,10 +19,7 @@ mod waiting;
 
 pub use end::End;
 pub use endpoint::Endpoint;
-pub use laws::{
-    found_stays, messages_are_spelled, openings_alone_need_memory, taking_keeps_pieces,
-    texts_extend,
-};
+pub use laws::{found_stays, messages_are_spelled, openings_alone_need_memory, texts_extend};
 pub use receive::MAX_TOKENS;
 pub use receiver::Receiver;
 pub use role::{Role, read, read_owned};

@@ -84,10 +84,14 @@ parts_of bytes h low there e =
 pub header_alone : (xs : List ℕ) → drop 8 (take 8 xs) ≡ []
 header_alone xs = drop_all 8 (take 8 xs) (omega (arith, length-take 8 xs))
 
+-- a front that ends in the first of two lists, one after the other, is that list's
+pub front_of_first : {X : Type 0} (a b c : List X) (n : ℕ) → a ++ b ≡ c → n ≤ length a → take n a ≡ take n c
+front_of_first a b c n e h = sym (take-append-le n a b h) ∙ ap (take n) e
+
 -- the front of two lists, one after the other, ends in the first
 pub front_in_first : {X : Type 0} (a b c : List X) (n : ℕ) → a ++ b ≡ c → n ≤ length a
     → take n a ++ take 0 b ≡ take n c
-front_in_first a b c n e h = append-nil (take n a) ∙ sym (take-append-le n a b h) ∙ ap (take n) e
+front_in_first a b c n e h = append-nil (take n a) ∙ front_of_first a b c n e h
 
 -- or goes past it
 pub front_past_first : {X : Type 0} (a b c : List X) (n : ℕ) → a ++ b ≡ c → length a ≤ n

@@ -7,7 +7,7 @@ use circular_buffer::HeapCircularBuffer;
 use std::alloc::Allocator;
 use wl_wire::Encode;
 
-/// Appends items for which there is room.
+/// Appends items; there must be room for them.
 #[tactic(auto, using(std::proofs::lemmas::List::take_all))]
 pub(crate) fn append<T: Copy + Drop, A: Allocator>(ring: &mut HeapCircularBuffer<T, A>, more: &[T])
     requires { length ring.old.items + length more.now ≤ ring.old.capacity }
@@ -16,7 +16,7 @@ pub(crate) fn append<T: Copy + Drop, A: Allocator>(ring: &mut HeapCircularBuffer
     ring.fill_from_slice(more);
 }
 
-/// Appends as many of these items as there is room for, from the first on, and returns how many.
+/// Appends as many of these items as fit, from the first on, and returns how many.
 pub(crate) fn fill<T: Copy + Drop, A: Allocator>(
     ring: &mut HeapCircularBuffer<T, A>,
     more: &[T],
@@ -30,7 +30,7 @@ pub(crate) fn fill<T: Copy + Drop, A: Allocator>(
     ring.fill_from_slice(more)
 }
 
-/// Appends a message for which there is room. It is written into the front of the store first.
+/// Appends a message, for which there must be room. It is first written to the front of `store`.
 pub(crate) fn append_encoded<E: Encode, A: Allocator>(
     ring: &mut HeapCircularBuffer<u8, A>,
     message: &E,
@@ -48,7 +48,7 @@ pub(crate) fn append_encoded<E: Encode, A: Allocator>(
     append(ring, &store[..len]);
 }
 
-/// Some of the first items, at most `most`; none only where there are none.
+/// Some of the first items, at most `most`; empty only if there are none.
 pub(crate) fn first_part<T, A: Allocator>(ring: &HeapCircularBuffer<T, A>, most: usize) -> &[T]
     ensures front { result.now ≡ take (length result.now) ring.now.items }
     ensures most { length result.now ≤ most }
@@ -77,8 +77,24 @@ pub(crate) fn first_in_parts<T, A: Allocator>(
     (front, &back[..n - front.len()])
 }
 
-/// Copies the first items, as many as the slice has places. They stay in the ring.
+/// Copies the first items, enough to fill the slice; at once if they are in one part of the ring.
+/// They stay in the ring.
+#[tactic(auto, using(crate::proofs::Fronts::front_of_first))]
 pub(crate) fn copy_first<T: Copy, A: Allocator>(ring: &HeapCircularBuffer<T, A>, to: &mut [T])
+    requires { length to.old ≤ length ring.now.items }
+    ensures { to.new ≡ take (length to.old) ring.now.items }
+{
+    let n = to.len();
+    let (front, _) = ring.as_slices();
+    if n <= front.len() {
+        to.copy_from_slice(&front[..n]);
+        return;
+    }
+    copy_parts(ring, to);
+}
+
+/// Copies the first items likewise, in two parts.
+fn copy_parts<T: Copy, A: Allocator>(ring: &HeapCircularBuffer<T, A>, to: &mut [T])
     requires { length to.old ≤ length ring.now.items }
     ensures { to.new ≡ take (length to.old) ring.now.items }
 {
@@ -87,7 +103,7 @@ pub(crate) fn copy_first<T: Copy, A: Allocator>(ring: &HeapCircularBuffer<T, A>,
     to[front.len()..].copy_from_slice(back);
 }
 
-/// Copies the first n items into the front of a slice. They stay in the ring.
+/// Copies the first n items to the front of a slice. They stay in the ring.
 #[tactic(auto, using(std::proofs::lemmas::List::take_at))]
 pub(crate) fn copy_into<T: Copy, A: Allocator>(
     ring: &HeapCircularBuffer<T, A>,
@@ -103,7 +119,7 @@ pub(crate) fn copy_into<T: Copy, A: Allocator>(
     copy_first(ring, &mut to[..n]);
 }
 
-/// Takes the first n items out.
+/// Removes the first n items.
 pub(crate) fn remove_first<T: Copy + Drop, A: Allocator>(
     ring: &mut HeapCircularBuffer<T, A>,
     n: usize,
@@ -115,7 +131,7 @@ pub(crate) fn remove_first<T: Copy + Drop, A: Allocator>(
     ring.truncate_front(left);
 }
 
-/// Moves the first n items into the front of a slice.
+/// Moves the first n items to the front of a slice.
 pub(crate) fn move_first<T: Copy + Drop, A: Allocator>(
     ring: &mut HeapCircularBuffer<T, A>,
     to: &mut [T],
@@ -131,7 +147,7 @@ pub(crate) fn move_first<T: Copy + Drop, A: Allocator>(
     }
 }
 
-/// Moves the first n items into a store, in place of what is there.
+/// Moves the first n items into a store, replacing its contents.
 pub(crate) fn move_to_store<T: Copy + Drop, A: Allocator>(
     ring: &mut HeapCircularBuffer<T, A>,
     to: &mut Vec<T, A>,
@@ -152,7 +168,7 @@ pub(crate) fn move_to_store<T: Copy + Drop, A: Allocator>(
     ring.truncate_front(left);
 }
 
-/// Copies the first n items into a store, in place of what is there. They stay in the ring.
+/// Copies the first n items into a store, replacing its contents. They stay in the ring.
 #[tactic(auto, using(crate::proofs::Fronts::parts_len))]
 fn copy_front<T: Copy + Drop, A: Allocator>(
     ring: &HeapCircularBuffer<T, A>,

@@ -18,12 +18,12 @@ use Rattle.wl_wire.proofs.Canonicals.{canonical-spells, canonical-len}
 use Rattle.wl_sigs.specs.declared.signature.Side.{Side}
 use Rattle.wl_sigs.specs.declared.signature.Side.TheVariants.{Request, Event}
 use Rattle.wl_sigs.specs.Fixed.{display, registry}
-use Rattle.wl_sigs.specs.Tables.{MessageSignature, Interface, signature_at}
+use Rattle.wl_sigs.specs.Tables.{MessageSignature, Interface, signature_at, descriptors}
 use Rattle.wl_object_map.specs.declared.object.Object.{Object}
 use Rattle.wl_object_map.specs.declared.object.Entry.{Entry}
 use Rattle.wl_objects.specs.declared.error.SendError.TheVariants as refusals
 use Rattle.wl_object_map.specs.Objects.{Objects, look}
-use Rattle.wl_objects.specs.Reading.{Reader, forgiving_kind, forgiving, arguments_at, descriptors}
+use Rattle.wl_objects.specs.Reading.{Reader, forgiving_kind, forgiving, arguments_at}
 use Rattle.wl_objects.specs.Spelling.{SpellsAll, MeetsKinds}
 use Rattle.wl_objects.specs.Spelling as spelling
 use Rattle.wl_objects.specs.Writing.{Given, wired, spelled, suits, wrong_place, lost_place}

@@ -16,11 +16,11 @@ use Rattle.wl_wire.specs.declared.kind.Iface.{Iface}
 use Rattle.wl_wire.specs.Argument.{Int, Uint, Fixed, Str, Obj, New, NewNamed, Array, Fd}
 use Rattle.wl_wire.specs.Spelling.{Suits, canonical, spelled_len, IsText}
 use Rattle.wl_wire.proofs.Canonicals.{canonical-spells, spelled-len, reading-canonical}
+use Rattle.wl_sigs.specs.Tables.{descriptors, is_descriptor_kind}
 use Rattle.wl_object_map.specs.declared.object.Object.{Object}
 use Rattle.wl_object_map.specs.declared.object.Entry.{Entry}
 use Rattle.wl_objects.specs.Reading.{Reader, forgiving_kind, is_of, iface_of, value_fault, arguments_at}
-use Rattle.wl_objects.specs.Reading.{reported_argument, reports_of, head_or, tokens_after, descriptors}
-use Rattle.wl_objects.specs.Reading.{is_descriptor_kind}
+use Rattle.wl_objects.specs.Reading.{reported_argument, reports_of, head_or, tokens_after}
 use Rattle.wl_objects.specs.Writing.{Given, wired, spelled, suits, has_no_nul, can_name, names_one}
 use Rattle.wl_objects.specs.Writing.{wrong_place, lost_place, tokens_of}
 use Rattle.wl_objects.specs.Carried.{InRange, ReaderHolds, IsExpected, AreExpected, arrived_value, Arrive}

@@ -1,5 +1,6 @@
--- What an argument that one end writes is to the end that reads it.
-use Rattle.std.specs.Prelude.{◌≡◌, ◌≢◌, ℕ, ◌+◌, ◌<◌, ◌≤◌, ◌^◌, true, false, List, ◌∷◌, ◌++◌, length, map}
+-- How an argument that one end writes arrives at the end that reads it.
+use Rattle.std.specs.Prelude.{◌≡◌, ◌≢◌, ℕ, ◌+◌, ◌<◌, ◌≤◌, ◌^◌, true, false, List, ◌∷◌, ◌++◌, length}
+use Rattle.std.specs.Prelude.{map}
 use Rattle.std.specs.Prelude.{Option, Some, None, FitsSigned}
 use Rattle.std.specs.List.{All}
 use Rattle.std.specs.Int.{w32}
@@ -8,21 +9,20 @@ use Rattle.wl_wire.specs.declared.kind.Kind.{Kind}
 use Rattle.wl_wire.specs.Argument.{Argument, reshaped, Int, Uint, Fixed, Str, Obj, New, NewNamed}
 use Rattle.wl_wire.specs.Argument.{Array, Fd}
 use Rattle.wl_sigs.specs.declared.signature.Side.{Side}
-use Rattle.wl_sigs.specs.Tables.{MessageSignature, Interface, signature_at}
+use Rattle.wl_sigs.specs.Tables.{MessageSignature, Interface, signature_at, descriptors}
 use Rattle.wl_object_map.specs.declared.object.Object.{Object}
 use Rattle.wl_object_map.specs.declared.object.Entry.{Entry}
 use Rattle.wl_objects.specs.declared.argument.Named.{Named}
 use Rattle.wl_objects.specs.declared.argument.Named.TheVariants as named_as
 use Rattle.wl_objects.specs.declared.lookup.NewId.TheVariants.{Free}
 use Rattle.wl_objects.specs.Reading.{Reader, Reported, by_maker, in_state, arguments_at, reports_of}
-use Rattle.wl_objects.specs.Reading.{descriptors}
 use Rattle.wl_object_map.specs.Objects.{Objects, look}
 use Rattle.wl_objects.specs.Writing.{Given, wired, spelled, message_len, tokens_of, wrong_place}
 use Rattle.wl_objects.specs.Writing.{lost_place}
 use Rattle.wl_objects.specs.Messages.{Received, is_hidden}
 use Rattle.wl_object_map.specs.View.{lives}
 
--- The numbers of an argument, and its lengths, are in the range of a word.
+-- The numbers of an argument, and its lengths, fit in a word.
 abbrev pub InRange : Given → Type 0
 InRange (Int z) = FitsSigned w32 z
 InRange (Uint n) = n < 2 ^ 32
@@ -36,8 +36,8 @@ InRange (NewNamed iface version x) = (length iface + 1 < 2 ^ 32) × (version < 2
 InRange (Array bytes) = length bytes < 2 ^ 32
 InRange (Fd token) = Unit {0}
 
--- The reader holds a writer's object: under the same id, with the same birth and of the same
--- interface, live or a zombie.
+-- The reader has a writer's object: under the same id, with the same birth and the same interface,
+-- live or a zombie.
 pub record ReaderHolds (writer : ℕ → Option Entry) (reader : Reader) (object : Object) : Type 0
   where
     pub row : Entry
@@ -46,8 +46,8 @@ pub record ReaderHolds (writer : ℕ → Option Entry) (reader : Reader) (object
     pub iface : (entry : Entry) → writer object.id ≡ Some entry → row.iface ≡ entry.iface
     pub not_null : object.id ≢ 0
 
--- The reader expects an argument of a kind, where a new object gets the id n: it holds an object
--- that is named, and the new id is free for the kind's maker.
+-- The reader expects an argument of a kind, with the new id n: it has the object that the argument
+-- names, and the new id is free for the kind's maker.
 abbrev pub IsExpected : (ℕ → Option Entry) → Reader → ℕ → Kind → Given → Type 0
 IsExpected writer reader n kind (Obj (Some object)) = ReaderHolds writer reader object
 IsExpected writer reader n kind (New x) =
@@ -55,13 +55,13 @@ IsExpected writer reader n kind (New x) =
 IsExpected writer reader n kind (NewNamed iface version x) = reader.new_id n ≡ Free
 IsExpected writer reader n kind _ = Unit {0}
 
--- the same of each of a message's arguments
+-- the same for each argument of a message
 abbrev pub AreExpected : (ℕ → Option Entry) → Reader → ℕ → List Kind → List Given → Type 0
 AreExpected writer reader n (kind ∷ ks) (x ∷ list) =
     IsExpected writer reader n kind x × AreExpected writer reader n ks list
 AreExpected writer reader n _ _ = Unit {0}
 
--- an object as the writer meant it, live or dead as the reader's row is
+-- an object as the writer meant it, live or dead as in the reader's row
 abbrev pub named_by_row : Object → Option Entry → Named
 named_by_row object None = named_as.Null
 named_by_row object (Some row) = in_state row.state object
@@ -77,9 +77,9 @@ arrived_value reader n x =
     reshaped (arrived_object reader) (λ _. record { id = n; birth = reader.birth }) (λ token. token)
     x
 
--- The arguments arrive: whatever stands behind them, they are read as they were written, they are
--- reported as the writer meant them, whatever tokens wait behind theirs, and as many tokens are
--- taken as were given.
+-- The arguments arrive. They are read as they were written, whatever bytes follow; they are
+-- reported as the writer meant them, whatever tokens follow theirs; and as many tokens are taken as
+-- were given.
 pub record Arrive (reader : Reader) (ks : List Kind) (n : ℕ) (list : List Given) : Type 0 where
   pub read : (rest : List ℕ)
       → arguments_at reader 0 ks (spelled (map (wired n) list) ++ rest)
@@ -89,14 +89,14 @@ pub record Arrive (reader : Reader) (ks : List Kind) (n : ℕ) (list : List Give
       ≡ map (arrived_value reader n) list
   pub taken : descriptors ks ≡ length (tokens_of list)
 
--- The arguments of a call that suit the message's kinds and name live objects of the writer.
+-- A call's arguments suit the message's kinds and name live objects of the writer.
 pub record AreWritten (writer : ℕ → Option Entry) (ks : List Kind) (list : List Given)
     : Type 0 where
   pub suit : wrong_place 0 ks list ≡ None
   pub live : lost_place writer 0 ks list ≡ None
   pub in_range : All InRange list
 
--- The reader holds the target, as the writer had it.
+-- The reader has the target, as the writer had it.
 pub record IsTarget (entry : Entry) (reader : Reader) (object : Object) : Type 0 where
   pub row : Entry
   pub held : reader.object object.id ≡ Some row
@@ -104,7 +104,7 @@ pub record IsTarget (entry : Entry) (reader : Reader) (object : Object) : Type 0
   pub iface : row.iface ≡ entry.iface
   pub version : row.version ≡ entry.version
 
--- a message as its reader has it, where the target has this row
+-- a message as its reader receives it; the target has this row
 abbrev pub received_as_meant : Object → Entry → MessageSignature → List Argument → Received
 received_as_meant target row signature values = record {
   target = target;
@@ -113,9 +113,9 @@ received_as_meant target row signature values = record {
   values = values;
 }
 
--- Nothing stands against a call: its target is live with this birth, the message is one that `send`
--- writes and exists at the target's version, its arguments suit and name live objects of the right
--- interfaces, and it is not longer than the limit.
+-- A call is not refused: its target is live with this birth, the message is one that `send` writes
+-- and exists at the target's version, its arguments suit and name live objects of the right
+-- interfaces, and its length is within the limit.
 pub record CallPasses (limit : ℕ) (tables : List Interface) (side : Side) (view : Objects)
     (target : Object) (opcode : ℕ) (list : List Given) (signature : MessageSignature) : Type 0 where
   pub entry : Entry

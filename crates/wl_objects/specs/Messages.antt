@@ -1,5 +1,5 @@
--- A whole message at an end: what it means to its reader, what a writer must meet, and what it
--- makes of the end's objects.
+-- A whole message at an end: what it means to its reader, what a writer must fulfil, and how it
+-- changes the end's objects.
 use Rattle.std.specs.Prelude.{ℕ, ◌+◌, slice_get, Bool, true, false, ◌&&◌, ◌||◌, not, List, ◌∷◌, map}
 use Rattle.std.specs.Prelude.{nat_eq, nat_le, nat_lt, if◌then◌else◌, Option, Some, None, option_map}
 use Rattle.std.specs.declared.result.Result.{Result}
@@ -14,6 +14,7 @@ use Rattle.wl_sigs.specs.declared.signature.Side.TheVariants.{Request, Event}
 use Rattle.wl_sigs.specs.declared.signature.Destroys.{Destroys}
 use Rattle.wl_sigs.specs.declared.signature.Destroys.TheVariants.{Nothing, Target, Arg}
 use Rattle.wl_sigs.specs.Tables.{MessageSignature, Interface, signature_at, interface_at, place_of}
+use Rattle.wl_sigs.specs.Tables.{descriptors}
 use Rattle.wl_sigs.specs.Fixed.{display, registry}
 use Rattle.wl_object_map.specs.declared.object.Object.{Object}
 use Rattle.wl_object_map.specs.declared.object.Entry.{Entry}
@@ -31,37 +32,37 @@ use Rattle.wl_object_map.specs.declared.object.Maker.TheVariants.{Client, Server
 use Rattle.wl_object_map.specs.View.{lives}
 use Rattle.wl_objects.specs.declared.lookup.NewId.{NewId}
 use Rattle.wl_objects.specs.declared.lookup.NewId.TheVariants.{Free, Wrong, TooMany}
-use Rattle.wl_objects.specs.Reading.{Reader, forgiving, arguments_at, descriptors}
+use Rattle.wl_objects.specs.Reading.{Reader, forgiving, arguments_at}
 use Rattle.wl_objects.specs.Writing.{Given, wrong_place, lost_place, is_live_as, wired, message_len}
 use Rattle.wl_objects.specs.declared.new_object.NewObject.{NewObject as Declared}
 use Rattle.wl_sigs.specs.Rules.{is_empty, is_ended_by_request}
 
 -- ---- reading
 
--- what an id is as a new one: F6 stands before F10
+-- the result for an id as a new one: F6 is tested before F10
 abbrev pub new_id_of : Bool → Bool → NewId
 new_id_of free room = if free then (if room then Free else TooMany) else Wrong
 
--- who makes the objects that messages of a side make
+-- who makes the objects of messages of a side
 abbrev pub maker_by : Side → Maker
 maker_by Request = Client
 maker_by Event = Server
 
--- whether an object is live, and a request can end it: its interface has a destroying one at the
--- object's version
+-- whether an object is live and a request can destroy it: its interface has a destroying request at
+-- the object's version
 abbrev pub waits_for_request : List Interface → Option Entry → Bool
 waits_for_request tables None = false
 waits_for_request tables (Some entry) =
     lives entry.state && is_ended_by_request entry.version (interface_at tables entry.iface.0)
 
--- An id for a new object of the server: one of its range, of no live object that a request can end,
--- and used before or the next one.
+-- An id for a new object of the server: in the server's range, not that of a live object that a
+-- request can destroy, and used before or the next one.
 abbrev pub server_may_use : List Interface → Objects → ℕ → Bool
 server_may_use tables view id =
     is_of_server id && not (waits_for_request tables (look view id))
     && nat_le (table_id id) (view.server.used + 1)
 
--- What an end knows that has these objects and reads messages of a side.
+-- What an end with these objects knows when it reads messages of a side.
 abbrev pub reader_of : List Interface → Side → Objects → Reader
 reader_of tables side view = record {
   object = look view;
@@ -89,8 +90,8 @@ abbrev pub is_bind : Side → Iface → ℕ → Bool
 is_bind Request iface opcode = same_iface iface registry && nat_eq opcode 0
 is_bind Event iface opcode = false
 
--- A message that was read: the object that it is for, that object's row, the signature, and the
--- arguments as they are spelled.
+-- A message that was read: its target, the target's row, the signature, and the arguments as
+-- spelled.
 pub record Received : Type 0 where
   pub target : Object
   pub entry : Entry
@@ -127,8 +128,8 @@ received_by tables side reader header body waiting (Some entry) =
     received_as side reader header body waiting entry
     (signature_at tables entry.iface.0 side header.opcode)
 
--- What a message of one side is to its reader, where `waiting` tokens wait: what was read, or the
--- first fault of F2; F3; for each argument from the left F4, F5, F6, F10; then F7, F8.
+-- A message of one side as received by its reader, while `waiting` tokens wait: what was read, or
+-- the first fault of: F2; F3; for each argument from the left F4, F5, F6, F10; then F7, F8.
 abbrev pub received : List Interface → Side → Reader → Header → List ℕ → ℕ → Result Received Fault
 received tables side reader header body waiting =
     received_by tables side reader header body waiting (reader.object header.object)
@@ -139,8 +140,8 @@ received tables side reader header body waiting =
 abbrev pub NewObject : Type 0
 NewObject = Declared
 
--- The new object of one argument: of the signature's interface and its maker's version, or of those
--- that it names.
+-- The new object of one argument: with the signature's interface and the target's version, or with
+-- those that the argument gives.
 abbrev pub made_by : List Interface → ℕ → Kind → Argument → Option NewObject
 made_by tables version (kinds.New (Some iface)) (New id) =
     Some (record { id = id; iface = iface; version = version })
@@ -154,14 +155,14 @@ abbrev pub or_else : {X : Type 0} → Option X → Option X → Option X
 or_else None other = other
 or_else (Some x) other = Some x
 
--- the object that a message makes, where its target has this version
+-- the object that a message makes, given the target's version
 abbrev pub made : List Interface → ℕ → List Kind → List Argument → Option NewObject
 made tables version (kind ∷ ks) (value ∷ values) =
     or_else (made_by tables version kind value) (made tables version ks values)
 made tables version _ _ = None
 
--- An object destroyed at the end that writes this side: at the client a zombie, until its delete_id
--- comes; at the server gone, and its id free.
+-- An object destroyed at the end that writes this side: at the client it becomes a zombie until its
+-- delete_id comes; at the server it is removed and its id is free.
 abbrev pub destroyed : Side → Objects → ℕ → Objects
 destroyed Request view id = zombied view id
 destroyed Event view id = closed view id
@@ -183,18 +184,18 @@ id_named _ = 0
 abbrev pub id_at : List Argument → ℕ → ℕ
 id_at values place = id_named (slice_get values place)
 
--- the id of the object that a message destroys, if it destroys one
+-- the id of the object that a message destroys; 0 if it destroys none
 abbrev pub ended_id : Destroys → ℕ → List Argument → ℕ
 ended_id Nothing target values = target
 ended_id Target target values = target
 ended_id (Arg place) target values = id_at values place
 
--- The objects of the end that writes this side, after it has written or read a message, other than
--- delete_id: the making comes first.
+-- The objects of the end that writes this side, after it wrote or read a message other than
+-- delete_id: the new object is made first.
 abbrev pub after : Side → Objects → Option NewObject → Destroys → ℕ → Objects
 after side view new what target = destroys side what target (opens view new)
 
--- The client's objects after delete_id: the row of a held id other than 1 is closed.
+-- The client's objects after delete_id: the row of a used id other than 1 is closed.
 abbrev pub after_delete_id : Objects → ℕ → Objects
 after_delete_id view id = if table.is_held view.client id && not (nat_eq id 1)
     then closed view id else view
@@ -243,8 +244,8 @@ abbrev pub live_row : Objects → Object → Option Entry
 live_row view object =
     if is_live_as object.birth (look view object.id) then look view object.id else None
 
--- What stands against a write, before its room is looked at: the first of S2, S3, S4, S5, S6 and
--- S8; else the message's signature. The first argument is the limit of S8.
+-- Why a call is refused, before room is considered: the first of S2, S3, S4, S5, S6 and S8; else
+-- the message's signature. The first argument is the limit of S8.
 abbrev pub checked : ℕ → List Interface → Side → Objects → Object → ℕ → List Given
     → Result MessageSignature SendError
 checked limit tables side view target opcode given =

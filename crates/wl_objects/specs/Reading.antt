@@ -1,6 +1,6 @@
 -- What the arguments of a message mean to the end that reads it.
 use Rattle.std.specs.Prelude.{ℕ, suc, Bool, true, false, List, [], ◌∷◌, drop, nat_eq, if◌then◌else◌}
-use Rattle.std.specs.Prelude.{Option, Some, None, count_by}
+use Rattle.std.specs.Prelude.{Option, Some, None}
 use Rattle.std.specs.declared.result.Result.{Result}
 use Rattle.std.specs.declared.result.Result.TheVariants.{Ok, Err}
 use Rattle.wl_wire.specs.declared.kind.Kind.{Kind}
@@ -20,9 +20,9 @@ use Rattle.wl_objects.specs.declared.argument.Named.TheVariants as named_as
 use Rattle.wl_objects.specs.declared.error.Fault.{Fault}
 use Rattle.wl_objects.specs.declared.error.Fault.TheVariants as faults
 
--- What a reader knows when a message comes: the object that each id names, what each id is as that
--- of a new object of the client and of one of the server, and the birth that a new object gets.
--- Where it forgives, an object argument may be null, unknown and of any interface.
+-- What a reader knows when a message comes: the object with each id; whether each id can be that of
+-- a new object of the client, and of the server; and the birth of a new object. If it forgives, an
+-- object argument may be null, unknown and of any interface.
 pub record Reader : Type 0 where
   pub object : ℕ → Option Entry
   pub new_id : ℕ → NewId
@@ -30,17 +30,17 @@ pub record Reader : Type 0 where
   pub birth : ℕ
   pub forgives : Bool
 
--- the kind as the reader takes it
+-- the kind as this reader takes it
 abbrev pub forgiving_kind : Bool → Kind → Kind
 forgiving_kind true (kinds.Obj null iface) = kinds.Obj true iface
 forgiving_kind _ kind = kind
 
--- the interface that a kind asks of an object; none asks for no particular one
+-- the interface that a kind requires of an object; none for any interface
 abbrev pub iface_of : Kind → Option Iface
 iface_of (kinds.Obj null iface) = iface
 iface_of _ = None
 
--- whether an object is of the interface that is asked for
+-- whether an object has the required interface
 abbrev pub is_of : Option Iface → Entry → Bool
 is_of None entry = true
 is_of (Some iface) entry = nat_eq iface.0 entry.iface.0
@@ -55,14 +55,14 @@ new_fault place Free = None
 new_fault place Wrong = Some (faults.BadNewId place)
 new_fault place TooMany = Some faults.TooManyObjects
 
--- what a new object's id is by the argument's kind, from what it is as one of the client and as one
--- of the server
+-- the result for a new object's id by the argument's kind, from the results for the client and for
+-- the server
 abbrev pub by_maker : Kind → NewId → NewId → NewId
 by_maker (kinds.NewByServer iface) of_client of_server = of_server
 by_maker _ of_client of_server = of_client
 
--- what is wrong with a value that its bytes spell: an object that is unknown or of another
--- interface, a new id that is not free
+-- the fault of a value that its bytes spell: an object that is unknown or has another interface, a
+-- new id that is not free
 abbrev pub value_fault : Reader → ℕ → Kind → Argument → Option Fault
 value_fault r place kind (Obj id) =
     if r.forgives then None
@@ -82,7 +82,7 @@ abbrev pub value_or_fault : Reader → ℕ → Kind → Result (Argument × ℕ)
 value_or_fault r place kind (Err fault) = Err (faults.BadArgument place fault)
 value_or_fault r place kind (Ok value) = unless (value_fault r place kind value.0) value
 
--- a value before those that were read behind it
+-- a value in front of those read after it
 abbrev pub before : Argument → Result (List Argument × List ℕ) Fault
     → Result (List Argument × List ℕ) Fault
 before value (Err fault) = Err fault
@@ -93,8 +93,8 @@ abbrev pub and_those : (List ℕ → Result (List Argument × List ℕ) Fault) �
 and_those others bytes (Err fault) = Err fault
 and_those others bytes (Ok value) = before value.0 (others (drop value.1 bytes))
 
--- The arguments that stand at the front of bytes, one of each kind, and the bytes behind them; or
--- the first fault, from the left. The place is that of the first kind.
+-- The arguments at the front of bytes, one of each kind, and the bytes after them; or the first
+-- fault, from the left. The index is that of the first kind.
 abbrev pub arguments_at : Reader → ℕ → List Kind → List ℕ → Result (List Argument × List ℕ) Fault
 arguments_at r place [] bytes = Ok ([], bytes)
 arguments_at r place (kind ∷ ks) bytes =
@@ -116,7 +116,7 @@ abbrev pub in_state : State → Object → Named
 in_state states.Live object = named_as.Live object
 in_state states.Zombie object = named_as.Dead object
 
--- the object of an id, by the birth of its row, live or dead as the row is
+-- the object with an id: the birth is its row's, and it is live or dead as the row is
 abbrev pub named : ℕ → Option Entry → Named
 named id None = named_as.Null
 named id (Some entry) = in_state entry.state (record { id = id; birth = entry.birth })
@@ -128,28 +128,20 @@ abbrev pub is_descriptor : {O N F : Type 0} → Shape O N F → Bool
 is_descriptor (Fd x) = true
 is_descriptor _ = false
 
-abbrev pub is_descriptor_kind : Kind → Bool
-is_descriptor_kind kinds.Fd = true
-is_descriptor_kind _ = false
-
--- how many tokens a message of these kinds takes
-abbrev pub descriptors : List Kind → ℕ
-descriptors ks = count_by is_descriptor_kind ks
-
 abbrev pub head_or : List ℕ → ℕ → ℕ
 head_or [] d = d
 head_or (x ∷ xs) d = x
 
--- One argument as it is reported, where the token is the next that waits.
+-- One argument as reported; the token is the next one that waits.
 abbrev pub reported_argument : Reader → ℕ → Argument → Reported
 reported_argument r token value =
     reshaped (named_at r) (λ id. record { id = id; birth = r.birth }) (λ _. token) value
 
--- the tokens behind those that an argument takes
+-- the tokens after those that an argument takes
 abbrev pub tokens_after : Argument → List ℕ → List ℕ
 tokens_after value tokens = if is_descriptor value then drop 1 tokens else tokens
 
--- The arguments as they are reported: the descriptors are the first tokens that wait, in order.
+-- The arguments as reported: the descriptors take the first waiting tokens, in order.
 abbrev pub reports_of : Reader → List ℕ → List Argument → List Reported
 reports_of r tokens [] = []
 reports_of r tokens (value ∷ values) =

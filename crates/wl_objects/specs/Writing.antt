@@ -1,5 +1,6 @@
--- What a call's arguments must be, and the message that they become.
-use Rattle.std.specs.Prelude.{ℕ, ℤ, suc, ◌+◌, Bool, true, false, ◌&&◌, not, List, [], ◌∷◌, ◌++◌, map}
+-- What a call's arguments must be, and the message made from them.
+use Rattle.std.specs.Prelude.{ℕ, ℤ, suc, ◌+◌, Bool, true, false, ◌&&◌, not, List, [], ◌∷◌, ◌++◌}
+use Rattle.std.specs.Prelude.{map}
 use Rattle.std.specs.Prelude.{◌≡◌, ◌≤◌, ◌<◌, length, nat_eq, if◌then◌else◌, Option, Some, None}
 use Rattle.wl_wire.specs.declared.kind.Kind.{Kind}
 use Rattle.wl_wire.specs.declared.kind.Kind.TheVariants as kinds
@@ -18,11 +19,11 @@ use Rattle.wl_object_map.specs.declared.object.Entry.{Entry}
 use Rattle.wl_objects.specs.Reading.{is_of, iface_of}
 use Rattle.wl_object_map.specs.View.{lives}
 
--- an argument of a call: an object or none, a new object that the call makes, a descriptor's token
+-- an argument of a call: an object or null, a new object that the call makes, a descriptor's token
 abbrev pub Given : Type 0
 Given = Shape (Option Object) (Unit {0}) ℕ
 
--- a text that a string can hold
+-- a text that a string can contain
 abbrev pub has_no_nul : List ℕ → Bool
 has_no_nul text = not (has_nul text)
 
@@ -34,7 +35,7 @@ abbrev pub object_suits : Bool → Option Object → Bool
 object_suits null None = null
 object_suits null (Some object) = true
 
--- Whether an argument is of the kind: null only where that is allowed, and no string has a byte 0.
+-- Whether an argument has the kind: null only if allowed, and no string has a byte 0.
 abbrev pub suits : Kind → Given → Bool
 suits kinds.Int (Int z) = true
 suits kinds.Uint (Uint n) = true
@@ -48,14 +49,14 @@ suits kinds.Array (Array bytes) = true
 suits kinds.Fd (Fd token) = true
 suits _ _ = false
 
--- a number is given where one of its kind is asked for
+-- a number is given, and a number of that kind is asked for
 pub data IsNumberGiven : Kind → Given → Type 0 where
   int_given : {z : ℤ} → IsNumberGiven kinds.Int (Int z)
   uint_given : {n : ℕ} → IsNumberGiven kinds.Uint (Uint n)
   fixed_given : {z : ℤ} → IsNumberGiven kinds.Fixed (Fixed z)
 
--- The place of the first argument of the wrong kind; where the numbers differ and all before suit,
--- the smaller number.
+-- The index of the first argument of the wrong kind; if the numbers of arguments differ and all
+-- before suit, the smaller number.
 abbrev pub wrong_place : ℕ → List Kind → List Given → Option ℕ
 wrong_place place [] [] = None
 wrong_place place [] (given ∷ others) = Some place
@@ -63,7 +64,7 @@ wrong_place place (kind ∷ ks) [] = Some place
 wrong_place place (kind ∷ ks) (given ∷ others) =
     if suits kind given then wrong_place (suc place) ks others else Some place
 
--- whether the row is the live one of that birth
+-- whether the row is live and has that birth
 abbrev pub is_live_as : ℕ → Option Entry → Bool
 is_live_as birth None = false
 is_live_as birth (Some entry) = nat_eq entry.birth birth && lives entry.state
@@ -72,7 +73,7 @@ abbrev pub row_is_of : Option Iface → Option Entry → Bool
 row_is_of iface None = false
 row_is_of iface (Some entry) = is_of iface entry
 
--- whether an object with this row can be named: it is live, and of the interface that is asked for
+-- whether an object with this row can be named: it is live and has the required interface
 abbrev pub names_one : Option Iface → Object → Option Entry → Bool
 names_one iface object row = is_live_as object.birth row && row_is_of iface row
 
@@ -81,7 +82,7 @@ abbrev pub can_name : (ℕ → Option Entry) → Kind → Given → Bool
 can_name rows kind (Obj (Some object)) = names_one (iface_of kind) object (rows object.id)
 can_name rows kind _ = true
 
--- The place of the first object that is not live or of another interface.
+-- The index of the first object that is not live or has another interface.
 abbrev pub lost_place : (ℕ → Option Entry) → ℕ → List Kind → List Given → Option ℕ
 lost_place rows place (kind ∷ ks) (given ∷ others) =
     if can_name rows kind given then lost_place rows (suc place) ks others else Some place
@@ -93,7 +94,7 @@ abbrev pub id_of : Option Object → ℕ
 id_of None = 0
 id_of (Some object) = object.id
 
--- an argument as it stands on the wire, where the new object gets this id
+-- an argument on the wire, given the new object's id
 abbrev pub wired : ℕ → Given → Argument
 wired id given = reshaped id_of (λ _. id) (λ _. tt) given
 
@@ -101,7 +102,7 @@ abbrev pub spelled : List Argument → List ℕ
 spelled [] = []
 spelled (value ∷ values) = canonical value ++ spelled values
 
--- how many bytes a message has
+-- the length of a message in bytes
 abbrev pub message_len : List Argument → ℕ
 message_len [] = 8
 message_len (value ∷ values) = spelled_len value + message_len values
@@ -135,7 +136,7 @@ tokens_of [] = []
 tokens_of (Fd token ∷ given) = token ∷ tokens_of given
 tokens_of (_ ∷ given) = tokens_of given
 
--- ---- a call's arguments, without where they lie in memory
+-- ---- a call's arguments, apart from where they lie in memory
 
 abbrev pub given_of : Arg → Given
 given_of (args.Int z) = Int z
@@ -151,22 +152,22 @@ given_of (args.Fd token) = Fd token
 abbrev pub given : List Arg → List Given
 given list = map given_of list
 
--- the arguments of a call as they stand on the wire, where the new object gets this id
+-- the arguments of a call on the wire, given the new object's id
 abbrev pub on_wire : ℕ → List Arg → List Argument
 on_wire id list = map (wired id) (given list)
 
--- the message that a call becomes
+-- the message made from a call
 abbrev pub call_message : CallMessage → List ℕ
 call_message call = message_bytes call.object call.opcode (on_wire call.new_id call.args.now)
 
--- that message has a spelling, and its length is the one that it names
+-- that message has a spelling, and `len` is its length
 pub record CallFits (call : CallMessage) : Type 0 where
   pub opcode : call.opcode < 65536
   pub fits : EachFits (on_wire call.new_id call.args.now)
   pub len : call.len ≡ message_len (on_wire call.new_id call.args.now)
   pub short : call.len ≤ 65535
 
--- the same of a bind
+-- the same for a bind
 abbrev pub values_of_bind : BindMessage → List Argument
 values_of_bind bind = bind_values bind.name bind.iface.now bind.version bind.id
 
@@ -184,8 +185,8 @@ call_makes (kinds.New (Some iface) ∷ ks) = Some iface
 call_makes (kinds.NewByServer iface ∷ ks) = Some iface
 call_makes (_ ∷ ks) = call_makes ks
 
--- What the arguments of a call come to that is not refused for them: how many bytes its message
--- has, how many tokens go with it, and the interface of the object that it makes.
+-- The measure of a call's arguments that are not refused: the length of its message in bytes, its
+-- number of tokens, and the interface of the object that it makes.
 pub record IsMeasured (ks : List Kind) (list : List Arg) (limit : ℕ) (m : Measured) : Type 0 where
   pub right : wrong_place 0 ks (given list) ≡ None
   pub len : m.len ≡ message_len (on_wire 0 list)

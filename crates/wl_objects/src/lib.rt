@@ -1,6 +1,6 @@
-//! How both ends of a Wayland connection read and write the arguments of a message, against the
-//! objects of one end. (Chapter "Wayland Protocol and Model of Operation",
-//! sections "Wire Format" and "Creating Objects".)
+//! How both ends of a Wayland connection read and write the arguments of a message, using the
+//! objects of one end. (Chapter "Wayland Protocol and Model of Operation", sections "Wire Format"
+//! and "Creating Objects".)
 //!
 //! The table of objects is in `wl_object_map`, whose public items are re-exported here.
 #![tactic(auto)]
@@ -30,7 +30,7 @@ pub use messages::{
 };
 pub use new_object::{NewObject, made_by_message};
 pub use parsed::{ParsedArg, ParsedArgs};
-pub use reading::{Received, descriptors, receive};
+pub use reading::{Received, receive};
 pub use reporting::{OwnedArgs, named};
 pub use values::Values;
 pub use wl_object_map::{

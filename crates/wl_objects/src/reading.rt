@@ -1,10 +1,11 @@
-//! One message read against an end's table.
+//! Reading one message, using an end's table of objects.
 ghost use Rattle.std.specs.Prelude.{◌≡◌, IfOk};
 ghost use Rattle.std.specs.Borrow.{sem};
 ghost use Rattle.std.specs.Io.BufRead.{Rests};
 ghost use Rattle.wl_wire.specs.Word.{IsHeader};
 ghost use Rattle.wl_sigs.specs.Valid.{Valid};
-ghost use Rattle.wl_objects.specs.Reading.{by_maker, descriptors, object_fault, new_fault};
+ghost use Rattle.wl_sigs.specs.Tables.{descriptors};
+ghost use Rattle.wl_objects.specs.Reading.{by_maker, object_fault, new_fault};
 ghost use Rattle.wl_objects.specs.Reading.{iface_of};
 ghost use Rattle.wl_objects.specs.Messages.{is_error, received};
 ghost use Rattle.wl_objects.specs.Seen.{received_of, received_in};
@@ -23,15 +24,15 @@ use wl_wire::{Header, Iface, Kind};
 /// A message that was read: nothing is wrong with it, and nothing has changed yet.
 #[derive(Debug, Drop)]
 pub struct Received<'t, 'a> {
-    /// The object that the message is for.
+    /// The message's target.
     pub target: Object,
-    /// That object's entry.
+    /// The target's entry.
     pub entry: Entry,
     /// The message's signature.
     pub signature: &'t Signature,
     /// The message's body.
     pub body: &'a [u8],
-    /// The arguments, parsed over the body, their objects as they are now.
+    /// The arguments, parsed over the body, with their objects as they are now.
     pub args: &'a ParsedArgs,
     /// How many tokens the message takes.
     pub tokens: usize,
@@ -40,7 +41,7 @@ pub struct Received<'t, 'a> {
 }
 
 impl<'t, 'a> Received<'t, 'a> {
-    /// The arguments as they are spelled.
+    /// The arguments as spelled.
     pub fn values(&self) -> Values<'_>
         ensures { result ≡ (received_of self.now).values }
     {
@@ -48,8 +49,8 @@ impl<'t, 'a> Received<'t, 'a> {
     }
 }
 
-/// Reads one whole message, where this number of tokens waits, for whatever knows the objects and
-/// ids. Its arguments are parsed in place of those of the message before, and lent from there.
+/// Reads one whole message while this number of tokens waits, for anything that knows the objects
+/// and ids. Its arguments are parsed over those of the message before, and borrowed from there.
 /// Allocates nothing.
 ///
 /// Returns the first fault: F2; F3; for each argument from the left F4, F5, F6, F10; then F7 and
@@ -73,7 +74,7 @@ pub fn receive<'t: 'a, 'a, L: Lookup>(
     ensures tokens { IfOk result (λ m. m.tokens ≡ descriptors m.signature.now.kinds) }
     ensures error { IfOk result (λ m. m.is_error
         ≡ is_error messages.entry.side m.entry.iface header.opcode) }
-    // Always so, and known because the tables were asked and the header was given.
+    // Always true; known here because the tables were read and the header was given.
     ensures valid { IfOk result (λ _. Valid messages.entry.tables.now) }
     ensures header { IsHeader header }
 {
@@ -100,7 +101,7 @@ pub fn receive<'t: 'a, 'a, L: Lookup>(
     if !rest.is_empty() {
         return Err(Fault::TrailingBytes);
     }
-    let tokens = descriptors(kinds);
+    let tokens = signature.descriptors();
     if waiting < tokens {
         return Err(Fault::MissingDescriptor);
     }
@@ -118,14 +119,7 @@ pub fn receive<'t: 'a, 'a, L: Lookup>(
     })
 }
 
-/// How many tokens a message of these kinds takes.
-pub fn descriptors(kinds: &[Kind]) -> usize
-    ensures { result ≡ descriptors kinds.now }
-{
-    kinds.iter().filter(|kind| matches!(kind, Kind::Fd)).count()
-}
-
-/// The interface that a kind asks of an object.
+/// The interface that a kind requires of an object.
 pub(crate) fn iface_of(kind: Kind) -> Option<Iface>
     ensures { result ≡ iface_of kind }
 {
@@ -149,7 +143,7 @@ pub(crate) fn object_fault(
     }
 }
 
-/// What an id is as that of a new object of this kind.
+/// The result for an id as that of a new object of this kind.
 pub(crate) fn new_id_as<L: Lookup>(lookup: &L, kind: Kind, id: u32) -> NewId
     ensures { result ≡ by_maker kind ((L.reader lookup.now).new_id id)
         ((L.reader lookup.now).new_server_id id) }

@@ -6,12 +6,12 @@ use Rattle.std.specs.List.{All}
 use Rattle.std.proofs.lemmas.List.Elements.{All-head, All-tail, All-cons, All-nil, All-weaker}
 use Rattle.hex.specs.Hex.{decode_of, is_hex_digit}
 use Rattle.hex.proofs.HexLemmas.{decode_of-ok, decode_of-same}
-use Rattle.wl_line_text.specs.Number.{number_of}
-use Rattle.wl_line_text.proofs.Numbers.{number_some}
+use Rattle.wl_text.specs.Number.{number_of}
+use Rattle.wl_text.proofs.Numbers.{number_some}
 use Rattle.wl_recording.specs.declared.piece.Direction.{Direction}
 use Rattle.wl_recording.specs.declared.piece.Direction.TheVariants.{ToServer, ToClient}
 use Rattle.wl_recording.specs.Piece.{Piece}
-use Rattle.wl_line_text.specs.Lines.{IsSkipped, is_empty, is_comment}
+use Rattle.wl_text.specs.Lines.{IsSkipped, is_empty, is_comment}
 use Rattle.wl_recording.specs.Line.{sign, SpellsBytes, no_bytes, some_bytes, SpellsTokens}
 use Rattle.wl_recording.specs.Line.{no_tokens, some_tokens, IsPiece}
 

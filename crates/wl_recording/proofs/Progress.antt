@@ -4,7 +4,7 @@ use Rattle.std.proofs.Common.{◌∙◌, inl, inr, append_assoc, append-nil, ari
 use Rattle.std.specs.Str.Lines.{lines}
 use Rattle.std.proofs.lemmas.List.{length_push}
 use Rattle.wl_recording.specs.Piece.{Piece}
-use Rattle.wl_line_text.specs.Lines.{IsSkipped}
+use Rattle.wl_text.specs.Lines.{IsSkipped}
 use Rattle.wl_recording.specs.Line.{IsPiece}
 use Rattle.wl_recording.specs.Text.{LinesTell, ends, skips, tells, TextRecords, IsFirstBad, IsReadUpTo, IsReached}
 use Rattle.wl_recording.proofs.TextLemmas.{tell_append, tell_good}

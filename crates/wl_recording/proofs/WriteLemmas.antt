@@ -20,7 +20,7 @@ use Rattle.wl_recording.specs.Piece.{Piece, IsTellable}
 use Rattle.wl_recording.specs.Line.{sign, IsPiece, SpellsBytes, no_bytes, some_bytes, SpellsTokens}
 use Rattle.wl_recording.specs.Line.{no_tokens, some_tokens, bytes_text, tokens_text, line_of}
 use Rattle.wl_recording.specs.Text.{ends, tells, TextRecords, recording_text}
-use Rattle.wl_line_text.proofs.Cuts.{lines_ended}
+use Rattle.wl_text.proofs.Cuts.{lines_ended}
 
 -- a byte that is no line feed and no carriage return
 abbrev pub IsInk : ℕ → Type 0

@@ -3,10 +3,10 @@ use Rattle.std.specs.Prelude.{◌≡◌, ℕ, ◌+◌, ◌<◌, ◌≤◌, ◌�
 use Rattle.std.specs.List.{All}
 use Rattle.std.specs.Str.Lines.{lines}
 use Rattle.wl_recording.specs.Piece.{Piece}
-use Rattle.wl_line_text.specs.Lines.{IsSkipped}
+use Rattle.wl_text.specs.Lines.{IsSkipped}
 use Rattle.wl_recording.specs.Line.{IsPiece, line_of}
 
--- Those of the lines that are not skipped tell these pieces, one each, in their order.
+-- The lines that are not skipped are these pieces, one each, in order.
 pub data LinesTell : List (List ℕ) → List Piece → Type 0 where
   ends : LinesTell [] []
   skips : {line : List ℕ} {more : List (List ℕ)} {pieces : List Piece}
@@ -14,17 +14,17 @@ pub data LinesTell : List (List ℕ) → List Piece → Type 0 where
   tells : {line : List ℕ} {more : List (List ℕ)} {piece : Piece} {pieces : List Piece}
       → IsPiece line piece → LinesTell more pieces → LinesTell (line ∷ more) (piece ∷ pieces)
 
--- The text records these pieces. Its lines are each ended by a line feed, which the last may lack;
--- one carriage return before a line feed is no part of its line.
+-- The text records these pieces. Each line ends with a line feed, which the last may lack. One
+-- carriage return before a line feed is not part of its line.
 abbrev pub TextRecords : List ℕ → List Piece → Type 0
 TextRecords text pieces = LinesTell (lines text) pieces
 
--- a line that may stand in a recording
+-- a line that a recording may have
 abbrev pub IsGood : List ℕ → Type 0
 IsGood line = IsSkipped line ⊎ ((piece : Piece) × IsPiece line piece)
 
--- Line n, counted from 1, skipped lines counted too, is the first of the text that may not stand in
--- a recording.
+-- Line n is the first line of the text that a recording may not have. Lines are counted from 1,
+-- including skipped ones.
 pub record IsFirstBad (text : List ℕ) (n : ℕ) : Type 0 where
   pub before : List (List ℕ)
   pub line : List ℕ
@@ -34,8 +34,7 @@ pub record IsFirstBad (text : List ℕ) (n : ℕ) : Type 0 where
   pub good : All IsGood before
   pub bad : ¬ IsGood line
 
--- A text was read up to this rest: this number of lines stand before it, and they tell these
--- pieces.
+-- A text was read up to this rest: this number of lines precede it, and they are these pieces.
 pub record IsReadUpTo (text rest : List ℕ) (number : ℕ) (pieces : List Piece) : Type 0 where
   pub done : List (List ℕ)
   pub whole : lines text ≡ done ++ lines rest
@@ -43,8 +42,8 @@ pub record IsReadUpTo (text rest : List ℕ) (number : ℕ) (pieces : List Piece
   pub told : LinesTell done pieces
   pub room : number + length rest ≤ length text
 
--- A text was read up to this rest, whose last line is this one, the one of this number. It is not
--- skipped, and the lines before it tell these pieces.
+-- A text was read up to this rest. The last line read is this one, with this number; it is not
+-- skipped, and the lines before it are these pieces.
 pub record IsReached (text rest : List ℕ) (number : ℕ) (line : List ℕ) (pieces : List Piece)
     : Type 0 where
   pub before : ℕ
@@ -55,7 +54,7 @@ pub record IsReached (text rest : List ℕ) (number : ℕ) (line : List ℕ) (pi
   pub shorter : length rest < length front
   pub inked : ¬ IsSkipped line
 
--- the one text that a writer gives: each piece's line, ended by a line feed
+-- the one text that a writer produces: each piece's line, ended by a line feed
 abbrev pub recording_text : List Piece → List ℕ
 recording_text [] = []
 recording_text (piece ∷ pieces) = line_of piece ++ 10 ∷ recording_text pieces

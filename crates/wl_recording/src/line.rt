@@ -10,22 +10,22 @@ ghost use Rattle.wl_recording.specs.Line.{IsPiece, SpellsBytes, SpellsTokens, si
 use crate::digits::append_bytes;
 use crate::piece::{Appended, Direction, Passed};
 use std::alloc::{AllocError, Allocator};
-use wl_line_text::{decimal_number, split_before};
+use wl_text::{decimal_number, split_before};
 use wl_wire::Bytes;
 
 /// The most tokens that one piece can count.
 pub const MOST_TOKENS: u32 = 65_535;
 
-/// A line in its parts.
+/// The parts of a line.
 #[derive(Clone, Copy)]
 struct Parts<'a> {
     direction: Direction,
-    /// What stands for the bytes.
+    /// The digits for the bytes.
     digits: &'a [u8],
     tokens: u32,
 }
 
-/// The piece of a line, if the line is one.
+/// The piece that a line represents, if it represents one.
 pub fn read_piece<A: Allocator>(alloc: A, line: &[u8]) -> Result<Option<Passed<A>>, AllocError>
     ensures { IfOk result (λ found. MatchOption found ((piece : Piece) → IsPiece line.now piece → ⊥)
         (λ kept. IsPiece line.now (recorded_piece kept))) }
@@ -43,8 +43,8 @@ pub fn read_piece<A: Allocator>(alloc: A, line: &[u8]) -> Result<Option<Passed<A
     }))
 }
 
-/// Appends the bytes of a line's piece to those of its direction, if the line is one. Where it is
-/// none, nothing is appended and no memory asked for; where memory runs out, nothing is appended.
+/// Appends the bytes of a line's piece to those of its direction, if the line is a piece. If it is
+/// not, nothing is appended or allocated; without memory, nothing is appended.
 pub fn append_piece<A: Allocator>(
     line: &[u8],
     to_server: &mut Vec<u8, A>,
@@ -76,8 +76,8 @@ pub fn append_piece<A: Allocator>(
     }))
 }
 
-// Appends the bytes of a line's parts to those of their direction, if the digits stand for any, and
-// returns how many they are; else it appends nothing, as where memory runs out.
+// Appends the bytes of a line's parts to those of their direction, if the digits represent bytes,
+// and returns their number; else, or without memory, it appends nothing.
 fn append_parts<A: Allocator>(
     parts: &Parts<'_>,
     to_server: &mut Vec<u8, A>,
@@ -103,7 +103,7 @@ fn append_parts<A: Allocator>(
     }
 }
 
-// The parts of a line, whatever its digits stand for, unless it is no piece for another reason.
+// The parts of a line, whatever its digits, unless it is no piece for another reason.
 fn parts_of(line: &[u8]) -> Option<Parts<'_>>
     ensures parts { MatchOption result ((piece : Piece) → IsPiece line.now piece → ⊥)
         (λ parts. (bytes : List ℕ) → SpellsBytes parts.digits.now bytes
@@ -125,7 +125,7 @@ fn parts_of(line: &[u8]) -> Option<Parts<'_>>
     })
 }
 
-// The direction whose sign and a space begin a line, and the rest of the line.
+// The direction for the sign and space at the start of a line, and the rest of the line.
 fn strip_sign(line: &[u8]) -> Option<(Direction, &[u8])>
     ensures { MatchOption result
         ((direction : Way) (rest : List ℕ) → line.now ≢ sign direction ∷ 32 ∷ rest)
@@ -157,7 +157,7 @@ fn read_tokens(count: &[u8]) -> Option<u32>
     Some(tokens)
 }
 
-// The bytes that these digits stand for.
+// The bytes that these digits represent.
 fn read_bytes<A: Allocator>(alloc: A, digits: &[u8]) -> Result<Option<Bytes<A>>, AllocError>
     ensures { IfOk result (λ found. MatchOption found
         ((bytes : List ℕ) → SpellsBytes digits.now bytes → ⊥)
@@ -170,8 +170,8 @@ fn read_bytes<A: Allocator>(alloc: A, digits: &[u8]) -> Result<Option<Bytes<A>>,
     Ok(Some(Bytes::from_vec(bytes)))
 }
 
-// Appends the bytes that these digits stand for, if they stand for any, and returns how many these
-// are; else it appends nothing, as where memory runs out.
+// Appends the bytes that these digits represent, if they represent any, and returns their number;
+// else, or without memory, it appends nothing.
 #[inline(always)]
 fn append_digits<A: Allocator>(
     digits: &[u8],

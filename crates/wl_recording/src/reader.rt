@@ -9,19 +9,19 @@ use crate::line::{append_piece, read_piece};
 use crate::piece::{Appended, Passed};
 use crate::recording::RecordingError;
 use std::alloc::Allocator;
-use wl_line_text::{first_line, is_skipped};
+use wl_text::{first_line, is_skipped};
 
-/// A text that is read piece by piece, so that no more than one of them is kept at a time.
+/// A text that is read piece by piece, so that at most one piece is in memory at a time.
 #[derive(Clone, Copy, Debug)]
 pub struct PieceReader<'a> {
-    /// What was not read yet.
+    /// The text not yet read.
     pub rest: &'a [u8],
     /// How many lines were read.
     pub number: usize,
 }
 
 impl<'a> PieceReader<'a> {
-    /// Before the first line of a text.
+    /// The position before the first line of a text.
     pub fn new(text: &'a [u8]) -> Self
         ensures { IsReadUpTo text.now result.rest.now result.number [] }
     {
@@ -31,9 +31,10 @@ impl<'a> PieceReader<'a> {
         }
     }
 
-    /// Reads on to the next piece, if there is one: lines that are skipped, and then its own.
+    /// Reads up to the end of the next piece's line, if there is a next piece, and skips lines
+    /// before it as needed.
     ///
-    /// `BadLine` and `Memory` come as from `Recording::parse`.
+    /// `BadLine` and `Memory` are returned as from `Recording::parse`.
     pub fn next_piece<A: Allocator + Clone>(
         &mut self,
         alloc: &A,
@@ -59,12 +60,12 @@ impl<'a> PieceReader<'a> {
         }
     }
 
-    /// Reads on to the next piece, if there is one, and appends its bytes to those of its
-    /// direction.
+    /// Reads up to the end of the next piece's line, if there is a next piece, and appends its
+    /// bytes to those of its direction.
     ///
-    /// `BadLine` comes at the first line of the text that a recording cannot have, and `Memory` only
-    /// at a line that is a piece: one that is none asks for no memory. Both pass over the line, and
-    /// leave the bytes of both directions as they were.
+    /// `BadLine` is returned at the first line that a recording cannot have, and `Memory` only at a
+    /// line that is a piece: any other line allocates nothing. Either passes over the line, and
+    /// leaves the bytes of both directions unchanged.
     pub fn append_next<A: Allocator>(
         &mut self,
         to_server: &mut Vec<u8, A>,

@@ -1,5 +1,4 @@
--- How a server reads a request: what it makes of the message in front, and then what the reading
--- leaves.
+-- How a server reads a request: what it finds at the front, and the state that the reading leaves.
 use Rattle.std.specs.Prelude.{◌≡◌, ◌≢◌, ◌⊎◌, ◌&&◌, not, ℕ, ◌≤◌, Bool, true, false, List, []}
 use Rattle.std.specs.Prelude.{if◌then◌else◌, length, take, drop, Option, Some, None, IsTrue}
 use Rattle.std.specs.declared.result.Result.{Result}
@@ -7,7 +6,7 @@ use Rattle.std.specs.declared.result.Result.TheVariants.{Ok, Err}
 use Rattle.wl_sigs.specs.declared.signature.Destroys.{Destroys}
 use Rattle.wl_sigs.specs.declared.signature.Destroys.TheVariants.{Nothing, Target, Arg}
 use Rattle.wl_sigs.specs.declared.signature.Side.TheVariants.{Request as request_side}
-use Rattle.wl_sigs.specs.Tables.{Interface, max_args}
+use Rattle.wl_sigs.specs.Tables.{Interface, max_args, descriptors}
 use Rattle.wl_message.specs.Arrived.{in_front}
 use Rattle.wl_message.specs.Cut.{Whole}
 use Rattle.wl_object_map.specs.declared.object.Entry.{Entry}
@@ -20,7 +19,7 @@ use Rattle.wl_object_map.specs.View.{free_or_next, has_room}
 use Rattle.wl_object_map.specs.Objects.{Objects, look, closed}
 use Rattle.wl_object_map.specs.Ranges.{is_of_server}
 use Rattle.wl_wire.specs.declared.header.Header.{Header}
-use Rattle.wl_objects.specs.Reading.{Reported, descriptors}
+use Rattle.wl_objects.specs.Reading.{Reported}
 use Rattle.wl_objects.specs.declared.parsed.ParsedArg.{ParsedArg}
 use Rattle.wl_objects.specs.Parsed.{AreParsed, reported_in}
 use Rattle.wl_objects.specs.Messages.{NewObject, Received, is_bind, made, opens, reader_of}
@@ -35,8 +34,8 @@ use Rattle.wl_server.specs.Requests.{registries_after, ended_object, fault_code,
 use Rattle.wl_server.specs.Requests.{is_good_bind_of}
 use Rattle.wl_server.specs.Registries.{without_object}
 
--- what a request is and does: its report, its numbers of bytes and tokens, the object that it
--- makes and the birth of the next one, and the object that it destroys
+-- the meaning of a request: its report, its numbers of bytes and tokens, the object that it makes
+-- and the birth of the next one, and the object that it destroys
 pub record Step : Type 0 where
   pub report : Report
   pub size : ℕ
@@ -54,7 +53,7 @@ ended_by_request Nothing report = None
 ended_by_request Target report = Some (ended_object Target report)
 ended_by_request (Arg place) report = Some (ended_object (Arg place) report)
 
--- whether a request that destroys this object is answered by a delete_id: the client made it
+-- whether a request that destroys this object must be followed by a delete_id: the client made it
 abbrev pub needs_delete_id : Option Object → Bool
 needs_delete_id None = false
 needs_delete_id (Some object) = not (is_of_server object.id)
@@ -71,12 +70,13 @@ step_of core f = record {
 
 -- ---- a request that was read and not yet taken
 
--- what an outline is with a message's body, its arguments as they were parsed, and its tokens
+-- the report that an outline gives with a message's body, its parsed arguments, and its tokens
 abbrev pub outlined : List ℕ → List ParsedArg → List ℕ → Outline → Report
 outlined body args tokens outline =
     report_with outline.target outline.opcode (reported_in body outline.birth tokens args)
 
--- what it is and does, over the message in front of an end, by its arguments as they were parsed
+-- the meaning of a pending request, from the message at the front of an end and its parsed
+-- arguments
 abbrev pub pending_in : Core → List ParsedArg → PendingRequest → Step
 pending_in core args p = record {
   report =
@@ -89,15 +89,14 @@ pending_in core args p = record {
   ended = p.change.ended;
 }
 
--- What is destroyed, by the arguments as they were parsed: the place of their bytes and tokens does
--- not matter.
+-- What is destroyed, from the parsed arguments; it does not depend on their bytes and tokens.
 abbrev pub IsEndedBy : Received → List ParsedArg → Option Object → Type 0
 IsEndedBy m args ended =
     (opcode birth : ℕ) (body tokens : List ℕ)
     → ended ≡ ended_by_request m.signature.destroys
     (report_with m.target opcode (reported_in body birth tokens args))
 
--- what a message is and does, where it destroys this object and a new one gets this birth
+-- the meaning of a message that destroys this object, given the birth of a new one
 abbrev pub pending_of : List Interface → ℕ → Option Object → Header → Received → PendingRequest
 pending_of tables birth ended header message = record {
   outline = record { target = message.target; opcode = header.opcode; birth = birth };
@@ -110,21 +109,22 @@ pending_of tables birth ended header message = record {
   tokens = descriptors message.signature.kinds;
 }
 
--- A pending request is what this message, of this body and these parsed arguments, is and does
--- where these tables and objects are there.
+-- A pending request describes what this message, with this body and these parsed arguments, means
+-- and does, given these tables and objects.
 pub record IsPending (tables : List Interface) (view : Objects) (header : Header) (body : List ℕ)
     (args : List ParsedArg) (message : Received) (p : PendingRequest) : Type 0 where
   pub parsed : AreParsed (reader_of tables request_side view) body args message.values
   pub ended : IsEndedBy message args p.change.ended
   pub same : p ≡ pending_of tables view.client.births p.change.ended header message
 
--- whether a message is a bind that names no global that was ever advertised so
+-- whether a message is a bind that names no global that was ever advertised in this way
 abbrev pub is_bad_bind : List Interface → List Global → ℕ → Received → Bool
 is_bad_bind tables globals opcode message =
     is_bind request_side message.entry.iface opcode
     && not (is_good_bind_of tables globals message.values)
 
--- What comes of a message in front, which its reader reads as this: a request, or its fault.
+-- The result for a message at the front that its reader reads in this way: a request, or the
+-- message's fault.
 abbrev pub IsPendingOf : List Interface → Objects → List Global → Header → List ℕ → List ParsedArg
     → Result Received Fault → Result PendingRequest Fault → Type 0
 IsPendingOf tables view globals header body args r (Err fault) =
@@ -137,7 +137,7 @@ IsPendingOf tables view globals header body args r (Ok p) =
     × (is_bad_bind tables globals header.opcode message ≡ false)
     × IsPending tables view header body args message p
 
--- what is reported of it
+-- the report of a request at the front
 abbrev pub front_report : Core → List ParsedArg → PendingRequest → Report
 front_report core args p = (pending_in core args p).report
 
@@ -147,13 +147,13 @@ pendings_in core args (Err why) = Err why
 pendings_in core args (Ok None) = Ok None
 pendings_in core args (Ok (Some p)) = Ok (Some (pending_in core args p))
 
--- its report, over the message that an end took last
+-- the report of a request whose message the end took last
 abbrev pub taken_report : Core → List ParsedArg → PendingRequest → Report
 taken_report core args p = outlined core.inbox.last args core.inbox.last_tokens p.outline
 
--- ---- what stands in front
+-- ---- what is at the front
 
--- the state of a server, as far as it tells what stands in front
+-- a server's state, as far as it determines what is at the front
 abbrev pub server_state : Core → List Global → State
 server_state core globals = record { core = core; globals = globals; registries = [] }
 
@@ -168,30 +168,30 @@ step_found core (Ok None) = Ok None
 step_found core (Ok (Some f)) =
     if is_out_full core f then Err errors.OutFull else Ok (Some (step_of core f))
 
--- the request in front
+-- the request at the front
 abbrev pub front_step : State → Result (Option Step) NextError
 front_step state = step_found state.core (request state)
 
--- an object has the row of its birth
+-- an object has a row with its birth
 pub record HasRow (view : Objects) (object : Object) : Type 0 where
   pub entry : Entry
   pub row : look view object.id ≡ Some entry
   pub birth : entry.birth ≡ object.birth
 
--- An object can be closed: it has the row of its birth and is not wl_display, and where the client
+-- An object can be closed: it has a row with its birth and is not wl_display, and if the client
 -- made it there is room for its delete_id.
 pub record CanEnd (core : Core) (object : Object) : Type 0 where
   pub row : HasRow core.view object
   pub not_display : object.id ≢ 1
   pub room : is_of_server object.id ≡ false → IsTrue (fits core.outbox delete_id_len 0)
 
--- what is made can be opened: its id is free, and the limits leave room for it
+-- what is made can be opened: its id is free, and it is within the limits
 abbrev pub HasFreeId : Objects → Option NewObject → Type 0
 HasFreeId view None = Unit {0}
 HasFreeId view (Some m) = IsTrue (free_or_next view.client m.id)
     × IsTrue (has_room view.client m.id)
 
--- A step can be taken: its message stands in front and its tokens wait, the next object gets its
+-- A step can be taken: its message is at the front and its tokens wait, the next object gets its
 -- birth, what it makes can be opened, and an object that it destroys can be closed.
 pub record CanTake (core : Core) (step : Step) : Type 0 where
   pub whole : in_front core.inbox ≡ Whole step.size
@@ -201,27 +201,27 @@ pub record CanTake (core : Core) (step : Step) : Type 0 where
   pub made : HasFreeId core.view step.made
   pub ended : (object : Object) → step.ended ≡ Some object → CanEnd core object
 
--- the request in front, unless the server has failed
+-- the request at the front, unless the server has failed
 abbrev pub checked_front : State → Result (Option Step) NextError
 checked_front state = if state.core.failed then Err errors.Failed else front_step state
 
--- This request stands in front of a server that has not failed.
+-- This request is the first at a server that has not failed.
 pub record IsNextRequest (state : State) (args : List ParsedArg) (p : PendingRequest)
     : Type 0 where
   pub step : Ok (Some (pending_in state.core args p)) ≡ checked_front state
   pub can_take : CanTake state.core (pending_in state.core args p)
   pub entry : look state.core.view p.outline.target.id ≡ Some p.entry
 
--- ---- what the reading leaves
+-- ---- the state after the reading
 
--- the end without the object that a request destroys
+-- the end after the object that a request destroys was closed
 abbrev pub core_without : Option Object → Core → Core
 core_without None core = core
 core_without (Some object) core =
     with_following (not (is_of_server object.id)) object.id
     (with_view core (closed core.view object.id))
 
--- the registries without it
+-- the registries without that object
 abbrev pub registries_without : Option Object → List Registry → List Registry
 registries_without None registries = registries
 registries_without (Some object) registries = without_object true object registries
@@ -243,19 +243,19 @@ after_step state step = record state {
   registries = registries_by state.core state.registries step;
 }
 
--- the end after the client is told of a fault
+-- the end after the error event for a fault was written
 abbrev pub core_told : Core → NextError → Core
 core_told core (errors.Fault fault offset) =
     with_error_event core 1 (fault_code fault) (fault_message fault)
 core_told core why = core
 
--- what a read leaves, by the step in front
+-- the state that a read leaves, from the step at the front
 abbrev pub after_front : State → Result (Option Step) NextError → State
 after_front state (Ok None) = state
 after_front state (Ok (Some step)) = after_step state step
 after_front state (Err why) = with_core state (core_told state.core why)
 
--- what a read returns, by the step in front
+-- what a read returns, from the step at the front
 abbrev pub report_of_step : Result (Option Step) NextError → Result (Option Report) NextError
 report_of_step (Ok None) = Ok None
 report_of_step (Ok (Some step)) = Ok (Some step.report)

@@ -10,7 +10,7 @@ use Rattle.std.specs.Prelude.{option_map, position, bytes_eq}
 use Rattle.std.proofs.lemmas.List.Folds.{find-append}
 use Rattle.std.specs.Option.{option_map_or, option_or}
 use Rattle.std.proofs.lemmas.List.{take_more, length-take-le, map-append}
-use Rattle.wl_interface_text.specs.Text.{WrittenMessage, WrittenInterface}
+use Rattle.wl_text.specs.Text.{WrittenMessage, WrittenInterface}
 use Rattle.wl_sigs.specs.Tables.{MessageSignature, Interface, has_destroying_event}
 use Rattle.wl_sigs.specs.Tables.{destroys_target}
 use Rattle.wl_sigs.specs.Joined.{all_names, first_place, interface_placed}

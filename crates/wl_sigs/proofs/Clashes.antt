@@ -12,7 +12,7 @@ use Rattle.wl_sigs.specs.declared.signature.Side.{Side}
 use Rattle.wl_sigs.specs.declared.signature.Side.TheVariants.{Request, Event}
 use Rattle.wl_sigs.specs.Tables.{MessageSignature, Interface, messages_of, signature_at}
 use Rattle.wl_sigs.specs.Tables.{has_destroying_event, destroys_target}
-use Rattle.wl_interface_text.specs.Text.{WrittenMessage}
+use Rattle.wl_text.specs.Text.{WrittenMessage}
 use Rattle.wl_sigs.specs.Extending.{is_object_of, is_server_object_of, has_argument, clash_rule}
 use Rattle.wl_sigs.specs.FirstLineBroken.{Clashes, request_of_ended, ends_argument}
 use Rattle.wl_sigs.specs.FirstLineBroken.{ends_server_object}

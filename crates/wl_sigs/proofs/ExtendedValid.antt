@@ -11,7 +11,7 @@ use Rattle.wl_sigs.specs.declared.signature.Side.TheVariants.{Request, Event}
 use Rattle.wl_sigs.specs.Tables.{MessageSignature, Interface, interface_at, message_of, signature_at}
 use Rattle.wl_sigs.specs.Tables.{messages_of, has_destroying_event, destroys_target, named_interface}
 use Rattle.wl_sigs.specs.Valid.{IsBind, IsFixedPlace, Valid}
-use Rattle.wl_interface_text.specs.Text.{WrittenInterface}
+use Rattle.wl_text.specs.Text.{WrittenInterface}
 use Rattle.wl_sigs.specs.Joined.{all_names, first_place}
 use Rattle.wl_sigs.specs.Broken.{Broken}
 use Rattle.wl_sigs.specs.FirstBroken.{MessageBreaks, message_misnamed, message_named_again}

@@ -4,7 +4,7 @@ use Rattle.std.proofs.Common.{refl, sym, ap, ◌∙◌, subst, Some, None, Optio
 use Rattle.std.proofs.Common.{◌||◌, codes, arith}
 use Rattle.std.proofs.lemmas.Bool.{ltb-true, ltb-false}
 use Rattle.std.proofs.lemmas.Slice.Eq.{bytes_eq-Decides}
-use Rattle.wl_interface_text.specs.Text.{WrittenInterface}
+use Rattle.wl_text.specs.Text.{WrittenInterface}
 use Rattle.wl_sigs.specs.Broken.{broken_at}
 use Rattle.wl_sigs.specs.Extended.{Gathered, first_named, one_more, gathered_from}
 use Rattle.wl_sigs.specs.Extending.{is_fixed_name, version_rule, extend_rule, extensions_broken}

@@ -5,7 +5,7 @@ use Rattle.std.proofs.Common.{slice_get, add-zero, not, ◌&&◌, nat_le, arith}
 use Rattle.std.specs.List.{list_all, count_by}
 use Rattle.std.proofs.lemmas.List.{take_more, length-take-le}
 use Rattle.std.proofs.lemmas.Bool.Decides.{nat_tests}
-use Rattle.wl_interface_text.specs.Text.{WrittenMessage, WrittenInterface}
+use Rattle.wl_text.specs.Text.{WrittenMessage, WrittenInterface}
 use Rattle.wl_sigs.specs.declared.signature.Side.{Side}
 use Rattle.wl_sigs.specs.Broken.{Broken, comes_first, earlier, broken_at, messages_broken, interface_broken}
 use Rattle.wl_sigs.specs.Broken.{interfaces_broken}

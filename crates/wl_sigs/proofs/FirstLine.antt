@@ -9,7 +9,7 @@ use Rattle.wl_sigs.specs.declared.signature.Side.TheVariants.{Request, Event}
 use Rattle.std.specs.List.{list_all, count_by}
 use Rattle.wl_sigs.specs.Rules.{is_name}
 use Rattle.wl_sigs.specs.Tables.{Interface}
-use Rattle.wl_interface_text.specs.Text.{WrittenMessage, WrittenInterface}
+use Rattle.wl_text.specs.Text.{WrittenMessage, WrittenInterface}
 use Rattle.wl_sigs.specs.Joined.{all_names, first_place}
 use Rattle.wl_sigs.specs.Broken.{Broken, is_first, makes_object, makes_unnamed, names_missing}
 use Rattle.wl_sigs.specs.Broken.{names_objects, is_race_free, most_new, comes_first, earlier, broken_at}

@@ -3,7 +3,7 @@
 use Rattle.std.proofs.Common.{◌≡◌, ℕ, ◌+◌, List, length, map, refl, sym, ap, ◌∙◌, subst, Some}
 use Rattle.std.specs.Prelude.{option_map}
 use Rattle.wl_sigs.specs.Tables.{MessageSignature, Interface, interface_at, message_of}
-use Rattle.wl_interface_text.specs.Text.{WrittenInterface}
+use Rattle.wl_text.specs.Text.{WrittenInterface}
 use Rattle.wl_sigs.specs.Joined.{all_names, first_place, joined}
 use Rattle.wl_sigs.specs.Broken.{ended_of, first_broken}
 use Rattle.wl_sigs.specs.FirstBroken.{written_of, InterfaceBreaks, MessageBreaks, BreaksRule}

@@ -9,7 +9,7 @@ use Rattle.std.proofs.lemmas.List.{length-map}
 use Rattle.std.proofs.lemmas.Option.{slice_get-map}
 use Rattle.std.proofs.lemmas.Slice.Eq.{bytes_eq-Decides}
 use Rattle.wl_sigs.specs.Tables.{Interface}
-use Rattle.wl_interface_text.specs.Text.{WrittenInterface}
+use Rattle.wl_text.specs.Text.{WrittenInterface}
 use Rattle.wl_sigs.specs.Broken.{broken_at, earlier}
 use Rattle.wl_sigs.specs.Extended.{Gathered, unsaid, greater, with_extension, extend_first, first_named}
 use Rattle.wl_sigs.specs.Extended.{one_more, gathered_from, gathered}

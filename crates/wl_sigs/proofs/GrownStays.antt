@@ -4,7 +4,7 @@ use Rattle.std.proofs.Common.{map, refl, Some}
 use Rattle.wl_sigs.specs.declared.signature.Side.{Side}
 use Rattle.wl_sigs.specs.Tables.{MessageSignature, Interface, interface_at, messages_of, message_of}
 use Rattle.wl_sigs.specs.Tables.{signature_at}
-use Rattle.wl_interface_text.specs.Text.{WrittenInterface}
+use Rattle.wl_text.specs.Text.{WrittenInterface}
 use Rattle.wl_sigs.specs.Joined.{all_names, first_place, message_placed}
 use Rattle.wl_sigs.specs.FirstBroken.{written_of}
 use Rattle.wl_sigs.specs.Extended.{interface_grown, gathered, extended}

@@ -20,7 +20,7 @@ use Rattle.wl_sigs.specs.Tables.{has_destroying_event, destroys_target, destroys
 use Rattle.wl_sigs.specs.Valid.{EachInterface, EachMessage, IsTableName, NamesAreDistinct, HasFixedFour}
 use Rattle.wl_sigs.specs.Valid.{AreSmall, MakeFewObjects, IsBind, UnnamedNewInBindAlone}
 use Rattle.wl_sigs.specs.Valid.{NoAnyInRequests, SincesAreInRange, ArgumentEndsInFixesAlone, Valid}
-use Rattle.wl_interface_text.specs.Text.{WrittenMessage, WrittenInterface}
+use Rattle.wl_text.specs.Text.{WrittenMessage, WrittenInterface}
 use Rattle.wl_sigs.specs.Joined.{all_names, first_place, message_placed, destroys_of}
 use Rattle.wl_sigs.specs.FirstBroken.{written_of, MessageBreaks, message_misnamed, message_named_again}
 use Rattle.wl_sigs.specs.FirstBroken.{message_beyond, too_many_arguments, event_makes}

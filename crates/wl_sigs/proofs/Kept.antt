@@ -5,7 +5,7 @@ use Rattle.std.specs.List.{list_all, count_by}
 use Rattle.wl_sigs.specs.declared.signature.Side.{Side}
 use Rattle.wl_sigs.specs.declared.signature.Side.TheVariants.{Request, Event}
 use Rattle.wl_sigs.specs.Rules.{is_name}
-use Rattle.wl_interface_text.specs.Text.{WrittenMessage, WrittenInterface}
+use Rattle.wl_text.specs.Text.{WrittenMessage, WrittenInterface}
 use Rattle.wl_sigs.specs.Joined.{first_place}
 use Rattle.wl_sigs.specs.Broken.{is_first, makes_object, makes_unnamed, names_missing, most_new}
 use Rattle.wl_sigs.specs.Broken.{names_objects, is_race_free, interface_rule, message_rule}

@@ -9,9 +9,9 @@ use Rattle.wl_wire.specs.declared.kind.Kind.{Kind}
 use Rattle.wl_wire.specs.declared.kind.Kind.TheVariants as kinds
 use Rattle.wl_wire.specs.declared.kind.Iface.{Iface}
 use Rattle.wl_sigs.specs.Tables.{Interface, interface_at, named_interface, has_destroying_event}
-use Rattle.wl_interface_text.specs.declared.written.BareKind.{BareKind}
-use Rattle.wl_interface_text.specs.declared.written.BareKind.TheVariants as bare
-use Rattle.wl_interface_text.specs.Text.{WrittenKind, needs_interface, takes_interface}
+use Rattle.wl_text.specs.declared.written.BareKind.{BareKind}
+use Rattle.wl_text.specs.declared.written.BareKind.TheVariants as bare
+use Rattle.wl_text.specs.Text.{WrittenKind, needs_interface, takes_interface}
 use Rattle.wl_sigs.specs.Joined.{iface_named, with_iface}
 use Rattle.wl_sigs.specs.Broken.{is_new, is_object, is_ended}
 use Rattle.wl_sigs.proofs.PlacedKinds.{NotEndedIn}

@@ -2,7 +2,7 @@
 use Rattle.std.proofs.Common.{◌≡◌, ℕ, ◌+◌, ◌≤◌, ◌⊎◌, inl, inr, true, false, cond, List, refl, sym}
 use Rattle.std.proofs.Common.{◌∙◌, Some, None, Option, Bool, slice_get, nat_lt, arith}
 use Rattle.std.proofs.lemmas.Bool.{ltb-true, ltb-false}
-use Rattle.wl_interface_text.specs.Text.{WrittenMessage}
+use Rattle.wl_text.specs.Text.{WrittenMessage}
 use Rattle.wl_sigs.specs.Broken.{messages_broken}
 use Rattle.wl_sigs.specs.Extending.{lesser}
 use Rattle.wl_sigs.proofs.FirstLine.{Tested, failing, Ascends, fails_first, some_fails}

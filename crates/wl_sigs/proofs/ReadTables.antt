@@ -1,7 +1,7 @@
 -- What reading tables from a text finds, by its steps.
 use Rattle.std.proofs.Common.{◌≡◌, List, Some, None, Option, refl, sym, ap, subst, ◌∙◌}
 use Rattle.std.specs.Prelude.{option_map}
-use Rattle.wl_interface_text.specs.Text.{WrittenInterface}
+use Rattle.wl_text.specs.Text.{WrittenInterface}
 use Rattle.wl_sigs.specs.declared.rules.BrokenLine.{BrokenLine}
 use Rattle.wl_sigs.specs.Tables.{Interface}
 use Rattle.wl_sigs.specs.Valid.{Valid}

@@ -11,9 +11,9 @@ use Rattle.std.proofs.lemmas.List.Sums.{sum_by-cons}
 use Rattle.wl_wire.specs.declared.kind.Kind.{Kind}
 use Rattle.wl_wire.specs.declared.kind.Kind.TheVariants as kinds
 use Rattle.wl_wire.specs.declared.kind.Iface.{Iface}
-use Rattle.wl_interface_text.specs.declared.written.BareKind.{BareKind}
-use Rattle.wl_interface_text.specs.declared.written.BareKind.TheVariants as bare
-use Rattle.wl_interface_text.specs.Text.{WrittenKind}
+use Rattle.wl_text.specs.declared.written.BareKind.{BareKind}
+use Rattle.wl_text.specs.declared.written.BareKind.TheVariants as bare
+use Rattle.wl_text.specs.Text.{WrittenKind}
 use Rattle.wl_sigs.specs.declared.signature.Side.{Side}
 use Rattle.wl_sigs.specs.declared.signature.Side.TheVariants.{Request, Event}
 use Rattle.wl_sigs.specs.Tables.{Interface, interface_at, server_objects, has_destroying_event}

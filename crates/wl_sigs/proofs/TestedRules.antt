@@ -16,7 +16,7 @@ use Rattle.wl_sigs.specs.Rules.{is_name, is_empty}
 use Rattle.wl_sigs.specs.Tables.{MessageSignature, Interface, interface_at, new_objects, named_interface}
 use Rattle.wl_sigs.specs.Tables.{destroys_target, server_objects}
 use Rattle.wl_sigs.specs.Valid.{IsTableName}
-use Rattle.wl_interface_text.specs.Text.{WrittenKind, WrittenMessage, WrittenInterface}
+use Rattle.wl_text.specs.Text.{WrittenKind, WrittenMessage, WrittenInterface}
 use Rattle.wl_sigs.specs.Joined.{all_names, first_place, kind_placed, destroys_of, joined}
 use Rattle.wl_sigs.specs.Broken.{is_first, makes_object, makes_unnamed, takes_any, takes_ended}
 use Rattle.wl_sigs.specs.Broken.{names_missing, most_new, names_objects, is_race_free, ended_of}

@@ -2,10 +2,10 @@
 use Rattle.std.proofs.Common.{◌≡◌, ℕ, List, [], Some, None, Option, refl, sym, ap, subst, ◌∙◌}
 use Rattle.std.specs.Prelude.{Result, Ok, Err, ◌↔◌}
 use Rattle.std.specs.Str.Lines.{lines}
-use Rattle.wl_interface_text.specs.declared.fault.TableFault.TheVariants.{BadLine, BadTable}
-use Rattle.wl_interface_text.specs.TableText.{TableText, IsFirstBadLine}
-use Rattle.wl_interface_text.specs.Text.{WrittenInterface, interfaces_from}
-use Rattle.wl_interface_text.proofs.Texts.{text_lists, first_bad}
+use Rattle.wl_text.specs.declared.fault.TableFault.TheVariants.{BadLine, BadTable}
+use Rattle.wl_text.specs.TableText.{TableText, IsFirstBadLine}
+use Rattle.wl_text.specs.Text.{WrittenInterface, interfaces_from}
+use Rattle.wl_text.proofs.Texts.{text_lists, first_bad}
 use Rattle.wl_sigs.specs.Broken.{Broken}
 use Rattle.wl_sigs.specs.Extended.{extended}
 use Rattle.wl_sigs.specs.Extending.{first_line_broken}

@@ -4,7 +4,7 @@ use Rattle.std.proofs.Common.{Option, Bool, true, false, not, append-nil}
 use Rattle.std.specs.List.{All, list_all}
 use Rattle.std.proofs.lemmas.List.Sums.{AllPass-from_list_all}
 use Rattle.wl_sigs.specs.Tables.{MessageSignature, Interface}
-use Rattle.wl_interface_text.specs.Text.{WrittenInterface}
+use Rattle.wl_text.specs.Text.{WrittenInterface}
 use Rattle.wl_sigs.specs.Joined.{all_names, first_place, joined}
 use Rattle.wl_sigs.specs.Broken.{Broken, earlier, ended_of, first_broken}
 use Rattle.wl_sigs.specs.Extended.{Gathered, unsaid, interface_grown, all_grown, gathered, grown, whole_of}

@@ -14,7 +14,7 @@ use Rattle.wl_sigs.specs.declared.signature.Side.TheVariants.{Request, Event}
 use Rattle.wl_sigs.specs.Rules.{is_empty}
 use Rattle.wl_sigs.specs.Tables.{Interface, interface_at, signature_at, named_interface, has_destroying_event}
 use Rattle.wl_sigs.specs.Valid.{Valid}
-use Rattle.wl_interface_text.specs.Text.{WrittenMessage, WrittenInterface}
+use Rattle.wl_text.specs.Text.{WrittenMessage, WrittenInterface}
 use Rattle.wl_sigs.specs.Joined.{all_names, first_place, kind_placed, joined}
 use Rattle.wl_sigs.specs.Broken.{is_first, makes_object, makes_unnamed, takes_any, takes_ended}
 use Rattle.wl_sigs.specs.Broken.{names_missing, most_new, names_objects, is_race_free}

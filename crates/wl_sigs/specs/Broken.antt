@@ -9,18 +9,18 @@ use Rattle.wl_sigs.specs.declared.signature.Side.TheVariants.{Request, Event}
 use Rattle.wl_sigs.specs.Tables.{Interface, has_destroying_event, max_interfaces, max_messages}
 use Rattle.wl_sigs.specs.Tables.{max_args}
 use Rattle.wl_sigs.specs.Rules.{is_name, is_empty, is_fixed_place}
-use Rattle.wl_interface_text.specs.declared.written.BareKind.{BareKind}
-use Rattle.wl_interface_text.specs.declared.written.BareKind.TheVariants as bare
-use Rattle.wl_interface_text.specs.Text.{WrittenKind, WrittenMessage, WrittenInterface}
-use Rattle.wl_interface_text.specs.Text.{needs_interface, takes_interface}
+use Rattle.wl_text.specs.declared.written.BareKind.{BareKind}
+use Rattle.wl_text.specs.declared.written.BareKind.TheVariants as bare
+use Rattle.wl_text.specs.Text.{WrittenKind, WrittenMessage, WrittenInterface}
+use Rattle.wl_text.specs.Text.{needs_interface, takes_interface}
 use Rattle.wl_sigs.specs.Joined.{all_names, first_place}
 
--- a line that breaks a rule, and the least rule that it breaks
+-- a line that breaks a rule, and the lowest rule that it breaks
 pub record Broken : Type 0 where
   pub line : ℕ
   pub rule : ℕ
 
--- this is the first place of the name
+-- this is the first index of the name
 abbrev pub is_first : (List ℕ → Option ℕ) → List ℕ → ℕ → Bool
 is_first place name here = option_map_or (λ first. first == here) (place name) false
 
@@ -52,7 +52,7 @@ makes_unnamed k = makes_object k && not (is_some k.iface)
 abbrev pub takes_any : WrittenKind → Bool
 takes_any k = is_object k.kind && not (is_some k.iface)
 
--- whether the interface of a place has a destroying event, by the list of those that have
+-- whether the interface at an index has a destroying event, given the list of those that have one
 abbrev pub is_ended : List Bool → Option ℕ → Bool
 is_ended ended None = false
 is_ended ended (Some place) = option_map_or (λ b. b) (slice_get ended place) false
@@ -62,14 +62,14 @@ abbrev pub takes_ended : (List ℕ → Option ℕ) → List Bool → WrittenKind
 takes_ended place ended k =
     is_object k.kind && option_map_or (λ name. is_ended ended (place name)) k.iface false
 
--- an interface that is not there, or no name where there has to be one
+-- an interface that does not exist, or no name although one is required
 abbrev pub names_missing : (List ℕ → Option ℕ) → WrittenKind → Bool
 names_missing place k =
     takes_interface k.kind
     && option_map_or (λ name. not (is_some (place name))) k.iface (needs_interface k.kind)
 
--- whether the server may not make objects of the interface of a place, by the list of those that
--- have a destroying event
+-- whether the server may not make objects of the interface at an index, given the list of those
+-- that have a destroying event
 abbrev pub is_forbidden : List Bool → Option ℕ → Bool
 is_forbidden ended None = false
 is_forbidden ended (Some place) = is_fixed_place place || is_ended ended (Some place)
@@ -80,7 +80,7 @@ makes_forbidden place ended k =
     is_made_by_server k.kind
     && option_map_or (λ name. is_forbidden ended (place name)) k.iface false
 
--- rules at one line
+-- rules for one line
 
 abbrev pub interface_rule : (List ℕ → Option ℕ) → ℕ → WrittenInterface → Option ℕ
 interface_rule place here i =
@@ -110,7 +110,7 @@ abbrev pub is_race_free : (List ℕ → Option ℕ) → List Bool → WrittenInt
 is_race_free place ended i Request m = list_all (λ k. not (takes_ended place ended k)) m.kinds
 is_race_free place ended i Event m = not m.destroys || is_empty i.requests
 
--- the least rule from V6 on that a message of the interface breaks
+-- the lowest rule from V6 on that a message of the interface breaks
 abbrev pub later_rule : (List ℕ → Option ℕ) → List Bool → WrittenInterface → Side → WrittenMessage
     → Option ℕ
 later_rule place ended i side m =
@@ -122,8 +122,8 @@ later_rule place ended i side m =
     && list_all (λ k. not (makes_forbidden place ended k)) m.kinds) then Some 11
     else None))))
 
--- the least rule that a message of the interface breaks, where `first` gives the opcodes of the
--- first messages of their names
+-- the lowest rule that a message of the interface breaks; `first` gives the opcodes of the first
+-- messages with their names
 abbrev pub message_rule : (List ℕ → Option ℕ) → List Bool → WrittenInterface → Side
     → (List ℕ → Option ℕ) → ℕ → WrittenMessage → Option ℕ
 message_rule place ended i side first opcode m =
@@ -139,18 +139,18 @@ abbrev pub broken_at : ℕ → Option ℕ → Option Broken
 broken_at line rule =
     option_map (λ r. let broken_line : Broken = record { line = line; rule = r } in broken_line) rule
 
--- whether one stands at an earlier line than the other, or at the same and its rule is less
+-- whether one is at an earlier line than the other, or at the same line with a lower rule
 abbrev pub comes_first : Broken → Broken → Bool
 comes_first this other =
     nat_lt this.line other.line || ((this.line == other.line) && nat_lt this.rule other.rule)
 
--- the one of the earlier line, or of the lesser rule at one line
+-- the one at the earlier line, or with the lower rule at the same line
 abbrev pub earlier : Option Broken → Option Broken → Option Broken
 earlier None other = other
 earlier (Some this) None = Some this
 earlier (Some this) (Some other) = if comes_first other this then Some other else Some this
 
--- the first line of messages that breaks a rule, where the first message has this opcode
+-- the first line among messages that breaks a rule; the first message has this opcode
 abbrev pub messages_broken : (ℕ → WrittenMessage → Option ℕ) → ℕ → List WrittenMessage
     → Option Broken
 messages_broken rule opcode [] = None
@@ -171,19 +171,20 @@ interface_broken place ended here i =
     (earlier (side_broken place ended i Request i.requests)
     (side_broken place ended i Event i.events))
 
--- the first line of interfaces that breaks a rule, where the first interface stands at this place
+-- the first line among interfaces that breaks a rule; the first interface has this index
 abbrev pub interfaces_broken : (List ℕ → Option ℕ) → List Bool → ℕ → List WrittenInterface
     → Option Broken
 interfaces_broken place ended here [] = None
 interfaces_broken place ended here (i ∷ more) =
     earlier (interface_broken place ended here i) (interfaces_broken place ended (here + 1) more)
 
--- the interfaces that an event of theirs may end
+-- which interfaces have an event that may end their objects
 abbrev pub ended_of : List Interface → List WrittenInterface → List Bool
 ended_of tables written =
     map has_destroying_event tables ++ map (λ i. list_any (λ m. m.destroys) i.events) written
 
--- the first line of a text that breaks a rule, behind these tables, and the least rule there
+-- the first line of a text that breaks a rule, when the text is appended to these tables, and the
+-- lowest rule there
 abbrev pub first_broken : List Interface → List WrittenInterface → Option Broken
 first_broken tables written =
     interfaces_broken (first_place (all_names tables written)) (ended_of tables written)

@@ -1,19 +1,20 @@
--- Broken lines as the code has them.
+-- Broken lines in the form that the code uses.
 use Rattle.std.specs.Prelude.{◌≡◌, ℕ, List, Bool, not, Option, Some, None}
 use Rattle.wl_sigs.specs.declared.rules.BrokenLine.{BrokenLine}
 use Rattle.wl_sigs.specs.declared.rules.Owner.{Owner}
 use Rattle.wl_sigs.specs.declared.signature.Side.TheVariants.{Request, Event}
 use Rattle.wl_sigs.specs.Rules.{is_empty}
 use Rattle.wl_sigs.specs.Tables.{Interface}
-use Rattle.wl_interface_text.specs.Text.{WrittenInterface}
+use Rattle.wl_text.specs.Text.{WrittenInterface}
 use Rattle.wl_sigs.specs.Broken.{Broken, earlier}
 use Rattle.wl_sigs.specs.Extending.{added_side_broken}
 
--- what the rules of a message ask of its interface is so of this one
+-- this interface has what the rules of a message require to know
 abbrev pub IsOwner : Owner → WrittenInterface → Type 0
 IsOwner owner i = (i.version ≡ owner.version) × (is_empty i.requests ≡ not owner.has_requests)
 
--- the first broken line of what is added to an interface at a place, if something may be said of it
+-- the first broken line of what is added to the interface at an index, if anything may be added to
+-- it
 abbrev pub added_here : List Interface → (List ℕ → Option ℕ) → List Bool → ℕ → Interface
     → Option WrittenInterface → Option Broken
 added_here tables place ended here i None = None

@@ -1,12 +1,12 @@
--- What a text says of each interface: of its own, and of those of the tables that it extends.
+-- What a text says about each interface: its own, and those of the tables that it extends.
 use Rattle.std.specs.Prelude.{ℕ, List, [], ◌∷◌, ◌++◌, map, length, bytes_eq, true}
 use Rattle.std.specs.Prelude.{if◌then◌else◌, is_some, nat_lt, Option, Some, None}
 use Rattle.std.specs.List.{find}
 use Rattle.wl_sigs.specs.Tables.{Interface}
-use Rattle.wl_interface_text.specs.Text.{WrittenInterface}
+use Rattle.wl_text.specs.Text.{WrittenInterface}
 use Rattle.wl_sigs.specs.Joined.{all_names, first_place, message_placed, joined}
 
--- an interface of the tables as a text has it that says nothing of it: no message
+-- what a text that does not mention an interface of the tables says about it: no message
 abbrev pub unsaid : Interface → WrittenInterface
 unsaid i = record {
   line = 0;
@@ -21,8 +21,8 @@ unsaid i = record {
 abbrev pub greater : ℕ → ℕ → ℕ
 greater version other = if nat_lt version other then other else version
 
--- The interface with what an extension of it says: that version, and those messages behind its own.
--- No version is lowered: where that would be, the extension breaks V8.
+-- The interface after an extension: with the extension's version and its messages appended. The
+-- version is never lowered: an extension that would breaks V8.
 abbrev pub with_extension : WrittenInterface → WrittenInterface → WrittenInterface
 with_extension i more = record i {
   version = greater i.version more.version;
@@ -30,7 +30,7 @@ with_extension i more = record i {
   events = i.events ++ more.events;
 }
 
--- the interfaces, the first of this name with what the extension says
+-- the interfaces, with the first of this name extended
 abbrev pub extend_first : WrittenInterface → List WrittenInterface → List WrittenInterface
 extend_first more [] = []
 extend_first more (i ∷ rest) =
@@ -40,14 +40,14 @@ extend_first more (i ∷ rest) =
 abbrev pub first_named : List ℕ → List WrittenInterface → Option WrittenInterface
 first_named name written = find (λ i. bytes_eq i.name name) written
 
--- what lines of a text say: what they add to each interface of the tables, in the tables' order, and
--- the interfaces that they declare
+-- what lines of a text say: what they add to each interface of the tables, in order of the tables,
+-- and the interfaces that they declare
 pub record Gathered : Type 0 where
   pub added : List WrittenInterface
   pub declared : List WrittenInterface
 
--- One more declaration or extension. An extension is of the first interface of its name, those of
--- the tables counted as earlier.
+-- One more declaration or extension. An extension applies to the first interface of its name; those
+-- of the tables come before those of the text.
 abbrev pub one_more : Gathered → WrittenInterface → Gathered
 one_more g next =
     if next.extends
@@ -56,18 +56,18 @@ one_more g next =
     else record g { declared = extend_first next g.declared })
     else record g { declared = g.declared ++ next ∷ [] }
 
--- what further declarations and extensions make of it, one after another
+-- the result of further declarations and extensions, one after another
 abbrev pub gathered_from : Gathered → List WrittenInterface → Gathered
 gathered_from g [] = g
 gathered_from g (next ∷ more) = gathered_from (one_more g next) more
 
--- what a text says that is read behind these tables
+-- what a text says when it is appended to these tables
 abbrev pub gathered : List Interface → List WrittenInterface → Gathered
 gathered tables written =
     gathered_from (record { added = map unsaid tables; declared = [] }) written
 
--- an interface of the tables with what is added to it: its messages stand at their opcodes, and the
--- added ones behind them
+-- an interface of the tables with what is added to it: its messages keep their opcodes, and the
+-- added ones follow
 abbrev pub interface_grown : (List ℕ → Option ℕ) → ℕ → Interface → WrittenInterface → Interface
 interface_grown place past i more = record {
   name = i.name;
@@ -76,12 +76,12 @@ interface_grown place past i more = record {
   events = i.events ++ map (message_placed place past) more.events;
 }
 
--- the same where nothing may be said of it
+-- the same if nothing may be added to it
 abbrev pub grown_by : (List ℕ → Option ℕ) → ℕ → Interface → Option WrittenInterface → Interface
 grown_by place past i None = i
 grown_by place past i (Some more) = interface_grown place past i more
 
--- each interface at its place, with what is added to it
+-- each interface at its index, with what is added to it
 abbrev pub all_grown : (List ℕ → Option ℕ) → ℕ → List Interface → List WrittenInterface
     → List Interface
 all_grown place past [] added = []
@@ -89,8 +89,8 @@ all_grown place past (i ∷ rest) [] = i ∷ rest
 all_grown place past (i ∷ rest) (more ∷ added) =
     interface_grown place past i more ∷ all_grown place past rest added
 
--- the tables with what is added to their interfaces, where names stand for the first interface of
--- the tables and of the text that has them
+-- the tables with what is added to their interfaces; a name means the first interface of the tables
+-- and the text that has it
 abbrev pub grown : List Interface → Gathered → List Interface
 grown tables g =
     let names = all_names tables g.declared in

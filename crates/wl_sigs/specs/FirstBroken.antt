@@ -12,7 +12,7 @@ use Rattle.wl_sigs.specs.Tables.{MessageSignature, Interface, interface_at, mess
 use Rattle.wl_sigs.specs.Tables.{has_destroying_event, destroys_target, named_interface}
 use Rattle.wl_sigs.specs.Tables.{server_objects, max_interfaces, max_messages, max_args}
 use Rattle.wl_sigs.specs.Valid.{IsTableName, IsFixedPlace}
-use Rattle.wl_interface_text.specs.Text.{WrittenMessage, WrittenInterface}
+use Rattle.wl_text.specs.Text.{WrittenMessage, WrittenInterface}
 use Rattle.wl_sigs.specs.Joined.{joined}
 
 -- the messages of a side
@@ -20,8 +20,8 @@ abbrev pub written_of : Side → WrittenInterface → List WrittenMessage
 written_of Request i = i.requests
 written_of Event i = i.events
 
--- The line declares the interface that stands at this place once the text's interfaces are joined
--- behind these tables.
+-- The line declares the interface that has this index after the text's interfaces are appended to
+-- these tables.
 pub record DeclaresInterface (tables : List Interface) (written : List WrittenInterface)
     (line place : ℕ) (i : Interface) : Type 0 where
   pub index : ℕ
@@ -31,7 +31,7 @@ pub record DeclaresInterface (tables : List Interface) (written : List WrittenIn
   pub place_is : place ≡ length tables + index
   pub stands : interface_at (joined tables written) place ≡ Some i
 
--- The line declares the message at this opcode of one side of the interface at this place.
+-- The line declares the message with this opcode on one side of the interface at this index.
 pub record DeclaresMessage (tables : List Interface) (written : List WrittenInterface)
     (line place : ℕ) (i : Interface) (side : Side) (opcode : ℕ) (m : MessageSignature) : Type 0
   where
@@ -45,30 +45,30 @@ pub record DeclaresMessage (tables : List Interface) (written : List WrittenInte
     pub stands : interface_at (joined tables written) place ≡ Some i
     pub listed : message_of side opcode i ≡ Some m
 
--- The interface at this place of all tables breaks the rule by itself.
+-- The interface at this index of all tables breaks the rule on its own.
 pub data InterfaceBreaks (all : List Interface) (place : ℕ) (i : Interface) (rule : ℕ)
     : Type 0 where
-  -- V1: its name is none, or that of an earlier interface
+  -- V1: its name is not valid, or that of an earlier interface
   interface_misnamed : rule ≡ 1 → ¬ IsTableName i.name → InterfaceBreaks all place i rule
   interface_named_again : (earlier : ℕ) (j : Interface) → rule ≡ 1 → earlier < place
       → interface_at all earlier ≡ Some j → j.name ≡ i.name → InterfaceBreaks all place i rule
-  -- V3: 1,024 stand before it
+  -- V3: 1,024 interfaces come before it
   interface_beyond : rule ≡ 3 → max_interfaces ≤ place → InterfaceBreaks all place i rule
   -- V8
   version_below_one : rule ≡ 8 → i.version < 1 → InterfaceBreaks all place i rule
 
--- The message at this opcode of one side of this interface, among all tables, breaks the rule.
+-- The message with this opcode on one side of this interface, among all tables, breaks the rule.
 pub data MessageBreaks (all : List Interface) (i : Interface) (side : Side) (opcode : ℕ)
     (m : MessageSignature) (rule : ℕ) : Type 0 where
-  -- V1: its name is none, or that of an earlier message of the side
+  -- V1: its name is not valid, or that of an earlier message of the side
   message_misnamed : rule ≡ 1 → ¬ IsTableName m.name → MessageBreaks all i side opcode m rule
   message_named_again : (earlier : ℕ) (n : MessageSignature) → rule ≡ 1 → earlier < opcode
       → message_of side earlier i ≡ Some n → n.name ≡ m.name
       → MessageBreaks all i side opcode m rule
-  -- V3: 256 of the side stand before it, or it has more than 20 arguments
+  -- V3: 256 messages of the side come before it, or it has more than 20 arguments
   message_beyond : rule ≡ 3 → max_messages ≤ opcode → MessageBreaks all i side opcode m rule
   too_many_arguments : rule ≡ 3 → max_args < length m.kinds → MessageBreaks all i side opcode m rule
-  -- V4: an event has a new object of the client, or a request more than one
+  -- V4: an event has a new object of the client, or a request has more than one
   event_makes : rule ≡ 4 → side ≡ Event → 0 < length (new_objects m.kinds)
       → MessageBreaks all i side opcode m rule
   request_makes_two : rule ≡ 4 → side ≡ Request → 1 < length (new_objects m.kinds)
@@ -80,7 +80,7 @@ pub data MessageBreaks (all : List Interface) (i : Interface) (side : Side) (opc
   object_of_any : (null : Bool) → rule ≡ 6 → side ≡ Request
       → Contains m.kinds (kinds.Obj null None) → MessageBreaks all i side opcode m rule
   -- V7: an event destroys its target, and its interface has a request; or an argument of a request
-  -- is an object of an interface that has a destroying event
+  -- is an object of an interface with a destroying event
   event_destroys : rule ≡ 7 → side ≡ Event → destroys_target m.destroys ≡ true
       → 0 < length i.requests → MessageBreaks all i side opcode m rule
   object_of_ended : (null : Bool) (iface : Iface) (j : Interface) → rule ≡ 7 → side ≡ Request
@@ -89,12 +89,12 @@ pub data MessageBreaks (all : List Interface) (i : Interface) (side : Side) (opc
   -- V8
   since_below_one : rule ≡ 8 → m.since < 1 → MessageBreaks all i side opcode m rule
   since_above_version : rule ≡ 8 → i.version < m.since → MessageBreaks all i side opcode m rule
-  -- V9: an argument names an interface that is not there
+  -- V9: an argument names an interface that does not exist
   interface_missing : (kind : Kind) (iface : Iface) → rule ≡ 9 → Contains m.kinds kind
       → named_interface kind ≡ Some iface → length all ≤ iface.0
       → MessageBreaks all i side opcode m rule
-  -- V11: a request has a new object of the server, or an event more than one; or the interface of
-  -- one has a destroying event, or is one of the four that are always the same
+  -- V11: a request has a new object of the server, or an event has more than one; or the interface
+  -- of one has a destroying event, or is one of the four fixed ones
   request_has_server_object : rule ≡ 11 → side ≡ Request → 0 < length (server_objects m.kinds)
       → MessageBreaks all i side opcode m rule
   event_has_two_server_objects : rule ≡ 11 → side ≡ Event → 1 < length (server_objects m.kinds)
@@ -106,8 +106,8 @@ pub data MessageBreaks (all : List Interface) (i : Interface) (side : Side) (opc
       → Contains m.kinds (kinds.NewByServer iface) → interface_at all iface.0 ≡ Some j
       → IsFixedPlace iface.0 → MessageBreaks all i side opcode m rule
 
--- The line breaks the rule: it declares an interface or a message that does, among the tables that
--- the text's interfaces make behind these.
+-- The line breaks the rule: it declares an interface or a message that does, among the tables with
+-- the text's interfaces appended.
 pub data BreaksRule (tables : List Interface) (written : List WrittenInterface) (line rule : ℕ)
     : Type 0 where
   by_interface : (place : ℕ) (i : Interface) → DeclaresInterface tables written line place i

@@ -9,19 +9,19 @@ use Rattle.wl_sigs.specs.declared.signature.Side.{Side}
 use Rattle.wl_sigs.specs.declared.signature.Side.TheVariants.{Request, Event}
 use Rattle.wl_sigs.specs.Tables.{MessageSignature, Interface, interface_at, message_of, messages_of}
 use Rattle.wl_sigs.specs.Tables.{signature_at, has_destroying_event, destroys_target}
-use Rattle.wl_interface_text.specs.Text.{WrittenMessage, WrittenInterface}
+use Rattle.wl_text.specs.Text.{WrittenMessage, WrittenInterface}
 use Rattle.wl_sigs.specs.Broken.{Broken}
 use Rattle.wl_sigs.specs.FirstBroken.{written_of, MessageBreaks, BreaksRule}
 use Rattle.wl_sigs.specs.Extended.{Gathered, first_named, gathered, grown, extended}
 
--- the name is that of one of the four interfaces that are always the same
+-- the name is that of one of the four fixed interfaces
 pub data IsFixedName (name : List ℕ) : Type 0 where
   names_display : name ≡ codes "wl_display" → IsFixedName name
   names_registry : name ≡ codes "wl_registry" → IsFixedName name
   names_callback : name ≡ codes "wl_callback" → IsFixedName name
   names_fixes : name ≡ codes "wl_fixes" → IsFixedName name
 
--- The line is that of an extension, which stands in the text below lines that say this.
+-- The line is an extension's; in the text it follows lines that say this.
 pub record DeclaresExtension (tables : List Interface) (written : List WrittenInterface)
     (line : ℕ) (g : Gathered) (own : WrittenInterface) : Type 0 where
   pub before : List WrittenInterface
@@ -31,11 +31,11 @@ pub record DeclaresExtension (tables : List Interface) (written : List WrittenIn
   pub below : g ≡ gathered tables before
   pub line_is : line ≡ own.line
 
--- The extension breaks the rule by itself, below lines that say this.
+-- The extension breaks the rule on its own, after lines that say this.
 pub data ExtensionBreaks (g : Gathered) (own : WrittenInterface) (rule : ℕ) : Type 0 where
-  -- V2: it is of one of the four that are always the same
+  -- V2: it extends one of the four fixed interfaces
   extends_fixed : rule ≡ 2 → IsFixedName own.name → ExtensionBreaks g own rule
-  -- V8: its version is less than the one that the interface has there
+  -- V8: its version is lower than the one that the interface then has
   lowers_version : (i : WrittenInterface) → rule ≡ 8
       → first_named own.name (g.added ++ g.declared) ≡ Some i → own.version < i.version
       → ExtensionBreaks g own rule
@@ -43,8 +43,8 @@ pub data ExtensionBreaks (g : Gathered) (own : WrittenInterface) (rule : ℕ) : 
   extends_unknown : rule ≡ 9 → first_named own.name (g.added ++ g.declared) ≡ None
       → ExtensionBreaks g own rule
 
--- The line adds the message at this opcode of one side to the interface at this place of the tables,
--- which the tables have as `old` and the whole as `i`.
+-- The line adds the message with this opcode on one side to the interface at this index of the
+-- tables; the tables have that interface as `old`, and the result as `i`.
 pub record AddsMessage (tables : List Interface) (written : List WrittenInterface)
     (line place : ℕ) (old i : Interface) (side : Side) (opcode : ℕ) (m : MessageSignature)
     : Type 0 where
@@ -59,8 +59,8 @@ pub record AddsMessage (tables : List Interface) (written : List WrittenInterfac
   pub stands : interface_at (extended tables written) place ≡ Some i
   pub listed : message_of side opcode i ≡ Some m
 
--- Added to an interface that the tables have at this place as `old`, the message breaks the rule by
--- what the tables have already.
+-- Added to the interface `old` at this index of the tables, the message breaks the rule because of
+-- what the tables already have.
 pub data Clashes (tables : List Interface) (place : ℕ) (old : Interface) (side : Side)
     (m : MessageSignature) (rule : ℕ) : Type 0 where
   -- V7: an event of the interface destroys its target, and this is a request
@@ -72,7 +72,7 @@ pub data Clashes (tables : List Interface) (place : ℕ) (old : Interface) (side
       → signature_at tables p Request opcode ≡ Some request
       → Contains request.kinds (kinds.Obj null (Some iface)) → iface.0 ≡ place
       → Clashes tables place old side m rule
-  -- V11: it is an event that destroys its target, and another makes such an object
+  -- V11: it is an event that destroys its target, and another event makes such an object
   ends_server_object : (p opcode : ℕ) (event : MessageSignature) (iface : Iface) → rule ≡ 11
       → side ≡ Event → destroys_target m.destroys ≡ true
       → signature_at tables p Event opcode ≡ Some event
@@ -80,7 +80,7 @@ pub data Clashes (tables : List Interface) (place : ℕ) (old : Interface) (side
       → Clashes tables place old side m rule
 
 -- The line of a text breaks the rule: it is the line of an interface of the text or of one of its
--- messages, that of a message added to an interface of the tables, or that of an extension.
+-- messages, of a message added to an interface of the tables, or of an extension.
 pub data LineBreaks (tables : List Interface) (written : List WrittenInterface) (line rule : ℕ)
     : Type 0 where
   by_declared : BreaksRule (grown tables (gathered tables written)) (gathered tables written).declared
@@ -96,13 +96,13 @@ pub data LineBreaks (tables : List Interface) (written : List WrittenInterface) 
       → DeclaresExtension tables written line g own → ExtensionBreaks g own rule
       → LineBreaks tables written line rule
 
--- Each extension of the text breaks no rule by itself.
+-- No extension of the text breaks a rule on its own.
 abbrev pub ExtendsRightly : List Interface → List WrittenInterface → Type 0
 ExtendsRightly tables written =
     (line rule : ℕ) (g : Gathered) (own : WrittenInterface)
     → DeclaresExtension tables written line g own → ¬ ExtensionBreaks g own rule
 
--- The line breaks the rule and no lesser one, and no earlier line breaks any.
+-- The line breaks the rule and no lower one, and no earlier line breaks any.
 pub record IsFirstBrokenLine (tables : List Interface) (written : List WrittenInterface)
     (broken : Broken)
     : Type 0 where

@@ -1,4 +1,4 @@
--- The tables of a text behind others, with the names of their arguments' interfaces looked up.
+-- The tables of a text appended to others, with the names of their arguments' interfaces looked up.
 use Rattle.std.specs.Prelude.{ℕ, List, ◌++◌, length, map, bytes_eq, position, Option, option_map}
 use Rattle.std.specs.Prelude.{unwrap_or, Bool, true, false}
 use Rattle.wl_wire.specs.declared.kind.Kind.{Kind}
@@ -7,24 +7,24 @@ use Rattle.wl_wire.specs.declared.kind.Iface.{Iface}
 use Rattle.wl_sigs.specs.declared.signature.Destroys.{Destroys}
 use Rattle.wl_sigs.specs.declared.signature.Destroys.TheVariants.{Nothing, Target}
 use Rattle.wl_sigs.specs.Tables.{MessageSignature, Interface}
-use Rattle.wl_interface_text.specs.declared.written.BareKind.{BareKind}
-use Rattle.wl_interface_text.specs.declared.written.BareKind.TheVariants as bare
-use Rattle.wl_interface_text.specs.Text.{WrittenKind, WrittenMessage, WrittenInterface}
+use Rattle.wl_text.specs.declared.written.BareKind.{BareKind}
+use Rattle.wl_text.specs.declared.written.BareKind.TheVariants as bare
+use Rattle.wl_text.specs.Text.{WrittenKind, WrittenMessage, WrittenInterface}
 
 -- the names of the interfaces of the tables, then those of the text
 abbrev pub all_names : List Interface → List WrittenInterface → List (List ℕ)
 all_names tables written = map (λ i. i.name) tables ++ map (λ i. i.name) written
 
--- the place of the first of the names that is this
+-- the index of the first name that is equal to this one
 abbrev pub first_place : List (List ℕ) → List ℕ → Option ℕ
 first_place names name = position (λ other. bytes_eq other name) names
 
--- the interface at the first place of the name, or one past all names where there is none
+-- the interface at the first index of the name, or one past all names if there is none
 abbrev pub iface_named : (List ℕ → Option ℕ) → ℕ → List ℕ → Iface
 iface_named place past name = record { 0 = unwrap_or (place name) past }
 
--- The kind with its interface, if it has one. A text names that of each new object of the server;
--- without a name it would be the one past all.
+-- The kind with its interface, if it has one. A text names the interface of each new object of the
+-- server; without a name it would be the one past all.
 abbrev pub with_iface : ℕ → BareKind → Option Iface → Kind
 with_iface past bare.Int iface = kinds.Int
 with_iface past bare.Uint iface = kinds.Uint

@@ -1,10 +1,10 @@
--- What reading tables from a text gives.
+-- The result of reading tables from a text.
 use Rattle.std.specs.Prelude.{ℕ, List, [], Option, Some, None, Result, Ok, Err}
 use Rattle.std.specs.Str.Lines.{lines}
-use Rattle.wl_interface_text.specs.declared.fault.TableFault.{TableFault}
-use Rattle.wl_interface_text.specs.declared.fault.TableFault.TheVariants.{BadLine, BadTable}
+use Rattle.wl_text.specs.declared.fault.TableFault.{TableFault}
+use Rattle.wl_text.specs.declared.fault.TableFault.TheVariants.{BadLine, BadTable}
 use Rattle.wl_sigs.specs.Tables.{Interface}
-use Rattle.wl_interface_text.specs.Text.{WrittenInterface, interfaces_from}
+use Rattle.wl_text.specs.Text.{WrittenInterface, interfaces_from}
 use Rattle.wl_sigs.specs.Broken.{Broken}
 use Rattle.wl_sigs.specs.Extended.{extended}
 use Rattle.wl_sigs.specs.Extending.{first_line_broken}
@@ -21,8 +21,8 @@ outcome_of tables (Err line) = Err (BadLine line)
 outcome_of tables (Ok written) =
     extended_unless tables written (first_line_broken tables written)
 
--- The tables extended by a text and followed by its interfaces; else the first line that has no form
--- or is a message before any interface; else the first line that breaks a rule, and the least rule
--- there.
+-- The tables extended by a text and followed by its interfaces; else the first line that has no
+-- form or is a message before any interface; else the first line that breaks a rule, and the lowest
+-- rule there.
 abbrev pub outcome : List Interface → List ℕ → Result (List Interface) TableFault
 outcome tables text = outcome_of tables (interfaces_from 1 (lines text) [])

@@ -1,6 +1,6 @@
--- Signature tables, without where they lie in memory.
+-- Signature tables, apart from where they lie in memory.
 use Rattle.std.specs.Prelude.{◌≡◌, ℕ, List, [], ◌∷◌, Bool, true, false, ◌&&◌, nat_le, slice_get}
-use Rattle.std.specs.Prelude.{bytes_eq, position, Option, Some, None, option_map, option_and_then}
+use Rattle.std.specs.Prelude.{bytes_eq, count_by, position, Option, Some, None, option_map, option_and_then}
 use Rattle.std.specs.List.{Contains, list_any}
 use Rattle.wl_wire.specs.declared.kind.Kind.{Kind}
 use Rattle.wl_wire.specs.declared.kind.Kind.TheVariants as kinds
@@ -10,22 +10,22 @@ use Rattle.wl_sigs.specs.declared.signature.Destroys.TheVariants.{Nothing, Targe
 use Rattle.wl_sigs.specs.declared.signature.Side.{Side}
 use Rattle.wl_sigs.specs.declared.signature.Side.TheVariants.{Request, Event}
 
--- a request or an event: its name, the version of its interface that brought it, the kinds of its
--- arguments, and what it destroys
+-- a request or an event: its name, the version of its interface that introduced it, the kinds of
+-- its arguments, and what it destroys
 pub record MessageSignature : Type 0 where
   pub name : List ℕ
   pub since : ℕ
   pub kinds : List Kind
   pub destroys : Destroys
 
--- an interface: its messages stand at their opcodes, from 0
+-- an interface: its messages in order of opcode, from 0
 pub record Interface : Type 0 where
   pub name : List ℕ
   pub version : ℕ
   pub requests : List MessageSignature
   pub events : List MessageSignature
 
--- the most bytes of a name, interfaces of tables, messages of an interface and side, and arguments
+-- the limits: bytes of a name, interfaces of tables, messages of an interface and side, arguments
 -- of a message
 abbrev pub max_name_len : ℕ
 max_name_len = 256
@@ -39,7 +39,7 @@ max_messages = 256
 abbrev pub max_args : ℕ
 max_args = 20
 
--- the interface at a place of the tables, if there is one
+-- the interface at an index of the tables, if there is one
 abbrev pub interface_at : List Interface → ℕ → Option Interface
 interface_at tables place = slice_get tables place
 
@@ -48,34 +48,34 @@ abbrev pub messages_of : Side → Interface → List MessageSignature
 messages_of Request i = i.requests
 messages_of Event i = i.events
 
--- the message of one side of an interface at an opcode, if there is one
+-- the message with an opcode on one side of an interface, if there is one
 abbrev pub message_of : Side → ℕ → Interface → Option MessageSignature
 message_of side opcode i = slice_get (messages_of side i) opcode
 
--- the message at an opcode of one side of the interface at a place, if there are such
+-- the message with an opcode on one side of the interface at an index, if there is one
 abbrev pub signature_at : List Interface → ℕ → Side → ℕ → Option MessageSignature
 signature_at tables place side opcode =
     option_and_then (message_of side opcode) (interface_at tables place)
 
--- the place of the first interface of this name, if there is one
+-- the index of the first interface with this name, if there is one
 abbrev pub place_of : List Interface → List ℕ → Option Iface
 place_of tables name =
     option_map (λ place. record { 0 = place }) (position (λ i. bytes_eq i.name name) tables)
 
--- for each new object of the client among the arguments, in order, its interface, or none where the
+-- the interface of each of the arguments that is a new object of the client, in order; none if the
 -- signature gives none
 abbrev pub new_objects : List Kind → List (Option Iface)
 new_objects [] = []
 new_objects (kinds.New iface ∷ more) = iface ∷ new_objects more
 new_objects (_ ∷ more) = new_objects more
 
--- for each new object of the server among the arguments, in order, its interface
+-- the interface of each of the arguments that is a new object of the server, in order
 abbrev pub server_objects : List Kind → List Iface
 server_objects [] = []
 server_objects (kinds.NewByServer iface ∷ more) = iface ∷ server_objects more
 server_objects (_ ∷ more) = server_objects more
 
--- for each new object of either, in order, its interface, or none where the signature gives none
+-- the interface of each new object of either, in order; none if the signature gives none
 abbrev pub made_objects : List Kind → List (Option Iface)
 made_objects [] = []
 made_objects (kinds.New iface ∷ more) = iface ∷ made_objects more
@@ -86,12 +86,12 @@ abbrev pub first : {X : Type 0} → List X → Option X
 first [] = None
 first (x ∷ xs) = Some x
 
--- Whether a message makes an object, and of which interface: `Some None` where only the bytes tell.
+-- Whether a message makes an object, and of which interface: `Some None` if only the bytes give it.
 -- In valid tables no message makes more than one.
 abbrev pub makes : MessageSignature → Option (Option Iface)
 makes m = first (made_objects m.kinds)
 
--- whether a message destroys the object that it is for
+-- whether a message destroys its target
 abbrev pub destroys_target : Destroys → Bool
 destroys_target Nothing = false
 destroys_target Target = true
@@ -109,16 +109,16 @@ destroys_argument Nothing = false
 destroys_argument Target = false
 destroys_argument (Arg place) = true
 
--- whether an event of the interface destroys its object
+-- whether an event of the interface destroys its target
 abbrev pub has_destroying_event : Interface → Bool
 has_destroying_event i = list_any (λ m. destroys_target m.destroys) i.events
 
--- whether a request of the interface destroys its object, where that has this version
+-- whether a request of the interface destroys its target, if the target has this version
 abbrev pub has_destroying_request : ℕ → Interface → Bool
 has_destroying_request version i =
     list_any (λ m. destroys_target m.destroys && nat_le m.since version) i.requests
 
--- the interface that an argument names: of an object or a new object, where the signature gives one
+-- the interface in the signature of an argument, for an object or a new object that has one
 abbrev pub named_interface : Kind → Option Iface
 named_interface (kinds.Obj null iface) = iface
 named_interface (kinds.New iface) = iface
@@ -143,6 +143,14 @@ is_by_server _ = false
 -- whether a message has a new object of the server
 abbrev pub has_server_object : MessageSignature → Bool
 has_server_object m = list_any is_by_server m.kinds
+
+abbrev pub is_descriptor_kind : Kind → Bool
+is_descriptor_kind kinds.Fd = true
+is_descriptor_kind _ = false
+
+-- how many tokens a message of these kinds takes
+abbrev pub descriptors : List Kind → ℕ
+descriptors ks = count_by is_descriptor_kind ks
 
 -- Some event of the tables has a new object of the server.
 pub record HasServerObjects (tables : List Interface) : Type 0 where

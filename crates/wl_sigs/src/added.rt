@@ -1,4 +1,4 @@
-//! The rules of valid tables, at the lines that add messages to interfaces of the tables.
+//! The rules of valid tables, for the lines that add messages to interfaces of the tables.
 ghost use Rattle.std.specs.Prelude.{◌≡◌, ℕ, ◌≤◌, ◌++◌, List, length, map, IfOk, option_map, Some};
 ghost use Rattle.std.specs.Prelude.{option_copied};
 ghost use Rattle.wl_sigs.specs.BrokenLines.{IsOwner, broken, added_here};
@@ -17,10 +17,10 @@ use crate::places::{Places, places_of};
 use crate::rules::{BrokenLine, Owner, broken_at, earlier, is_first_name, message_rule};
 use crate::signature::{Side, Signature};
 use std::alloc::{AllocError, Allocator};
-use wl_interface_text::{WrittenInterface, WrittenMessage};
+use wl_text::{WrittenInterface, WrittenMessage};
 
-/// What the rules ask of all interfaces: those of the tables, the first places of the names of all,
-/// and which an event may end.
+/// What the rules need to know about all interfaces: those of the tables, the first index of each
+/// name, and which an event may end.
 #[derive(Drop)]
 pub(crate) struct Known<'k, 'n, A: Allocator> {
     pub(crate) interfaces: &'n [Entry<A>],
@@ -28,14 +28,14 @@ pub(crate) struct Known<'k, 'n, A: Allocator> {
     pub(crate) ended: &'k [bool],
 }
 
-// Whether a request has an object of the interface at this place.
+// Whether a request has an object of the interface at this index.
 fn is_argument<A: Allocator>(interfaces: &[Entry<A>], place: usize) -> bool
     ensures { result ≡ has_argument (is_object_of place) interfaces.now Request }
 {
     interfaces.iter().any(|entry| entry.takes_object_of(place))
 }
 
-// Whether an event has a new object of the server of the interface at this place.
+// Whether an event has a new object of the server of the interface at this index.
 fn is_server_object<A: Allocator>(interfaces: &[Entry<A>], place: usize) -> bool
     ensures { result ≡ has_argument (is_server_object_of place) interfaces.now Event }
 {
@@ -44,7 +44,7 @@ fn is_server_object<A: Allocator>(interfaces: &[Entry<A>], place: usize) -> bool
         .any(|entry| entry.makes_server_object_of(place))
 }
 
-// The least rule that an added message breaks by what the tables have already.
+// The lowest rule that an added message breaks because of what the tables already have.
 fn clash_rule<'n, A: Allocator>(
     interfaces: &[Entry<A>],
     place: usize,
@@ -62,7 +62,7 @@ fn clash_rule<'n, A: Allocator>(
     }
 }
 
-// The lesser of two rules.
+// The lower of two rules.
 fn lesser(rule: Option<u8>, other: Option<u8>) -> Option<u8>
     ensures { result ≡ lesser rule other }
 {
@@ -73,7 +73,7 @@ fn lesser(rule: Option<u8>, other: Option<u8>) -> Option<u8>
     }
 }
 
-// The names of the messages of a side, and of those that are added behind them.
+// The names of the messages of a side, followed by those of the added messages.
 fn names_behind<'n, A: Allocator + Clone + Drop>(
     alloc: &A,
     signatures: &'n [Signature<A>],
@@ -105,7 +105,7 @@ fn messages_of<'w, 'n, A: Allocator>(
     }
 }
 
-// What the rules of an added message ask of its interface.
+// What the rules of an added message need to know about its interface.
 #[tactic(auto, using(crate::proofs::Grown::empty_behind))]
 fn owner_with<'n, A: Allocator>(
     entry: &Entry<A>,
@@ -158,7 +158,7 @@ fn added_side_broken<'k, 'n, A: Allocator + Clone + Drop>(
     Ok(first)
 }
 
-// The first line that adds a message to the interface at a place and breaks a rule.
+// The first line that adds a message to the interface at an index and breaks a rule.
 fn added_here<'k, 'n, A: Allocator + Clone + Drop>(
     alloc: &A,
     known: &Known<'k, 'n, A>,

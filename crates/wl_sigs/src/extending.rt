@@ -1,4 +1,4 @@
-//! What a text says of each interface: of its own, and of those of the tables that it extends.
+//! What a text says about each interface: its own, and those of the tables that it extends.
 ghost use Rattle.std.specs.Prelude.{◌≡◌, ◌++◌, IfOk, option_map, option_copied, position, bytes_eq};
 ghost use Rattle.std.specs.Prelude.{not};
 ghost use Rattle.std.specs.List.{list_all};
@@ -11,9 +11,9 @@ ghost use Rattle.wl_sigs.specs.Extending.{extension_broken, extensions_broken};
 use crate::rules::{BrokenLine, broken_at, earlier};
 use std::alloc::{AllocError, Allocator};
 use std::marker::Model;
-use wl_interface_text::{WrittenInterface, WrittenMessage};
+use wl_text::{WrittenInterface, WrittenMessage};
 
-/// What lines of a text say: what they add to each interface of the tables, in the tables' order,
+/// What lines of a text say: what they add to each interface of the tables, in order of the tables,
 /// and the interfaces that they declare.
 #[derive(Drop)]
 pub(crate) struct Gathered<'n, A: Allocator> {
@@ -29,7 +29,7 @@ impl<'n, A: Allocator> Model for Gathered<'n, A> {
     ghost view = { λ g. record { added = g.added.items; declared = g.declared.items } };
 }
 
-// Whether the name is that of one of the four interfaces that are always the same.
+// Whether the name is that of one of the four fixed interfaces.
 fn is_fixed_name(name: &[u8]) -> bool
     ensures { result ≡ is_fixed_name name.now }
 {
@@ -45,7 +45,7 @@ fn is_named<A: Allocator>(interface: &WrittenInterface<'_, A>, name: &[u8]) -> b
     interface.name == name
 }
 
-// The place of the first interface of this name.
+// The index of the first interface with this name.
 fn place_named<A: Allocator>(written: &[WrittenInterface<'_, A>], name: &[u8]) -> Option<usize>
     ensures { result ≡ position (λ i. bytes_eq i.name name.now) written.now }
 {
@@ -54,7 +54,7 @@ fn place_named<A: Allocator>(written: &[WrittenInterface<'_, A>], name: &[u8]) -
         .position(|interface| is_named(interface, name))
 }
 
-// The first interface of this name.
+// The first interface with this name.
 fn first_named<'w, 'n, A: Allocator>(
     written: &'w [WrittenInterface<'n, A>],
     name: &[u8],
@@ -64,7 +64,7 @@ fn first_named<'w, 'n, A: Allocator>(
     written.iter().find(|interface| is_named(*interface, name))
 }
 
-// The least rule that an extension to this version breaks by itself, of this interface.
+// The lowest rule that an extension of this interface to this version breaks on its own.
 fn version_rule<'n, A: Allocator>(
     version: u32,
     there: Option<&WrittenInterface<'n, A>>,
@@ -78,7 +78,7 @@ fn version_rule<'n, A: Allocator>(
     }
 }
 
-// The least rule that the line of an extension breaks, below lines that say this.
+// The lowest rule that an extension's line breaks, after lines that say this.
 #[tactic(auto, using(crate::proofs::Bodies::named_in_front, crate::proofs::Bodies::named_behind))]
 fn extend_rule<'n, A: Allocator>(
     gathered: &Gathered<'n, A>,
@@ -97,7 +97,7 @@ fn extend_rule<'n, A: Allocator>(
     }
 }
 
-// The line of an extension, if it breaks a rule by itself.
+// The line of an extension, if it breaks a rule on its own.
 fn extension_broken<'n, A: Allocator>(
     gathered: &Gathered<'n, A>,
     next: &WrittenInterface<'n, A>,
@@ -110,7 +110,7 @@ fn extension_broken<'n, A: Allocator>(
     broken_at(next.line, extend_rule(gathered, next))
 }
 
-// The messages, with more behind them.
+// The messages, with more appended.
 fn with_messages<'n, A: Allocator>(
     messages: Vec<WrittenMessage<'n, A>, A>,
     more: Vec<WrittenMessage<'n, A>, A>,
@@ -131,7 +131,7 @@ fn greater(version: u32, other: u32) -> u32
     if version < other { other } else { version }
 }
 
-// The interface with what an extension of it says.
+// The interface after an extension.
 fn with_extension<'n, A: Allocator>(
     interface: WrittenInterface<'n, A>,
     more: WrittenInterface<'n, A>,
@@ -148,7 +148,7 @@ fn with_extension<'n, A: Allocator>(
     })
 }
 
-// The interfaces, the first of this name with what the extension says.
+// The interfaces, with the first of this name extended.
 fn extend_first<'n, A: Allocator>(
     written: Vec<WrittenInterface<'n, A>, A>,
     more: WrittenInterface<'n, A>,
@@ -167,7 +167,7 @@ fn extend_first<'n, A: Allocator>(
     }
 }
 
-// What is said with one more declaration or extension.
+// What the lines say together with one more declaration or extension.
 fn one_more<'n, A: Allocator>(
     gathered: Gathered<'n, A>,
     next: WrittenInterface<'n, A>,
@@ -199,8 +199,8 @@ pub(crate) fn none_extends<A: Allocator>(written: &[WrittenInterface<'_, A>]) ->
     written.iter().all(|interface| !interface.extends)
 }
 
-/// What is said with further declarations and extensions, one after another; and the first
-/// extension that breaks a rule by itself.
+/// What the lines say together with further declarations and extensions, one after another; and the
+/// first extension that breaks a rule on its own.
 pub(crate) fn gather<'n, A: Allocator>(
     gathered: Gathered<'n, A>,
     written: Vec<WrittenInterface<'n, A>, A>,

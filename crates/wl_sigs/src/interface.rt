@@ -22,7 +22,7 @@ use crate::signature::{Destroys, Side, Signature};
 use std::alloc::{AllocError, Allocator, Global};
 use std::fmt::{self, Debug, Formatter};
 use std::marker::Model;
-use wl_interface_text::{WrittenInterface, WrittenMessage};
+use wl_text::{WrittenInterface, WrittenMessage};
 
 /// One interface of the tables.
 #[derive(Drop)]
@@ -54,7 +54,7 @@ impl<A: Allocator> Model for Entry<A> {
     ghost invariant = { λ i. i.hash ≡ name_hash (name_bytes i.name) };
 }
 
-// The hash is left out, since the name gives it.
+// Without the hash, which the name gives.
 impl<A: Allocator + Debug> Debug for Entry<A> {
     fn fmt<W: fmt::Write>(&self, f: &mut Formatter<W>) -> fmt::Result {
         f.debug_struct("Entry")
@@ -73,14 +73,14 @@ impl<A: Allocator> Entry<A> {
         self.name.as_slice()
     }
 
-    /// Its name, with the hash that is kept.
+    /// Its name, with the stored hash.
     pub(crate) fn hashed_name(&self) -> HashedName<'_>
         ensures { result ≡ self.now.name }
     {
         HashedName::with_hash(self.name(), self.hash)
     }
 
-    /// Whether this is its name. Names are compared only where their hashes are equal.
+    /// Whether this is its name. Names are compared only if their hashes are equal.
     pub(crate) fn has_name(&self, wanted: &HashedName<'_>) -> bool
         ensures { result ≡ bytes_eq self.now.name wanted.now }
     {
@@ -122,7 +122,7 @@ impl<A: Allocator> Entry<A> {
             .any(|event| event.destroys() == Destroys::Target)
     }
 
-    /// Whether a request destroys its target, where that has this version.
+    /// Whether a request destroys its target, if the target has this version.
     pub(crate) fn has_destroying_request(&self, version: u32) -> bool
         ensures { result ≡ has_destroying_request version self.now }
     {
@@ -141,7 +141,7 @@ impl<A: Allocator> Entry<A> {
         }
     }
 
-    /// Whether a request has an object of the interface at this place.
+    /// Whether a request has an object of the interface at this index.
     pub(crate) fn takes_object_of(&self, place: usize) -> bool
         ensures { result ≡ list_any (λ m. list_any (is_object_of place) m.kinds) self.now.requests }
     {
@@ -150,7 +150,7 @@ impl<A: Allocator> Entry<A> {
             .any(|request| request.takes_object_of(place))
     }
 
-    /// Whether an event has a new object of the server of the interface at this place.
+    /// Whether an event has a new object of the server of the interface at this index.
     pub(crate) fn makes_server_object_of(&self, place: usize) -> bool
         ensures { result
             ≡ list_any (λ m. list_any (is_server_object_of place) m.kinds) self.now.events }
@@ -160,7 +160,7 @@ impl<A: Allocator> Entry<A> {
             .any(|event| event.makes_server_object_of(place))
     }
 
-    /// Whether an event destroys its target, of these and of what is added to it.
+    /// Whether an event, of its own or of those added to it, destroys its target.
     pub(crate) fn is_ended_with(&self, more: Option<&WrittenInterface<'_, A>>) -> bool
         ensures { result ≡ (has_destroying_event self.now
             || option_map_or (λ w. list_any (λ m. m.destroys) w.events) (option_copied more.entry)
@@ -193,7 +193,7 @@ impl<A: Allocator + Clone + Drop> Entry<A> {
         })
     }
 
-    /// The same interface in memory of its own.
+    /// An owned copy of the interface.
     pub(crate) fn copy(&self, alloc: &A) -> Result<Self, AllocError>
         ensures { IfOk result (λ i. i ≡ self.now) }
     {
@@ -206,7 +206,7 @@ impl<A: Allocator + Clone + Drop> Entry<A> {
         })
     }
 
-    /// The same interface in memory of its own, with what is added to it.
+    /// An owned copy of the interface, with what is added to it.
     pub(crate) fn grown<'n>(
         &self,
         alloc: &A,
@@ -242,7 +242,7 @@ impl<A: Allocator + Clone + Drop> Entry<A> {
         })
     }
 
-    /// What a text says of the interface that says nothing of it: no message.
+    /// What a text that does not mention the interface says about it: no message.
     pub(crate) fn unsaid(&self, alloc: &A) -> Result<WrittenInterface<'_, A>, AllocError>
         ensures { IfOk result (λ more. more ≡ unsaid self.now) }
     {
@@ -256,7 +256,7 @@ impl<A: Allocator + Clone + Drop> Entry<A> {
         })
     }
 
-    /// An interface of a text, with the places of the interfaces that it names.
+    /// An interface of a text, with the indices of the interfaces that it names.
     pub(crate) fn placed<'n>(
         alloc: &A,
         places: &Places<'n, A>,
@@ -289,7 +289,7 @@ fn copies_of<A: Allocator + Clone + Drop>(
     Ok(copies)
 }
 
-// The signatures, and those of further messages behind them.
+// The signatures, followed by those of further messages.
 fn grown_signatures<'n, A: Allocator + Clone + Drop>(
     alloc: &A,
     places: &Places<'n, A>,

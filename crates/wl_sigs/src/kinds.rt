@@ -1,21 +1,23 @@
 //! The kinds of a message's arguments.
-ghost use Rattle.std.specs.Prelude.{◌≡◌, ◌≤◌, ◌<◌, ℕ, List, IfOk, length, map, take, unwrap_or};
+ghost use Rattle.std.specs.Prelude.{◌≡◌, ◌≤◌, ◌<◌, ℕ, List, IfOk, count_by, length, map, take};
+ghost use Rattle.std.specs.Prelude.{unwrap_or};
 ghost use Rattle.std.specs.List.{list_any};
 ghost use Rattle.wl_sigs.specs.Joined.{kind_placed};
 ghost use Rattle.wl_sigs.specs.Stored.{kinds_listed};
 ghost use Rattle.wl_sigs.specs.Places.{PlacesFit, place_in};
-ghost use Rattle.wl_sigs.specs.Tables.{is_new_object};
+ghost use Rattle.wl_sigs.specs.Tables.{is_descriptor_kind, is_new_object};
 
 use crate::front::Front;
 use crate::places::{Places, place_in};
 use std::alloc::{AllocError, Allocator, Global};
 use std::fmt::{self, Debug, Formatter};
 use std::mem::size_of;
-use wl_interface_text::{BareKind, WrittenKind};
+use wl_text::{BareKind, WrittenKind};
 use wl_wire::{Iface, Kind};
 
-/// How many kinds lie in the value itself. Most messages have no more arguments, and with their
-/// count and a mark these fit in the 32 bytes that a vector with a mark takes.
+/// How many kinds are stored in the value itself. Most messages have no more arguments, and
+/// together with their count and a tag these kinds fit in the 32 bytes that a vector with a tag
+/// takes.
 const FEW_KINDS: usize = 4;
 
 const _: () = prove!(size_of::<Kinds>() == 32);
@@ -23,9 +25,9 @@ const _: () = prove!(size_of::<Kinds>() == 32);
 /// The kinds of a message's arguments, in order.
 #[derive(Drop)]
 pub(crate) enum Kinds<A: Allocator = Global> {
-    /// In the value itself.
+    /// Stored in the value itself.
     Few(Front<Kind, FEW_KINDS>),
-    /// In memory of their own.
+    /// Stored in memory of their own.
     Many(Vec<Kind, A>),
 }
 
@@ -47,10 +49,18 @@ impl<A: Allocator> Kinds<A> {
     {
         self.as_slice().iter().any(|kind| is_new_object(*kind))
     }
+
+    /// How many of them are descriptors.
+    pub(crate) fn descriptors(&self) -> usize
+        ensures { result ≡ count_by is_descriptor_kind (kinds_listed self.now) }
+    {
+        let kinds = self.as_slice().iter();
+        kinds.filter(|kind| matches!(kind, Kind::Fd)).count()
+    }
 }
 
 impl<A: Allocator + Clone + Drop> Kinds<A> {
-    /// A copy of kinds. It asks for memory only where they are many.
+    /// A copy of kinds. It allocates only if there are many.
     pub(crate) fn from_slice(alloc: &A, kinds: &[Kind]) -> Result<Self, AllocError>
         ensures { IfOk result (λ kept. kinds_listed kept ≡ kinds.now) }
     {
@@ -60,7 +70,7 @@ impl<A: Allocator + Clone + Drop> Kinds<A> {
         Ok(Kinds::Few(Front::from_slice(Kind::Int, kinds)))
     }
 
-    /// The kinds of the arguments of a text's message, with the places of the interfaces that they
+    /// The kinds of the arguments of a text's message, with the indices of the interfaces that they
     /// name.
     pub(crate) fn placed<'n>(
         alloc: &A,
@@ -125,7 +135,7 @@ fn many_placed<'n, A: Allocator + Clone + Drop>(
     Ok(placed)
 }
 
-// The kind of an argument with the place of its interface, or `past` where its name has none.
+// The kind of an argument with the index of its interface, or `past` if its name has none.
 fn kind_placed<'n, A: Allocator>(places: &Places<'n, A>, past: usize, k: &WrittenKind<'n>) -> Kind
     requires { PlacesFit (place_in places.now) past }
     ensures { result ≡ kind_placed (place_in places.now) past k.now }

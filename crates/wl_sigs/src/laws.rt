@@ -14,40 +14,40 @@ ghost use Rattle.wl_sigs.specs.Rules.{keep_rules};
 ghost use Rattle.wl_sigs.specs.Tables.{Interface, MessageSignature, interface_at, message_of};
 ghost use Rattle.wl_sigs.specs.Tables.{place_of};
 ghost use Rattle.wl_sigs.specs.Valid.{Valid, HasFixedFour};
-ghost use Rattle.wl_interface_text.specs.TableText.{IsFirstBadLine, TableText};
-ghost use Rattle.wl_interface_text.specs.Text.{WrittenInterface};
-ghost use Rattle.wl_interface_text.specs.declared.fault.TableFault.TheVariants.{BadLine, BadTable};
+ghost use Rattle.wl_text.specs.TableText.{IsFirstBadLine, TableText};
+ghost use Rattle.wl_text.specs.Text.{WrittenInterface};
+ghost use Rattle.wl_text.specs.declared.fault.TableFault.TheVariants.{BadLine, BadTable};
 
-/// Tables are valid exactly where wl_display, wl_registry and wl_callback stand in front, wl_fixes
-/// behind the other core interfaces, and the tests of the other rules pass.
+/// Tables are valid if and only if wl_display, wl_registry and wl_callback come first, wl_fixes
+/// follows the other core interfaces, and the tests of the other rules pass.
 pub fn valid_where_tests_pass()
     ensures { (tables : List Interface)
         → Valid tables ↔ (HasFixedFour tables × (keep_rules tables ≡ true)) }
 {}
 
-/// In valid tables each interface is the one that is found by its name.
+/// In valid tables every interface is found by its name.
 pub fn found_by_its_name()
     ensures { (tables : List Interface) (place : ℕ) (i : Interface) → Valid tables
         → interface_at tables place ≡ Some i
         → place_of tables i.name ≡ Some (record { 0 = place }) }
 {}
 
-/// Each constant of `request` and `event` is the opcode at which the core tables have the message
-/// of its name, and each message of the core tables has its constant.
+/// Each constant of `request` and `event` is the opcode of the message with its name in the core
+/// tables, and each message of the core tables has its constant.
 pub fn opcodes_are_of_their_names()
     ensures { (side : Side) → opcodes side ≡ opcodes_in core_tables side }
 {}
 
-/// No line of a text breaks a rule behind valid tables exactly where no extension does by itself
-/// and the tables are valid that tables and text make together.
+/// No line of a text appended to valid tables breaks a rule if and only if no extension does on its
+/// own and the resulting tables are valid.
 pub fn unbroken_where_valid()
     ensures { (tables : List Interface) (written : List WrittenInterface) → Valid tables
         → (first_line_broken tables written ≡ None)
         ↔ (ExtendsRightly tables written × Valid (extended tables written)) }
 {}
 
-/// What a text is that extends no interface: its own interfaces behind the tables, and the first
-/// line of these that breaks a rule.
+/// The meaning of a text that extends no interface: its own interfaces are appended to the tables,
+/// and its first broken line is the first of these that breaks a rule.
 pub fn without_extensions()
     ensures { (tables : List Interface) (written : List WrittenInterface)
         → All (λ i. i.extends ≡ false) written
@@ -55,7 +55,7 @@ pub fn without_extensions()
         × (first_line_broken tables written ≡ first_broken tables written) }
 {}
 
-/// A text leaves each interface of the tables at its place, and its messages at their opcodes. The
+/// A text leaves each interface of the tables at its index, and its messages at their opcodes. The
 /// version is not lowered.
 pub fn places_and_opcodes_stay()
     ensures { (tables : List Interface) (written : List WrittenInterface) (place : ℕ)
@@ -66,18 +66,19 @@ pub fn places_and_opcodes_stay()
         → message_of side opcode j ≡ Some m) }
 {}
 
-/// Of what a text lists, the broken line that is found is the first that breaks a rule of valid
-/// tables behind these, and the rule the least that it breaks.
+/// For what a text lists, the broken line that is found is the first that breaks a rule of valid
+/// tables when the text is appended to these, and the rule is the lowest that the line breaks.
 pub fn first_broken_is_first()
     ensures { (tables : List Interface) (written : List WrittenInterface) (broken : Broken)
         → (first_line_broken tables written ≡ Some broken) ↔ IsFirstBrokenLine tables written broken }
 {}
 
-/// A text is read behind valid tables, as the tables extended by what it lists, exactly where it
-/// lists interfaces and extensions, none of these breaks a rule by itself, and the extended tables
-/// are valid. It has a bad line exactly where some line may not stand in it: the first such line.
-/// It has a line that breaks a rule exactly where it lists interfaces and extensions, some of which
-/// break one: the first such line, and the least rule that it breaks.
+/// The three results of a text that is appended to valid tables. It is read, as the tables extended
+/// by what it lists, if and only if it lists interfaces and extensions, none of these breaks a rule
+/// on its own, and the extended tables are valid. It has a bad line if and only if some line may
+/// not be there: the first such line. It has a line that breaks a rule if and only if it lists
+/// interfaces and extensions, and some of them break one: the first such line, and the lowest rule
+/// that it breaks.
 pub fn texts_are_told()
     ensures told { (tables all : List Interface) (text : List ℕ) → Valid tables
         → (outcome tables text ≡ Ok all) ↔ ((written : List WrittenInterface)

@@ -1,7 +1,7 @@
 //! The signatures of the messages of Wayland's core interfaces.
 //!
-//! Arguments have no type on the wire: the signature of a message gives it. The tables
-//! list interfaces, and for each its requests and its events, at their opcodes. (Chapter "Wayland
+//! Arguments have no type on the wire: the signature of a message gives it. The tables list
+//! interfaces and, for each, its requests and its events, in order of opcode. (Chapter "Wayland
 //! Protocol and Model of Operation", sections "Interfaces" and "Wire Format".)
 #![tactic(auto)]
 
@@ -31,4 +31,4 @@ pub use laws::{
 pub use rules::MAX_ARGS;
 pub use signature::{Destroys, Side, Signature};
 pub use tables::Tables;
-pub use wl_interface_text::TableFault;
+pub use wl_text::TableFault;

@@ -1,4 +1,4 @@
-//! The rules of valid tables, at the lines of a text.
+//! The rules of valid tables, for the lines of a text.
 ghost use Rattle.std.specs.Prelude.{◌≡◌, ℕ, ◌+◌, ◌<◌, ◌≤◌, ◌&&◌, nat_le, not, List, map, length, Some, None};
 ghost use Rattle.std.specs.Prelude.{option_map, option_copied, is_some, IfOk};
 ghost use Rattle.std.specs.Prelude.{Option, bytes_eq, slice_get};
@@ -15,40 +15,40 @@ ghost use Rattle.wl_sigs.specs.Places.{place_in, AreFirst};
 ghost use Rattle.wl_sigs.specs.BrokenLines.{IsOwner, broken};
 ghost use Rattle.wl_sigs.specs.Rules.{is_name, is_name_byte, is_empty, is_fixed_place};
 ghost use Rattle.wl_sigs.specs.Tables.{max_interfaces};
-ghost use Rattle.wl_interface_text.specs.Text as text;
+ghost use Rattle.wl_text.specs.Text as text;
 
 use crate::hashed::HashedName;
 use crate::places::{Places, place_in, places_of};
 use crate::signature::Side;
 use std::alloc::{AllocError, Allocator};
-use wl_interface_text::{
+use wl_text::{
     BareKind, WrittenInterface, WrittenKind, WrittenMessage, needs_interface, takes_interface,
 };
 
-/// The most bytes that the name of an interface or a message has.
+/// The longest name of an interface or a message in bytes.
 pub(crate) const MAX_NAME_LEN: usize = 256;
 
-/// The most interfaces that tables have.
+/// The most interfaces of tables.
 const MAX_INTERFACES: usize = 1024;
 
-/// The most requests that an interface has, and the most events.
+/// The most requests of an interface, and the most events.
 const MAX_MESSAGES: usize = 256;
 
-/// The most arguments that a message has.
+/// The most arguments of a message.
 pub const MAX_ARGS: usize = 20;
 
-/// The most messages of a side that are compared by name with those before them: of so few this
-/// takes fewer steps than a map of the names, and no memory.
+/// Up to this many messages of a side, each is compared by name with those before it: for so few
+/// this takes fewer steps than a map of the names, and no memory.
 const FEW_MESSAGES: usize = 16;
 
-/// A line that breaks a rule, and the least rule that it breaks.
+/// A line that breaks a rule, and the lowest rule that it breaks.
 #[derive(Clone, Copy)]
 pub(crate) struct BrokenLine {
     pub(crate) line: usize,
     pub(crate) rule: u8,
 }
 
-/// What the rules of a message ask of its interface, and the side that the message is of.
+/// What the rules of a message need to know about its interface, and the message's side.
 #[derive(Clone, Copy)]
 pub(crate) struct Owner {
     pub(crate) side: Side,
@@ -74,7 +74,7 @@ fn is_name(name: &[u8]) -> bool
     name.len() >= 1 && name.len() <= MAX_NAME_LEN && are_name_bytes(name)
 }
 
-// Whether a name stands first at a place.
+// Whether this is the first index of a name.
 fn is_first<'n, A: Allocator>(places: &Places<'n, A>, name: &'n [u8], here: usize) -> bool
     ensures { result ≡ is_first (place_in places.now) name.now here }
 {
@@ -84,7 +84,7 @@ fn is_first<'n, A: Allocator>(places: &Places<'n, A>, name: &'n [u8], here: usiz
     }
 }
 
-/// Whether bytes are a name that stands first at a place.
+/// Whether bytes are a valid name, and this is its first index.
 pub(crate) fn is_first_name<'n, A: Allocator>(
     places: &Places<'n, A>,
     name: &'n [u8],
@@ -157,14 +157,14 @@ fn names_missing<'n, A: Allocator>(places: &Places<'n, A>, k: &WrittenKind<'n>) 
     takes_interface(k.kind) && is_missing
 }
 
-// Whether a place is that of one of the four interfaces that are always the same.
+// Whether an index is that of one of the four fixed interfaces.
 fn is_fixed_place(place: usize) -> bool
     ensures { result ≡ is_fixed_place place }
 {
     place == 0 || (place == 1 || (place == 2 || place == 18))
 }
 
-// Whether the server may not make objects of the interface of a place.
+// Whether the server may not make objects of the interface at an index.
 fn is_forbidden(ended: &[bool], place: Option<usize>) -> bool
     ensures { result ≡ is_forbidden ended.now place }
 {
@@ -254,7 +254,7 @@ fn none_forbidden<'n, A: Allocator>(
     true
 }
 
-// The least rule that an interface at a place breaks by itself.
+// The lowest rule that an interface at an index breaks on its own.
 fn interface_rule<'n, A: Allocator>(
     places: &Places<'n, A>,
     here: usize,
@@ -315,7 +315,7 @@ fn is_race_free<'n, A: Allocator>(
     }
 }
 
-// Whether a message came with a version of its interface, from 1 on.
+// Whether some version of its interface, from 1 on, introduced the message.
 fn is_since_a_version<'n, A: Allocator>(version: u32, message: &WrittenMessage<'n, A>) -> bool
     ensures { result ≡ (nat_le 1 message.now.since && nat_le message.now.since version) }
 {
@@ -339,7 +339,7 @@ fn allows_server_objects<'n, A: Allocator>(
     made <= most_by_server(side) && none_forbidden(places, ended, kinds)
 }
 
-// The least rule from V6 on that a message of an interface breaks.
+// The lowest rule from V6 on that a message of an interface breaks.
 fn later_rule<'n, A: Allocator>(
     places: &Places<'n, A>,
     ended: &[bool],
@@ -365,8 +365,7 @@ fn later_rule<'n, A: Allocator>(
     }
 }
 
-/// The least rule that a message of an interface breaks, where it is told whether it has a name
-/// and is the first of that.
+/// The lowest rule that a message breaks; the caller says whether its name is valid and new.
 pub(crate) fn message_rule<'n, A: Allocator>(
     places: &Places<'n, A>,
     ended: &[bool],
@@ -394,14 +393,14 @@ pub(crate) fn message_rule<'n, A: Allocator>(
     }
 }
 
-// Whether one stands at an earlier line than the other, or at the same and its rule is less.
+// Whether one is at an earlier line than the other, or at the same line with a lower rule.
 fn comes_first(this: BrokenLine, other: BrokenLine) -> bool
     ensures { result ≡ comes_first (broken this) (broken other) }
 {
     this.line < other.line || (this.line == other.line && this.rule < other.rule)
 }
 
-/// The one of the earlier line, or of the lesser rule at one line.
+/// The one at the earlier line, or with the lower rule at the same line.
 pub(crate) fn earlier(this: Option<BrokenLine>, other: Option<BrokenLine>) -> Option<BrokenLine>
     ensures { option_map broken result
         ≡ earlier (option_map broken this) (option_map broken other) }
@@ -421,14 +420,14 @@ pub(crate) fn broken_at(line: usize, rule: Option<u8>) -> Option<BrokenLine>
     Some(BrokenLine { line, rule })
 }
 
-// Whether a message of a name is among some.
+// Whether a message with a name is among these.
 fn has_message<'n, A: Allocator>(messages: &[WrittenMessage<'n, A>], name: &[u8]) -> bool
     ensures { result ≡ list_any (λ m. bytes_eq m.name name.now) messages.now }
 {
     messages.iter().any(|message| message.name == name)
 }
 
-// Whether a message of a side has a name and is the first of that, by the map of `opcodes_of`.
+// Whether a message of a side has a valid and new name, according to the map from `opcodes_of`.
 fn is_first_message<'n, A: Allocator>(
     opcodes: &Option<Places<'n, A>>,
     messages: &[WrittenMessage<'n, A>],
@@ -449,7 +448,7 @@ fn is_first_message<'n, A: Allocator>(
     }
 }
 
-// What the rules of a message of a side ask of its interface.
+// What the rules of a message of a side need to know about its interface.
 fn owner_of<A: Allocator>(interface: &WrittenInterface<'_, A>, side: Side) -> Owner
     ensures { (result.side ≡ side) × IsOwner result interface.now }
 {
@@ -483,7 +482,7 @@ fn side_broken<'n, A: Allocator + Clone + Drop>(
     Ok(first)
 }
 
-// The first opcode of each name, where a side has many messages.
+// The first opcode of each name, if a side has many messages.
 fn opcodes_of<'n, A: Allocator + Clone + Drop>(
     alloc: &A,
     messages: &[WrittenMessage<'n, A>],
@@ -544,7 +543,7 @@ fn interface_broken<'n, A: Allocator + Clone + Drop>(
     Ok(earlier(broken_at(interface.line, rule), earlier(requests, events)))
 }
 
-/// The first line of interfaces that breaks a rule, where the first interface stands at `from`.
+/// The first line among interfaces that breaks a rule; the first interface has the index `from`.
 pub(crate) fn interfaces_broken<'n, A: Allocator + Clone + Drop>(
     alloc: &A,
     places: &Places<'n, A>,

@@ -1,12 +1,12 @@
-//! What some texts of tables come to, worked out by hand. Each is the contract of a function that
+//! The results of some table texts, worked out by hand. Each is the contract of a function that
 //! does nothing.
 ghost use Rattle.std.specs.Prelude.{◌≡◌, codes, Some, None};
-ghost use Rattle.wl_interface_text.specs.declared.fault.TableFault.TheVariants.{BadLine, BadTable};
+ghost use Rattle.wl_text.specs.declared.fault.TableFault.TheVariants.{BadLine, BadTable};
 ghost use Rattle.wl_sigs.specs.Samples.{fault_of_text, version_in_text, message_in_text};
 ghost use Rattle.wl_sigs.specs.declared.signature.Side.TheVariants.{Request};
 
-/// An event that makes an object, an event that names it, and the request that ends it. Then one
-/// without a name, and one of the client in its place.
+/// An event that makes an object, an event that names it, and the request that ends it. Then the
+/// same without the interface's name, and with a new object of the client instead.
 #[tactic(auto, unfolding(crate::specs::Core::core_tables))]
 pub fn server_objects()
     ensures made { fault_of_text (codes
@@ -17,8 +17,8 @@ pub fn server_objects()
         ≡ Some (BadTable 2 4) }
 {}
 
-/// Extensions of wl_seat, of an interface further up, and of both, one after another; with an
-/// interface that stands further down.
+/// Extensions of wl_seat, of an interface declared earlier, and of both, one after another; with an
+/// interface declared later.
 #[tactic(auto, unfolding(crate::specs::Core::core_tables))]
 pub fn extensions()
     ensures same { fault_of_text (codes "extend wl_seat 9") ≡ None }
@@ -35,9 +35,9 @@ pub fn extensions()
         ≡ Some (codes "release") }
 {}
 
-/// Extensions out of place: of each of the four that are always the same, below the version that is
-/// there, of no interface and of one that stands further down; messages that break V1, V7 twice,
-/// V8 and V11 by what stands elsewhere.
+/// Extensions out of place: of each of the four fixed interfaces, below the current version, of no
+/// interface and of one declared later; messages that break V1, V7 twice, V8 and V11 because of
+/// other messages.
 #[tactic(auto, unfolding(crate::specs::Core::core_tables))]
 pub fn extensions_out_of_place()
     ensures display { fault_of_text (codes "extend wl_display 2") ≡ Some (BadTable 1 2) }
@@ -62,8 +62,8 @@ pub fn extensions_out_of_place()
         ≡ Some (BadTable 2 11) }
 {}
 
-/// V11: in a request, twice in an event, of an interface that an event further down destroys, and
-/// of each of the four that are always the same.
+/// V11: in a request, twice in an event, of an interface that a later event destroys, and of each
+/// of the four fixed interfaces.
 #[tactic(auto, unfolding(crate::specs::Core::core_tables))]
 pub fn server_objects_out_of_place()
     ensures request { fault_of_text (codes "interface device 3\nrequest make N(device)")

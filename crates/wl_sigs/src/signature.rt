@@ -1,12 +1,12 @@
-//! What the tables say of one message.
+//! What the tables say about one message.
 ghost use Rattle.std.specs.Prelude.{◌≡◌, ℕ, ◌<◌, ◌&&◌, List, IfOk, nat_le, unwrap_or};
 ghost use Rattle.wl_sigs.specs.Joined.{destroys_of, message_placed};
 ghost use Rattle.std.specs.List.{list_any};
 ghost use Rattle.wl_sigs.specs.Extending.{is_object_of, is_server_object_of};
 ghost use Rattle.wl_sigs.specs.Places.{PlacesFit, place_in};
 ghost use Rattle.wl_sigs.specs.Stored.{kinds_listed, name_bytes};
-ghost use Rattle.wl_sigs.specs.Tables.{destroys_one, destroys_target, has_new_object};
-ghost use Rattle.wl_sigs.specs.Tables.{has_server_object};
+ghost use Rattle.wl_sigs.specs.Tables.{descriptors, destroys_one, destroys_target};
+ghost use Rattle.wl_sigs.specs.Tables.{has_new_object, has_server_object};
 ghost use Rattle.wl_sigs.specs.Written.{message_written};
 
 use crate::core_interfaces::CoreMessage;
@@ -16,7 +16,7 @@ use crate::places::Places;
 use std::alloc::{AllocError, Allocator, Global};
 use std::fmt::{self, Debug, Formatter};
 use std::marker::Model;
-use wl_interface_text::WrittenMessage;
+use wl_text::WrittenMessage;
 use wl_wire::{Iface, Kind};
 
 /// What a message destroys.
@@ -24,9 +24,9 @@ use wl_wire::{Iface, Kind};
 pub enum Destroys {
     /// No object.
     Nothing,
-    /// The object that the message is for: it is a destructor.
+    /// The message's target: the message is a destructor.
     Target,
-    /// The object that the argument at this place names, counted from 0.
+    /// The object that the argument at this index, from 0, names.
     Arg(usize),
 }
 
@@ -58,9 +58,11 @@ pub struct Signature<A: Allocator = Global> {
     since: u32,
     kinds: Kinds<A>,
     destroys: Destroys,
-    /// Whether one of the kinds is a new object. It is asked of each message that is read, and most
-    /// have none.
+    /// Whether one of the kinds is a new object. This is asked for each message read, and most have
+    /// none.
     has_new_object: bool,
+    /// How many of the kinds are descriptors. It is asked of each message that is read.
+    descriptors: usize,
 }
 
 impl<A: Allocator> Model for Signature<A> {
@@ -77,14 +79,17 @@ impl<A: Allocator> Model for Signature<A> {
       destroys = s.destroys;
     } };
 
-    ghost use Rattle.std.specs.Prelude.{◌≡◌};
+    ghost use Rattle.std.specs.Prelude.{◌≡◌, count_by};
     ghost use Rattle.std.specs.List.{list_any};
-    ghost use Rattle.wl_sigs.specs.Tables.{is_new_object};
+    ghost use Rattle.wl_sigs.specs.Tables.{is_descriptor_kind, is_new_object};
 
-    ghost invariant = { λ s. s.has_new_object ≡ list_any is_new_object (kinds_listed s.kinds) };
+    ghost invariant = { λ s. record {
+      new_object : s.has_new_object ≡ list_any is_new_object (kinds_listed s.kinds);
+      tokens : s.descriptors ≡ count_by is_descriptor_kind (kinds_listed s.kinds);
+    } };
 }
 
-// Whether there is a new object is left out, since the kinds tell it.
+// Without whether there is a new object, which the kinds give.
 impl<A: Allocator> Debug for Signature<A> {
     fn fmt<W: fmt::Write>(&self, f: &mut Formatter<W>) -> fmt::Result {
         f.debug_struct("Signature")
@@ -107,23 +112,25 @@ impl<A: Allocator> Signature<A> {
         } }
     {
         let has_new_object = kinds.has_new_object();
+        let descriptors = kinds.descriptors();
         Signature {
             name,
             since,
             kinds,
             destroys,
             has_new_object,
+            descriptors,
         }
     }
 
-    /// The message's name, as `commit`.
+    /// The message's name, for example `commit`.
     pub fn name(&self) -> &[u8]
         ensures { result.now ≡ self.now.name }
     {
         self.name.as_slice()
     }
 
-    /// The first version of its interface that has the message.
+    /// The version of its interface that introduced the message.
     pub fn since(&self) -> u32
         ensures { result ≡ self.now.since }
     {
@@ -138,13 +145,22 @@ impl<A: Allocator> Signature<A> {
         self.kinds.as_slice()
     }
 
-    /// Whether one of its arguments is a new object, of the client or of the server. It looks at no
-    /// kind.
+    /// Whether one of its arguments is a new object, of the client or of the server. Takes constant
+    /// time.
     #[inline]
     pub fn has_new_object(&self) -> bool
         ensures { result ≡ has_new_object self.now }
     {
         self.has_new_object
+    }
+
+    /// How many of its arguments are descriptors: so many tokens the message takes. It looks at no
+    /// kind.
+    #[inline]
+    pub fn descriptors(&self) -> usize
+        ensures { result ≡ descriptors self.now.kinds }
+    {
+        self.descriptors
     }
 
     /// Whether one of its arguments is a new object of the server.
@@ -156,14 +172,14 @@ impl<A: Allocator> Signature<A> {
             .any(|kind| matches!(kind, Kind::NewByServer(_)))
     }
 
-    /// Whether one of its arguments is an object of the interface at this place.
+    /// Whether one of its arguments is an object of the interface at this index.
     pub(crate) fn takes_object_of(&self, place: usize) -> bool
         ensures { result ≡ list_any (is_object_of place) self.now.kinds }
     {
         self.kinds().iter().any(|kind| is_object_of(*kind, place))
     }
 
-    /// Whether one of its arguments is a new object of the server of the interface at this place.
+    /// Whether one of its arguments is a new object of the server of the interface at this index.
     pub(crate) fn makes_server_object_of(&self, place: usize) -> bool
         ensures { result ≡ list_any (is_server_object_of place) self.now.kinds }
     {
@@ -172,7 +188,7 @@ impl<A: Allocator> Signature<A> {
             .any(|kind| is_server_object_of(*kind, place))
     }
 
-    /// Whether the message destroys its target, where that has this version.
+    /// Whether the message destroys its target, if the target has this version.
     pub(crate) fn destroys_at(&self, version: u32) -> bool
         ensures { result ≡ (destroys_target self.now.destroys && nat_le self.now.since version) }
     {
@@ -196,7 +212,7 @@ impl<A: Allocator + Clone + Drop> Signature<A> {
         Ok(Signature::new(name, message.since, kinds, message.destroys))
     }
 
-    /// The same signature in memory of its own.
+    /// An owned copy of the signature.
     pub(crate) fn copy(&self, alloc: &A) -> Result<Self, AllocError>
         ensures { IfOk result (λ s. s ≡ self.now) }
     {
@@ -206,10 +222,11 @@ impl<A: Allocator + Clone + Drop> Signature<A> {
             kinds: Kinds::from_slice(alloc, self.kinds())?,
             destroys: self.destroys,
             has_new_object: self.has_new_object,
+            descriptors: self.descriptors,
         })
     }
 
-    /// The signature of a message of a text, with the places of the interfaces that it names.
+    /// The signature of a message of a text, with the indices of the interfaces that it names.
     pub(crate) fn placed<'n>(
         alloc: &A,
         places: &Places<'n, A>,

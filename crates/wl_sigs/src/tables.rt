@@ -1,4 +1,4 @@
-//! Interfaces in their order.
+//! Interfaces in order.
 ghost use Rattle.std.specs.Prelude.{◌≡◌, ◌⊎◌, ◌↔◌, ℕ, [], true, Err, Some, None, IfOk, map, slice_get};
 ghost use Rattle.std.specs.Prelude.{option_copied};
 ghost use Rattle.std.specs.Prelude.{option_map, position, bytes_eq, length, IfSome, ◌<◌};
@@ -16,7 +16,7 @@ ghost use Rattle.wl_sigs.specs.Extending.{first_line_broken, messages_or_declare
 ghost use Rattle.wl_sigs.specs.BrokenLines.{broken};
 ghost use Rattle.wl_sigs.specs.Places.{place_in, ArePlaces};
 ghost use Rattle.wl_sigs.specs.Outcome.{outcome};
-ghost use Rattle.wl_interface_text.specs.declared.fault.TableFault.TheVariants.{Memory};
+ghost use Rattle.wl_text.specs.declared.fault.TableFault.TheVariants.{Memory};
 
 use crate::added::{Known, added_broken};
 use crate::core_interfaces::{CORE, CoreInterface};
@@ -28,16 +28,16 @@ use crate::rules::{BrokenLine, MAX_NAME_LEN, earlier, interfaces_broken};
 use crate::signature::{Side, Signature};
 use std::alloc::{AllocError, Allocator, Global};
 use std::marker::Model;
-use wl_interface_text::{TableFault, WrittenInterface, read_interfaces};
+use wl_text::{TableFault, WrittenInterface, read_interfaces};
 use wl_wire::Iface;
 
-/// Signature tables: interfaces, each at its place, with the signatures of their messages.
+/// Signature tables: a list of interfaces, with the signatures of their messages.
 ///
-/// Tables are always valid: names are distinct and spelled of `a` to `z`, `0` to `9` and `_`;
-/// wl_display, wl_registry and wl_callback come first, and wl_fixes has its place; sizes are
+/// Tables are always valid: names are distinct and consist of `a` to `z`, `0` to `9` and `_`;
+/// wl_display, wl_registry and wl_callback come first, and wl_fixes has its index; sizes are
 /// bounded; a message makes at most one object, a request one of the client, an event one of the
-/// server; an object that an event may destroy is never named by a request; and
-/// wl_fixes.destroy_registry alone destroys its argument.
+/// server; no request names an object that an event may destroy; and only wl_fixes.destroy_registry
+/// destroys its argument.
 #[derive(Debug, Drop)]
 pub struct Tables<A: Allocator = Global> {
     interfaces: Vec<Entry<A>, A>,
@@ -57,7 +57,7 @@ impl<A: Allocator> Model for Tables<A> {
 }
 
 impl<A: Allocator> Tables<A> {
-    /// The place of the interface with this name. None where the tables have no such interface.
+    /// The index of the interface with this name; `None` if the tables have none.
     pub fn interface(&self, name: &[u8]) -> Option<Iface>
         ensures answer { result ≡ place_of self.now name.now }
         ensures valid { Valid self.now }
@@ -66,7 +66,7 @@ impl<A: Allocator> Tables<A> {
         Some(Iface(place as u16))
     }
 
-    /// The name of the interface at a place. None past the tables.
+    /// The name of the interface at an index; `None` past the tables.
     pub fn name(&self, iface: Iface) -> Option<&[u8]>
         ensures answer { option_copied result
             ≡ option_map (λ i. i.name) (interface_at self.now iface.0) }
@@ -76,7 +76,7 @@ impl<A: Allocator> Tables<A> {
         Some(entry.name())
     }
 
-    /// The version of the interface at a place. None past the tables.
+    /// The version of the interface at an index; `None` past the tables.
     pub fn version(&self, iface: Iface) -> Option<u32>
         ensures answer { result ≡ option_map (λ i. i.version) (interface_at self.now iface.0) }
         ensures valid { Valid self.now }
@@ -85,8 +85,8 @@ impl<A: Allocator> Tables<A> {
         Some(entry.version())
     }
 
-    /// The signature of the request or event with this opcode, in constant time. None past the
-    /// tables, or where the interface has no such opcode.
+    /// The signature of the request or event with this opcode, in constant time. `None` past the
+    /// tables, or if the interface has no such opcode.
     pub fn message(&self, iface: Iface, side: Side, opcode: u16) -> Option<&Signature<A>>
         ensures answer { option_copied result ≡ signature_at self.now iface.0 side opcode }
         ensures valid { Valid self.now }
@@ -95,7 +95,7 @@ impl<A: Allocator> Tables<A> {
         entry.message(side, opcode)
     }
 
-    /// The opcode of the request or event with this name. None past the tables, or where the
+    /// The opcode of the request or event with this name. `None` past the tables, or if the
     /// interface has no such message on that side. It compares names one after the other.
     pub fn opcode(&self, iface: Iface, side: Side, name: &[u8]) -> Option<u16>
         ensures answer { result ≡ opcode_of self.now iface.0 side name.now }
@@ -109,7 +109,7 @@ impl<A: Allocator> Tables<A> {
         Some(opcode as u16)
     }
 
-    /// Whether an event destroys objects of the interface at a place. False past the tables.
+    /// Whether an event destroys objects of the interface at an index. False past the tables.
     pub fn ends_by_event(&self, iface: Iface) -> bool
         ensures answer { result ≡ is_ended_by_event (interface_at self.now iface.0) }
         ensures valid { Valid self.now }
@@ -120,8 +120,8 @@ impl<A: Allocator> Tables<A> {
         }
     }
 
-    /// Whether the interface at a place has, at a version, a request that destroys its object. False
-    /// past the tables.
+    /// Whether the interface at an index has, at a version, a request that destroys its target.
+    /// False past the tables.
     pub fn ends_by_request(&self, iface: Iface, version: u32) -> bool
         ensures answer { result ≡ is_ended_by_request version (interface_at self.now iface.0) }
         ensures valid { Valid self.now }
@@ -132,7 +132,7 @@ impl<A: Allocator> Tables<A> {
         entry.has_destroying_request(version)
     }
 
-    /// Whether some event has a new object of the server, an `N` of a text. It asks each event.
+    /// Whether some event has a new object of the server, an `N` of a text. It checks every event.
     pub fn has_server_objects(&self) -> bool
         ensures answer { result ≡ has_server_objects self.now }
         ensures told { (result ≡ true) ↔ HasServerObjects self.now }
@@ -159,8 +159,8 @@ impl<A: Allocator> Tables<A> {
 }
 
 impl<A: Allocator + Clone + Drop> Tables<A> {
-    /// The core interfaces of wayland.xml, without data transfer, wl_display at place 0. Its only
-    /// error is lack of memory.
+    /// The core interfaces of wayland.xml, without data transfer; wl_display has index 0. The only
+    /// error is out of memory.
     pub fn core(alloc: A) -> Result<Self, AllocError>
         ensures holds { IfOk result (λ tables. tables ≡ core_tables) }
         ensures valid { IfOk result (λ tables. Valid tables) }
@@ -170,9 +170,9 @@ impl<A: Allocator + Clone + Drop> Tables<A> {
 
     /// These tables extended by a text, and followed by the interfaces that it declares.
     ///
-    /// The text is lines, each ended by a line feed, which the last may lack; one carriage return
-    /// before a line feed is dropped. An empty line and a line that begins with `#` are skipped.
-    /// Each other line is one of
+    /// Each line ends with a line feed, which the last may lack; one carriage return before a line
+    /// feed is dropped. An empty line and a line that begins with `#` are skipped. Every other line
+    /// has one of these forms:
     ///
     /// ```text
     /// "interface " name " " number
@@ -182,24 +182,24 @@ impl<A: Allocator + Clone + Drop> Tables<A> {
     /// arg  = i | u | f | s | ?s | a | h | o | ?o | o(name) | ?o(name) | n | n(name) | N(name)
     /// ```
     ///
-    /// where the first number is the version of the interface, `D` marks a message that destroys
-    /// its target, and `@` gives the version that brought the message, 1 where it is missing. A
-    /// name is one or more bytes other than space, `(`, `)` and the line feed; a number is 1 to 10
-    /// decimal digits, at most 4,294,967,295. `o` alone takes an object of any interface, and `n`
-    /// alone makes one whose interface only the bytes tell. `N` is a new object that the server
-    /// makes. A message belongs to the last line above it of the first two forms. An argument may
-    /// name an interface that stands further down; of equal names it names the first, those of
-    /// these tables counted as earlier.
+    /// The number in the first two forms is the version of the interface. `D` marks a message that
+    /// destroys its target, and `@` gives the version that introduced the message, 1 if it is
+    /// missing. A name is one or more bytes other than space, `(`, `)` and the line feed; a number
+    /// is 1 to 10 decimal digits, at most 4,294,967,295. `o` alone takes an object of any
+    /// interface, and `n` alone makes one whose interface only the bytes give. `N` is a new object
+    /// that the server makes. A message belongs to the nearest `interface` or `extend` line above
+    /// it. An argument may name an interface declared later; if a name occurs twice, the first one
+    /// counts, and these tables come before the text.
     ///
-    /// A line `extend` is of the first interface of its name, of these tables or declared further
-    /// up: it has this version from now on, and the messages below the line stand behind those that
-    /// it has. Its place and its opcodes stay.
+    /// `extend` raises the first interface of its name, in these tables or declared earlier, to the
+    /// given version; the messages below the line are appended to its requests or events. Its index
+    /// and its opcodes stay.
     ///
-    /// `BadLine` (TB1) and `BadTable` (TB2) come as `TableFault` says; the first interface or
-    /// message of a name breaks no rule by it, the later does. An `extend` breaks V9 where no
-    /// interface above has its name, V8 where its version is less than the one that it has, V2
-    /// where it is of wl_display, wl_registry, wl_callback or wl_fixes. `Memory` (TB3) may come in
-    /// place of any answer.
+    /// `BadLine` (TB1) and `BadTable` (TB2) are as `TableFault` says. If a name occurs twice, the
+    /// later interface or message breaks the rule, not the first. An `extend` breaks V9 if no
+    /// earlier interface has its name, V8 if its version is lower than the interface's, and V2 if
+    /// it names wl_display, wl_registry, wl_callback or wl_fixes. `Memory` (TB3) may be returned
+    /// instead of any result.
     pub fn read_more(&self, text: &[u8]) -> Result<Self, TableFault>
         ensures exact { (result ≡ outcome self.now text.now) ⊎ (result ≡ Err Memory) }
         ensures valid { IfOk result (λ tables. Valid tables) }
@@ -214,8 +214,8 @@ impl<A: Allocator + Clone + Drop> Tables<A> {
         Ok(self.extended(&places, &gathered)?)
     }
 
-    // What a text says, and its first extension that breaks a rule by itself. Of a text without
-    // extensions, nothing is kept for these interfaces.
+    // What a text says, and its first extension that breaks a rule on its own. For a text without
+    // extensions, nothing is kept about these interfaces.
     fn gathered<'n>(
         &'n self,
         written: Vec<WrittenInterface<'n, A>, A>,
@@ -237,7 +237,7 @@ impl<A: Allocator + Clone + Drop> Tables<A> {
         Ok((gathered, None))
     }
 
-    // What a text says that says nothing of these interfaces, and declares none.
+    // What a text says that does not mention these interfaces, and declares none.
     fn unsaid<'n>(&'n self) -> Result<Gathered<'n, A>, AllocError>
         ensures { IfOk result (λ g. g ≡ gathered self.now []) }
     {
@@ -250,7 +250,7 @@ impl<A: Allocator + Clone + Drop> Tables<A> {
         Ok(Gathered { added, declared })
     }
 
-    // The first place of each name of these interfaces and those of a text.
+    // The first index of each name of these interfaces and those of a text.
     fn places<'n>(
         &'n self,
         written: &[WrittenInterface<'n, A>],
@@ -331,8 +331,8 @@ impl<A: Allocator + Clone + Drop> Tables<A> {
         Ok(names)
     }
 
-    // Which of these interfaces, with what is added to them, and then of those of a text, an event
-    // of theirs may end.
+    // Which of these interfaces, with what is added to them, and then of those of a text, have an
+    // event that may end their objects.
     fn all_ended(&self, gathered: &Gathered<'_, A>) -> Result<Vec<bool, A>, AllocError>
         ensures { IfOk result (λ ended. ended.items
             ≡ ended_of (grown self.now gathered.now) gathered.now.declared) }
@@ -365,8 +365,8 @@ impl<A: Allocator + Clone + Drop> Tables<A> {
     }
 }
 
-// The place of the first interface of this name. No table has a name that is longer than
-// `MAX_NAME_LEN`, so such a name is not hashed.
+// The index of the first interface with this name. No table has a name longer than `MAX_NAME_LEN`,
+// so a longer name is not hashed.
 fn place_in<A: Allocator>(entries: &[Entry<A>], name: &[u8]) -> Option<usize>
     ensures place { result ≡ position (λ i. bytes_eq i.name name.now) entries.now }
     ensures within { IfSome result (λ place. place < length entries.now) }

@@ -1,7 +1,7 @@
 use Rattle.std.proofs.Common.{◌++◌}
 use Rattle.wl_session.specs.Meaning.{moves_of}
-use Rattle.program_session.specs.Session.{adding_globals, getting_registry, announcing_globals}
-use Rattle.program_session.specs.Session.{binding_globals, finishing_callback, drawing_surface}
+use Rattle.program_demo.specs.Moves.{adding_globals, getting_registry, announcing_globals}
+use Rattle.program_demo.specs.Moves.{binding_globals, finishing_callback, drawing_surface}
 use Rattle.program_demo.specs.Session.{each_once, to_server, to_client}
 use Rattle.program_demo.proofs.Runs.{plays_on, plays_then, plays_these}
 use Rattle.program_demo.proofs.playing.play.Goals as goal

@@ -4,7 +4,7 @@ use Rattle.wl_message.specs.declared.limit.Limit.{Limit}
 use Rattle.wl_message.specs.Limits.{usual}
 use Rattle.wl_message.proofs.Limits.{same_limit}
 use Rattle.theory_connection.specs.Pair.{new_pair}
-use Rattle.program_session.specs.Session.{sizes}
+use Rattle.program_demo.specs.Moves.{sizes}
 use Rattle.program_demo.proofs.Shown.{shown_from_new}
 use Rattle.program_demo.proofs.showing.demo.Goals as goal
 

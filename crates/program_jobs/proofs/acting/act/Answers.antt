@@ -1,7 +1,8 @@
+use Rattle.program_jobs.specs.Texts.{sources_of}
 use Rattle.program_jobs.proofs.acting.act.Goals as goal
 
 pub returns-clause-acted : goal.returns-clause-acted
-returns-clause-acted g c = c.finish.ensures.acted c.args.job.now (g.T.Read.remaining c.args.tables.now)
+returns-clause-acted g c = c.finish.ensures.acted c.args.job.now (sources_of g.T.Read.remaining c.args.tables.items)
     (g.R.Read.remaining c.args.file.now) c.output.ensures.done c.output.ensures.refused
 
 -- where there is an output, no line is bad

@@ -1,5 +1,19 @@
-use Rattle.std.proofs.Common.{inl, inr}
+use Rattle.std.proofs.Common.{rules, inl, inr}
 use Rattle.program_jobs.proofs.acting.checked.Goals as goal
+
+-- the hint is that of the pieces which the text records
+pub returns-clause-line : goal.returns-clause-line
+returns-clause-line g c =
+    let told = c.in_ok-verdict.ensures.told in
+    record {
+      pieces = told.0;
+      recorded = told.1;
+      verdict = c.in_ok-verdict.verdict;
+      answers = told.2;
+      whole = search rules;
+      hinted = c.in_ok-hint.ensures told.0 told.1;
+      status_is = search rules;
+    }
 
 -- what was read has no bad line
 pub returns-clause-bad : goal.returns-clause-bad

@@ -1,5 +1,5 @@
-use Rattle.std.proofs.Common.{ℕ, List, Option, None, IfOk, IfErr, OnOk, arith, rules, refl, sym, subst, inl, inr}
-use Rattle.std.specs.Prelude.{◌≡◌, ◌⊎◌, IsErr, IsSomeAnd, Result, Ok, Err, string_bytes}
+use Rattle.std.proofs.Common.{ℕ, List, [], Option, None, IfOk, OnOk, arith, rules, refl, sym, subst, inl, inr}
+use Rattle.std.specs.Prelude.{◌≡◌, ◌⊎◌, IsErr, Result, Ok, Err, map, string_bytes}
 use Rattle.std.proofs.lemmas.Result.{IfErr-weaker}
 use Rattle.program_arguments.specs.declared.job.Job.{Job}
 use Rattle.program_jobs.specs.declared.failure.Failure.{Failure}
@@ -8,21 +8,22 @@ use Rattle.program_jobs.specs.declared.failure.Failure.TheVariants.{BadTablesLin
 use Rattle.program_jobs.specs.declared.failure.Failure.TheVariants.{CannotWrite, SocketFailed}
 use Rattle.program_jobs.specs.declared.failure.Failure.TheVariants.{Memory}
 use Rattle.program_jobs.specs.Output.{BindsSocket, IsDone, IsRefused, IsSocketRefusal, NamesFile}
-use Rattle.program_jobs.specs.Output.{NamesPath, NamesTables, ReadsFile, ReadsTables}
-use Rattle.program_jobs.specs.Running.{needs_none, opened, over, no_tables, bound, not_bound, alone}
+use Rattle.program_jobs.specs.Output.{NamesPath, ReadsFile, tables_named}
+use Rattle.program_jobs.specs.Texts.{Source}
+use Rattle.program_jobs.specs.Running.{files, bound, not_bound, alone}
 use Rattle.program_jobs.proofs.running.run_job.Goals as goal
 
 -- why a session over a socket prints nothing is why the job prints nothing
-socket_refused : (job : Job) (known_tables known : Option (List ℕ)) (why : Failure) → BindsSocket job
-    → IsSocketRefusal why → IsRefused job known_tables known why
-socket_refused job known_tables known SocketFailed binds is = binds
-socket_refused job known_tables known Memory binds is = tt
-socket_refused job known_tables known (CannotRead name) binds is = absurd is
-socket_refused job known_tables known TooLong binds is = absurd is
-socket_refused job known_tables known (BadLine n) binds is = absurd is
-socket_refused job known_tables known (BadTablesLine n) binds is = absurd is
-socket_refused job known_tables known (BreaksRule n rule) binds is = absurd is
-socket_refused job known_tables known CannotWrite binds is = absurd is
+socket_refused : (job : Job) (sources : List Source) (known : Option (List ℕ)) (why : Failure) → BindsSocket job
+    → IsSocketRefusal why → IsRefused job sources known why
+socket_refused job sources known SocketFailed binds is = binds
+socket_refused job sources known Memory binds is = tt
+socket_refused job sources known (CannotRead name) binds is = absurd is
+socket_refused job sources known TooLong binds is = absurd is
+socket_refused job sources known (BadLine n) binds is = absurd is
+socket_refused job sources known (BadTablesLine file n) binds is = absurd is
+socket_refused job sources known (BreaksRule file n rule) binds is = absurd is
+socket_refused job sources known CannotWrite binds is = absurd is
 
 -- no failure has the status 0
 removed_where_fine : {T X : Type 0} (result : Result T X) (status : ℕ) (removed other : Type 0) → OnOk result removed
@@ -38,51 +39,18 @@ pub returns-in-Demo : goal.returns-in-Demo
 returns-in-Demo g c = alone _ _ (λ reads. subst (λ (job : Job). ReadsFile job) c.in-Demo.is reads)
     (λ binds. subst (λ (job : Job). BindsSocket job) c.in-Demo.is binds) c.act.ensures.acted
 
--- both files are named, and the tables' is open
-pub returns-in-Ok-opener : goal.returns-in-Ok-opener
-returns-in-Ok-opener g c =
-    let named : IsSomeAnd c.in-Trace.tables (λ path. string_bytes path ≡ c.as_str-in-Some.result.now) =
-    subst (λ o. IsSomeAnd o (λ path. string_bytes path ≡ c.as_str-in-Some.result.now)) (sym c.in-Some.is)
-    (sym c.as_str-in-Some.ensures.value) in
-    let tables : NamesTables c.args.job.now c.as_str-in-Some.result.now = elim c.in-Trace.is [
-      | inl e ↦ subst (λ (job : Job). NamesTables job c.as_str-in-Some.result.now) (sym e.1) named
-      | inr e ↦ subst (λ (job : Job). NamesTables job c.as_str-in-Some.result.now) (sym e.1) named
-    ] in
-    let names : NamesFile c.args.job.now (string_bytes c.in-Trace.name) = elim c.in-Trace.is [
-      | inl e ↦ subst (λ (job : Job). NamesFile job (string_bytes c.in-Trace.name)) (sym e.1) refl
-      | inr e ↦ subst (λ (job : Job). NamesFile job (string_bytes c.in-Trace.name)) (sym e.1) refl
-    ] in
-    over _ (string_bytes c.in-Trace.name) (opened c.as_str-in-Some.result.now c.in-Ok-opener.tables tables
-    (search rules) refl) names c.run_over_file.ensures
-
--- the tables' file cannot be opened
-pub returns-in-Some : goal.returns-in-Some
-returns-in-Some g c =
-    let named : IsSomeAnd c.in-Trace.tables (λ path. string_bytes path ≡ c.as_str-in-Some.result.now) =
-    subst (λ o. IsSomeAnd o (λ path. string_bytes path ≡ c.as_str-in-Some.result.now)) (sym c.in-Some.is)
-    (sym c.as_str-in-Some.ensures.value) in
-    let tables : NamesTables c.args.job.now c.as_str-in-Some.result.now = elim c.in-Trace.is [
-      | inl e ↦ subst (λ (job : Job). NamesTables job c.as_str-in-Some.result.now) (sym e.1) named
-      | inr e ↦ subst (λ (job : Job). NamesTables job c.as_str-in-Some.result.now) (sym e.1) named
-    ] in
-    no_tables c.as_str-in-Some.result.now c.in-Err-opener.error c.open_failure.result tables (search rules)
-    (search rules) c.report-in-Err-opener.ensures.status refl c.report-in-Err-opener.ensures.said
-
--- no tables are named
+-- the files that the job names
 pub returns-in-Trace : goal.returns-in-Trace
 returns-in-Trace g c =
     let names : NamesFile c.args.job.now (string_bytes c.in-Trace.name) = elim c.in-Trace.is [
       | inl e ↦ subst (λ (job : Job). NamesFile job (string_bytes c.in-Trace.name)) (sym e.1) refl
       | inr e ↦ subst (λ (job : Job). NamesFile job (string_bytes c.in-Trace.name)) (sym e.1) refl
     ] in
-    over _ (string_bytes c.in-Trace.name)
-    (needs_none (λ reads. elim c.in-Trace.is [
-      | inl e ↦ subst (λ o. IsSomeAnd o (λ path. string_bytes path ≡ reads.0)) c.in-None.is
-          (subst (λ (job : Job). NamesTables job reads.0) e.1 reads.1)
-      | inr e ↦ subst (λ o. IsSomeAnd o (λ path. string_bytes path ≡ reads.0)) c.in-None.is
-          (subst (λ (job : Job). NamesTables job reads.0) e.1 reads.1)
-    ]))
-    names c.run_over_file-in-None.ensures
+    let words : map string_bytes c.in-Trace.tables.items ≡ tables_named c.args.job.now = elim c.in-Trace.is [
+      | inl e ↦ subst (λ (job : Job). map string_bytes c.in-Trace.tables.items ≡ tables_named job) (sym e.1) refl
+      | inr e ↦ subst (λ (job : Job). map string_bytes c.in-Trace.tables.items ≡ tables_named job) (sym e.1) refl
+    ] in
+    files (string_bytes c.in-Trace.name) names (rw words at c.run_over_files.ensures)
 
 -- the session over the socket that was bound
 pub returns-in-Ok : goal.returns-in-Ok
@@ -91,14 +59,14 @@ returns-in-Ok g c =
     let names : NamesPath c.args.job.now c.as_str.result.now =
     subst (λ (job : Job). NamesPath job c.as_str.result.now) job_is (sym c.as_str.ensures.value) in
     let binds : BindsSocket c.args.job.now = subst (λ (job : Job). BindsSocket job) job_is tt in
-    let done = subst (λ (job : Job). IfOk c.run_over_socket.result (λ o. IsDone job None None o.text.items o.status))
+    let done = subst (λ (job : Job). IfOk c.run_over_socket.result (λ o. IsDone job [] None o.text.items o.hint.items o.status))
     job_is c.run_over_socket.ensures.shows in
     let refuses = IfErr-weaker c.run_over_socket.result _ _
-    (λ why is. socket_refused c.args.job.now None None why binds is) c.run_over_socket.ensures.refused in
+    (λ why is. socket_refused c.args.job.now [] None why binds is) c.run_over_socket.ensures.refused in
     let removed = removed_where_fine c.run_over_socket.result c.finish.result _ _ c.run_over_socket.ensures.removed
     c.finish.ensures.refused in
-    bound c.as_str.result.now c.in-Ok.bound None None names (search rules) removed
-    (c.finish.ensures.acted c.args.job.now None None done refuses)
+    bound c.as_str.result.now c.in-Ok.bound [] None names (search rules) removed
+    (c.finish.ensures.acted c.args.job.now [] None done refuses)
 
 pub returns : goal.returns
 returns g c =

@@ -1,5 +1,5 @@
 use Rattle.std.proofs.Common.{List, ℕ, true, ◌++◌, ◌∙◌, ap}
-use Rattle.program_session.specs.Agreement.{agreement_line}
+use Rattle.program_demo.specs.Agreement.{agreement_line}
 use Rattle.program_socket.specs.Streams.{known_stream}
 use Rattle.program_socket.proofs.Plays.{ends_agreeing}
 use Rattle.program_socket.proofs.showing.socket_text.Goals as goal

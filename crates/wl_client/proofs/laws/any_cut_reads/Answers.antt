@@ -1,7 +1,7 @@
 use Rattle.wl_sigs.specs.declared.signature.Side.TheVariants.{Event as event_side}
-use Rattle.wl_connection.proofs.AnyCut.{any_cut}
+use Rattle.theory_cuts.proofs.AnyCut.{any_cut}
 use Rattle.wl_client.specs.Streams.{client_reading}
-use Rattle.wl_connection.proofs.Roles.{is_reading}
+use Rattle.theory_cuts.proofs.OneReading.{is_reading}
 use Rattle.wl_client.specs.Reports.{client_role}
 use Rattle.wl_client.proofs.ReadingStays.{is_role}
 use Rattle.wl_client.proofs.laws.any_cut_reads.Goals as goal

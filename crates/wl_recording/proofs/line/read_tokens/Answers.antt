@@ -2,7 +2,7 @@ use Rattle.std.proofs.Common.{◌≡◌, ◌++◌, sym, arith}
 use Rattle.std.specs.Prelude.{codes, Some}
 use Rattle.std.proofs.lemmas.Bool.Decides.{Decides-eqb}
 use Rattle.std.proofs.lemmas.Slice.Eq.{strip_prefix_is}
-use Rattle.wl_line_text.proofs.Numbers.{number_is}
+use Rattle.wl_text.proofs.Numbers.{number_is}
 use Rattle.wl_recording.specs.Line.{some_tokens}
 use Rattle.wl_recording.proofs.PieceLemmas.{number_of-count}
 use Rattle.wl_recording.proofs.line.read_tokens.Goals as goal

@@ -1,7 +1,7 @@
 use Rattle.wl_sigs.specs.declared.signature.Side.TheVariants.{Request as request_side}
-use Rattle.wl_connection.proofs.AnyCut.{reads_whole}
+use Rattle.theory_cuts.proofs.AnyCut.{reads_whole}
 use Rattle.wl_server.specs.Streams.{server_reading}
-use Rattle.wl_connection.proofs.Roles.{is_reading}
+use Rattle.theory_cuts.proofs.OneReading.{is_reading}
 use Rattle.wl_server.specs.Requests.{server_role}
 use Rattle.wl_server.proofs.ReadingStays.{is_role}
 use Rattle.wl_server.proofs.laws.whole_messages_are_read.Goals as goal

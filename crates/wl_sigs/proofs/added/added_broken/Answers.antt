@@ -1,6 +1,6 @@
 use Rattle.std.proofs.Common.{sym, ap, ◌∙◌, Option}
 use Rattle.std.proofs.Math.Path.{ap₂}
-use Rattle.wl_interface_text.specs.Text.{WrittenInterface}
+use Rattle.wl_text.specs.Text.{WrittenInterface}
 use Rattle.wl_sigs.specs.Broken.{Broken, earlier}
 use Rattle.wl_sigs.specs.BrokenLines.{added_here}
 use Rattle.wl_sigs.specs.Places.{place_in}

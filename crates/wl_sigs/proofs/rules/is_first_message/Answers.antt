@@ -1,7 +1,7 @@
 use Rattle.std.proofs.Common.{◌≡◌, ℕ, List, map, sym, ap, ◌∙◌, not}
 use Rattle.std.specs.Prelude.{option_map, ◌&&◌}
 use Rattle.std.proofs.Math.Path.{fun_ext}
-use Rattle.wl_interface_text.specs.Text.{WrittenMessage}
+use Rattle.wl_text.specs.Text.{WrittenMessage}
 use Rattle.wl_sigs.specs.Joined.{first_place}
 use Rattle.wl_sigs.specs.Broken.{is_first}
 use Rattle.wl_sigs.specs.Places.{place_in}

@@ -1,6 +1,6 @@
 use Rattle.std.proofs.Common.{◌≡◌, true, false, List, sym, ap, ◌∙◌, nat_le, not, ◌&&◌}
 use Rattle.std.specs.List.{list_all, count_by}
-use Rattle.wl_interface_text.specs.Text.{WrittenKind, WrittenMessage}
+use Rattle.wl_text.specs.Text.{WrittenKind, WrittenMessage}
 use Rattle.wl_sigs.specs.Broken.{names_missing, makes_server_object, most_by_server, makes_forbidden}
 use Rattle.wl_sigs.specs.Places.{place_in}
 use Rattle.wl_sigs.proofs.FirstBrokenLine.{later_six, later_seven, later_eight, later_nine, later_eleven, later_none}

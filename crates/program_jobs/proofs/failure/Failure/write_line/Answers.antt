@@ -1,4 +1,4 @@
-use Rattle.std.proofs.Common.{◌≡◌, ◌++◌, ℕ, List, codes, subst}
+use Rattle.std.proofs.Common.{◌++◌, ℕ, List, codes, subst}
 use Rattle.program_jobs.specs.Failing.{failure_text}
 use Rattle.program_jobs.specs.Writing.{AppendsFront}
 use Rattle.std.specs.Io.KnownBytes.{Appends}
@@ -13,95 +13,55 @@ abbrev ends : List ℕ
 ends = codes "\n"
 
 pub returns-in_err-write_whole-clause-front : goal.returns-in_err-write_whole-clause-front
-returns-in_err-write_whole-clause-front g c = subst (AppendsFront _ _)
-    (line_is begins c.parts.result.0.now c.parts.result.1.now c.parts.result.2.now c.parts.result.3.now
+returns-in_err-write_whole-clause-front g c =
+    let r = c.parts.result in
+    let head = r.0.now ++ (r.1.now ++ r.2.now) in
+    let tail = r.3.now ++ (r.4.now ++ r.5.now) in
+    subst (AppendsFront _ _) (line_is begins r.0.now r.1.now r.2.now r.3.now r.4.now r.5.now
     (failure_text c.args.self.now) ends c.parts.ensures)
-    (front_first _ _ begins (c.parts.result.0.now
-    ++ (c.parts.result.1.now ++ (c.parts.result.2.now ++ (c.parts.result.3.now ++ ends))))
-    c.write_whole.ensures.front)
+    (front_first _ _ begins (head ++ (tail ++ ends)) c.write_whole.ensures.front)
 
-pub returns-in_err-write_whole-2-clause-front : goal.returns-in_err-write_whole-2-clause-front
-returns-in_err-write_whole-2-clause-front g c = subst (AppendsFront _ _)
-    (line_is begins c.parts.result.0.now c.parts.result.1.now c.parts.result.2.now c.parts.result.3.now
+pub returns-in_err-write_three-clause-front : goal.returns-in_err-write_three-clause-front
+returns-in_err-write_three-clause-front g c =
+    let r = c.parts.result in
+    let head = r.0.now ++ (r.1.now ++ r.2.now) in
+    let tail = r.3.now ++ (r.4.now ++ r.5.now) in
+    subst (AppendsFront _ _) (line_is begins r.0.now r.1.now r.2.now r.3.now r.4.now r.5.now
     (failure_text c.args.self.now) ends c.parts.ensures)
-    (front_more _ _ _ begins (c.parts.result.0.now
-    ++ (c.parts.result.1.now ++ (c.parts.result.2.now ++ (c.parts.result.3.now ++ ends))))
-    c.in_ok-write_whole.ensures.whole (front_first _ _ c.parts.result.0.now
-    (c.parts.result.1.now ++ (c.parts.result.2.now ++ (c.parts.result.3.now ++ ends)))
-    (subst (AppendsFront _ _) c.as_bytes.ensures.value c.write_whole-2.ensures.front)))
+    (front_more _ _ _ begins (head ++ (tail ++ ends)) c.in_ok-write_whole.ensures.whole
+    (front_first _ _ head (tail ++ ends) c.write_three.ensures.front))
 
-pub returns-in_err-write_whole-3-clause-front : goal.returns-in_err-write_whole-3-clause-front
-returns-in_err-write_whole-3-clause-front g c = subst (AppendsFront _ _)
-    (line_is begins c.parts.result.0.now c.parts.result.1.now c.parts.result.2.now c.parts.result.3.now
+pub returns-in_err-write_three-2-clause-front : goal.returns-in_err-write_three-2-clause-front
+returns-in_err-write_three-2-clause-front g c =
+    let r = c.parts.result in
+    let head = r.0.now ++ (r.1.now ++ r.2.now) in
+    let tail = r.3.now ++ (r.4.now ++ r.5.now) in
+    subst (AppendsFront _ _) (line_is begins r.0.now r.1.now r.2.now r.3.now r.4.now r.5.now
     (failure_text c.args.self.now) ends c.parts.ensures)
-    (front_more _ _ _ begins (c.parts.result.0.now
-    ++ (c.parts.result.1.now ++ (c.parts.result.2.now ++ (c.parts.result.3.now ++ ends))))
-    c.in_ok-write_whole.ensures.whole (front_more _ _ _ c.parts.result.0.now
-    (c.parts.result.1.now ++ (c.parts.result.2.now ++ (c.parts.result.3.now ++ ends)))
-    (subst (Appends _ _) c.as_bytes.ensures.value c.in_ok-write_whole-2.ensures.whole)
-    (front_first _ _ c.parts.result.1.now (c.parts.result.2.now ++ (c.parts.result.3.now ++ ends))
-    (subst (AppendsFront _ _) c.as_bytes-2.ensures.value c.write_whole-3.ensures.front))))
-
-pub returns-in_err-write_whole-4-clause-front : goal.returns-in_err-write_whole-4-clause-front
-returns-in_err-write_whole-4-clause-front g c = subst (AppendsFront _ _)
-    (line_is begins c.parts.result.0.now c.parts.result.1.now c.parts.result.2.now c.parts.result.3.now
-    (failure_text c.args.self.now) ends c.parts.ensures)
-    (front_more _ _ _ begins (c.parts.result.0.now
-    ++ (c.parts.result.1.now ++ (c.parts.result.2.now ++ (c.parts.result.3.now ++ ends))))
-    c.in_ok-write_whole.ensures.whole (front_more _ _ _ c.parts.result.0.now
-    (c.parts.result.1.now ++ (c.parts.result.2.now ++ (c.parts.result.3.now ++ ends)))
-    (subst (Appends _ _) c.as_bytes.ensures.value c.in_ok-write_whole-2.ensures.whole)
-    (front_more _ _ _ c.parts.result.1.now (c.parts.result.2.now ++ (c.parts.result.3.now ++ ends))
-    (subst (Appends _ _) c.as_bytes-2.ensures.value c.in_ok-write_whole-3.ensures.whole)
-    (front_first _ _ c.parts.result.2.now (c.parts.result.3.now ++ ends)
-    (subst (AppendsFront _ _) c.as_bytes-3.ensures.value c.write_whole-4.ensures.front)))))
-
-pub returns-in_err-write_whole-5-clause-front : goal.returns-in_err-write_whole-5-clause-front
-returns-in_err-write_whole-5-clause-front g c = subst (AppendsFront _ _)
-    (line_is begins c.parts.result.0.now c.parts.result.1.now c.parts.result.2.now c.parts.result.3.now
-    (failure_text c.args.self.now) ends c.parts.ensures)
-    (front_more _ _ _ begins (c.parts.result.0.now
-    ++ (c.parts.result.1.now ++ (c.parts.result.2.now ++ (c.parts.result.3.now ++ ends))))
-    c.in_ok-write_whole.ensures.whole (front_more _ _ _ c.parts.result.0.now
-    (c.parts.result.1.now ++ (c.parts.result.2.now ++ (c.parts.result.3.now ++ ends)))
-    (subst (Appends _ _) c.as_bytes.ensures.value c.in_ok-write_whole-2.ensures.whole)
-    (front_more _ _ _ c.parts.result.1.now (c.parts.result.2.now ++ (c.parts.result.3.now ++ ends))
-    (subst (Appends _ _) c.as_bytes-2.ensures.value c.in_ok-write_whole-3.ensures.whole)
-    (front_more _ _ _ c.parts.result.2.now (c.parts.result.3.now ++ ends)
-    (subst (Appends _ _) c.as_bytes-3.ensures.value c.in_ok-write_whole-4.ensures.whole)
-    (front_first _ _ c.parts.result.3.now ends
-    (subst (AppendsFront _ _) c.as_bytes-4.ensures.value c.write_whole-5.ensures.front))))))
+    (front_more _ _ _ begins (head ++ (tail ++ ends)) c.in_ok-write_whole.ensures.whole
+    (front_more _ _ _ head (tail ++ ends) c.in_ok-write_three.ensures.whole
+    (front_first _ _ tail ends c.write_three-2.ensures.front)))
 
 pub returns-clause-whole : goal.returns-clause-whole
-returns-clause-whole g c = IfOk-weaker c.write_whole-6.result _ _
-    (λ done last. subst (Appends _ _) (line_is begins c.parts.result.0.now c.parts.result.1.now c.parts.result.2.now
-    c.parts.result.3.now (failure_text c.args.self.now) ends c.parts.ensures)
-    (appends_more _ _ _ begins (c.parts.result.0.now
-    ++ (c.parts.result.1.now ++ (c.parts.result.2.now ++ (c.parts.result.3.now ++ ends))))
-    c.in_ok-write_whole.ensures.whole (appends_more _ _ _ c.parts.result.0.now
-    (c.parts.result.1.now ++ (c.parts.result.2.now ++ (c.parts.result.3.now ++ ends)))
-    (subst (Appends _ _) c.as_bytes.ensures.value c.in_ok-write_whole-2.ensures.whole)
-    (appends_more _ _ _ c.parts.result.1.now (c.parts.result.2.now ++ (c.parts.result.3.now ++ ends))
-    (subst (Appends _ _) c.as_bytes-2.ensures.value c.in_ok-write_whole-3.ensures.whole)
-    (appends_more _ _ _ c.parts.result.2.now (c.parts.result.3.now ++ ends)
-    (subst (Appends _ _) c.as_bytes-3.ensures.value c.in_ok-write_whole-4.ensures.whole)
-    (appends_more _ _ _ c.parts.result.3.now ends
-    (subst (Appends _ _) c.as_bytes-4.ensures.value c.in_ok-write_whole-5.ensures.whole) last))))))
-    c.write_whole-6.ensures.whole
+returns-clause-whole g c =
+    let r = c.parts.result in
+    let head = r.0.now ++ (r.1.now ++ r.2.now) in
+    let tail = r.3.now ++ (r.4.now ++ r.5.now) in
+    IfOk-weaker c.write_whole-2.result _ _
+    (λ done last. subst (Appends _ _) (line_is begins r.0.now r.1.now r.2.now r.3.now r.4.now r.5.now
+    (failure_text c.args.self.now) ends c.parts.ensures)
+    (appends_more _ _ _ begins (head ++ (tail ++ ends)) c.in_ok-write_whole.ensures.whole
+    (appends_more _ _ _ head (tail ++ ends) c.in_ok-write_three.ensures.whole
+    (appends_more _ _ _ tail ends c.in_ok-write_three-2.ensures.whole last))))
+    c.write_whole-2.ensures.whole
 
 pub returns-clause-front : goal.returns-clause-front
-returns-clause-front g c = subst (AppendsFront _ _)
-    (line_is begins c.parts.result.0.now c.parts.result.1.now c.parts.result.2.now c.parts.result.3.now
+returns-clause-front g c =
+    let r = c.parts.result in
+    let head = r.0.now ++ (r.1.now ++ r.2.now) in
+    let tail = r.3.now ++ (r.4.now ++ r.5.now) in
+    subst (AppendsFront _ _) (line_is begins r.0.now r.1.now r.2.now r.3.now r.4.now r.5.now
     (failure_text c.args.self.now) ends c.parts.ensures)
-    (front_more _ _ _ begins (c.parts.result.0.now
-    ++ (c.parts.result.1.now ++ (c.parts.result.2.now ++ (c.parts.result.3.now ++ ends))))
-    c.in_ok-write_whole.ensures.whole (front_more _ _ _ c.parts.result.0.now
-    (c.parts.result.1.now ++ (c.parts.result.2.now ++ (c.parts.result.3.now ++ ends)))
-    (subst (Appends _ _) c.as_bytes.ensures.value c.in_ok-write_whole-2.ensures.whole)
-    (front_more _ _ _ c.parts.result.1.now (c.parts.result.2.now ++ (c.parts.result.3.now ++ ends))
-    (subst (Appends _ _) c.as_bytes-2.ensures.value c.in_ok-write_whole-3.ensures.whole)
-    (front_more _ _ _ c.parts.result.2.now (c.parts.result.3.now ++ ends)
-    (subst (Appends _ _) c.as_bytes-3.ensures.value c.in_ok-write_whole-4.ensures.whole)
-    (front_more _ _ _ c.parts.result.3.now ends
-    (subst (Appends _ _) c.as_bytes-4.ensures.value c.in_ok-write_whole-5.ensures.whole)
-    c.write_whole-6.ensures.front)))))
+    (front_more _ _ _ begins (head ++ (tail ++ ends)) c.in_ok-write_whole.ensures.whole
+    (front_more _ _ _ head (tail ++ ends) c.in_ok-write_three.ensures.whole
+    (front_more _ _ _ tail ends c.in_ok-write_three-2.ensures.whole c.write_whole-2.ensures.front)))

@@ -1,7 +1,7 @@
 use Rattle.std.proofs.Common.{[], ◌∷◌}
 use Rattle.std.specs.Prelude.{codes}
 use Rattle.theory_connection.specs.Pair.{AddGlobal}
-use Rattle.program_session.specs.Session.{interface_or_display}
+use Rattle.program_demo.specs.Moves.{interface_or_display}
 use Rattle.program_socket.specs.Streams.{known_stream}
 use Rattle.program_socket.specs.Playing.{Call}
 use Rattle.program_socket.specs.Sessions.{connected}

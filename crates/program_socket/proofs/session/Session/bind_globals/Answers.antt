@@ -1,7 +1,7 @@
 use Rattle.std.proofs.Common.{[], ◌∷◌, refl}
 use Rattle.std.specs.Prelude.{codes}
 use Rattle.theory_connection.specs.Pair.{ClientBind, ClientSend}
-use Rattle.program_session.specs.Session.{the_display, the_registry, new_object}
+use Rattle.program_demo.specs.Moves.{the_display, the_registry, new_object}
 use Rattle.program_socket.specs.Streams.{known_stream}
 use Rattle.program_socket.specs.Playing.{Call}
 use Rattle.program_socket.specs.Sessions.{connected}

@@ -1,6 +1,6 @@
 use Rattle.std.proofs.Common.{[], ◌∷◌, refl}
 use Rattle.theory_connection.specs.Pair.{ClientSend}
-use Rattle.program_session.specs.Session.{the_compositor, the_surface, new_object}
+use Rattle.program_demo.specs.Moves.{the_compositor, the_surface, new_object}
 use Rattle.program_socket.specs.Streams.{known_stream}
 use Rattle.program_socket.specs.Playing.{Call}
 use Rattle.program_socket.specs.Sessions.{connected}

@@ -1,7 +1,7 @@
 use Rattle.std.proofs.Common.{[], ◌∷◌, refl}
 use Rattle.wl_wire.specs.Argument.{Uint}
 use Rattle.theory_connection.specs.Pair.{ServerSend}
-use Rattle.program_session.specs.Session.{the_callback}
+use Rattle.program_demo.specs.Moves.{the_callback}
 use Rattle.program_socket.specs.Streams.{known_stream}
 use Rattle.program_socket.specs.Sessions.{connected}
 use Rattle.program_socket.proofs.Plays.{ends_call}

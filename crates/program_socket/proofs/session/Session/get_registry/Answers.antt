@@ -1,6 +1,6 @@
 use Rattle.std.proofs.Common.{[], ◌∷◌, refl}
 use Rattle.theory_connection.specs.Pair.{ClientSend}
-use Rattle.program_session.specs.Session.{the_display, new_object}
+use Rattle.program_demo.specs.Moves.{the_display, new_object}
 use Rattle.program_socket.specs.Streams.{known_stream}
 use Rattle.program_socket.specs.Sessions.{connected}
 use Rattle.program_socket.proofs.Plays.{ends_call}

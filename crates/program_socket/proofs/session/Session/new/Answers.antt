@@ -6,7 +6,7 @@ use Rattle.wl_message.specs.Limits.{usual}
 use Rattle.wl_message.proofs.Limits.{same_limit}
 use Rattle.wl_client.specs.State as client
 use Rattle.wl_server.specs.State as server
-use Rattle.program_session.specs.Session.{sizes}
+use Rattle.program_demo.specs.Moves.{sizes}
 use Rattle.program_socket.proofs.session.Session.new.Goals as goal
 
 -- sizes of this limit, and else those of the session

@@ -1,6 +1,6 @@
 use Rattle.std.proofs.Common.{[], ◌∷◌, ◌++◌}
-use Rattle.program_session.specs.Session.{adding_globals, getting_registry, announcing_globals}
-use Rattle.program_session.specs.Session.{binding_globals, finishing_callback, drawing_surface}
+use Rattle.program_demo.specs.Moves.{adding_globals, getting_registry, announcing_globals}
+use Rattle.program_demo.specs.Moves.{binding_globals, finishing_callback, drawing_surface}
 use Rattle.program_socket.specs.Streams.{known_stream}
 use Rattle.program_socket.specs.Playing.{calls, ClientTurn, ServerTurn}
 use Rattle.program_socket.specs.Sessions.{connected}

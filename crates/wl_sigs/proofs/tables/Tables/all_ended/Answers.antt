@@ -3,7 +3,7 @@ use Rattle.std.proofs.Math.Path.{ap₂}
 use Rattle.std.proofs.Math.Seq.{take-length}
 use Rattle.std.specs.List.{list_any}
 use Rattle.std.specs.Option.{option_map_or}
-use Rattle.wl_interface_text.specs.Text.{WrittenInterface}
+use Rattle.wl_text.specs.Text.{WrittenInterface}
 use Rattle.wl_sigs.specs.Tables.{has_destroying_event}
 use Rattle.wl_sigs.specs.Extended.{Gathered}
 use Rattle.wl_sigs.proofs.Bodies.{ended-next}

@@ -1,6 +1,6 @@
 use Rattle.std.proofs.Common.{◌≡◌, List, true, not, sym, ap, ◌∙◌}
 use Rattle.std.specs.List.{list_all}
-use Rattle.wl_interface_text.specs.Text.{WrittenInterface}
+use Rattle.wl_text.specs.Text.{WrittenInterface}
 use Rattle.wl_sigs.specs.Extended.{Gathered, whole_of}
 use Rattle.wl_sigs.specs.Extending.{messages_or_declared_broken}
 use Rattle.wl_sigs.proofs.Unsaid.{extended_declaring, first_declaring}

@@ -1,0 +1,7 @@
+use Rattle.program_jobs.proofs.Texts.{three_appended_ok}
+use Rattle.program_jobs.proofs.hint.append_three.Goals as goal
+
+pub returns : goal.returns
+returns g c = three_appended_ok c.extend_from_slice-3.result c.args.out.now.items _ _ _ _ _ _
+    c.in_ok-extend_from_slice.ensures.items c.in_ok-extend_from_slice-2.ensures.items
+    c.extend_from_slice-3.ensures.items

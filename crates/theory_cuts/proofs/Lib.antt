@@ -1,0 +1,3 @@
+mod Taken
+pub mod AnyCut
+pub mod OneReading

@@ -1,4 +1,0 @@
-pub mod Words
-pub mod Spelling
-pub mod TextLines
-pub mod Texts

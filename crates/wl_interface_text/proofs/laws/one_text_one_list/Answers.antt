@@ -1,5 +1,0 @@
-use Rattle.wl_interface_text.proofs.Texts.{one_list}
-use Rattle.wl_interface_text.proofs.laws.one_text_one_list.Goals as goal
-
-pub returns : goal.returns
-returns c = one_list

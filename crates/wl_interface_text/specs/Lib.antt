@@ -1,4 +1,0 @@
-pub mod Text
-pub mod TableText
-pub mod Reading
-pub mod Errors
