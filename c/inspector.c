@@ -1,4 +1,4 @@
-/* An inspector of what passes, and recordings, which it can be given. */
+/* An inspector of what passes, and reading recordings, which can be passed to one. */
 #include "calls.h"
 
 uint32_t waywire_c_inspector_new(struct handle tables, uint32_t limit, void **made);
@@ -17,7 +17,7 @@ void waywire_c_inspector_object(const struct handle *, uint32_t id, waywire_know
 size_t waywire_c_inspector_id_count(const struct handle *, bool of_server);
 uint32_t waywire_c_inspector_announced(const struct handle *, uint32_t name, uint16_t interface);
 
-/* What an export tells of a piece beside its bytes. */
+/* What an export reports about a piece, besides its bytes. */
 struct told_piece {
 	uint32_t sender;
 	uint32_t token_count;
@@ -31,7 +31,7 @@ uint32_t waywire_c_recording_next(const void *text, size_t length, size_t line, 
 
 /* ---- an inspector */
 
-/* An inspector, and the tables that it lends. */
+/* An inspector and its tables. */
 struct waywire_inspector {
 	struct handle handle;
 	waywire_tables *tables;
@@ -137,6 +137,15 @@ waywire_status waywire_inspector_ahead(const waywire_inspector *inspector, waywi
 	if (!inspector || !message)
 		return WAYWIRE_NULL;
 	return waywire_c_inspector_ahead(&inspector->handle, sender, message);
+}
+
+waywire_status waywire_inspector_decode(const waywire_inspector *inspector, waywire_sender sender,
+	const waywire_followed *message, waywire_decoded *decoded)
+{
+	if (!inspector || !message || !decoded)
+		return WAYWIRE_NULL;
+	return waywire_tables_decode(inspector->tables, message->object.interface, message->object.version,
+		sender, message->bytes, message->length, decoded);
 }
 
 waywire_status waywire_inspector_go_past(waywire_inspector *inspector, waywire_sender sender)

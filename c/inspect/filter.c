@@ -5,19 +5,13 @@
 /* In place of a sender: messages of both, and besides those that make or name such an object. */
 enum { ANY_SENDER = COMPOSITOR + 1, ANY_PART };
 
-/* A part of a text, without a NUL. */
-struct part {
-	const char *bytes;
-	size_t length;
-};
-
-static bool is_pattern(struct part part)
+static bool is_pattern(struct name name)
 {
-	return memchr(part.bytes, '*', part.length) || memchr(part.bytes, '?', part.length);
+	return memchr(name.bytes, '*', name.length) || memchr(name.bytes, '?', name.length);
 }
 
 /* Whether a name is of a pattern, in which `*` stands for any characters and `?` for one. */
-static bool matches(struct part pattern, struct part name)
+static bool matches(struct name pattern, struct name name)
 {
 	size_t at = 0, star = pattern.length, again = 0;
 	for (size_t each = 0; each < name.length;) {
@@ -40,7 +34,7 @@ static bool matches(struct part pattern, struct part name)
 
 static void add(struct filter *filter, const struct asked *asked)
 {
-	struct asked *more = realloc(filter->asked, (filter->count + 1) * sizeof *more);
+	struct asked *more = room_for_one(filter->asked, filter->count, sizeof *more);
 	if (!more)
 		fail("out of memory");
 	filter->asked = more;
@@ -48,10 +42,10 @@ static void add(struct filter *filter, const struct asked *asked)
 }
 
 /* Adds the messages of an interface whose names match. */
-static void add_messages(struct filter *filter, const waywire_tables *tables, uint16_t interface, struct part wanted)
+static void add_messages(struct filter *filter, const waywire_tables *tables, uint16_t interface, struct name wanted)
 {
 	waywire_message message;
-	struct part name;
+	struct name name;
 	for (int from = CLIENT; from <= COMPOSITOR; from++)
 		for (int opcode = 0; opcode <= UINT16_MAX; opcode++) {
 			if (waywire_tables_message(tables, interface, (waywire_sender)from, (uint16_t)opcode, &message,
@@ -64,11 +58,11 @@ static void add_messages(struct filter *filter, const waywire_tables *tables, ui
 }
 
 /* Adds what a name means. Returns how many interfaces have it; those that have a message of it are added. */
-static size_t add_named(struct filter *filter, const waywire_tables *tables, struct part interface,
-	const struct part *message)
+static size_t add_named(struct filter *filter, const waywire_tables *tables, struct name interface,
+	const struct name *message)
 {
 	size_t count = 0;
-	struct part name;
+	struct name name;
 	for (uint16_t place = 0; !waywire_tables_name(tables, place, &name.bytes, &name.length); place++) {
 		struct asked all = { place, message ? ANY_SENDER : ANY_PART, 0 };
 		if (!matches(interface, name))
@@ -85,12 +79,12 @@ static size_t add_named(struct filter *filter, const waywire_tables *tables, str
 }
 
 /* Adds a name, which ends the tool where the tables have nothing of it. */
-static void add_name(struct filter *filter, const waywire_tables *tables, const char *option, struct part name)
+static void add_name(struct filter *filter, const waywire_tables *tables, const char *option, struct name name)
 {
 	const char *point = memchr(name.bytes, '.', name.length);
 	size_t before = filter->count, length = point ? (size_t)(point - name.bytes) : name.length;
-	struct part interface = { name.bytes, length };
-	struct part message = { point ? point + 1 : NULL, point ? name.length - length - 1 : 0 };
+	struct name interface = { name.bytes, length };
+	struct name message = { point ? point + 1 : NULL, point ? name.length - length - 1 : 0 };
 	size_t found = add_named(filter, tables, interface, point ? &message : NULL);
 	if (!found)
 		fail("--%s %.*s: no tables have %s", option, (int)length, name.bytes,
@@ -104,7 +98,7 @@ static void add_name(struct filter *filter, const waywire_tables *tables, const 
 void filter_read(struct filter *filter, const waywire_tables *tables, const char *option, const char *names)
 {
 	for (;;) {
-		struct part name = { names, strcspn(names, ",") };
+		struct name name = { names, strcspn(names, ",") };
 		add_name(filter, tables, option, name);
 		if (!names[name.length])
 			return;
@@ -125,7 +119,7 @@ static bool names(const struct asked *asked, const struct message *message)
 	if (asked->from != ANY_PART)
 		return false;
 	for (size_t place = 0; place < message->arg_count; place++)
-		if (message->args[place].object.name && message->args[place].object.interface == asked->interface)
+		if (message->args[place].object.name.bytes && message->args[place].object.interface == asked->interface)
 			return true;
 	return false;
 }

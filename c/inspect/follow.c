@@ -1,4 +1,4 @@
-/* Reads the messages that the library's inspector follows. waywire_tables_decode takes them apart: no code here
+/* Reads the messages that the library's inspector follows. waywire_inspector_decode takes them apart: no code here
  * reads the wire, and none keeps what a message has changed. */
 #define _GNU_SOURCE
 #include "follow.h"
@@ -10,8 +10,8 @@ static const uint16_t error_opcode = 0, delete_id_opcode = 1, bind_opcode = 0;
 /* Sets the name of an object's interface; null if the tables do not have it. */
 static void name_interface(const struct follower *follower, struct object *object)
 {
-	if (waywire_tables_name(follower->tables, object->interface, &object->name, &object->name_length))
-		object->name = NULL;
+	if (waywire_tables_name(follower->tables, object->interface, &object->name.bytes, &object->name.length))
+		object->name.bytes = NULL;
 }
 
 static struct object object_as(const struct follower *follower, uint32_t id, const waywire_known *known)
@@ -31,7 +31,7 @@ struct object object_of(const struct follower *follower, uint32_t id)
 	return object_as(follower, id, &known);
 }
 
-/* The object that a new id stands for. */
+/* The object with a new id. */
 static struct object new_object(const struct follower *follower, const struct message *message,
 	const waywire_arg *value, uint16_t interface)
 {
@@ -40,8 +40,7 @@ static struct object new_object(const struct follower *follower, const struct me
 	name_interface(follower, &object);
 	if (value->kind == WAYWIRE_BOUND) {
 		object.version = value->u;
-		object.name = value->bytes;
-		object.name_length = value->length;
+		object.name = (struct name){ value->bytes, value->length };
 	}
 	return object;
 }
@@ -50,9 +49,7 @@ static struct object new_object(const struct follower *follower, const struct me
 
 bool is_message(const struct message *message, const char *interface, int from, uint16_t opcode)
 {
-	size_t length = strlen(interface);
-	return message->from == from && message->opcode == opcode && message->target.name_length == length
-		&& message->target.name && !memcmp(message->target.name, interface, length);
+	return message->from == from && message->opcode == opcode && is_name(message->target.name, interface);
 }
 
 bool is_error(const struct message *message)
@@ -90,27 +87,25 @@ static void read_argument(const struct follower *follower, struct message *messa
 		break;
 	case WAYWIRE_FD:
 		message->descriptor_count++;
+		if (!follower->is_unnumbered[message->from])
+			argument->descriptor = follower->descriptors[message->from] + message->descriptor_count;
 		break;
 	default:
 		break;
 	}
 }
 
-static void take_apart(const struct follower *follower, struct message *message)
+static void take_apart(const struct follower *follower, struct message *message, const waywire_followed *followed)
 {
 	waywire_decoded decoded;
 	waywire_sender sender = (waywire_sender)message->from;
-	uint16_t interface = message->target.interface;
-	message->status = waywire_tables_decode(follower->tables, interface, message->target.version, sender,
-		message->bytes, message->length, &decoded);
+	message->status = waywire_inspector_decode(follower->inspector, sender, followed, &decoded);
 	if (message->status == WAYWIRE_NOT_FOUND)
 		return;
-	if (!waywire_tables_message(follower->tables, interface, sender, message->opcode, &message->signature,
-			&message->name, &message->name_length) && message->status != WAYWIRE_FAULT_BAD_SIZE) {
-		message->place = decoded.place;
-		message->spelling = decoded.spelling;
+	if (!waywire_tables_message(follower->tables, message->target.interface, sender, message->opcode,
+			&message->signature, &message->name.bytes, &message->name.length)
+		&& message->status != WAYWIRE_FAULT_BAD_SIZE)
 		message->arg_count = decoded.arg_count;
-	}
 	for (size_t place = 0; place < message->arg_count; place++)
 		read_argument(follower, message, place, &decoded);
 }
@@ -145,10 +140,8 @@ bool read_message(const struct follower *follower, int from, struct message *mes
 		.opcode = followed.opcode, .bound = WAYWIRE_ANY_INTERFACE };
 	message->is_bad_size = message->size < 8 || message->size % 4 || message->size > follower->limit;
 	message->target = object_as(follower, followed.target, &followed.object);
-	take_apart(follower, message);
+	take_apart(follower, message, &followed);
 	read_changes(follower, message, &followed);
-	if (!follower->is_unnumbered[from])
-		message->first_descriptor = follower->descriptors[from] + 1;
 	return true;
 }
 

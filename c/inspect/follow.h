@@ -2,6 +2,8 @@
 #ifndef INSPECT_FOLLOW_H
 #define INSPECT_FOLLOW_H
 
+#include "text.h"
+
 #include <stdlib.h>
 #include <waywire.h>
 
@@ -22,16 +24,14 @@ struct object {
 	uint64_t birth;      /* the number of the message that made it; 0 of wl_display, and where it is not known */
 	uint16_t interface;  /* its place in the tables; WAYWIRE_ANY_INTERFACE where they lack it */
 	uint8_t state;       /* an ending one was destroyed, and its id is not free yet */
-	const char *name;    /* its interface's; null where that is not known */
-	size_t name_length;
+	struct name name;    /* its interface's */
 };
 
 /* ---- messages */
 
 /* What the values of an argument mean (names.c). */
 struct meaning {
-	const char *enumeration; /* as wl_shm.format; null where it has none */
-	size_t length;
+	struct name enumeration; /* as wl_shm.format; none where it has none */
 	const char *entries;     /* values and names, with spaces between; null where they are not known */
 	bool is_bitfield;
 	bool is_numbers;         /* of an array: it has 32-bit numbers */
@@ -40,8 +40,8 @@ struct meaning {
 struct argument {
 	waywire_arg value;
 	struct object object; /* that it names, as before the message, or makes */
-	const char *name;     /* null where none is known */
-	size_t name_length;
+	uint64_t descriptor;  /* the number of a descriptor in its direction; 0 where that is not known */
+	struct name name;
 	struct meaning meaning;
 };
 
@@ -58,18 +58,14 @@ struct message {
 	size_t length;     /* of its bytes that are there */
 	uint16_t opcode;
 	struct object target;     /* as before the message */
-	const char *name;         /* null where the tables have no such message */
-	size_t name_length;
+	struct name name;         /* none where the tables have no such message */
 	waywire_message signature;
 	waywire_status status;    /* of taking it apart */
-	size_t place;             /* of the argument that is malformed */
-	uint32_t spelling;
 	size_t arg_count;
 	struct argument args[WAYWIRE_MAX_ARGS];
 	uint16_t bound;           /* of wl_registry.bind: the place of the interface */
 	struct object made, destroyed, freed; /* with id 0 where there is none */
 	size_t descriptor_count;
-	uint64_t first_descriptor; /* the number of its first; 0 where that is not known */
 	uint64_t answers;          /* the number of the message that it answers; 0 where there is none */
 	bool is_judged;
 };
@@ -96,10 +92,10 @@ struct follower {
 /* What is known of an id. */
 struct object object_of(const struct follower *follower, uint32_t id);
 
-/* Reads the message in front of a direction; false where none is there. Nothing changes. */
+/* Reads the next message of a direction; false if there is none. Nothing changes. */
 bool read_message(const struct follower *follower, int from, struct message *message);
 
-/* Goes past that message. False where memory runs out. */
+/* Goes past that message. False if memory runs out. */
 bool follow_message(struct follower *follower, const struct message *message);
 
 /* The greatest version in which the global of a bind was announced; 0 where it was not. */

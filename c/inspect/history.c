@@ -14,7 +14,7 @@ struct concerned {
 };
 
 struct past {
-	uint64_t number;
+	uint64_t number, index;
 	int from;
 	struct text line;
 	struct concerned objects[2 + WAYWIRE_MAX_ARGS];
@@ -44,6 +44,7 @@ void history_note(struct history *history, const struct message *message, const 
 		return;
 	struct past *past = &history->kept[history->count++ % KEPT];
 	past->number = message->number;
+	past->index = message->index;
 	past->from = message->from;
 	past->line.length = 0;
 	text_put(&past->line, line->bytes, line->length);
@@ -78,12 +79,8 @@ size_t history_before(const struct history *history, const struct object *object
 	for (uint64_t back = 1; history && back <= kept && count < MOST_BEFORE; back++) {
 		const struct past *past = &history->kept[(history->count - back) % KEPT];
 		if (concerns(past, object))
-			before[count++] = (struct before){ past->number, &past->line };
+			before[MOST_BEFORE - ++count] = (struct before){ past->number, past->index, past->from, &past->line };
 	}
-	for (size_t each = 0; each < count / 2; each++) {
-		struct before other = before[each];
-		before[each] = before[count - 1 - each];
-		before[count - 1 - each] = other;
-	}
+	memmove(before, before + MOST_BEFORE - count, count * sizeof *before);
 	return count;
 }

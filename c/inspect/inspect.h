@@ -1,9 +1,9 @@
-/* waywire-inspect: stands between Wayland clients and their compositor, hands on all that passes,
- * and prints and judges each message.
+/* waywire-inspect: connects Wayland clients to their compositor, passes on all that they send, and prints and
+ * judges each message.
  *
  * A session is one client's connection (session.c). It has two ways, one for each direction (way.c), and a
- * judging (judge.h), which is told each piece after it was handed on. run.c waits for all sessions. The pieces
- * of a recording pass a judging likewise (read.c). */
+ * judging (judge.h), which gets each piece after it was passed on. run.c waits for all sessions. The pieces of a
+ * recording go through a judging too (read.c). */
 #ifndef INSPECT_H
 #define INSPECT_H
 
@@ -18,7 +18,7 @@
 #define PIECE_BYTES 65536
 /* The kernel passes at most this number of descriptors at once. */
 #define PIECE_DESCRIPTORS 253
-/* The exit status where nothing could be inspected. */
+/* The exit status if nothing could be inspected. */
 #define NOTHING_INSPECTED 125
 
 /* What stands in front of a line. */
@@ -27,17 +27,18 @@ enum front { TIME_NONE, TIME_SINCE, TIME_DELTA, TIME_CLOCK };
 struct options {
 	char **tables; /* the files of --tables */
 	size_t table_count;
-	bool no_tables; /* the installed ones are not read */
+	int no_tables; /* the installed ones are not read */
 	uint32_t limit;
 	const char *record;  /* null where nothing is recorded */
-	bool record_last;    /* the last part of a long session too */
+	int record_last;     /* the last part of a long session too */
 	const char *read;    /* the recording that is read; null where there is none */
 	const char *output;  /* null where it is standard output */
 	const char *picture; /* null where none is made */
 	struct filter only, except;
 	enum front time;
-	bool json, stats, colour, stop_when_broken, verbose;
-	bool no_names; /* lines stand without the names of values */
+	int json, stats, stop_when_broken, verbose;
+	int no_names; /* lines stand without the names of values */
+	bool colour;
 	char **command; /* ends with a null; null where there is none */
 };
 
@@ -49,7 +50,7 @@ void notice(const char *format, ...) __attribute__((format(printf, 1, 2)));
 /* Writes a line to standard error and ends with the status of nothing inspected. */
 void fail(const char *format, ...) __attribute__((format(printf, 1, 2), noreturn));
 
-/* What is printed goes to a file from now on. Ends the tool where that fails. */
+/* From now on, output goes to a file. Ends the tool if that fails. */
 void print_to(const char *path);
 
 /* Whether it goes to a terminal. */
@@ -91,7 +92,7 @@ struct known {
 	struct text names;  /* of the texts, with spaces between, the core first */
 };
 
-/* Reads the texts. Ends the tool where it fails. */
+/* Reads the texts. Ends the tool if that fails. */
 void known_read(struct known *known, const struct options *options);
 
 void known_free(struct known *known);
@@ -104,7 +105,13 @@ struct source {
 	bool is_given; /* by --tables */
 };
 
-/* Reads a file of at most 16,777,216 bytes. Ends the tool where it fails. */
+/* As much as `waywire` reads of a file. */
+#define LONGEST_FILE 16777216
+
+/* Adds a file to a text, as much as makes it longer than LONGEST_FILE. False with errno set where that fails. */
+bool read_bytes(const char *path, struct text *text);
+
+/* Reads a file that is no longer than that. Ends the tool where it fails. */
 void read_file(const char *path, struct text *text);
 
 /* Reads a text; an XML is handed to waywire-tables-from-xml. */
@@ -113,18 +120,12 @@ void source_read(struct source *source);
 /* Makes a text one of tables; it belongs to the source then. */
 void source_take(struct source *source, struct text *taken);
 
-/* Makes a text of the XML that the system has installed, as far as it has interfaces, or versions of interfaces, that
- * neither the core nor these texts have. False where there is none. */
+/* Makes a text from the installed XML, with the interfaces, or versions of interfaces, that neither the core nor
+ * these texts have. False if there are none. */
 bool installed_protocols(struct text *made, const struct source *sources, size_t source_count,
 	const waywire_tables *core, bool is_verbose);
 
-/* A name in a text; one of no length stands for none. */
-struct name {
-	const char *bytes;
-	size_t length;
-};
-
-/* What the line at a place declares or extends. */
+/* What the line at a place declares or extends; of no length where that is nothing. */
 struct name source_names(const struct source *source, size_t at);
 
 /* Whether a text declares an interface; an extension does not. */
@@ -133,8 +134,9 @@ bool source_declares(const struct source *source, struct name name);
 /* The line behind the one at a place. */
 size_t source_next_line(const struct source *source, size_t at);
 
-/* The paths of the installed texts, in the order of their names, to be freed. */
-char **installed_texts(size_t *count);
+/* The paths of the files with this end in the folder of the installed texts, in the order of their names, to be freed.
+ * Null with errno set where the folder cannot be read. */
+char **installed_files(const char *end, size_t *count);
 
 /* Takes out of a text the interfaces that another declares, and what is added to them. */
 void source_without(struct source *source, const struct source *other);
@@ -146,7 +148,7 @@ bool is_xml(const char *path);
  * are read with the first (names.c). */
 void names_read(const struct options *options);
 
-/* Names the arguments of a message, and says what their values mean, as far as that is known. */
+/* Finds the names of a message's arguments, and what their values mean, as far as that is known. */
 void name_arguments(struct message *message);
 
 void names_free(void);
@@ -223,7 +225,7 @@ char *numbered(const char *path, unsigned number);
 void part_put(struct text *text, const struct follower *follower, const struct text fronts[2], double seconds);
 
 /* Takes these comments from a text. What follows is not judged, which is said. */
-void part_read(struct judging *judging, const char *text, size_t length, double seconds);
+void part_read(struct judging *judging, char *text, size_t length, double seconds);
 
 /* ---- objects from before a recording (reopen.c) */
 
@@ -254,6 +256,9 @@ void reopen_end(struct reopening *reopening);
 
 /* Takes the tables that stand beside the recording, where --tables names none: their path, to be freed. */
 char *tables_beside(struct options *options);
+
+/* Notes each comment of a text, from behind its `#` up to a NUL that stands in place of its end for that long. */
+void each_comment(char *text, size_t length, void (*note)(void *to, const char *comment), void *to);
 
 /* Reads the recording of --read. Returns the exit status. */
 int read_recording(const struct options *options, const struct known *known);

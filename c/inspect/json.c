@@ -1,4 +1,4 @@
-/* What --json prints: an object in a line for each message, and for what else is told. */
+/* What --json prints: one JSON object per line, for each message and for everything else. */
 #define _GNU_SOURCE
 #include "inspect.h"
 
@@ -35,17 +35,29 @@ static bool put_string(struct text *text, const char *bytes, size_t length)
 }
 
 /* Puts a string, or null. */
-static void put_name(struct text *text, const char *name, size_t length)
+static void put_name(struct text *text, struct name name)
 {
-	if (name)
-		put_string(text, name, length);
+	if (name.bytes)
+		put_string(text, name.bytes, name.length);
 	else
 		text_add(text, "null");
 }
 
-static void put_words(struct text *text, const char *words)
+/* Puts a key and a string, or null. */
+static void put_named(struct text *text, const char *key, struct name name)
 {
-	put_name(text, words, words ? strlen(words) : 0);
+	text_format(text, ",\"%s\":", key);
+	put_name(text, name);
+}
+
+static void put_words(struct text *text, const char *key, const char *words)
+{
+	put_named(text, key, (struct name){ words, words ? strlen(words) : 0 });
+}
+
+static void put_text(struct text *text, const char *key, const struct text *words)
+{
+	put_named(text, key, (struct name){ words->bytes, words->length });
 }
 
 /* Puts bytes as digits. */
@@ -56,7 +68,7 @@ static void put_bytes(struct text *text, const char *key, const void *bytes, siz
 	text_add(text, "\"");
 }
 
-/* Puts a time with six decimals, or null where it is not known. */
+/* Puts a time with six decimals, or null if it is not known. */
 static void put_seconds(struct text *text, const char *key, double seconds)
 {
 	if (seconds >= 0)
@@ -69,10 +81,18 @@ static void put_seconds(struct text *text, const char *key, double seconds)
 static void put_parts(struct text *text, const struct object *object)
 {
 	text_add(text, "\"interface\":");
-	put_name(text, object->name, object->name_length);
+	put_name(text, object->name);
 	text_format(text, ",\"id\":%" PRIu32 ",\"birth\":%" PRIu64, object->id, object->birth);
 }
 
+static void put_object_as(struct text *text, const char *key, const struct object *object)
+{
+	text_format(text, ",\"%s\":{", key);
+	put_parts(text, object);
+	text_add(text, "}");
+}
+
+/* Puts an array of one object, or of none. */
 static void put_objects(struct text *text, const char *key, const struct object *object)
 {
 	text_format(text, ",\"%s\":[", key);
@@ -94,11 +114,11 @@ static const char *state_of(const struct object *object)
 /* Puts the kind and the name of an argument. */
 static void begin_argument(struct text *text, const char *kind, const struct argument *argument)
 {
-	text_format(text, "{\"kind\":\"%s\",\"name\":", kind);
-	put_name(text, argument->name, argument->name_length);
+	text_format(text, "{\"kind\":\"%s\"", kind);
+	put_named(text, "name", argument->name);
 }
 
-static void put_text(struct text *text, const struct argument *argument)
+static void put_string_argument(struct text *text, const struct argument *argument)
 {
 	const waywire_arg *value = &argument->value;
 	begin_argument(text, "string", argument);
@@ -124,7 +144,7 @@ static void put_object_argument(struct text *text, const struct argument *argume
 /* Puts the names of a value as an array; bits of a bitfield that have none are left out. */
 static void put_value_names(struct text *text, const struct meaning *meaning, uint32_t value)
 {
-	struct value_name names[MOST_NAMES];
+	struct name names[MOST_NAMES];
 	uint32_t rest;
 	size_t count = names_of_value(meaning, value, names, &rest);
 	text_add(text, "[");
@@ -135,13 +155,12 @@ static void put_value_names(struct text *text, const struct meaning *meaning, ui
 	text_add(text, "]");
 }
 
-/* Puts the enum of an argument's values, and the key of its names; false where it has none. */
+/* Puts the enum of an argument's values, and the key of its names; false if it has none. */
 static bool begin_names(struct text *text, const struct argument *argument)
 {
-	if (!argument->meaning.enumeration)
+	if (!argument->meaning.enumeration.bytes)
 		return false;
-	text_add(text, ",\"enum\":");
-	put_string(text, argument->meaning.enumeration, argument->meaning.length);
+	put_named(text, "enum", argument->meaning.enumeration);
 	text_add(text, ",\"names\":");
 	return true;
 }
@@ -152,7 +171,7 @@ static void put_enum(struct text *text, const struct argument *argument, uint32_
 		put_value_names(text, &argument->meaning, value);
 }
 
-/* Puts the numbers of an array, and their names where its numbers have an enum. */
+/* Puts the numbers of an array, and their names if the numbers have an enum. */
 static void put_numbers(struct text *text, const struct argument *argument)
 {
 	size_t count = has_numbers(argument) ? argument->value.length / 4 : 0;
@@ -188,12 +207,12 @@ static void put_number(struct text *text, const struct argument *argument)
 	}
 }
 
-static void put_argument(struct text *text, const struct argument *argument, uint64_t descriptor)
+static void put_argument(struct text *text, const struct argument *argument)
 {
 	const waywire_arg *value = &argument->value;
 	switch (value->kind) {
 	case WAYWIRE_STRING:
-	case WAYWIRE_NULL_STRING: put_text(text, argument); break;
+	case WAYWIRE_NULL_STRING: put_string_argument(text, argument); break;
 	case WAYWIRE_OBJECT:
 	case WAYWIRE_NULL_OBJECT: put_object_argument(text, argument); break;
 	case WAYWIRE_NEW:
@@ -211,8 +230,8 @@ static void put_argument(struct text *text, const struct argument *argument, uin
 		break;
 	case WAYWIRE_FD:
 		begin_argument(text, "fd", argument);
-		if (descriptor)
-			text_format(text, ",\"number\":%" PRIu64, descriptor);
+		if (argument->descriptor)
+			text_format(text, ",\"number\":%" PRIu64, argument->descriptor);
 		else
 			text_add(text, ",\"number\":null");
 		break;
@@ -223,12 +242,10 @@ static void put_argument(struct text *text, const struct argument *argument, uin
 
 static void put_arguments(struct text *text, const struct message *message)
 {
-	uint64_t descriptor = message->first_descriptor;
 	text_add(text, ",\"arguments\":[");
 	for (size_t place = 0; place < message->arg_count; place++) {
 		text_add(text, place ? "," : "");
-		put_argument(text, &message->args[place], descriptor);
-		descriptor += descriptor && message->args[place].value.kind == WAYWIRE_FD;
+		put_argument(text, &message->args[place]);
 	}
 	text_add(text, "]");
 }
@@ -242,11 +259,11 @@ static void put_message_parts(struct text *text, const struct shown *shown, cons
 	text_format(text, "\"type\":\"message\",\"client\":%u,\"number\":%" PRIu64, shown->number, message->number);
 	put_seconds(text, "time", message->seconds);
 	text_format(text, ",\"direction\":\"%s\",\"index\":%" PRIu64 ",\"piece\":%" PRIu64 ",\"offset\":%" PRIu64
-		",\"size\":%zu,\"object\":{", message->from == CLIENT ? "request" : "event", message->index,
+		",\"size\":%zu", message->from == CLIENT ? "request" : "event", message->index,
 		message->piece, message->offset, message->size);
-	put_parts(text, &message->target);
-	text_format(text, "},\"opcode\":%u,\"message\":", message->opcode);
-	put_name(text, message->name, message->name_length);
+	put_object_as(text, "object", &message->target);
+	text_format(text, ",\"opcode\":%u", message->opcode);
+	put_named(text, "message", message->name);
 	text_format(text, ",\"state\":\"%s\"", state_of(&message->target));
 	put_arguments(text, message);
 	put_objects(text, "made", &message->made);
@@ -254,8 +271,7 @@ static void put_message_parts(struct text *text, const struct shown *shown, cons
 	put_objects(text, "freed", &message->freed);
 	if (message->answers)
 		text_format(text, ",\"answers\":%" PRIu64, message->answers);
-	text_add(text, ",\"text\":");
-	put_name(text, line->bytes, line->length);
+	put_text(text, "text", line);
 }
 
 /* Puts the messages that led to an error. */
@@ -265,8 +281,8 @@ static void put_before(struct text *text, const struct shown *shown, const struc
 	size_t count = history_before(shown->history, object, before);
 	text_add(text, ",\"before\":[");
 	for (size_t each = 0; each < count; each++) {
-		text_format(text, "%s{\"number\":%" PRIu64 ",\"text\":", each ? "," : "", before[each].number);
-		put_name(text, before[each].line->bytes, before[each].line->length);
+		text_format(text, "%s{\"number\":%" PRIu64, each ? "," : "", before[each].number);
+		put_text(text, "text", before[each].line);
 		text_add(text, "}");
 	}
 	text_add(text, "]");
@@ -279,11 +295,10 @@ static void print_error(const struct shown *shown, const struct message *message
 	if (!is_error(message) || message->status || message->arg_count != 3)
 		return;
 	const struct argument *args = message->args;
-	text_format(&line, "{\"type\":\"error\",\"client\":%u,\"number\":%" PRIu64 ",\"object\":{", shown->number,
-		message->number);
-	put_parts(&line, &args[0].object);
-	text_format(&line, "},\"code\":%" PRIu32 ",\"text\":", args[1].value.u);
-	put_name(&line, args[2].value.bytes, args[2].value.length);
+	text_format(&line, "{\"type\":\"error\",\"client\":%u,\"number\":%" PRIu64, shown->number, message->number);
+	put_object_as(&line, "object", &args[0].object);
+	text_format(&line, ",\"code\":%" PRIu32, args[1].value.u);
+	put_named(&line, "text", (struct name){ args[2].value.bytes, args[2].value.length });
 	text_add(&line, ",\"names\":");
 	put_value_names(&line, &args[1].meaning, args[1].value.u);
 	put_before(&line, shown, &args[0].object);
@@ -298,10 +313,8 @@ void json_message(const struct shown *shown, const struct message *message, cons
 	put_message_parts(&json, shown, message, line);
 	put_bytes(&json, "bytes", message->bytes, message->length);
 	text_format(&json, ",\"judged\":%s", message->is_judged ? "true" : "false");
-	if (beside->note) {
-		text_add(&json, ",\"note\":");
-		put_words(&json, beside->note);
-	}
+	if (beside->note)
+		put_words(&json, "note", beside->note);
 	print_line(&json);
 	print_error(shown, message);
 }
@@ -310,16 +323,15 @@ void json_broken(const struct shown *shown, const struct breaking *breaking)
 {
 	const struct message *message = breaking->message;
 	struct text line = { NULL, 0, 0 };
-	text_format(&line, "{\"type\":\"broken\",\"client\":%u,\"number\":%" PRIu64 ",\"fault\":\"F%u\",\"words\":",
-		shown->number, message->number, breaking->fault.number);
-	put_name(&line, breaking->words->bytes, breaking->words->length);
+	text_format(&line, "{\"type\":\"broken\",\"client\":%u,\"number\":%" PRIu64 ",\"fault\":\"F%u\"", shown->number,
+		message->number, breaking->fault.number);
+	put_text(&line, "words", breaking->words);
 	text_format(&line, ",\"direction\":\"%s\",\"offset\":%" PRIu64 ",\"size\":%zu",
 		message->from == CLIENT ? "request" : "event", message->offset, message->size);
 	put_bytes(&line, "bytes", message->bytes, message->length);
-	text_add(&line, ",\"object\":{");
-	put_parts(&line, &message->target);
-	text_add(&line, "},\"message\":");
-	if (!message->name)
+	put_object_as(&line, "object", &message->target);
+	text_add(&line, ",\"message\":");
+	if (!message->name.bytes)
 		text_add(&line, "null");
 	else {
 		text_add(&line, "{");
@@ -338,17 +350,15 @@ static double rounded(double seconds)
 void json_unanswered(const struct shown *shown, const struct question *question, double until)
 {
 	const struct question_kind *kind = question->kind;
-	const struct object target = { .id = question->id, .birth = question->birth, .name = kind->interface,
-		.name_length = kind->interface_length };
+	const struct object target = { .id = question->id, .birth = question->birth, .name = kind->interface };
 	double asked = question->seconds, waits = rounded(until) - rounded(asked);
 	struct text line = { NULL, 0, 0 };
 	text_format(&line, "{\"type\":\"unanswered\",\"client\":%u,\"number\":%" PRIu64, shown->number,
 		question->number);
 	put_seconds(&line, "time", asked);
-	text_format(&line, ",\"direction\":\"%s\",\"object\":{", kind->from == CLIENT ? "request" : "event");
-	put_parts(&line, &target);
-	text_add(&line, "},\"message\":");
-	put_name(&line, kind->message, kind->message_length);
+	text_format(&line, ",\"direction\":\"%s\"", kind->from == CLIENT ? "request" : "event");
+	put_object_as(&line, "object", &target);
+	put_named(&line, "message", kind->message);
 	put_seconds(&line, "waiting", asked < 0 || until < 0 ? -1 : waits > 0 ? waits : 0);
 	print_line(&line);
 }
@@ -356,9 +366,8 @@ void json_unanswered(const struct shown *shown, const struct question *question,
 void json_verdict(const struct shown *shown, const struct ending *ending)
 {
 	struct text line = { NULL, 0, 0 };
-	text_format(&line, "{\"type\":\"verdict\",\"client\":%u,\"verdict\":\"%s\",\"words\":", shown->number,
-		ending->verdict);
-	put_name(&line, ending->words->bytes, ending->words->length);
+	text_format(&line, "{\"type\":\"verdict\",\"client\":%u,\"verdict\":\"%s\"", shown->number, ending->verdict);
+	put_text(&line, "words", ending->words);
 	text_format(&line, ",\"messages\":%" PRIu64 ",\"requests\":%" PRIu64 ",\"events\":%" PRIu64,
 		ending->requests + ending->events, ending->requests, ending->events);
 	put_seconds(&line, "ended", ending->was_cut || ending->is_unknown ? -1 : ending->seconds);
@@ -369,22 +378,21 @@ void json_verdict(const struct shown *shown, const struct ending *ending)
 void json_head(const struct head *head)
 {
 	struct text line = { NULL, 0, 0 };
-	text_add(&line, "{\"type\":\"head\",\"recording\":");
-	put_words(&line, head->recording);
+	text_add(&line, "{\"type\":\"head\"");
+	put_words(&line, "recording", head->recording);
 	text_add(&line, ",\"command\":");
 	text_add(&line, head->command ? "[" : "null");
 	for (char **word = head->command; word && *word; word++) {
 		text_add(&line, word == head->command ? "" : ",");
-		put_words(&line, *word);
+		put_string(&line, *word, strlen(*word));
 	}
 	text_add(&line, head->command ? "]" : "");
-	text_add(&line, ",\"started\":");
-	put_words(&line, head->started);
+	put_words(&line, "started", head->started);
 	text_add(&line, ",\"tables\":[");
 	for (const char *name = head->tables; *name;) {
 		size_t length = strcspn(name, " ");
 		text_add(&line, name == head->tables ? "" : ",");
-		put_name(&line, name, length);
+		put_string(&line, name, length);
 		name += length + (name[length] == ' ');
 	}
 	text_format(&line, "],\"timed\":%s", head->is_timed ? "true" : "false");
@@ -395,8 +403,8 @@ void json_head(const struct head *head)
 void json_client(unsigned number, const char *name, long process)
 {
 	struct text line = { NULL, 0, 0 };
-	text_format(&line, "{\"type\":\"client\",\"client\":%u,\"name\":", number);
-	put_words(&line, name);
+	text_format(&line, "{\"type\":\"client\",\"client\":%u", number);
+	put_words(&line, "name", name);
 	text_add(&line, ",\"pid\":");
 	if (process > 0)
 		text_format(&line, "%ld", process);
@@ -408,7 +416,7 @@ void json_client(unsigned number, const char *name, long process)
 void json_bad_line(size_t at, const char *words)
 {
 	struct text line = { NULL, 0, 0 };
-	text_format(&line, "{\"type\":\"bad_line\",\"line\":%zu,\"words\":", at);
-	put_words(&line, words);
+	text_format(&line, "{\"type\":\"bad_line\",\"line\":%zu", at);
+	put_words(&line, "words", words);
 	print_line(&line);
 }

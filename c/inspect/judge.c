@@ -161,7 +161,7 @@ static void print_broken_message(struct judging *judging, struct message *messag
 	put_fault(&words, &judging->follower, message, &fault);
 	name_arguments(message);
 	struct breaking breaking = { message, &line, &words, &judging->verdict, fault,
-		gone_object(&judging->follower, message, &fault) };
+		object_at_fault(&judging->follower, message, &fault) };
 	print_broken(&judging->shown, &breaking);
 	text_free(&line);
 	text_free(&words);

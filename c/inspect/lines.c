@@ -6,10 +6,7 @@
 
 void put_object(struct text *text, const struct object *object)
 {
-	if (object->name)
-		text_put(text, object->name, object->name_length);
-	else
-		text_add(text, "unknown");
+	text_put_name(text, object->name);
 	text_format(text, "@%" PRIu32, object->id);
 }
 
@@ -26,7 +23,7 @@ static void put_bound(struct text *text, const struct argument *argument)
 	put_object(text, &argument->object);
 }
 
-void put_printed_argument(struct text *text, const struct argument *argument, uint64_t descriptor)
+void put_printed_argument(struct text *text, const struct argument *argument)
 {
 	const waywire_arg *value = &argument->value;
 	switch (value->kind) {
@@ -43,8 +40,8 @@ void put_printed_argument(struct text *text, const struct argument *argument, ui
 	case WAYWIRE_ARRAY: text_format(text, "array[%zu]", value->length); break;
 	case WAYWIRE_FD:
 		text_add(text, "fd");
-		if (descriptor)
-			text_format(text, " %" PRIu64, descriptor);
+		if (argument->descriptor)
+			text_format(text, " %" PRIu64, argument->descriptor);
 		break;
 	default: text_add(text, "nil");
 	}
@@ -53,7 +50,7 @@ void put_printed_argument(struct text *text, const struct argument *argument, ui
 /* Whether a message could be taken apart, at least in part. */
 static bool has_arguments(const struct message *message)
 {
-	return message->name && message->status != WAYWIRE_FAULT_UNKNOWN_MESSAGE
+	return message->name.bytes && message->status != WAYWIRE_FAULT_UNKNOWN_MESSAGE
 		&& message->status != WAYWIRE_FAULT_BAD_SIZE;
 }
 
@@ -64,13 +61,12 @@ void put_front_of_message(struct text *text, const struct message *message)
 	if (!has_arguments(message))
 		return;
 	text_add(text, ".");
-	text_put(text, message->name, message->name_length);
+	text_put_name(text, message->name);
 	text_add(text, "(");
 }
 
 void put_message(struct text *text, const struct message *message)
 {
-	uint64_t descriptor = message->first_descriptor;
 	put_front_of_message(text, message);
 	if (!has_arguments(message)) {
 		text_format(text, ": opcode %u, %zu bytes", message->opcode, message->size);
@@ -78,8 +74,7 @@ void put_message(struct text *text, const struct message *message)
 	}
 	for (size_t place = 0; place < message->arg_count; place++) {
 		text_add(text, place ? ", " : "");
-		put_printed_argument(text, &message->args[place], descriptor);
-		descriptor += descriptor && message->args[place].value.kind == WAYWIRE_FD;
+		put_printed_argument(text, &message->args[place]);
 	}
 	if (message->status)
 		text_add(text, message->arg_count ? ", .." : "..");

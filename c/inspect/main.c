@@ -52,28 +52,29 @@ static const char help[] =
 	"What is done:\n"
 	"  --stop-when-broken     Closes a client's connection where a message breaks a rule\n";
 
-enum { TABLES = 1, NO_TABLES, LIMIT, RECORD, RECORD_LAST, READ, OUTPUT, PICTURE, ONLY, EXCEPT, TIME, JSON,
-	NO_NAMES, STATS,
-	COLOUR, STOP, VERBOSE, HELP, VERSION };
+enum { TABLES = 1, LIMIT, RECORD, READ, OUTPUT, PICTURE, ONLY, EXCEPT, TIME, COLOUR, HELP, VERSION };
 
+static struct options options = { .limit = 4096 };
+
+/* Those that have no value are set as they are found. */
 static const struct option known_options[] = {
 	{ "tables", required_argument, NULL, TABLES },
-	{ "no-tables", no_argument, NULL, NO_TABLES },
+	{ "no-tables", no_argument, &options.no_tables, true },
 	{ "limit", required_argument, NULL, LIMIT },
 	{ "record", required_argument, NULL, RECORD },
-	{ "record-last", no_argument, NULL, RECORD_LAST },
+	{ "record-last", no_argument, &options.record_last, true },
 	{ "read", required_argument, NULL, READ },
 	{ "output", required_argument, NULL, OUTPUT },
 	{ "picture", required_argument, NULL, PICTURE },
 	{ "only", required_argument, NULL, ONLY },
 	{ "except", required_argument, NULL, EXCEPT },
 	{ "time", optional_argument, NULL, TIME },
-	{ "json", no_argument, NULL, JSON },
-	{ "no-names", no_argument, NULL, NO_NAMES },
-	{ "stats", no_argument, NULL, STATS },
+	{ "json", no_argument, &options.json, true },
+	{ "no-names", no_argument, &options.no_names, true },
+	{ "stats", no_argument, &options.stats, true },
 	{ "color", required_argument, NULL, COLOUR },
-	{ "stop-when-broken", no_argument, NULL, STOP },
-	{ "verbose", no_argument, NULL, VERBOSE },
+	{ "stop-when-broken", no_argument, &options.stop_when_broken, true },
+	{ "verbose", no_argument, &options.verbose, true },
 	{ "help", no_argument, NULL, HELP },
 	{ "version", no_argument, NULL, VERSION },
 	{ NULL, 0, NULL, 0 },
@@ -123,26 +124,20 @@ static enum front time_of(const char *how)
 	return *how == 'd' ? TIME_DELTA : TIME_CLOCK;
 }
 
-static void take_option(struct options *options, struct later *later, int option, char *word)
+static void take_option(struct later *later, int option, char *word)
 {
 	switch (option) {
-	case TABLES: options->tables[options->table_count++] = word; break;
-	case NO_TABLES: options->no_tables = true; break;
-	case LIMIT: options->limit = limit_of(word); break;
-	case RECORD: options->record = word; break;
-	case RECORD_LAST: options->record_last = true; break;
-	case READ: options->read = word; break;
-	case OUTPUT: options->output = word; break;
-	case PICTURE: options->picture = word; break;
+	case 0: break; /* it is set */
+	case TABLES: options.tables[options.table_count++] = word; break;
+	case LIMIT: options.limit = limit_of(word); break;
+	case RECORD: options.record = word; break;
+	case READ: options.read = word; break;
+	case OUTPUT: options.output = word; break;
+	case PICTURE: options.picture = word; break;
 	case ONLY: later->only[later->only_count++] = word; break;
 	case EXCEPT: later->except[later->except_count++] = word; break;
-	case TIME: options->time = time_of(word); break;
-	case JSON: options->json = true; break;
-	case NO_NAMES: options->no_names = true; break;
-	case STATS: options->stats = true; break;
+	case TIME: options.time = time_of(word); break;
 	case COLOUR: later->colour = word; break;
-	case STOP: options->stop_when_broken = true; break;
-	case VERBOSE: options->verbose = true; break;
 	case HELP: print_alone(help); break;
 	case VERSION: print_alone("waywire-inspect " WAYWIRE_VERSION "\n"); break;
 	default: fail("--help says which options there are");
@@ -170,51 +165,50 @@ static char **words_of(int count)
 }
 
 /* What is against the options that were given. */
-static void check_options(const struct options *options)
+static void check_options(void)
 {
-	if (options->read && (options->command || options->record || options->picture))
+	if (options.read && (options.command || options.record || options.picture))
 		fail("--read stands without COMMAND, --record and --picture");
-	if (options->record_last && !options->record)
+	if (options.record_last && !options.record)
 		fail("--record-last stands with --record");
-	if (options->output && options->record && !strcmp(options->output, options->record))
+	if (options.output && options.record && !strcmp(options.output, options.record))
 		fail("--output and --record name the same file");
 }
 
-static void read_options(struct options *options, struct later *later, int count, char **words)
+static void read_options(struct later *later, int count, char **words)
 {
 	int option;
-	options->tables = words_of(count + 1);
+	options.tables = words_of(count + 1);
 	later->only = words_of(count);
 	later->except = words_of(count);
 	later->colour = "auto";
 	while ((option = getopt_long(count, words, "+", known_options, NULL)) >= 0)
-		take_option(options, later, option, optarg);
+		take_option(later, option, optarg);
 	if (optind < count)
-		options->command = words + optind;
-	check_options(options);
+		options.command = words + optind;
+	check_options();
 }
 
-static void apply_later(struct options *options, const struct later *later, const struct known *known)
+static void apply_later(const struct later *later, const struct known *known)
 {
 	for (size_t each = 0; each < later->only_count; each++)
-		filter_read(&options->only, known->tables, "only", later->only[each]);
+		filter_read(&options.only, known->tables, "only", later->only[each]);
 	for (size_t each = 0; each < later->except_count; each++)
-		filter_read(&options->except, known->tables, "except", later->except[each]);
-	if (options->output)
-		print_to(options->output);
-	options->colour = colour_of(later->colour) && !options->json;
+		filter_read(&options.except, known->tables, "except", later->except[each]);
+	if (options.output)
+		print_to(options.output);
+	options.colour = colour_of(later->colour) && !options.json;
 }
 
 int main(int count, char **words)
 {
-	struct options options = { .limit = 4096 };
 	struct later later = { 0 };
 	struct known known;
 	open_standard_files();
-	read_options(&options, &later, count, words);
+	read_options(&later, count, words);
 	char *beside = options.read ? tables_beside(&options) : NULL;
 	known_read(&known, &options);
-	apply_later(&options, &later, &known);
+	apply_later(&later, &known);
 	if (options.json || !options.no_names)
 		names_read(&options);
 	picture_begin(&options);

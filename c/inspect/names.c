@@ -3,7 +3,6 @@
 #define _GNU_SOURCE
 #include "inspect.h"
 
-#include <dirent.h>
 #include <limits.h>
 #include <stdio.h>
 
@@ -40,10 +39,10 @@ static void sort_lines(struct lines *lines)
 	lines->sorted = calloc(lines->count + 1, sizeof *lines->sorted);
 	if (!lines->sorted)
 		lines->count = 0;
-	char *at = lines->bytes.bytes;
+	char *at = lines->bytes.bytes, *end = at + lines->bytes.length;
 	for (size_t each = 0; each < lines->count; each++) {
 		lines->sorted[each] = at;
-		at = strchr(at, '\n');
+		at = memchr(at, '\n', (size_t)(end - at));
 		*at++ = 0;
 	}
 	if (lines->count)
@@ -53,19 +52,7 @@ static void sort_lines(struct lines *lines)
 /* Adds the lines of a file, if it is there. */
 static void add_file(struct lines *lines, const char *path)
 {
-	char bytes[65536];
-	size_t came;
-	FILE *file = fopen(path, "rbe");
-	if (!file)
-		return;
-	while ((came = fread(bytes, 1, sizeof bytes, file)))
-		for (char *at = bytes, *end = bytes + came; at < end;) {
-			char *nul = memchr(at, 0, (size_t)(end - at)); /* which no line has */
-			text_put(&lines->bytes, at, (size_t)((nul ? nul : end) - at));
-			at = nul ? nul + 1 : end;
-		}
-	fclose(file);
-	if (lines->bytes.length && lines->bytes.bytes[lines->bytes.length - 1] != '\n')
+	if (read_bytes(path, &lines->bytes) && lines->bytes.length && lines->bytes.bytes[lines->bytes.length - 1] != '\n')
 		text_add(&lines->bytes, "\n");
 }
 
@@ -105,20 +92,17 @@ void names_read(const struct options *options)
 /* Reads the installed names, the first time that a name is asked for. */
 static void read_installed(void)
 {
-	char path[PATH_MAX], folder[PATH_MAX];
+	char path[PATH_MAX];
+	size_t count;
 	is_installed_read = true;
 	find_tool(path, sizeof path, "core.names");
 	add_file(&installed, path);
-	find_tables(folder, sizeof folder);
-	DIR *entries = opendir(folder);
-	for (struct dirent *it; entries && (it = readdir(entries));) {
-		const char *end = strrchr(it->d_name, '.');
-		if (end && !strcmp(end, ".names")
-			&& snprintf(path, sizeof path, "%s/%s", folder, it->d_name) < (int)sizeof path)
-			add_file(&installed, path);
+	char **paths = installed_files(".names", &count);
+	for (size_t each = 0; each < count; each++) {
+		add_file(&installed, paths[each]);
+		free(paths[each]);
 	}
-	if (entries)
-		closedir(entries);
+	free(paths);
 	sort_lines(&installed);
 }
 
@@ -139,7 +123,7 @@ void names_free(void)
 
 /* ---- lines */
 
-/* What a line has behind this beginning; null where there is no such line. */
+/* The rest of the line with this beginning; null if there is none. */
 static const char *line_in(const struct lines *lines, const struct text *begin)
 {
 	size_t from = 0, to = lines->count;
@@ -164,14 +148,14 @@ static const char *line_of(const struct text *begin)
 	return line || !begin->bytes ? line : line_in(&installed, begin);
 }
 
-/* The names of a message's arguments; null where they are not known. */
+/* The names of a message's arguments; null if they are not known. */
 static const char *find_names(const struct message *message)
 {
 	struct text begin = { NULL, 0, 0 };
 	size_t count = 1;
-	text_put(&begin, message->target.name, message->target.name_length);
+	text_put_name(&begin, message->target.name);
 	text_add(&begin, message->from == CLIENT ? ".request." : ".event.");
-	text_put(&begin, message->name, message->name_length);
+	text_put_name(&begin, message->name);
 	text_add(&begin, " ");
 	const char *names = line_of(&begin);
 	text_free(&begin);
@@ -190,17 +174,17 @@ static const char *names_of(const struct message *message)
 }
 
 /* What the values of an enum mean, which is named `interface.enum`. */
-static struct meaning meaning_of(const char *name, size_t length)
+static struct meaning meaning_of(struct name name)
 {
 	static const char bitfield[] = "bitfield ";
-	struct meaning meaning = { .enumeration = name, .length = length, .is_numbers = true };
-	const char *point = memchr(name, '.', length);
+	struct meaning meaning = { .enumeration = name, .is_numbers = true };
+	const char *point = memchr(name.bytes, '.', name.length);
 	struct text begin = { NULL, 0, 0 };
 	if (!point)
-		return (struct meaning){ .is_numbers = length == 4 && !memcmp(name, "uint", 4) };
-	text_put(&begin, name, (size_t)(point - name));
+		return (struct meaning){ .is_numbers = is_name(name, "uint") };
+	text_put(&begin, name.bytes, (size_t)(point - name.bytes));
 	text_add(&begin, ".enum");
-	text_put(&begin, point, length - (size_t)(point - name));
+	text_put(&begin, point, name.length - (size_t)(point - name.bytes));
 	text_add(&begin, " ");
 	meaning.entries = line_of(&begin);
 	text_free(&begin);
@@ -215,27 +199,26 @@ static void name_code(struct message *message)
 {
 	static const char error[] = ".error";
 	static char name[260 + sizeof error];
-	const struct object *object = &message->args[0].object;
-	if (!object->name || object->name_length > 260)
+	const struct name its = message->args[0].object.name;
+	if (!its.bytes || its.length > 260)
 		return;
-	memcpy(name, object->name, object->name_length);
-	memcpy(name + object->name_length, error, sizeof error - 1);
-	message->args[1].meaning = meaning_of(name, object->name_length + sizeof error - 1);
+	memcpy(name, its.bytes, its.length);
+	memcpy(name + its.length, error, sizeof error - 1);
+	message->args[1].meaning = meaning_of((struct name){ name, its.length + sizeof error - 1 });
 }
 
 void name_arguments(struct message *message)
 {
-	if (!is_wanted || !message->name || !message->target.name)
+	if (!is_wanted || !message->name.bytes || !message->target.name.bytes)
 		return;
 	const char *names = names_of(message);
 	for (size_t place = 0; names && place < message->arg_count; place++) {
 		struct argument *argument = &message->args[place];
 		size_t length = strcspn(names, " ");
 		const char *colon = memchr(names, ':', length);
-		argument->name = names;
-		argument->name_length = colon ? (size_t)(colon - names) : length;
+		argument->name = (struct name){ names, colon ? (size_t)(colon - names) : length };
 		if (colon)
-			argument->meaning = meaning_of(colon + 1, length - argument->name_length - 1);
+			argument->meaning = meaning_of((struct name){ colon + 1, length - argument->name.length - 1 });
 		names += length + (names[length] == ' ');
 	}
 	if (is_error(message) && message->arg_count == 3)

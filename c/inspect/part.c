@@ -17,10 +17,10 @@ static void put_known_objects(struct text *text, const struct follower *follower
 {
 	for (size_t each = 0; each < count && text->length < MOST_OF_OBJECTS; each++) {
 		struct object it = object_of(follower, first + (uint32_t)each);
-		if (it.state == UNKNOWN || !it.name || it.id == DISPLAY_ID)
+		if (it.state == UNKNOWN || !it.name.bytes || it.id == DISPLAY_ID)
 			continue;
 		text_format(text, "# %s %" PRIu32 " %" PRIu32 " ", it.state == LIVE ? "object" : "ending", it.id, it.version);
-		text_put(text, it.name, it.name_length);
+		text_put_name(text, it.name);
 		text_add(text, "\n");
 	}
 }
@@ -54,27 +54,15 @@ struct part {
 	struct reopening reopening;
 };
 
-/* Skips these words at the start of a line. False if it does not begin with them. */
-static bool takes(const char **line, const char *end, const char *begin)
+/* Reads the comment of an object; `name` has room for the longest, and its NUL. */
+static bool read_object(const char *comment, struct reopened *object, char *name)
 {
-	size_t length = strlen(begin);
-	if ((size_t)(end - *line) <= length || memcmp(*line, begin, length))
-		return false;
-	*line += length;
-	return true;
-}
-
-/* Reads the line of an object; `name` has room for the longest, and its NUL. */
-static bool read_object(const char *line, const char *end, struct reopened *object, char *name)
-{
-	char words[LONGEST_NAME + 64];
-	int longest = (int)sizeof words - 1;
-	object->is_ending = takes(&line, end, "# ending ");
-	if (!object->is_ending && !takes(&line, end, "# object "))
-		return false;
-	snprintf(words, sizeof words, "%.*s", (int)(end - line < longest ? end - line : longest), line);
+	char word[8];
 	object->name = name;
-	return sscanf(words, "%" SCNu32 " %" SCNu32 " %256[a-z0-9_]", &object->id, &object->version, name) == 3;
+	if (sscanf(comment, " %7s %" SCNu32 " %" SCNu32 " %256[a-z0-9_]", word, &object->id, &object->version, name) != 4)
+		return false;
+	object->is_ending = !strcmp(word, "ending");
+	return object->is_ending || !strcmp(word, "object");
 }
 
 /* An id that an object has is one of those that there were. */
@@ -86,62 +74,47 @@ static void note_id(struct part *part, uint32_t id)
 		*ids = place + 1;
 }
 
-static void take_ids(struct part *part, const char *line, const char *end)
+static void take_ids(void *to, const char *comment)
 {
-	char words[64], name[LONGEST_NAME + 1];
+	struct part *part = to;
+	char name[LONGEST_NAME + 1];
 	struct reopened object;
 	size_t client_ids, server_ids;
-	if (read_object(line, end, &object, name))
+	if (read_object(comment, &object, name))
 		note_id(part, object.id);
-	if (!takes(&line, end, "# ids "))
-		return;
-	snprintf(words, sizeof words, "%.*s", (int)(end - line < 63 ? end - line : 63), line);
-	if (sscanf(words, "%zu %zu", &client_ids, &server_ids) != 2)
+	if (sscanf(comment, " ids %zu %zu", &client_ids, &server_ids) != 2)
 		return;
 	part->client_ids = client_ids > part->client_ids ? client_ids : part->client_ids;
 	part->server_ids = server_ids > part->server_ids ? server_ids : part->server_ids;
 }
 
-static void take_object(struct part *part, const char *line, const char *end)
+static void take_object(void *to, const char *comment)
 {
+	struct part *part = to;
 	char name[LONGEST_NAME + 1];
 	struct reopened object;
-	if (read_object(line, end, &object, name))
+	if (read_object(comment, &object, name))
 		reopen_object(&part->reopening, &object);
 }
 
-static int digit(char it)
-{
-	return it >= '0' && it <= '9' ? it - '0' : it >= 'a' && it <= 'f' ? it - 'a' + 10 : -1;
-}
-
 /* Takes the front of a message. */
-static void take_pending(struct part *part, const char *line, const char *end)
+static void take_pending(void *to, const char *comment)
 {
+	static const char pending[] = " pending > ";
+	const struct part *part = to;
+	const char *digits = comment + sizeof pending - 1;
 	unsigned char bytes[LONGEST_MESSAGE];
 	size_t length = 0;
-	waywire_sender from = WAYWIRE_FROM_SERVER;
-	if (takes(&line, end, "# pending > "))
-		from = WAYWIRE_FROM_CLIENT;
-	else if (!takes(&line, end, "# pending < "))
+	bool is_clients = !strncmp(comment, pending, sizeof pending - 1);
+	if (!is_clients && strncmp(comment, " pending < ", sizeof pending - 1))
 		return;
-	for (; end - line >= 2 && length < sizeof bytes; line += 2) {
-		if (digit(line[0]) < 0 || digit(line[1]) < 0)
+	for (; digits[0] && digits[1] && length < sizeof bytes; digits += 2) {
+		if (digit_value(digits[0]) < 0 || digit_value(digits[1]) < 0)
 			return;
-		bytes[length++] = (unsigned char)(digit(line[0]) * 16 + digit(line[1]));
+		bytes[length++] = (unsigned char)(digit_value(digits[0]) * 16 + digit_value(digits[1]));
 	}
-	waywire_inspector_follow(part->follower->inspector, from, bytes, length);
-}
-
-static void take_lines(struct part *part, const char *text, size_t length,
-	void (*take)(struct part *part, const char *line, const char *end))
-{
-	const char *end = text + length;
-	for (const char *line = text, *next; line < end; line = next + 1) {
-		next = memchr(line, '\n', (size_t)(end - line));
-		next = next ? next : end;
-		take(part, line, next);
-	}
+	waywire_inspector_follow(part->follower->inspector, is_clients ? WAYWIRE_FROM_CLIENT : WAYWIRE_FROM_SERVER, bytes,
+		length);
 }
 
 /* Nothing is judged from the first message on. */
@@ -158,15 +131,15 @@ static void leave_unjudged(struct judging *judging, double seconds)
 	text_free(&words);
 }
 
-void part_read(struct judging *judging, const char *text, size_t length, double seconds)
+void part_read(struct judging *judging, char *text, size_t length, double seconds)
 {
 	struct part part = { .follower = &judging->follower };
 	if (judging->standing == LOST)
 		return;
-	take_lines(&part, text, length, take_ids);
+	each_comment(text, length, take_ids, &part);
 	reopen_begin(&part.reopening, part.follower, part.client_ids, part.server_ids);
-	take_lines(&part, text, length, take_object);
+	each_comment(text, length, take_object, &part);
 	reopen_end(&part.reopening);
-	take_lines(&part, text, length, take_pending);
+	each_comment(text, length, take_pending, &part);
 	leave_unjudged(judging, seconds);
 }

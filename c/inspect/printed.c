@@ -12,7 +12,7 @@
 /* When the last line was printed. */
 static double last_line;
 
-/* Puts the local time of a moment, in seconds since 1970; a dash where it is not known. */
+/* Puts the local time of a moment, in seconds since 1970; a dash if it is not known. */
 static void put_clock(struct text *text, double moment)
 {
 	double rounded = moment + 0.0005;
@@ -56,16 +56,16 @@ static const char *colour_of(const struct object *object)
 {
 	static const char *const colours[] = { "\033[33m", "\033[35m", "\033[36m", "\033[93m", "\033[95m", "\033[96m" };
 	unsigned sum = 0;
-	for (size_t each = 0; each < object->name_length; each++)
-		sum = sum * 31 + (unsigned char)object->name[each];
+	for (size_t each = 0; each < object->name.length; each++)
+		sum = sum * 31 + (unsigned char)object->name.bytes[each];
 	return colours[sum % (sizeof colours / sizeof *colours)];
 }
 
 /* Puts a line with its arrow and its interface in colours. */
 static void put_coloured(struct text *text, const struct message *message, const struct text *line)
 {
-	size_t name = ARROW + message->target.name_length;
-	if (!message->target.name || line->length < name) {
+	size_t name = ARROW + message->target.name.length;
+	if (!message->target.name.bytes || line->length < name) {
 		text_put(text, line->bytes, line->length);
 		return;
 	}
@@ -103,7 +103,7 @@ void print_words(const struct shown *shown, double seconds, const struct text *w
 	print_and_free(&text);
 }
 
-/* The notice behind a message from which on nothing is judged. */
+/* The notice after a message from which on nothing is judged. */
 static void print_note(const struct shown *shown, const struct message *message, const char *note)
 {
 	struct text words = { NULL, 0, 0 };
@@ -129,7 +129,7 @@ static void print_before(const struct shown *shown, double seconds, const struct
 		if (!each)
 			print_words(shown, seconds, &words, false);
 		words.length = 0;
-		text_format(&words, "  message %" PRIu64 ": ", before[each].number);
+		text_format(&words, "  %c message %" PRIu64 ": ", before[each].from == CLIENT ? '>' : '<', before[each].index);
 		text_put(&words, before[each].line->bytes, before[each].line->length);
 		print_words(shown, seconds, &words, false);
 	}
@@ -163,7 +163,7 @@ void print_message(const struct shown *shown, const struct message *message, con
 	history_note(shown->history, message, line);
 }
 
-/* Puts who a client is behind what is said of its whole session, where there are others. */
+/* Appends which client it is to a line about its whole session, if there are others. */
 static void put_who(struct text *text, const struct shown *shown)
 {
 	if (shown->is_numbered && shown->who && *shown->who)
@@ -191,8 +191,8 @@ void print_broken(const struct shown *shown, const struct breaking *breaking)
 		print_words(shown, seconds, &line, true);
 		text_free(&line);
 		print_words(shown, seconds, breaking->words, true);
-		if (breaking->gone.id)
-			print_before(shown, seconds, &breaking->gone);
+		if (breaking->object.id)
+			print_before(shown, seconds, &breaking->object);
 		print_verdict_line(shown, seconds, breaking->verdict, true);
 	}
 	history_note(shown->history, breaking->message, breaking->line);

@@ -34,25 +34,20 @@ void put_message(struct text *text, const struct message *message);
 /* Puts the line of a message up to its arguments. */
 void put_front_of_message(struct text *text, const struct message *message);
 
-/* Puts an argument; `descriptor` is the number of the next one, 0 where it is not known. */
-void put_printed_argument(struct text *text, const struct argument *argument, uint64_t descriptor);
+/* Puts an argument. */
+void put_printed_argument(struct text *text, const struct argument *argument);
 
 /* Puts an object by its interface and id. */
 void put_object(struct text *text, const struct object *object);
 
 /* ---- names of values (values.c) */
 
-struct value_name {
-	const char *bytes;
-	size_t length;
-};
-
 /* A value has no more names than its bits, or one. */
 #define MOST_NAMES 32
 
 /* The names of a value: its own, or those of its bits in a bitfield. Returns how many; `rest` gets the bits that have
  * none. */
-size_t names_of_value(const struct meaning *meaning, uint32_t value, struct value_name *names, uint32_t *rest);
+size_t names_of_value(const struct meaning *meaning, uint32_t value, struct name *names, uint32_t *rest);
 
 /* Whether an argument is an array of 32-bit numbers. */
 bool has_numbers(const struct argument *argument);
@@ -77,21 +72,22 @@ struct fault {
 void put_fault(struct text *text, const struct follower *follower, const struct message *message,
 	const struct fault *fault);
 
-/* The object because of which a message breaks a rule, if it is not there any more or never was; else one with id 0. */
-struct object gone_object(const struct follower *follower, const struct message *message, const struct fault *fault);
+/* The object because of which a message breaks a rule: that its target, an argument or a new id means. One with id 0
+ * if there is none, or if it is wl_display. */
+struct object object_at_fault(const struct follower *follower, const struct message *message,
+	const struct fault *fault);
 
 /* ---- counts (stats.c) */
 
 struct counted {
-	const char *interface, *message; /* null where the tables lack it */
-	size_t interface_length, message_length;
+	struct name interface, message;
 	int from;
 	uint64_t count, bytes, descriptors;
 };
 
 struct stats {
 	struct counted *counted;
-	size_t count, room;
+	size_t count;
 	struct keyed places; /* of the counts, by their names */
 };
 
@@ -121,7 +117,8 @@ void history_note(struct history *history, const struct message *message, const 
 #define MOST_BEFORE 5
 
 struct before {
-	uint64_t number;
+	uint64_t number, index; /* among all, and among those of its direction, as a verdict counts */
+	int from;
 	const struct text *line;
 };
 
@@ -158,7 +155,7 @@ struct breaking {
 	const struct message *message;
 	const struct text *line, *words, *verdict;
 	struct fault fault;
-	struct object gone; /* because of which it does; with id 0 where there is none */
+	struct object object; /* because of which it does; with id 0 where there is none */
 };
 void print_broken(const struct shown *shown, const struct breaking *breaking);
 

@@ -14,22 +14,20 @@ static const char *const folders[] = {
 #define USUAL_DATA "/usr/local/share:/usr/share"
 /* Of folders, one in another. */
 #define MOST_DEPTH 4
-#define MOST_BYTES 16777216
 #define SPACES " \t\r\n"
 
 /* An XML that is installed. */
 struct protocol {
 	char *path;
 	struct text text;
-	bool is_older;     /* something else has a newer version of an interface of it */
-	bool is_new;       /* it has what no text has */
-	bool is_malformed; /* no tables can have a name of it */
+	bool is_older;  /* something else has a newer version of an interface of it */
+	bool is_new;    /* it has what no text has */
+	bool is_wanted; /* it is converted */
 };
 
 /* What a text or an XML declares. */
 struct declared {
-	const char *name;
-	size_t length;
+	struct name name;
 	uint32_t version;
 	size_t protocol; /* its place, or IN_TABLES */
 };
@@ -37,18 +35,16 @@ struct declared {
 
 struct search {
 	struct protocol *protocols;
-	size_t protocol_count;
+	size_t protocol_count, wanted_count;
 	struct declared *declared;
 	size_t declared_count;
 	bool is_verbose;
 };
 
-/* Makes room for one more element; the room doubles. */
-static void *room_for_one(void *array, size_t count, size_t size)
+/* An array with room for one more element. */
+static void *enlarged(void *array, size_t count, size_t size)
 {
-	if (count & (count - 1))
-		return array;
-	void *more = realloc(array, (count ? 2 * count : 1) * size);
+	void *more = room_for_one(array, count, size);
 	if (!more)
 		fail("out of memory");
 	return more;
@@ -56,31 +52,17 @@ static void *room_for_one(void *array, size_t count, size_t size)
 
 /* ---- the files */
 
-static bool read_quietly(const char *path, struct text *text)
-{
-	char bytes[65536];
-	size_t came;
-	FILE *file = fopen(path, "rbe");
-	if (!file)
-		return false;
-	while ((came = fread(bytes, 1, sizeof bytes, file)) && text->length <= MOST_BYTES)
-		text_put(text, bytes, came);
-	bool is_read = !ferror(file) && text->length && text->length <= MOST_BYTES;
-	fclose(file);
-	return is_read;
-}
-
 static void add_protocol(struct search *search, const char *path)
 {
 	struct protocol made = { .path = strdup(path) };
 	if (!made.path)
 		fail("out of memory");
-	if (!read_quietly(path, &made.text)) {
+	if (!read_bytes(path, &made.text) || !made.text.length || made.text.length > LONGEST_FILE) {
 		text_free(&made.text);
 		free(made.path);
 		return;
 	}
-	search->protocols = room_for_one(search->protocols, search->protocol_count, sizeof made);
+	search->protocols = enlarged(search->protocols, search->protocol_count, sizeof made);
 	search->protocols[search->protocol_count++] = made;
 }
 
@@ -121,15 +103,16 @@ static void add_installed(struct search *search)
 
 /* ---- what is declared */
 
-static void declare(struct search *search, const char *name, size_t length, uint32_t version, size_t protocol)
+static void declare(struct search *search, struct name name, uint32_t version, size_t protocol)
 {
-	search->declared = room_for_one(search->declared, search->declared_count, sizeof *search->declared);
-	search->declared[search->declared_count++] = (struct declared){ name, length, version, protocol };
+	search->declared = enlarged(search->declared, search->declared_count, sizeof *search->declared);
+	search->declared[search->declared_count++] = (struct declared){ name, version, protocol };
 }
 
-/* The value of an attribute of a tag; null where it has none. */
-static const char *attribute(const char *at, const char *end, const char *name, size_t *length)
+/* The value of an attribute of a tag; none where it has none. */
+static struct name attribute(const char *at, const char *end, const char *name)
 {
+	static const struct name none;
 	size_t its = strlen(name);
 	while ((at = memmem(at, (size_t)(end - at), name, its))) {
 		bool begins = strchr(SPACES, at[-1]);
@@ -139,13 +122,12 @@ static const char *attribute(const char *at, const char *end, const char *name, 
 			continue;
 		is += 1 + strspn(is + 1, SPACES);
 		const char *close = *is == '"' || *is == '\'' ? strchr(is + 1, *is) : NULL;
-		*length = close ? (size_t)(close - is - 1) : 0;
-		return close && close < end ? is + 1 : NULL;
+		return close && close < end ? (struct name){ is + 1, (size_t)(close - is - 1) } : none;
 	}
-	return NULL;
+	return none;
 }
 
-/* What stands behind the next of these words of a tag; null where there is none. */
+/* What follows the next of these words in a tag; null if there is none. */
 static const char *next_tag(const char *at, const char *word, const char **end)
 {
 	while ((at = strstr(at, word))) {
@@ -157,20 +139,21 @@ static const char *next_tag(const char *at, const char *word, const char **end)
 	return NULL;
 }
 
-static bool is_name(const char *name, size_t length)
+static bool can_be_in_tables(struct name name)
 {
-	return name && length && strspn(name, "abcdefghijklmnopqrstuvwxyz0123456789_") >= length;
+	return name.length && strspn(name.bytes, "abcdefghijklmnopqrstuvwxyz0123456789_") >= name.length;
 }
 
-/* Notes whether a tag has a name that no tables can have. */
-static void check_names(struct protocol *protocol, const char *word)
+/* Whether an XML has a name that no tables can have. */
+static bool is_malformed(const struct protocol *protocol)
 {
-	const char *at = protocol->text.bytes, *end;
-	while (!protocol->is_malformed && (at = next_tag(at, word, &end))) {
-		size_t length;
-		const char *name = attribute(at, end, "name", &length);
-		protocol->is_malformed = !is_name(name, length);
-	}
+	static const char *const words[] = { "<interface", "<request", "<event" };
+	const char *end;
+	for (size_t each = 0; each < sizeof words / sizeof *words; each++)
+		for (const char *at = protocol->text.bytes; (at = next_tag(at, words[each], &end));)
+			if (!can_be_in_tables(attribute(at, end, "name")))
+				return true;
+	return false;
 }
 
 static void declare_protocol(struct search *search, size_t place)
@@ -178,11 +161,9 @@ static void declare_protocol(struct search *search, size_t place)
 	struct protocol *protocol = &search->protocols[place];
 	const char *at = protocol->text.bytes, *end;
 	while ((at = next_tag(at, "<interface", &end))) {
-		size_t length, digits;
-		const char *name = attribute(at, end, "name", &length);
-		const char *version = attribute(at, end, "version", &digits);
-		if (name && version)
-			declare(search, name, length, (uint32_t)strtoul(version, NULL, 10), place);
+		struct name name = attribute(at, end, "name"), version = attribute(at, end, "version");
+		if (name.bytes && version.bytes)
+			declare(search, name, (uint32_t)strtoul(version.bytes, NULL, 10), place);
 	}
 }
 
@@ -193,78 +174,53 @@ static void declare_source(struct search *search, const struct source *source)
 		struct name name = source_names(source, at);
 		if (name.length) {
 			unsigned long version = strtoul(name.bytes + name.length, NULL, 10);
-			declare(search, name.bytes, name.length, source->is_given ? UINT32_MAX : (uint32_t)version, IN_TABLES);
+			declare(search, name, source->is_given ? UINT32_MAX : (uint32_t)version, IN_TABLES);
 		}
 	}
 }
 
 static void declare_core(struct search *search, const waywire_tables *core)
 {
-	const char *name;
-	size_t length;
+	struct name name;
 	uint32_t version;
-	for (uint16_t each = 0; !waywire_tables_name(core, each, &name, &length); each++)
+	for (uint16_t each = 0; !waywire_tables_name(core, each, &name.bytes, &name.length); each++)
 		if (!waywire_tables_version(core, each, &version))
-			declare(search, name, length, version, IN_TABLES);
+			declare(search, name, version, IN_TABLES);
 }
 
 /* ---- which are converted */
 
-static bool is_one_name(const struct declared *one, const struct declared *other)
-{
-	return one->length == other->length && !memcmp(one->name, other->name, one->length);
-}
-
-/* By the name, the newest version first, and of equal ones that of the tables. */
-static int by_name(const void *left, const void *right)
-{
-	const struct declared *one = left, *other = right;
-	if (one->length != other->length)
-		return one->length < other->length ? -1 : 1;
-	int order = memcmp(one->name, other->name, one->length);
-	if (order)
-		return order;
-	if (one->version != other->version)
-		return one->version > other->version ? -1 : 1;
-	return (other->protocol == IN_TABLES) - (one->protocol == IN_TABLES);
-}
-
+/* Notes which XML has what the tables lack, and which has an older version of something. */
 static void compare_versions(struct search *search)
 {
-	const struct declared *newest = NULL;
-	bool is_known = false;
-	if (search->declared_count)
-		qsort(search->declared, search->declared_count, sizeof *search->declared, by_name);
-	for (size_t each = 0; each < search->declared_count; each++) {
-		const struct declared *it = &search->declared[each];
-		if (!newest || !is_one_name(newest, it)) {
-			newest = it;
-			is_known = false;
+	const struct declared *end = search->declared + search->declared_count;
+	for (const struct declared *it = search->declared; it < end; it++) {
+		struct protocol *protocol = it->protocol == IN_TABLES ? NULL : &search->protocols[it->protocol];
+		bool is_known = false;
+		for (const struct declared *other = search->declared; protocol && other < end; other++) {
+			if (!is_same_name(it->name, other->name))
+				continue;
+			is_known |= other->protocol == IN_TABLES && other->version >= it->version;
+			protocol->is_older |= other->version > it->version;
 		}
-		if (it->protocol == IN_TABLES) {
-			is_known = true;
-			continue;
-		}
-		struct protocol *protocol = &search->protocols[it->protocol];
-		protocol->is_older = protocol->is_older || it->version < newest->version;
-		protocol->is_new = protocol->is_new || !is_known;
+		if (protocol)
+			protocol->is_new |= !is_known;
 	}
 }
 
-/* Looks for names that no tables can have. */
-static void check_new(struct search *search)
+/* Chooses what is converted, and says so. */
+static void choose(struct search *search)
 {
-	for (size_t each = 0; each < search->protocol_count; each++)
-		if (search->protocols[each].is_new && !search->protocols[each].is_older) {
-			check_names(&search->protocols[each], "<interface");
-			check_names(&search->protocols[each], "<request");
-			check_names(&search->protocols[each], "<event");
-		}
-}
-
-static bool is_wanted(const struct protocol *protocol)
-{
-	return protocol->is_new && !protocol->is_older && !protocol->is_malformed;
+	for (size_t each = 0; each < search->protocol_count; each++) {
+		struct protocol *it = &search->protocols[each];
+		if (!it->is_new || it->is_older)
+			continue;
+		it->is_wanted = !is_malformed(it);
+		search->wanted_count += it->is_wanted;
+		if (search->is_verbose)
+			notice(it->is_wanted ? "%s is read: it has what no table has"
+				: "%s is passed over: it has a name that no table can have", it->path);
+	}
 }
 
 /* Whether a text declares nothing that is converted. */
@@ -272,8 +228,8 @@ static bool stands_beside(const struct search *search, const struct source *sour
 {
 	for (size_t each = 0; each < search->declared_count; each++) {
 		const struct declared *it = &search->declared[each];
-		if (it->protocol != IN_TABLES && is_wanted(&search->protocols[it->protocol])
-			&& source_declares(source, (struct name){ it->name, it->length }))
+		if (it->protocol != IN_TABLES && search->protocols[it->protocol].is_wanted
+			&& source_declares(source, it->name))
 			return false;
 	}
 	return true;
@@ -284,9 +240,8 @@ static bool names_one_of(const struct protocol *protocol, const struct source *s
 {
 	const char *at = protocol->text.bytes, *end;
 	while ((at = next_tag(at, "<arg", &end))) {
-		size_t length;
-		const char *name = attribute(at, end, "interface", &length);
-		if (name && source_declares(source, (struct name){ name, length }))
+		struct name name = attribute(at, end, "interface");
+		if (name.bytes && source_declares(source, name))
 			return true;
 	}
 	return false;
@@ -296,7 +251,7 @@ static bool names_one_of(const struct protocol *protocol, const struct source *s
 static bool is_named(const struct search *search, const struct source *source)
 {
 	for (size_t each = 0; each < search->protocol_count; each++)
-		if (is_wanted(&search->protocols[each]) && names_one_of(&search->protocols[each], source))
+		if (search->protocols[each].is_wanted && names_one_of(&search->protocols[each], source))
 			return stands_beside(search, source);
 	return false;
 }
@@ -312,7 +267,7 @@ static void add_word(struct words *words, const char *word)
 	char *own = word ? strdup(word) : NULL;
 	if (word && !own)
 		fail("out of memory");
-	words->of = room_for_one(words->of, words->count, sizeof *words->of);
+	words->of = enlarged(words->of, words->count, sizeof *words->of);
 	words->of[words->count++] = own;
 }
 
@@ -328,18 +283,6 @@ static void add_origin(struct words *words, const char *path)
 	text_free(&comment);
 }
 
-/* Adds the files that are wanted. Returns how many. */
-static size_t add_wanted(struct words *words, const struct search *search)
-{
-	size_t count = 0;
-	for (size_t each = 0; each < search->protocol_count; each++)
-		if (is_wanted(&search->protocols[each])) {
-			add_word(words, search->protocols[each].path);
-			count++;
-		}
-	return count;
-}
-
 /* Converts those that are wanted. */
 static bool convert_wanted(const struct search *search, const struct source *sources, size_t source_count,
 	struct text *made)
@@ -351,7 +294,7 @@ static bool convert_wanted(const struct search *search, const struct source *sou
 	add_word(&words, "--whole");
 	add_word(&words, "--pass-over");
 	for (size_t each = 0; each < search->protocol_count; each++)
-		if (is_wanted(&search->protocols[each]))
+		if (search->protocols[each].is_wanted)
 			add_origin(&words, search->protocols[each].path);
 	for (size_t each = 0; each < source_count; each++)
 		if (is_named(search, &sources[each])) {
@@ -359,26 +302,17 @@ static bool convert_wanted(const struct search *search, const struct source *sou
 			add_word(&words, sources[each].path);
 		}
 	add_word(&words, "--");
-	size_t wanted = add_wanted(&words, search);
+	for (size_t each = 0; each < search->protocol_count; each++)
+		if (search->protocols[each].is_wanted)
+			add_word(&words, search->protocols[each].path);
 	add_word(&words, NULL);
-	bool is_made = wanted && !run_to_end(words.of, made, !search->is_verbose);
-	if (wanted && !is_made && search->is_verbose)
+	bool is_made = !run_to_end(words.of, made, !search->is_verbose);
+	if (!is_made && search->is_verbose)
 		notice("%s has failed: no installed XML is known", tool);
 	for (size_t each = 0; each < words.count; each++)
 		free(words.of[each]);
 	free(words.of);
 	return is_made;
-}
-
-static void say_what_is_read(const struct search *search)
-{
-	for (size_t each = 0; each < search->protocol_count; each++) {
-		const struct protocol *it = &search->protocols[each];
-		if (is_wanted(it))
-			notice("%s is read: it has what no table has", it->path);
-		else if (it->is_new && !it->is_older)
-			notice("%s is passed over: it has a name that no table can have", it->path);
-	}
 }
 
 bool installed_protocols(struct text *made, const struct source *sources, size_t source_count,
@@ -392,10 +326,8 @@ bool installed_protocols(struct text *made, const struct source *sources, size_t
 	for (size_t each = 0; each < search.protocol_count; each++)
 		declare_protocol(&search, each);
 	compare_versions(&search);
-	check_new(&search);
-	if (is_verbose)
-		say_what_is_read(&search);
-	bool is_made = convert_wanted(&search, sources, source_count, made);
+	choose(&search);
+	bool is_made = search.wanted_count && convert_wanted(&search, sources, source_count, made);
 	for (size_t each = 0; each < search.protocol_count; each++) {
 		free(search.protocols[each].path);
 		text_free(&search.protocols[each].text);

@@ -46,46 +46,39 @@ struct target {
 
 /* ---- interfaces */
 
-static bool is_name(const char *name, size_t length, const char *wanted)
-{
-	return name && length == strlen(wanted) && !memcmp(name, wanted, length);
-}
-
 static bool is_called(const struct message *message, const char *name)
 {
-	return is_name(message->name, message->name_length, name);
+	return is_name(message->name, name);
 }
 
 static void find_messages(struct role *role, const waywire_tables *tables, uint16_t interface, int from)
 {
 	waywire_message message;
-	const char *name;
-	size_t length;
+	struct name name;
 	for (unsigned opcode = 0; opcode <= UINT16_MAX; opcode++) {
-		if (waywire_tables_message(tables, interface, (waywire_sender)from, (uint16_t)opcode, &message, &name,
-				&length))
+		if (waywire_tables_message(tables, interface, (waywire_sender)from, (uint16_t)opcode, &message, &name.bytes,
+				&name.length))
 			return;
 		role->ends_by_event |= from == COMPOSITOR && message.destroys == WAYWIRE_DESTROYS_TARGET;
-		role->has_pong |= from == CLIENT && is_name(name, length, "pong");
-		role->has_ack |= from == CLIENT && is_name(name, length, "ack_configure");
+		role->has_pong |= from == CLIENT && is_name(name, "pong");
+		role->has_ack |= from == CLIENT && is_name(name, "ack_configure");
 	}
 }
 
 static void find_pairs(struct role *role, const waywire_tables *tables, uint16_t interface)
 {
-	const char *name;
-	size_t length;
-	if (waywire_tables_name(tables, interface, &name, &length))
+	struct name name;
+	if (waywire_tables_name(tables, interface, &name.bytes, &name.length))
 		return;
 	for (size_t each = 0; each < PAIR_COUNT; each++) {
-		if (!is_name(name, length, pairs[each].interface))
+		if (!is_name(name, pairs[each].interface))
 			continue;
 		role->pairs = role->pairs ? role->pairs : &pairs[each];
 		role->pair_count++;
 	}
 }
 
-/* How an interface asks; not at all where the tables lack it or memory runs out. */
+/* How an interface asks; not at all if the tables lack it or memory runs out. */
 static struct role role_of(struct questions *questions, const waywire_tables *tables, uint16_t interface)
 {
 	static const struct role none;
@@ -127,8 +120,8 @@ static struct question_kind *kind_of(struct questions *questions, const struct m
 	kind = malloc(sizeof *kind);
 	if (!kind)
 		return NULL;
-	*kind = (struct question_kind){ message->target.name, message->name, message->target.name_length,
-		message->name_length, message->from, 0, 0, 0, message->seconds, 0, 0 };
+	*kind = (struct question_kind){ message->target.name, message->name, message->from, 0, 0, 0, message->seconds, 0,
+		0 };
 	if (keyed_put(&questions->kinds, key, kind))
 		return kind;
 	free(kind);
@@ -150,7 +143,7 @@ static void close_question(struct questions *questions, struct question *questio
 	free(question);
 }
 
-/* Puts a question behind those that were put to the same object. False where memory runs out. */
+/* Appends a question to those for the same object. False if memory runs out. */
 static bool add_to_target(struct questions *questions, struct question *question)
 {
 	struct target *target = keyed_find(&questions->targets, question->id);
@@ -241,7 +234,7 @@ static void forget_object(struct questions *questions, uint32_t id)
 
 /* ---- messages */
 
-/* The key of an object and the serial that a message has first; 0 where it has none. */
+/* The key of an object and of the serial that is the first argument of a message; 0 if it has none. */
 static uint64_t serial_key(const struct message *message)
 {
 	return message->arg_count && message->args[0].value.kind == WAYWIRE_UINT
@@ -254,7 +247,7 @@ static void note_icon(struct questions *questions, const struct message *message
 	static char is_icon;
 	size_t place = is_called(message, "set_cursor") ? 1 : is_called(message, "start_drag") ? 2 : 0;
 	const struct object *icon = place && place < message->arg_count ? &message->args[place].object : NULL;
-	if (!icon || !icon->id || icon->state != LIVE || !is_name(icon->name, icon->name_length, "wl_surface"))
+	if (!icon || !icon->id || icon->state != LIVE || !is_name(icon->name, "wl_surface"))
 		return;
 	if (keyed_put(&questions->icons, icon->id, &is_icon))
 		close_target(questions, icon->id);
@@ -297,7 +290,7 @@ static uint64_t note_event(struct questions *questions, const waywire_tables *ta
 uint64_t questions_note(struct questions *questions, const waywire_tables *tables, const struct message *message)
 {
 	questions->seconds = message->seconds;
-	if (message->status || !message->name || message->target.state == UNKNOWN)
+	if (message->status || !message->name.bytes || message->target.state == UNKNOWN)
 		return 0;
 	uint64_t answered = message->from == CLIENT ? note_request(questions, tables, message)
 		: note_event(questions, tables, message);

@@ -8,8 +8,7 @@
 
 /* The questions of one interface and message. */
 struct question_kind {
-	const char *interface, *message;
-	size_t interface_length, message_length;
+	struct name interface, message;
 	int from;
 	uint64_t asked, answered, open;
 	double first;               /* when the first was asked, in seconds; -1 where that is not known */

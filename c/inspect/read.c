@@ -46,8 +46,7 @@ struct comments {
 	bool is_timed, has_end, was_cut;
 };
 
-/* The seconds that some words name: a decimal number without a sign or an exponent, below 10^9. -1 where they name
- * none. */
+/* The seconds in some words: a decimal number without a sign or an exponent, below 10^9. -1 if there are none. */
 static double seconds_of(const char *words)
 {
 	const char *from = words + strspn(words, " \t");
@@ -58,9 +57,11 @@ static double seconds_of(const char *words)
 	return is_number && !from[length + strspn(from + length, " \t")] ? strtod(from, NULL) : -1;
 }
 
-static bool read_seconds(const char *words, double *seconds)
+/* Whether a comment is this word and a time. */
+static bool has_time(const char *comment, const char *word, double *seconds)
 {
-	*seconds = seconds_of(words);
+	size_t length = strlen(word);
+	*seconds = strncmp(comment, word, length) ? -1 : seconds_of(comment + length);
 	return *seconds >= 0;
 }
 
@@ -70,46 +71,44 @@ static void note_time(struct comments *comments, double seconds)
 		comments->latest = seconds;
 }
 
-/* Notes a comment, from behind its `#`. */
-static void note_comment(struct comments *comments, const char *comment, size_t length)
+static void note_comment(void *to, const char *comment)
 {
-	char words[128];
+	struct comments *comments = to;
 	double seconds;
-	snprintf(words, sizeof words, "%.*s", (int)(length < sizeof words ? length : sizeof words - 1), comment);
-	if (read_seconds(words, &seconds)) {
+	if (has_time(comment, "", &seconds)) {
 		comments->seconds = seconds;
 		comments->is_timed = true;
 		note_time(comments, seconds);
-	} else if (!strncmp(words, " ended ", 7) && read_seconds(words + 7, &seconds)) {
+	} else if (has_time(comment, " ended ", &seconds)) {
 		note_time(comments, seconds);
 		comments->has_end = true;
-	} else if (!strncmp(words, " from ", 6) && read_seconds(words + 6, &seconds)) {
+	} else if (has_time(comment, " from ", &seconds)) {
 		comments->from = seconds;
-	} else if (!strncmp(words, " cut ", 5) && read_seconds(words + 5, &seconds)) {
+	} else if (has_time(comment, " cut ", &seconds)) {
 		note_time(comments, seconds);
 		comments->was_cut = true;
-	} else if (!strncmp(words, " started ", 9))
-		snprintf(comments->started, sizeof comments->started, "%.31s", words + 9);
-	else if (!strncmp(words, " client ", 8)) {
-		char *process = strrchr(words, ' ');
+	} else if (!strncmp(comment, " started ", 9))
+		snprintf(comments->started, sizeof comments->started, "%s", comment + 9);
+	else if (!strncmp(comment, " client ", 8)) {
+		const char *process = strrchr(comment, ' ');
 		comments->client.process = (pid_t)strtol(process, NULL, 10);
-		*process = 0;
-		if (process > words + 8)
-			snprintf(comments->client.name, sizeof comments->client.name, "%.63s", words + 8);
+		if (process > comment + 8)
+			snprintf(comments->client.name, sizeof comments->client.name, "%.*s", (int)(process - comment - 8),
+				comment + 8);
 	}
 }
 
-/* Notes the comments in a part of the text in which nothing else stands. */
-static void note_comments(struct comments *comments, const char *text, size_t length)
+void each_comment(char *text, size_t length, void (*note)(void *to, const char *comment), void *to)
 {
-	while (length) {
-		const char *end = memchr(text, '\n', length);
-		size_t line = end ? (size_t)(end - text) : length, over = line + (end != NULL);
-		size_t shown = line && text[line - 1] == '\r' ? line - 1 : line;
-		if (shown && *text == '#')
-			note_comment(comments, text + 1, shown - 1);
-		text += over;
-		length -= over;
+	char *behind = text + length;
+	for (char *line = text, *next; line < behind; line = next + 1) {
+		next = memchr(line, '\n', (size_t)(behind - line));
+		next = next ? next : behind;
+		char *end = next > line && next[-1] == '\r' ? next - 1 : next, its = *end;
+		*end = 0;
+		if (*line == '#')
+			note(to, line + 1);
+		*end = its;
 	}
 }
 
@@ -129,14 +128,14 @@ static waywire_status next_piece(struct reading *reading)
 	if (status)
 		return status;
 	reading->comments.seconds = -1;
-	note_comments(&reading->comments, reading->text.bytes + reading->from,
-		reading->piece.begin - reading->from);
+	each_comment(reading->text.bytes + reading->from, reading->piece.begin - reading->from, note_comment,
+		&reading->comments);
 	reading->from = reading->piece.behind;
 	reading->line = reading->piece.line;
 	return status;
 }
 
-/* Prints what stands in front of the first message. */
+/* Prints what precedes the first message. */
 static void print_head(const struct options *options, const struct known *known, const struct comments *comments)
 {
 	struct head head = { options->read, *comments->started ? comments->started : NULL, NULL, known->names.bytes,
@@ -184,7 +183,8 @@ int read_recording(const struct options *options, const struct known *known)
 	status = pass_pieces(&reading, &judging, status);
 	bool is_whole = status == WAYWIRE_NOT_FOUND;
 	if (is_whole)
-		note_comments(&reading.comments, reading.text.bytes + reading.from, reading.text.length - reading.from);
+		each_comment(reading.text.bytes + reading.from, reading.text.length - reading.from, note_comment,
+			&reading.comments);
 	else
 		notice_end(options, &reading, status);
 	judging.is_cut = !is_whole;

@@ -10,7 +10,7 @@
 #include <unistd.h>
 
 /* The most bytes of a recording. */
-#define LONGEST 16777216
+#define LONGEST LONGEST_FILE
 /* The most that a piece has beside its digits: a line with its time; an arrow, two spaces, `+`, 3 digits, a line
  * feed. */
 #define BESIDE_DIGITS 64
@@ -188,7 +188,7 @@ static void write_head(struct recording *recording, const struct follower *follo
 	text_free(&head);
 }
 
-/* Opens a file in place of the one before. False where that fails, which is said. */
+/* Opens a file that replaces the one before. False if that fails, which is reported. */
 static bool open_file(struct recording *recording, char *path)
 {
 	close_file(recording);
@@ -201,7 +201,7 @@ static bool open_file(struct recording *recording, char *path)
 	return recording->file >= 0;
 }
 
-/* The file of a client's recording with a word behind it; null where memory runs out. */
+/* The name of a client's recording with a word appended; null if memory runs out. */
 static char *with_word(const struct recording *recording, const char *word)
 {
 	char *path = numbered(recording->options->record, recording->client.number), *made = NULL;

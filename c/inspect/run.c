@@ -17,7 +17,7 @@ struct run {
 	struct shared shared;
 	struct session *sessions;
 	struct pollfd *polled; /* the listener, and behind it two for each session */
-	size_t session_count, room;
+	size_t session_count;
 	waywire_listening_socket *listener;
 	int connected;      /* to the compositor, for the first client; -1 once it is used */
 	struct children children;
@@ -51,18 +51,13 @@ static int left_until(const struct timespec *time)
 /* Makes room for the polling of a further session. */
 static bool make_room(struct run *run)
 {
-	if (run->session_count < run->room)
-		return true;
-	size_t room = run->room ? 2 * run->room : 8;
-	struct pollfd *polled = realloc(run->polled, (1 + 2 * room) * sizeof *polled);
-	if (!polled)
-		return false;
-	run->polled = polled;
-	run->room = room;
-	return true;
+	struct pollfd *polled = realloc(run->polled, (1 + 2 * (run->session_count + 1)) * sizeof *polled);
+	if (polled)
+		run->polled = polled;
+	return polled;
 }
 
-/* A connection to the compositor: that which was made first, where it is unused and still there. */
+/* A connection to the compositor: the first one made, if it is unused and still open. */
 static int connected(struct run *run)
 {
 	int made = run->connected;
@@ -128,8 +123,7 @@ static void end_sessions(struct run *run, bool all)
 
 /* ---- the end */
 
-/* The command is told to end. The second time the sessions end too, and the third time it is
- * killed. */
+/* Tells the command to end. The second time the sessions end too, and the third time it is killed. */
 static void stop(struct run *run, int number)
 {
 	run->shared.is_stopping = true;
@@ -160,7 +154,7 @@ static bool is_done(const struct run *run)
 	return !run->sessions && !run->children.is_running && !may_connect(run) && (run->has_command || run->stops);
 }
 
-/* How long to wait, in milliseconds; -1 where no limit is. */
+/* How long to wait, in milliseconds; -1 for no limit. */
 static int patience(const struct run *run)
 {
 	if (is_done(run) || is_ending(run))
@@ -199,7 +193,7 @@ static void step(struct run *run)
 		accept_client(run);
 }
 
-/* Notes which processes have ended, and says where a signal ended the command. */
+/* Notes which processes have ended, and reports it if a signal ended the command. */
 static void note_ended(struct run *run)
 {
 	bool was_running = run->children.is_running;
@@ -253,7 +247,7 @@ static void print_head(const struct run *run)
 		json_head(&head);
 }
 
-/* Starts the command, or prints the name for clients that are started by hand. False where that fails. */
+/* Starts the command, or prints the name for clients that are started by hand. False if that fails. */
 static bool begin_clients(struct run *run, const char *display)
 {
 	char **command = run->shared.options->command;

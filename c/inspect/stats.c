@@ -9,44 +9,34 @@
 
 static bool is_of(const struct counted *counted, const struct message *message)
 {
-	return counted->from == message->from && counted->interface == message->target.name
-		&& counted->message == message->name;
+	return counted->from == message->from && counted->interface.bytes == message->target.name.bytes
+		&& counted->message.bytes == message->name.bytes;
 }
 
-/* A key for the names of a message, each of which is in one place of the memory. */
+/* A key for the names of a message; each name has one address. */
 static uint64_t key_of(const struct message *message)
 {
-	return (uint64_t)(uintptr_t)message->target.name * 31 + (uint64_t)(uintptr_t)message->name * 2
+	return (uint64_t)(uintptr_t)message->target.name.bytes * 31 + (uint64_t)(uintptr_t)message->name.bytes * 2
 		+ (uint64_t)message->from;
-}
-
-static bool make_room(struct stats *stats)
-{
-	if (stats->count < stats->room)
-		return true;
-	size_t room = stats->room ? 2 * stats->room : 32;
-	struct counted *counted = realloc(stats->counted, room * sizeof *counted);
-	if (!counted)
-		return false;
-	stats->counted = counted;
-	stats->room = room;
-	return true;
 }
 
 /* The place of the counts of a message; null where memory runs out. Other names of the same key have the next one. */
 static struct counted *counted_at(struct stats *stats, const struct message *message)
 {
-	const struct object *target = &message->target;
 	uint64_t key = key_of(message);
 	/* A place is kept as its number and 1. */
 	for (uintptr_t place; (place = (uintptr_t)keyed_find(&stats->places, key)); key++)
 		if (is_of(&stats->counted[place - 1], message))
 			return &stats->counted[place - 1];
-	if (!make_room(stats) || !keyed_put(&stats->places, key, (void *)(uintptr_t)(stats->count + 1)))
+	struct counted *counted = room_for_one(stats->counted, stats->count, sizeof *counted);
+	if (!counted)
 		return NULL;
-	stats->counted[stats->count] = (struct counted){ target->name, message->name, target->name_length,
-		message->name_length, message->from, 0, 0, 0 };
-	return &stats->counted[stats->count++];
+	stats->counted = counted;
+	if (!keyed_put(&stats->places, key, (void *)(uintptr_t)(stats->count + 1)))
+		return NULL;
+	counted += stats->count++;
+	*counted = (struct counted){ message->target.name, message->name, message->from, 0, 0, 0 };
+	return counted;
 }
 
 void stats_note(struct stats *stats, const struct message *message)
@@ -71,9 +61,9 @@ static void put_counted(struct text *text, const struct counted *it)
 {
 	text_format(text, "%10" PRIu64 " %10" PRIu64 " %11" PRIu64 "  %s ", it->count, it->bytes, it->descriptors,
 		it->from == CLIENT ? "->" : "<-");
-	text_put(text, it->interface ? it->interface : "unknown", it->interface ? it->interface_length : 7);
+	text_put_name(text, it->interface);
 	text_add(text, ".");
-	text_put(text, it->message ? it->message : "unknown", it->message ? it->message_length : 7);
+	text_put_name(text, it->message);
 	text_add(text, "\n");
 }
 
@@ -101,7 +91,7 @@ static void put_open(struct text *text, const struct follower *follower)
 	for (size_t each = 0; each < open.count; each++) {
 		const struct counted *it = &open.counted[each];
 		text_format(text, "%10" PRIu64 "  ", it->count);
-		text_put(text, it->interface ? it->interface : "unknown", it->interface ? it->interface_length : 7);
+		text_put_name(text, it->interface);
 		text_add(text, "\n");
 	}
 	stats_free(&open);

@@ -2,10 +2,11 @@
 #define _GNU_SOURCE
 #include "inspect.h"
 
+#include <errno.h>
 #include <limits.h>
 #include <stdio.h>
 
-/* The texts that are joined: the installed ones, and behind them those that are given. */
+/* The texts that are joined: the installed ones, followed by those that are given. */
 struct sources {
 	struct source *of;
 	size_t count;
@@ -43,7 +44,7 @@ static void leave_out(struct source *source, const char *why)
 	source->bytes = NULL;
 }
 
-/* Leaves out the first installed text without which the tables are valid. False where there is none. */
+/* Leaves out the first installed text without which the tables are valid. False if there is none. */
 static bool leave_out_another(const waywire_tables *core, struct sources *sources, const char *why)
 {
 	for (size_t each = 0; each < sources->count; each++) {
@@ -116,6 +117,18 @@ static void note(struct known *known, const struct source *source)
 	text_put(&known->joined, source->bytes, source->length);
 }
 
+/* The paths of the installed texts. */
+static char **installed_texts(size_t *count)
+{
+	char folder[PATH_MAX];
+	char **paths = installed_files(".tables", count);
+	int error = errno;
+	find_tables(folder, sizeof folder);
+	if (!paths)
+		notice("cannot read %s: %s; the core's interfaces alone are known", folder, strerror(error));
+	return paths;
+}
+
 /* Reads the installed texts. */
 static void add_installed(struct sources *sources, char **paths, size_t count)
 {
@@ -126,7 +139,7 @@ static void add_installed(struct sources *sources, char **paths, size_t count)
 	}
 }
 
-/* Reads what the system's XML has and no text. It stands behind the installed texts. */
+/* Reads what the system's XML has and no text has. It is put after the installed texts. */
 static void add_protocols(struct sources *sources, size_t place, const waywire_tables *core, bool is_verbose)
 {
 	static char name[] = "installed-xml";
@@ -138,7 +151,7 @@ static void add_protocols(struct sources *sources, size_t place, const waywire_t
 	sources->of[place].path = name;
 }
 
-/* Takes out of each text the interfaces that one behind it declares, if that is no installed one. */
+/* Removes from each text the interfaces that a later text declares, unless the later one is installed. */
 static void take_out_what_is_replaced(struct sources *sources, size_t first)
 {
 	for (size_t other = first; other < sources->count; other++)

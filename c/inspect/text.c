@@ -67,6 +67,35 @@ void text_free(struct text *text)
 	*text = (struct text){ NULL, 0, 0 };
 }
 
+void text_put_name(struct text *text, struct name name)
+{
+	if (name.bytes)
+		text_put(text, name.bytes, name.length);
+	else
+		text_add(text, "unknown");
+}
+
+bool is_name(struct name name, const char *wanted)
+{
+	return name.bytes && name.length == strlen(wanted) && !memcmp(name.bytes, wanted, name.length);
+}
+
+bool is_same_name(struct name one, struct name other)
+{
+	return one.length == other.length && !memcmp(one.bytes, other.bytes, one.length);
+}
+
+int digit_value(char it)
+{
+	return it >= '0' && it <= '9' ? it - '0' : it >= 'a' && it <= 'f' ? it - 'a' + 10 : -1;
+}
+
+void *room_for_one(void *array, size_t count, size_t size)
+{
+	/* It is full where the count is a power of two, or 0. */
+	return count & (count - 1) ? array : realloc(array, (count ? 2 * count : 1) * size);
+}
+
 /* ---- UTF-8 */
 
 size_t character_length(const unsigned char *bytes, size_t length, uint32_t *character)
@@ -100,19 +129,14 @@ size_t shown_character(const unsigned char *bytes, size_t length)
 	return is_control || is_turning ? 0 : size;
 }
 
-static int digit(char it)
-{
-	return it >= '0' && it <= '9' ? it - '0' : it >= 'a' && it <= 'f' ? it - 'a' + 10 : -1;
-}
-
 /* The bytes that stand escaped at the front of a line, as many as a character has. */
 static size_t escaped(const char *line, size_t length, unsigned char *bytes)
 {
 	size_t count = 0;
 	for (; count < LONGEST_CHARACTER && length >= ESCAPE; line += ESCAPE, length -= ESCAPE) {
-		if (line[0] != '\\' || line[1] != 'x' || digit(line[2]) < 0 || digit(line[3]) < 0)
+		if (line[0] != '\\' || line[1] != 'x' || digit_value(line[2]) < 0 || digit_value(line[3]) < 0)
 			break;
-		bytes[count++] = (unsigned char)(digit(line[2]) * 16 + digit(line[3]));
+		bytes[count++] = (unsigned char)(digit_value(line[2]) * 16 + digit_value(line[3]));
 	}
 	return count;
 }

@@ -25,6 +25,27 @@ void text_hex(struct text *text, const unsigned char *bytes, size_t length);
 
 void text_free(struct text *text);
 
+/* A name in some text; `bytes` is null where none is known. */
+struct name {
+	const char *bytes;
+	size_t length;
+};
+
+/* Puts a name, or `unknown`. */
+void text_put_name(struct text *text, struct name name);
+
+/* Whether a name is this one. */
+bool is_name(struct name name, const char *wanted);
+
+bool is_same_name(struct name one, struct name other);
+
+/* The value of a hexadecimal digit, a letter in lower case; -1 of any other character. */
+int digit_value(char it);
+
+/* Makes room in an array of so many elements for one more: the room doubles where it is full. Null where memory runs
+ * out: then the array is as before. */
+void *room_for_one(void *array, size_t count, size_t size);
+
 /* The length of the character of UTF-8 at the front of some bytes that may be shown as it is: no control
  * character, and none that turns the direction of writing. 0 where there is none. */
 size_t shown_character(const unsigned char *bytes, size_t length);

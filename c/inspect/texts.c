@@ -11,9 +11,6 @@
 #include <sys/wait.h>
 #include <unistd.h>
 
-/* As much as `waywire` reads of a file. */
-#define LONGEST 16777216
-
 /* ---- other programs */
 
 static void read_all(int from, struct text *output)
@@ -83,19 +80,26 @@ bool is_xml(const char *path)
 	return ends_with(path, ".xml");
 }
 
-void read_file(const char *path, struct text *text)
+bool read_bytes(const char *path, struct text *text)
 {
 	char bytes[65536];
-	size_t came;
-	FILE *file = fopen(path, "rbe");
-	if (!file)
+	ssize_t came = 1;
+	int file = open(path, O_RDONLY | O_CLOEXEC);
+	if (file < 0)
+		return false;
+	while (text->length <= LONGEST_FILE && (came = read(file, bytes, sizeof bytes)) > 0)
+		text_put(text, bytes, (size_t)came);
+	int error = errno;
+	close(file);
+	errno = error;
+	return came >= 0;
+}
+
+void read_file(const char *path, struct text *text)
+{
+	if (!read_bytes(path, text))
 		fail("cannot read %s: %s", path, strerror(errno));
-	while ((came = fread(bytes, 1, sizeof bytes, file)) && text->length <= LONGEST)
-		text_put(text, bytes, came);
-	if (ferror(file))
-		fail("cannot read %s: %s", path, strerror(errno));
-	fclose(file);
-	if (text->length > LONGEST)
+	if (text->length > LONGEST_FILE)
 		fail("%s: file too long", path);
 }
 
@@ -153,7 +157,7 @@ size_t source_next_line(const struct source *source, size_t at)
 	return end ? (size_t)(end - source->bytes) + 1 : source->length;
 }
 
-/* What a line names behind the word that it begins with. */
+/* The name in a line, after its first word. */
 static struct name named_by(const struct source *source, size_t at, const char *word)
 {
 	size_t length = source->length - at, begin = strlen(word);
@@ -200,33 +204,22 @@ void source_without(struct source *source, const struct source *other)
 
 /* ---- the installed texts */
 
-static int is_tables(const struct dirent *entry)
+char **installed_files(const char *end, size_t *count)
 {
-	return ends_with(entry->d_name, ".tables");
-}
-
-static int by_name(const struct dirent **one, const struct dirent **other)
-{
-	return strcmp((*one)->d_name, (*other)->d_name);
-}
-
-char **installed_texts(size_t *count)
-{
-	static char folder[PATH_MAX];
+	char folder[PATH_MAX];
 	struct dirent **found = NULL;
 	find_tables(folder, sizeof folder);
-	int entries = scandir(folder, &found, is_tables, by_name);
+	int entries = scandir(folder, &found, NULL, alphasort);
+	*count = 0;
 	if (entries < 0)
-		notice("cannot read %s: %s; the core's interfaces alone are known", folder, strerror(errno));
-	*count = entries < 0 ? 0 : (size_t)entries;
-	char **paths = calloc(*count + 1, sizeof *paths);
-	for (size_t each = 0; each < *count; each++) {
-		if (!paths || asprintf(&paths[each], "%s/%s", folder, found[each]->d_name) < 0)
+		return NULL;
+	char **paths = calloc((size_t)entries + 1, sizeof *paths);
+	for (int each = 0; each < entries; each++) {
+		const char *name = found[each]->d_name;
+		if (!paths || (ends_with(name, end) && asprintf(&paths[(*count)++], "%s/%s", folder, name) < 0))
 			fail("out of memory");
 		free(found[each]);
 	}
 	free(found);
-	if (!paths)
-		fail("out of memory");
 	return paths;
 }

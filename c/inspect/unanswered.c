@@ -4,7 +4,7 @@
 
 #include <inttypes.h>
 
-/* What has waited for so many seconds is told at the end of a session, in so many lines. */
+/* What has waited for this many seconds is reported at the end of a session, in at most this many lines. */
 #define LONG_WAIT 1.0
 #define MOST_LINES 8
 
@@ -19,7 +19,7 @@ struct group {
 
 struct groups {
 	struct group *groups;
-	size_t count, room;
+	size_t count;
 };
 
 /* Whether several were asked, and none was answered. */
@@ -30,15 +30,11 @@ static bool is_mute(const struct question_kind *kind)
 
 static void add_group(struct groups *groups, const struct group *group)
 {
-	if (groups->count == groups->room) {
-		size_t room = groups->room ? 2 * groups->room : 8;
-		struct group *more = realloc(groups->groups, room * sizeof *more);
-		if (!more)
-			return;
-		groups->groups = more;
-		groups->room = room;
-	}
-	groups->groups[groups->count++] = *group;
+	struct group *more = room_for_one(groups->groups, groups->count, sizeof *more);
+	if (!more)
+		return;
+	groups->groups = more;
+	more[groups->count++] = *group;
 }
 
 /* Questions of one group side by side, the first question first. */
@@ -71,7 +67,8 @@ static void add_open(struct groups *groups, const struct questions *questions)
 	free(open);
 }
 
-/* Adds the kinds that were never answered, and of which no question is open, as where its object was destroyed. */
+/* Adds the kinds that were never answered and have no open question, for example because the object was
+ * destroyed. */
 static void add_mute(struct groups *groups, const struct questions *questions)
 {
 	for (size_t each = 0; each < questions->kinds.room; each++) {
@@ -102,11 +99,11 @@ static void put_wait(struct text *text, const struct group *group, double until)
 static void put_group(struct text *text, const struct group *group, double until)
 {
 	const struct question_kind *kind = group->kind;
-	text_put(text, kind->interface, kind->interface_length);
+	text_put_name(text, kind->interface);
 	if (group->id)
 		text_format(text, "@%" PRIu32, group->id);
 	text_add(text, ".");
-	text_put(text, kind->message, kind->message_length);
+	text_put_name(text, kind->message);
 	if (group->id)
 		text_format(text, ": %" PRIu64 " not answered", group->count);
 	else
@@ -117,7 +114,7 @@ static void put_group(struct text *text, const struct group *group, double until
 
 void unanswered_put(struct text *text, const struct questions *questions, double until, double least, size_t most)
 {
-	struct groups groups = { NULL, 0, 0 };
+	struct groups groups = { NULL, 0 };
 	size_t count = 0;
 	add_open(&groups, questions);
 	add_mute(&groups, questions);

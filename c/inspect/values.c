@@ -4,11 +4,11 @@
 
 #include <inttypes.h>
 
-/* Of an array of numbers so many are printed, and all bytes of another that has no more than this. */
+/* At most this many numbers of an array are printed; of any other array all bytes, if it has no more than this. */
 #define MOST_NUMBERS 8
 #define MOST_BYTES 16
 
-/* Goes to the next entry of an enum: its value and its name. False behind the last. */
+/* Goes to the next entry of an enum: its value and its name. False after the last. */
 static bool next_entry(const char **entries, uint32_t *value, const char **name, size_t *length)
 {
 	char *end;
@@ -25,7 +25,7 @@ static bool next_entry(const char **entries, uint32_t *value, const char **name,
 }
 
 /* The name of exactly this value; false where it has none. */
-static bool find_entry(const struct meaning *meaning, uint32_t wanted, struct value_name *name)
+static bool find_entry(const struct meaning *meaning, uint32_t wanted, struct name *name)
 {
 	const char *entries = meaning->entries;
 	for (uint32_t value; next_entry(&entries, &value, &name->bytes, &name->length);)
@@ -34,7 +34,7 @@ static bool find_entry(const struct meaning *meaning, uint32_t wanted, struct va
 	return false;
 }
 
-size_t names_of_value(const struct meaning *meaning, uint32_t value, struct value_name *names, uint32_t *rest)
+size_t names_of_value(const struct meaning *meaning, uint32_t value, struct name *names, uint32_t *rest)
 {
 	size_t count = 0;
 	*rest = 0;
@@ -49,10 +49,10 @@ size_t names_of_value(const struct meaning *meaning, uint32_t value, struct valu
 	return count;
 }
 
-/* Puts the names of a value behind a space, with bars between. */
+/* Appends a space and the names of a value, with bars between. */
 static void put_names(struct text *text, const struct meaning *meaning, uint32_t value)
 {
-	struct value_name names[MOST_NAMES];
+	struct name names[MOST_NAMES];
 	uint32_t rest;
 	size_t count = names_of_value(meaning, value, names, &rest);
 	for (size_t each = 0; each < count; each++) {
@@ -100,12 +100,6 @@ void put_meaning(struct text *text, const struct argument *argument)
 	}
 }
 
-/* Whether a line has these words at a place. */
-static bool has_words(const struct text *line, size_t at, const struct text *words)
-{
-	return words->length <= line->length - at && !memcmp(line->bytes + at, words->bytes, words->length);
-}
-
 /* Whether there is anything to put behind an argument of a message. */
 static bool has_meaning(const struct message *message)
 {
@@ -120,7 +114,7 @@ static bool has_meaning(const struct message *message)
 /* Puts a part of a line that stands at a place. Returns its end; 0 where something else stands there. */
 static size_t put_part(struct text *text, const struct text *line, size_t at, const struct text *part)
 {
-	if (!part->length || !has_words(line, at, part))
+	if (!part->length || part->length > line->length - at || memcmp(line->bytes + at, part->bytes, part->length))
 		return 0;
 	text_put(text, part->bytes, part->length);
 	return at + part->length;
@@ -128,7 +122,6 @@ static size_t put_part(struct text *text, const struct text *line, size_t at, co
 
 void put_line_with_names(struct text *text, const struct message *message, const struct text *line)
 {
-	uint64_t descriptor = message->first_descriptor;
 	struct text part = { NULL, 0, 0 };
 	size_t at = 0;
 	if (has_meaning(message)) {
@@ -139,9 +132,8 @@ void put_line_with_names(struct text *text, const struct message *message, const
 		const struct argument *argument = &message->args[place];
 		part.length = 0;
 		text_add(&part, place ? ", " : "");
-		put_printed_argument(&part, argument, descriptor);
+		put_printed_argument(&part, argument);
 		at = put_part(text, line, at, &part);
-		descriptor += descriptor && argument->value.kind == WAYWIRE_FD;
 		if (at)
 			put_meaning(text, argument);
 	}

@@ -11,20 +11,15 @@ static const char *kind_of(const struct message *message)
 	return message->from == CLIENT ? "request" : "event";
 }
 
-/* Puts which object an id means, and what became of it. */
-static void put_known(struct text *text, const struct object *object)
+/* Puts that an object is not there any more, or never was. */
+static void put_gone(struct text *text, const struct object *object)
 {
 	if (object->state == UNKNOWN) {
 		text_format(text, "no object has the id %" PRIu32, object->id);
 		return;
 	}
 	put_object(text, object);
-	if (object->state == ENDING)
-		text_add(text, " was destroyed");
-	else if (object->birth)
-		text_format(text, " was made by message %" PRIu64, object->birth);
-	else
-		text_add(text, " is there from the start");
+	text_add(text, " was destroyed");
 }
 
 static void put_size(struct text *text, const struct follower *follower, const struct message *message)
@@ -35,7 +30,7 @@ static void put_size(struct text *text, const struct follower *follower, const s
 
 static void put_unknown_message(struct text *text, const struct message *message)
 {
-	if (!message->name) {
+	if (!message->name.bytes) {
 		put_object(text, &message->target);
 		text_format(text, " has no %s with the opcode %u", kind_of(message), message->opcode);
 		return;
@@ -65,12 +60,16 @@ static void put_bad_object(struct text *text, const struct follower *follower, c
 	const char *name;
 	size_t length;
 	put_place(text, place);
-	put_known(text, &object);
-	if (object.state != LIVE || waywire_tables_kind(follower->tables, message->target.interface,
-			(waywire_sender)message->from, message->opcode, place, &kind)
-		|| waywire_tables_name(follower->tables, kind.interface, &name, &length))
+	if (object.state != LIVE) {
+		put_gone(text, &object);
 		return;
-	text_format(text, ", and a %.*s is wanted", (int)length, name);
+	}
+	put_object(text, &object);
+	text_add(text, " is given");
+	if (!waywire_tables_kind(follower->tables, message->target.interface, (waywire_sender)message->from,
+			message->opcode, place, &kind)
+		&& !waywire_tables_name(follower->tables, kind.interface, &name, &length))
+		text_format(text, ", and a %.*s is wanted", (int)length, name);
 }
 
 static void put_bad_new_id(struct text *text, const struct follower *follower, const struct message *message,
@@ -82,10 +81,10 @@ static void put_bad_new_id(struct text *text, const struct follower *follower, c
 	if (!id)
 		text_add(text, "a new id is not 0");
 	else if (old.state == LIVE) {
-		put_known(text, &old);
-		text_add(text, ", and still has this id");
+		put_object(text, &old);
+		text_add(text, " still has this id");
 	} else if (old.state == ENDING) {
-		put_known(text, &old);
+		put_gone(text, &old);
 		text_add(text, ", and no delete_id has made its id free");
 	} else if (message->from == COMPOSITOR)
 		text_format(text, "%" PRIu32 " is neither a free id nor the next one of the compositor's", id);
@@ -117,7 +116,7 @@ void put_fault(struct text *text, const struct follower *follower, const struct 
 {
 	switch (fault->number) {
 	case 1: put_size(text, follower, message); break;
-	case 2: put_known(text, &message->target); break;
+	case 2: put_gone(text, &message->target); break;
 	case 3: put_unknown_message(text, message); break;
 	case 4:
 		put_place(text, fault->place);
@@ -135,7 +134,8 @@ void put_fault(struct text *text, const struct follower *follower, const struct 
 	}
 }
 
-struct object gone_object(const struct follower *follower, const struct message *message, const struct fault *fault)
+struct object object_at_fault(const struct follower *follower, const struct message *message,
+	const struct fault *fault)
 {
 	struct object object = { 0 };
 	switch (fault->number) {
@@ -144,5 +144,5 @@ struct object gone_object(const struct follower *follower, const struct message 
 	case 6: object = object_of(follower, object_at(message, fault->place).id); break;
 	default: break;
 	}
-	return object.state == LIVE ? (struct object){ 0 } : object;
+	return object.id == DISPLAY_ID ? (struct object){ 0 } : object;
 }

@@ -1,4 +1,5 @@
-//! Finds libwaywire: below `WAYWIRE_DIR`, if that is set, else by pkg-config.
+//! Finds libwaywire: below `WAYWIRE_DIR`, if that is set, else by pkg-config. `WAYWIRE_DIR` is the folder where it is
+//! installed, or the repository's `out/c`, in which `make` builds it.
 //!
 //! The archive is linked if it is there, else the shared library. The library's version is to be compatible
 //! with this package's: of one major number, and below 1 of one minor number. Without the library the package
@@ -58,14 +59,23 @@ impl Installed {
             return None;
         }
         if let Some(folder) = env::var_os("WAYWIRE_DIR").map(PathBuf::from) {
-            let [libraries, headers] = ["lib", "include"].map(|it| folder.join(it));
-            return Some(Installed { libraries, headers, data: folder.join("share/waywire") });
+            return Some(Installed::below(folder));
         }
         Some(Installed {
             libraries: asked("waywire", "libdir")?,
             headers: asked("waywire", "includedir")?,
             data: asked("waywire", "prefix")?.join("share/waywire"),
         })
+    }
+
+    /// In this folder, or as the repository has it where the folder has the archive itself.
+    fn below(folder: PathBuf) -> Installed {
+        if folder.join("libwaywire.a").exists() {
+            let top = folder.join("../..");
+            return Installed { libraries: folder, headers: top.join("include"), data: top };
+        }
+        let [libraries, headers] = ["lib", "include"].map(|it| folder.join(it));
+        Installed { libraries, headers, data: folder.join("share/waywire") }
     }
 
     fn link(&self) {

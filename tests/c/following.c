@@ -377,6 +377,47 @@ struct counts {
 	uint64_t number;
 };
 
+/* The arguments of a message as a step says them. */
+static struct line said_by(const waywire_decoded *decoded)
+{
+	struct line line = { "", 0 };
+	for (size_t place = 0; place < decoded->arg_count; place++) {
+		const waywire_arg *arg = &decoded->args[place];
+		switch (arg->kind) {
+		case WAYWIRE_INT: put(&line, " %d", arg->i); break;
+		case WAYWIRE_UINT: put(&line, " %u", arg->u); break;
+		case WAYWIRE_STRING: put(&line, " \"%.*s\"", (int)arg->length, arg->bytes); break;
+		case WAYWIRE_BOUND:
+			put(&line, " \"%.*s\" %u %u", (int)arg->length, arg->bytes, arg->u, arg->object.id);
+			break;
+		case WAYWIRE_FD: break; /* it is not among the bytes */
+		default: put(&line, " %u", arg->object.id);
+		}
+	}
+	return line;
+}
+
+/* Takes a message apart: one that was read has the arguments that its step says, and of any other the status is that
+ * of its interface's tables. */
+static void read_arguments(const struct scene *scene, const struct step *step, waywire_sender sender,
+	const waywire_followed *message)
+{
+	waywire_decoded decoded, wanted;
+	const char *arguments = strchr(step->said + 2, ' ');
+	waywire_status status = waywire_inspector_decode(inspector, sender, message, &decoded);
+	MUST(status == waywire_tables_decode(tables, message->object.interface, message->object.version, sender,
+		message->bytes, message->length, &wanted));
+	MUST(!message->is_read || !status);
+	MUST(message->object.is_known || status == WAYWIRE_NOT_FOUND);
+	if (status == WAYWIRE_NOT_FOUND)
+		return;
+	MUST(decoded.arg_count == wanted.arg_count && decoded.place == wanted.place);
+	MUST(decoded.target == message->target && decoded.opcode == message->opcode && decoded.size == message->size);
+	MUST(!memcmp(decoded.interfaces, wanted.interfaces, decoded.arg_count * sizeof *decoded.interfaces));
+	if (!status && strchr(step->said, '.'))
+		must_say(scene->name, said_by(&decoded).text, arguments ? arguments : "");
+}
+
 /* Reads what is told of the message in front, and goes past it. */
 static void read_front(const struct scene *scene, const struct step *step, waywire_sender sender,
 	const struct data *data, struct counts *counts)
@@ -392,7 +433,9 @@ static void read_front(const struct scene *scene, const struct step *step, waywi
 	MUST(!memcmp(message.bytes, data->bytes, message.length < data->length ? message.length : data->length));
 	MUST(message.length == size || size < 8 || size > MOST);
 	counts->offset[sender] += size;
+	read_arguments(scene, step, sender, &message);
 	make(&(struct call){ goes_past, sender, NULL, 0 });
+	read_arguments(scene, step, sender, &message);
 }
 
 static void must_be_none(waywire_sender sender)
@@ -477,6 +520,7 @@ static void refuse_values(void)
 	static const unsigned char bytes[] = { 1, 0, 0, 0, 0, 0, 12, 0, 2, 0, 0, 0 };
 	const waywire_sender client = WAYWIRE_FROM_CLIENT, none = (waywire_sender)2;
 	waywire_followed message;
+	waywire_decoded decoded;
 	waywire_known known;
 	waywire_judgement judgement;
 	MUST(!waywire_inspector_new(tables, WAYWIRE_USUAL_LIMIT, &inspector));
@@ -490,6 +534,11 @@ static void refuse_values(void)
 	MUST(waywire_inspector_ahead(NULL, client, &message) == WAYWIRE_NULL);
 	MUST(waywire_inspector_ahead(inspector, client, NULL) == WAYWIRE_NULL);
 	MUST(waywire_inspector_ahead(inspector, none, &message) == WAYWIRE_BAD_VALUE);
+	MUST(!waywire_inspector_ahead(inspector, client, &message));
+	MUST(waywire_inspector_decode(NULL, client, &message, &decoded) == WAYWIRE_NULL);
+	MUST(waywire_inspector_decode(inspector, client, NULL, &decoded) == WAYWIRE_NULL);
+	MUST(waywire_inspector_decode(inspector, client, &message, NULL) == WAYWIRE_NULL);
+	MUST(waywire_inspector_decode(inspector, none, &message, &decoded) == WAYWIRE_BAD_VALUE);
 	MUST(waywire_inspector_go_past(NULL, client) == WAYWIRE_NULL);
 	MUST(waywire_inspector_go_past(inspector, none) == WAYWIRE_BAD_VALUE);
 	must_be_none(WAYWIRE_FROM_SERVER);

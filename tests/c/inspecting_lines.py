@@ -122,15 +122,15 @@ class Before(Talking):
     def test_the_last_five(self):
         said = (message(3, 0, 4), message(4, 6) * 3, message(3, 1, 5), message(4, 4, 5), message(4, 7, 3), message(4, 6))
         self.assertEqual(self.before(*said, (error(4, 1, "no"),)), [
-            "the last messages about wl_surface@4:", "  message 6: -> wl_surface@4.commit()",
-            "  message 7: -> wl_surface@4.commit()", "  message 9: -> wl_surface@4.set_opaque_region(wl_region@5)",
-            "  message 10: -> wl_surface@4.set_buffer_transform(3)", "  message 11: -> wl_surface@4.commit()"])
+            "the last messages about wl_surface@4:", "  > message 5: -> wl_surface@4.commit()",
+            "  > message 6: -> wl_surface@4.commit()", "  > message 8: -> wl_surface@4.set_opaque_region(wl_region@5)",
+            "  > message 9: -> wl_surface@4.set_buffer_transform(3)", "  > message 10: -> wl_surface@4.commit()"])
 
     def test_what_names_it(self):
         """Also the request that made it; not what concerned an earlier object of this id."""
         said = (message(3, 0, 4), message(4, 6), message(4, 0), (message(1, 1, 4),), message(3, 1, 4))
         self.assertEqual(self.before(*said, (error(4, 1, "no"),)), [
-            "the last messages about wl_region@4:", "  message 8: -> wl_compositor@3.create_region(new id wl_region@4)"])
+            "the last messages about wl_region@4:", "  > message 6: -> wl_compositor@3.create_region(new id wl_region@4)"])
 
     def test_it_is_bounded(self):
         """What was said 64 messages before is forgotten."""
@@ -142,13 +142,13 @@ class Before(Talking):
         """The last requests, whatever they concern."""
         lines = self.before(message(3, 0, 4), sync(5), (done(5),), (error(1, 1, "no"),))
         self.assertEqual((lines[0], lines[-1]), ("the last requests before it:",
-                                                 "  message 5: -> wl_display@1.sync(new id wl_callback@5)"))
+                                                 "  > message 4: -> wl_display@1.sync(new id wl_callback@5)"))
         self.assertEqual([it for it in lines if "<-" in it], [])
 
     def test_although_it_is_not_asked_for(self):
         said = (*BOUND, message(3, 0, 4), (error(4, 1, "no"),))
         self.assertEqual(self.lines(*said, status=1, options=["--only", "wl_output"])[1:-1], [
-            "the last messages about wl_surface@4:", "  message 4: -> wl_compositor@3.create_surface(new id wl_surface@4)"])
+            "the last messages about wl_surface@4:", "  > message 3: -> wl_compositor@3.create_surface(new id wl_surface@4)"])
 
 
 if __name__ == "__main__":

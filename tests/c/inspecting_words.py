@@ -127,7 +127,7 @@ class Unjudged(Talking):
         lines = self.lines(*self.GIVEN, (error(3, 2, "no"),), status=1)
         self.assertEqual(lines[-4:], [
             '? <- wl_display@1.error(unknown@3, 2, "no")', "the last messages about unknown@3:",
-            '  message 4: -> wl_registry@2.bind(1, "own_shell1", 5, new id own_shell1@3)',
+            '  > message 2: -> wl_registry@2.bind(1, "own_shell1", 5, new id own_shell1@3)',
             "not judged from request 2 on: own_shell1 is not in the tables; lawful until then; "
             "2 requests, 3 events; ended by wl_display.error"])
 
@@ -145,21 +145,26 @@ class Broken(Talking):
 
     def test_words(self):
         """The rules that a request can break."""
-        for data, line, words in (
+        made = "  > message 3: -> wl_compositor@3.create_surface(new id wl_surface@4)"
+        for data, line, words, *about in (
             (struct.pack("<IHH", 4, 0, 6), "-> wl_surface@4: opcode 0, 6 bytes, bytes 0400000000000600",
              "F1: its header says a size of 6 bytes, which must be at least 8, a multiple of 4, and at most 4096"),
             (message(5, 0), "-> unknown@5: opcode 0, 8 bytes, bytes 0500000000000800", "F2: no object has the id 5"),
             (message(4, 99), "-> wl_surface@4: opcode 99, 8 bytes, bytes 0400000063000800",
              "F3: wl_surface@4 has no request with the opcode 99"),
             (message(4, 1, 3, 0, 0), "-> wl_surface@4.attach(wl_compositor@3, 0, 0)",
-             "F5: argument 0: wl_compositor@3 was made by message 3, and a wl_buffer is wanted"),
+             "F5: argument 0: wl_compositor@3 is given, and a wl_buffer is wanted",
+             "the last messages about wl_compositor@3:",
+             '  > message 2: -> wl_registry@2.bind(1, "wl_compositor", 6, new id wl_compositor@3)', made),
             (message(3, 0, 4), "-> wl_compositor@3.create_surface(new id wl_surface@4)",
-             "F6: argument 0: wl_surface@4 was made by message 4, and still has this id"),
+             "F6: argument 0: wl_surface@4 still has this id", "the last messages about wl_surface@4:", made),
+            (message(3, 0, 1), "-> wl_compositor@3.create_surface(new id wl_surface@1)",
+             "F6: argument 0: wl_display@1 still has this id"),
             (message(3, 0, 9), "-> wl_compositor@3.create_surface(new id wl_surface@9)",
              "F6: argument 0: 9 is neither a free id nor the next one, 5"),
         ):
             with self.subTest(words):
-                self.assertEqual(self.broken(*self.SURFACE, data), [line, words])
+                self.assertEqual(self.broken(*self.SURFACE, data), [line, words, *about])
 
     def test_malformed(self):
         line, words = self.broken(*self.SURFACE, message(4, 1, 0, 0))
@@ -170,8 +175,8 @@ class Broken(Talking):
         """Behind a message about an object that is gone stand the last messages about it."""
         gone = (*self.SURFACE, message(4, 0))
         about = ["the last messages about wl_surface@4:",
-                 "  message 4: -> wl_compositor@3.create_surface(new id wl_surface@4)",
-                 "  message 5: -> wl_surface@4.destroy()"]
+                 "  > message 3: -> wl_compositor@3.create_surface(new id wl_surface@4)",
+                 "  > message 4: -> wl_surface@4.destroy()"]
         self.assertEqual(self.broken(*gone, message(4, 6))[1:], ["F2: wl_surface@4 was destroyed", *about])
         self.assertEqual(self.broken(*gone, message(3, 0, 4))[1:], [
             "F6: argument 0: wl_surface@4 was destroyed, and no delete_id has made its id free", *about])
@@ -180,15 +185,15 @@ class Broken(Talking):
         """Behind a message for an id that is free stand the last messages about that id."""
         self.assertEqual(self.broken(*self.SURFACE, message(4, 0), (message(1, 1, 4),), message(4, 6))[1:], [
             "F2: no object has the id 4", "the last messages about unknown@4:",
-            "  message 4: -> wl_compositor@3.create_surface(new id wl_surface@4)",
-            "  message 5: -> wl_surface@4.destroy()", "  message 6: <- wl_display@1.delete_id(4)"])
+            "  > message 3: -> wl_compositor@3.create_surface(new id wl_surface@4)",
+            "  > message 4: -> wl_surface@4.destroy()", "  < message 2: <- wl_display@1.delete_id(4)"])
 
     def test_an_error_ends_a_session(self):
         for options in ((), ("--only", "wl_output")):
             lines = self.lines(*self.SURFACE, (error(4, 1, "grün"),), options=options, status=1)
             self.assertEqual(lines[-4:], ['<- wl_display@1.error(wl_surface@4, 1 invalid_transform, "grün")',
                                           "the last messages about wl_surface@4:",
-                                          "  message 4: -> wl_compositor@3.create_surface(new id wl_surface@4)",
+                                          "  > message 3: -> wl_compositor@3.create_surface(new id wl_surface@4)",
                                           "lawful up to wl_display.error: 3 requests, 2 events, 0 and 0 bytes left"])
 
     def test_an_error_behind_a_broken_message(self):
@@ -197,15 +202,15 @@ class Broken(Talking):
                                      "? <- wl_callback@2.done(7)", "? <- wl_display@1.delete_id(2)",
                                      '? <- wl_display@1.error(wl_display@1, 0 invalid_object, "bad id")',
                                      "the last requests before it:",
-                                     "  message 1: -> wl_display@1.sync(new id wl_callback@2)",
-                                     "  message 2: -> unknown@9: opcode 0, 8 bytes, bytes 0900000000000800",
-                                     "  message 3: -> wl_display@1.sync(new id wl_callback@3)"])
+                                     "  > message 1: -> wl_display@1.sync(new id wl_callback@2)",
+                                     "  > message 2: -> unknown@9: opcode 0, 8 bytes, bytes 0900000000000800",
+                                     "  > message 3: -> wl_display@1.sync(new id wl_callback@3)"])
 
     def test_an_error_is_red(self):
         lines = self.lines(sync(2), (error(1, 0, "no"),), options=["--color=always"], status=1)
         self.assertEqual(lines[-4:], ['\x1b[31m<- wl_display@1.error(wl_display@1, 0 invalid_object, "no")\x1b[0m',
                                       "the last requests before it:",
-                                      "  message 1: -> wl_display@1.sync(new id wl_callback@2)",
+                                      "  > message 1: -> wl_display@1.sync(new id wl_callback@2)",
                                       "\x1b[31mlawful up to wl_display.error: 1 requests, 1 events, "
                                       "0 and 0 bytes left\x1b[0m"])
 

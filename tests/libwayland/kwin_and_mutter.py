@@ -117,13 +117,14 @@ def bus(room):
 
 
 @contextlib.contextmanager
-def with_bus(kind, name, words_in):
-    """A compositor with a bus. `words_in` returns the compositor's command for a room."""
+def with_bus(kind, name, words_in, **more):
+    """A compositor with a bus. `words_in` returns the compositor's command for a room; `more` is of the compositor's
+    environment alone."""
     need(*desktops.NEEDED[name])
     with tempfile.TemporaryDirectory(prefix=f"{name}-") as room, bus(room) as address:
         env = desktops.environment(room)
         own = {name: value for name, value in env.items() if name not in OF_CLIENTS}
-        own |= {"XDG_RUNTIME_DIR": room, "DBUS_SESSION_BUS_ADDRESS": address}
+        own |= {"XDG_RUNTIME_DIR": room, "DBUS_SESSION_BUS_ADDRESS": address, **more}
         desktop = desktops.come_up(kind, name, room, words_in(room), f"{room}/{name}", env, env=own)
         try:
             yield desktop
@@ -147,5 +148,5 @@ def kwin():
     return with_bus(KWin, "kwin", words_of_kwin)
 
 
-def mutter():
-    return with_bus(desktops.Desktop, "mutter", words_of_mutter)
+def mutter(**more):
+    return with_bus(desktops.Desktop, "mutter", words_of_mutter, **more)

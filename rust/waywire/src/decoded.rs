@@ -28,7 +28,7 @@ use crate::tables::{Interface, Tables};
 /// # }
 /// ```
 #[derive(Clone, Debug)]
-pub struct Decoded<'a>(sys::Decoded<'a>);
+pub struct Decoded<'a>(pub(crate) sys::Decoded<'a>);
 
 /// An argument as the bytes spell it, an object by its id alone.
 #[derive(Clone, Copy, Debug, PartialEq)]

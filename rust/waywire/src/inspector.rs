@@ -1,8 +1,9 @@
 //! A session that others hold, judged while it goes on.
 
-use crate::error::{NewError, NoMemory};
+use crate::decoded::Decoded;
+use crate::error::{FaultKind, NewError, NoMemory};
 use crate::sys;
-use crate::tables::Tables;
+use crate::tables::{Interface, Tables};
 use std::fmt;
 
 /// Who sent a piece.
@@ -53,6 +54,36 @@ pub enum Sender {
 /// inspector.pass(Sender::Server, &[], 0);
 /// drop(lines);
 /// ```
+///
+/// # Following
+///
+/// Beside its judging an inspector follows the messages one by one, judged or not: also those behind a
+/// message that breaks a rule, and those of interfaces that the tables lack. Nothing is guessed of
+/// these: an id whose object may be another since a message that could not be read has none that is
+/// known. For each piece call [`pass`](Inspector::pass) and [`follow`](Inspector::follow), and then
+/// [`ahead`](Inspector::ahead) and [`go_past`](Inspector::go_past) until no message is in front.
+///
+/// ```
+/// # use waywire::{Inspector, Sender, Spelled, Tables};
+/// # fn main() -> Result<(), Box<dyn std::error::Error>> {
+/// # let tables = Tables::core()?;
+/// # let mut inspector = Inspector::new(&tables, Inspector::USUAL_LIMIT)?;
+/// // A request for an object that never was, and wl_display.sync with the new id 2.
+/// let piece = [9, 0, 0, 0, 0, 0, 8, 0, 1, 0, 0, 0, 0, 0, 12, 0, 2, 0, 0, 0];
+/// inspector.pass(Sender::Client, &piece, 0)?;
+/// inspector.follow(Sender::Client, &piece)?;
+/// let mut names = Vec::new();
+/// while let Some(message) = inspector.ahead(Sender::Client) {
+///     names.push(message.decoded().map(|it| it.name().to_string()));
+///     inspector.go_past(Sender::Client)?;
+/// }
+/// assert_eq!(names, [None, Some("sync".to_string())]);
+/// assert_eq!(inspector.judged_count(), 0);
+/// let callback = inspector.object(2).expect("it is made");
+/// assert_eq!((callback.birth, tables.name(callback.interface)), (2, Some("wl_callback")));
+/// # Ok(())
+/// # }
+/// ```
 #[derive(Debug)]
 pub struct Inspector(sys::Inspector);
 
@@ -88,6 +119,186 @@ impl Inspector {
     pub fn verdict(&mut self) -> Result<Verdict<'_>, NoMemory> {
         let (line, is_broken) = self.0.verdict()?;
         Ok(Verdict { line, is_broken })
+    }
+
+    /// The verdict on all pieces so far, in parts.
+    pub fn judgement(&self) -> Judgement {
+        self.0.judgement()
+    }
+
+    /// How many messages were judged: the first so many of those that passed in both directions. All
+    /// of them are lawful.
+    pub fn judged_count(&self) -> u64 {
+        self.0.judged_count()
+    }
+
+    /// Takes the bytes of a piece, behind those of the same sender that are not gone past.
+    pub fn follow(&mut self, sender: Sender, bytes: &[u8]) -> Result<(), NoMemory> {
+        self.0.follow(sender, bytes)
+    }
+
+    /// The message in front of a sender's bytes, as soon as it is whole, or as its header's size is
+    /// none that a message may have.
+    pub fn ahead(&self, sender: Sender) -> Option<Followed<'_>> {
+        self.0.ahead(sender).map(Followed)
+    }
+
+    /// Goes past that message, if one is there: what it makes, destroys and frees is known from then
+    /// on. Behind one of a bad size no more messages of its sender are found. Where memory runs out,
+    /// nothing has changed.
+    pub fn go_past(&mut self, sender: Sender) -> Result<(), NoMemory> {
+        self.0.go_past(sender)
+    }
+
+    /// What is known of an id, behind the messages that were gone past.
+    pub fn object(&self, id: u32) -> Option<Known> {
+        self.0.object(id)
+    }
+
+    /// How many ids there are to ask for: of the client's range those below this number, of the
+    /// server's range so many from 0xff000000 on. No other id is known.
+    pub fn id_count(&self, maker: Sender) -> usize {
+        self.0.id_count(maker)
+    }
+
+    /// The newest version in which a global of this name was announced with this interface; `None`
+    /// stands for every interface that the tables lack.
+    pub fn announced(&self, name: u32, interface: Option<Interface>) -> Option<u32> {
+        Some(self.0.announced(name, interface)).filter(|&version| version != 0)
+    }
+}
+
+/// A verdict in parts.
+#[derive(Clone, Copy, Debug, PartialEq, Eq)]
+pub enum Judgement {
+    /// No message breaks a rule.
+    Lawful {
+        /// How many requests were judged.
+        requests: usize,
+        /// How many events were.
+        events: usize,
+        /// Bytes of the client that are of no message that was judged.
+        left_to_server: usize,
+        /// Bytes of the server that are of none.
+        left_to_client: usize,
+    },
+    /// A message breaks a rule.
+    Broken {
+        /// Who sent it.
+        sender: Sender,
+        /// Its number among those of its sender, from 1.
+        index: usize,
+        /// Where it begins in the bytes of its sender.
+        offset: usize,
+        /// The rule.
+        fault: FaultKind,
+    },
+}
+
+/// What is known of an id.
+#[derive(Clone, Copy, Debug, PartialEq, Eq)]
+pub struct Known {
+    /// The number of the message that made the object; 0 of wl_display.
+    pub birth: u64,
+    /// The object's interface.
+    pub interface: Interface,
+    /// Its version.
+    pub version: u32,
+    /// Whether it was destroyed, and its id is not free yet.
+    pub is_ending: bool,
+}
+
+/// An object that a message makes.
+#[derive(Clone, Copy, Debug, PartialEq, Eq)]
+pub struct Made {
+    /// Its id.
+    pub id: u32,
+    /// Its interface.
+    pub interface: Interface,
+    /// Its version.
+    pub version: u32,
+}
+
+/// A message that an inspector follows: lent from it.
+#[derive(Clone, Copy, Debug)]
+pub struct Followed<'a>(sys::Followed<'a>);
+
+impl<'a> Followed<'a> {
+    /// Who sent it.
+    pub fn sender(&self) -> Sender {
+        self.0.sender()
+    }
+
+    /// Its number among the messages of both senders, from 1. It was judged if
+    /// [`judged_count`](Inspector::judged_count) is at least this.
+    pub fn number(&self) -> u64 {
+        self.0.number()
+    }
+
+    /// Its number among those of its sender, from 1, as a verdict counts.
+    pub fn index(&self) -> usize {
+        self.0.index()
+    }
+
+    /// Where it begins in the bytes of its sender.
+    pub fn offset(&self) -> usize {
+        self.0.offset()
+    }
+
+    /// Its bytes; all that came, if no message has its size.
+    pub fn bytes(&self) -> &'a [u8] {
+        self.0.bytes()
+    }
+
+    /// The id of the object that it is for.
+    pub fn target(&self) -> u32 {
+        self.0.target()
+    }
+
+    /// Which message of its target's interface it is.
+    pub fn opcode(&self) -> u16 {
+        self.0.opcode()
+    }
+
+    /// The bytes of the whole message, its header counted, as the header says.
+    pub fn size(&self) -> u16 {
+        self.0.size()
+    }
+
+    /// The object that it is for, as it is known before the message.
+    pub fn object(&self) -> Option<Known> {
+        self.0.object()
+    }
+
+    /// Whether its object is known, the tables have it, and it names no object that is not known.
+    pub fn is_read(&self) -> bool {
+        self.0.is_read()
+    }
+
+    /// The object that it makes.
+    pub fn made(&self) -> Option<Made> {
+        self.0.made()
+    }
+
+    /// The id of the object that it destroys, or may have destroyed.
+    pub fn destroyed(&self) -> Option<u32> {
+        self.0.destroyed()
+    }
+
+    /// The id that it frees, if it is a wl_display.delete_id.
+    pub fn deleted(&self) -> Option<u32> {
+        self.0.deleted()
+    }
+
+    /// How many descriptors a message that was read takes.
+    pub fn descriptor_count(&self) -> usize {
+        self.0.descriptor_count()
+    }
+
+    /// The message with its name and its arguments, taken apart by the inspector's tables and what is
+    /// known of its object. `None` if nothing is known of that.
+    pub fn decoded(&self) -> Option<Decoded<'a>> {
+        self.0.decoded().map(Decoded)
     }
 }
 

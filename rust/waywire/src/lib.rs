@@ -22,7 +22,7 @@
 //! loop is yours.
 //!
 //! ```
-//! use waywire::{Arg, Client, Incoming, Server, Sizes, Tables, event, request};
+//! use waywire::{Arg, Client, Incoming, Server, Sizes, Tables, Value, event, request};
 //!
 //! # fn main() -> Result<(), Box<dyn std::error::Error>> {
 //! let tables = Tables::core()?;
@@ -36,10 +36,12 @@
 //! let (mut bytes, mut descriptors) = ([0; 4096], Vec::new());
 //! let taken = client.take(&mut bytes, &mut descriptors, 28);
 //! server.feed(&bytes[..taken.bytes], &mut descriptors)?;
-//! let asked = server.next()?.expect("a whole request came").opcode();
-//! assert_eq!(asked, request::wl_display::SYNC);
+//! let asked = server.next()?.expect("a whole request came");
+//! assert_eq!(asked.opcode(), request::wl_display::SYNC);
+//! // Each end names its own objects: this one is the server's, which stands for the client's.
+//! let Some(Value::NewId(made)) = asked.args().next() else { panic!("sync makes an object") };
 //!
-//! server.send(callback, event::wl_callback::DONE, &[Arg::Uint(7)])?;
+//! server.send(made, event::wl_callback::DONE, &[Arg::Uint(7)])?;
 //! let taken = server.take(&mut bytes, &mut descriptors, 28);
 //! client.feed(&bytes[..taken.bytes], &mut descriptors)?;
 //! match client.next()? {
@@ -196,7 +198,7 @@ pub use decoded::{Decoded, Spelled};
 pub use error::{
     Failed, Fault, FaultKind, GlobalError, NewError, NextError, NoMemory, SendError, TablesError,
 };
-pub use inspector::{Inspector, Sender, Verdict};
+pub use inspector::{Followed, Inspector, Judgement, Known, Made, Sender, Verdict};
 pub use owned::{OwnedMessage, OwnedValue};
 pub use report::{Event, Incoming, Message, Named, ProtocolError, Replaced, Request};
 pub use server::Server;

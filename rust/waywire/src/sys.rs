@@ -33,7 +33,7 @@ mod tables;
 
 pub use decoded::Decoded;
 pub use end::{End, Going};
-pub use inspector::Inspector;
+pub use inspector::{Followed, Inspector};
 pub use reading::Reading;
 pub use socket::{connect, has_lost, inherited, poll, receive, send, Listening, Pollfd};
 pub use tables::Tables;
@@ -519,6 +519,7 @@ mod tests {
         };
         wanted.extend(decoded::tests::layout());
         wanted.extend(end::tests::layout());
+        wanted.extend(inspector::tests::layout());
         wanted.extend(tables::tests::layout());
         wanted.push(("sizeof(waywire_object)".into(), size_of::<Object>()));
         wanted.push(("sizeof(waywire_status)".into(), size_of::<u32>()));

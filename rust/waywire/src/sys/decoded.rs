@@ -28,7 +28,7 @@ extern "C" {
 /// `waywire_decoded`.
 #[derive(Clone, Copy, Debug)]
 #[repr(C)]
-struct RawDecoded {
+pub struct RawDecoded {
     target: u32,
     opcode: u16,
     size: u16,
@@ -59,6 +59,16 @@ impl<'a> Decoded<'a> {
         sender: Sender,
         bytes: &'a [u8],
     ) -> Option<Decoded<'a>> {
+        let (at, from, length) = (bytes.as_ptr().cast(), sender.number(), bytes.len());
+        // Safety: the tables are the library's, and all else lasts longer than the call.
+        Decoded::by(|decoded| unsafe {
+            waywire_tables_decode(tables.at(), interface, version, from, at, length, decoded)
+        })
+    }
+
+    /// What a call of the library takes apart, which returns its status: the name must lie in tables,
+    /// and all else in bytes, that are borrowed for `'a`. `None` if nothing is taken apart.
+    pub fn by(take_apart: impl FnOnce(*mut RawDecoded) -> u32) -> Option<Decoded<'a>> {
         let mut raw = RawDecoded {
             target: 0,
             opcode: 0,
@@ -71,18 +81,7 @@ impl<'a> Decoded<'a> {
             interfaces: [0; MAX_ARGS as usize],
             args: [NO_ARG; MAX_ARGS as usize],
         };
-        // Safety: the tables are the library's, and all else lasts longer than the call.
-        let status = unsafe {
-            waywire_tables_decode(
-                tables.at(),
-                interface,
-                version,
-                sender.number(),
-                bytes.as_ptr().cast(),
-                bytes.len(),
-                &mut raw,
-            )
-        };
+        let status = take_apart(&mut raw);
         let fault = match status {
             OK => None,
             FAULT_BAD_SIZE..=FAULT_TOO_MANY_OBJECTS => {
