@@ -249,7 +249,8 @@ impl<A: Allocator> Inbox<A> {
     pub fn body(&mut self) -> &[u8]
         requires { HasMessage (in_front self.old) }
         ensures* stays { sem 𝓛 (Rests (the_row A.row A.Allocator) self.entry (λ i. i ≡ self.old)) }
-        ensures body { result.now ≡ drop 8 (take (message_size (in_front self.old)) self.old.bytes) }
+        ensures body { result.now
+            ≡ drop 8 (take (message_size (in_front self.old)) self.old.bytes) }
     {
         let size = copy_message(&self.bytes, &mut self.message, self.copied_len);
         self.copied_len = size;

@@ -1,7 +1,8 @@
 -- How errors are printed.
 use Rattle.std.specs.Prelude.{ℕ, List, codes}
 use Rattle.wl_object_map.specs.declared.object.TableError.{TableError}
-use Rattle.wl_object_map.specs.declared.object.TableError.TheVariants.{NoIds, NotNext, InUse, Memory}
+use Rattle.wl_object_map.specs.declared.object.TableError.TheVariants.{NoIds, NotNext, InUse}
+use Rattle.wl_object_map.specs.declared.object.TableError.TheVariants.{Memory}
 
 abbrev pub table_error_text : TableError → List ℕ
 table_error_text NoIds = codes "no more objects can be opened"
