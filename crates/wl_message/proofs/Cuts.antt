@@ -1,4 +1,4 @@
--- The messages of a stream and its rest.
+-- The messages of a stream, and what is left of it after them.
 use Rattle.std.proofs.Common.{◌≡◌, ◌≢◌, ℕ, zero, suc, ◌+◌, ◌*◌, ◌/◌, ◌%◌, ◌<◌, ◌≤◌, ◌^◌, false}
 use Rattle.std.proofs.Common.{List, [], ◌∷◌, ◌++◌, length, take, drop, refl, sym, ap, subst, ◌∙◌}
 use Rattle.std.proofs.Common.{arith, length-append}
@@ -13,9 +13,9 @@ use Rattle.wl_message.specs.Cut.{front, Front, More, Bad, Whole, told_size, is_s
 use Rattle.wl_message.specs.Cut.{IsMessage, IsCut, Cut, cut_within, messages_in_stream, rest_of}
 use Rattle.wl_message.proofs.Fronts.{Seen, short, long, whole, bad, seen, front_stands, is_size-true}
 
--- ---- what stands in front
+-- ---- the front of a stream
 
--- what a header tells stays told
+-- further bytes do not change the size in a header
 told_append : (xs ys : List ℕ) → 8 ≤ length xs → told_size (xs ++ ys) ≡ told_size xs
 told_append xs ys h =
     let p = get_or_append_left xs ys 0 6 (omega arith) in
@@ -35,26 +35,26 @@ whole_at limit bytes f (long p q r) s h = absurd (omega arith)
 whole_at limit bytes f (whole q r) s h = refl
 whole_at limit bytes f (bad p q) s h = let e = is_size-true limit (told_size bytes) s in absurd (cc (e, q))
 
--- a whole message is found in front
+-- a whole message at the front is found
 pub front_whole : (limit : ℕ) (bytes : List ℕ) → IsSize limit (told_size bytes) → told_size bytes ≤ length bytes
     → front limit bytes ≡ Whole (told_size bytes)
 front_whole limit bytes s h = whole_at limit bytes (front limit bytes) (seen limit bytes) s h
 
--- whatever follows it
+-- it is found whatever follows it
 pub front_message : (limit : ℕ) (m more : List ℕ) → IsMessage limit m → front limit (m ++ more) ≡ Whole (length m)
 front_message limit m more h =
     let e : told_size (m ++ more) ≡ length m = told_append m more h.size.header ∙ h.told in
     front_whole limit (m ++ more) (subst (IsSize limit) (sym e) h.size) (omega (arith, e, length-append m more))
     ∙ ap Whole e
 
--- what stands in front is a whole message
+-- the message found at the front is whole
 pub message_there : (limit : ℕ) (bytes : List ℕ) (n : ℕ) → front limit bytes ≡ Whole n → IsMessage limit (take n bytes)
 message_there limit bytes n h =
     let s = front_stands limit bytes n h in
     let l : length (take n bytes) ≡ n = omega (arith, length-take n bytes, s.there) in
     record { told = told_take n bytes s.size.header ∙ sym s.told ∙ sym l; size = subst (IsSize limit) (sym l) s.size }
 
--- what stands in front stays there when more comes
+-- a message found at the front is still found if more bytes come
 pub whole_stays : (limit : ℕ) (bytes more : List ℕ) (n : ℕ) → front limit bytes ≡ Whole n
     → front limit (bytes ++ more) ≡ Whole n
 whole_stays limit bytes more n h =
@@ -71,7 +71,7 @@ bad_at limit bytes f (long p q r) h e = let t = is_size-true limit (told_size by
 bad_at limit bytes f (whole q r) h e = let t = is_size-true limit (told_size bytes) q in absurd (cc (e, t))
 bad_at limit bytes f (bad p q) h e = refl
 
--- a bad size: the header is there, and no message has the size that it tells
+-- a bad size: there is a header, and no message may have the size in it
 pub record Spoiled (limit : ℕ) (bytes : List ℕ) (n : ℕ) : Type 0 where
   pub told : n ≡ told_size bytes
   pub header : 8 ≤ length bytes
@@ -105,7 +105,7 @@ told_header : (n o : ℕ) → n < 2 ^ 16 → o < 2 ^ 16
     → (n * 65536 + o) / 65536 % 256 + 256 * ((n * 65536 + o) / 16777216 % 256) ≡ n
 told_header n o p q = omega arith
 
--- a header that tells as many bytes as there are makes a whole message
+-- a header and arguments are a message if the header has their length as its size
 pub headed : (limit : ℕ) (header : Header) (arguments : List ℕ)
     → header.size ≡ length (header_bytes header ++ arguments) → header.size < 2 ^ 16 → header.opcode < 2 ^ 16
     → IsSize limit header.size → IsMessage limit (header_bytes header ++ arguments)
@@ -145,7 +145,7 @@ none_at limit bytes count More e h = cut_more limit bytes count e
 none_at limit bytes count (Bad n) e h = cut_bad limit bytes count n e
 none_at limit bytes count (Whole n) e h = absurd (h n e)
 
--- the messages of a cut are at most as many as its bytes
+-- a cut has at most as many messages as bytes
 few : (limit : ℕ) (ms : List (List ℕ)) → AllByRecursion (IsMessage limit) ms → length ms ≤ length (concat ms)
 few limit [] h = omega arith
 few limit (m ∷ ms) h = omega (arith, few limit ms h.1, h.0.size.header, length-append m (concat ms))
@@ -157,7 +157,7 @@ drop_front : (xs ys : List ℕ) → drop (length xs) (xs ++ ys) ≡ ys
 drop_front xs ys = drop-append-le (length xs) xs ys (omega arith)
     ∙ ap (λ (l : List ℕ). l ++ ys) (drop_all (length xs) xs (omega arith))
 
--- what the sizes cut is what was joined
+-- cutting joined messages gives these messages
 joined_cut : (limit : ℕ) (ms : List (List ℕ)) (r : List ℕ) (count : ℕ) → AllByRecursion (IsMessage limit) ms
     → ((n : ℕ) → front limit r ≢ Whole n) → length ms ≤ count
     → cut_within count limit (concat ms ++ r) ≡ record { messages = ms; rest = r }
@@ -176,7 +176,7 @@ joined_cut limit (m ∷ ms) r (suc count) w l h =
     })
     ∙ (λ k. record { messages = m ∷ (i k).messages; rest = (i k).rest })
 
--- a stream has one cut
+-- a stream has only one cut
 pub one_cut : (limit : ℕ) (stream : List ℕ) (ms : List (List ℕ)) (r : List ℕ) → IsCut limit stream ms r
     → cut_within (length stream) limit stream ≡ record { messages = ms; rest = r }
 one_cut limit stream ms r c =
@@ -193,7 +193,7 @@ no_message : (limit : ℕ) (bytes : List ℕ) (f : Front) → front limit bytes 
     → IsCut limit bytes [] bytes
 no_message limit bytes f e h = record { joined = refl; whole = tt; last = λ n w. h n (sym e ∙ w) }
 
--- a message in front, and the cut of what follows
+-- the message at the front, and the cut of the bytes after it
 pub cut_step : (limit : ℕ) (bytes : List ℕ) (n : ℕ) (ms : List (List ℕ)) (r : List ℕ) → front limit bytes ≡ Whole n
     → IsCut limit (drop n bytes) ms r → IsCut limit bytes (take n bytes ∷ ms) r
 cut_step limit bytes n ms r h c = record {
@@ -237,7 +237,7 @@ all_append : {X : Type 0} (P : X → Type 0) (xs ys : List X) → AllByRecursion
 all_append P [] ys p q = q
 all_append P (x ∷ xs) ys p q = (p.0, all_append P xs ys p.1 q)
 
--- the cut of a stream that comes in two parts
+-- the cut of a stream that arrives in two parts
 pub cut_append : (limit : ℕ) (xs ys : List ℕ) (ms ns : List (List ℕ)) (r t : List ℕ) → IsCut limit xs ms r
     → IsCut limit (r ++ ys) ns t → IsCut limit (xs ++ ys) (ms ++ ns) t
 cut_append limit xs ys ms ns r t c d = record {
@@ -259,13 +259,13 @@ messages_append limit xs ys = messages_one limit (xs ++ ys) _ _
 none_empty : (limit : ℕ) (n : ℕ) → front limit [] ≢ Whole n
 none_empty limit n h = let e = front_none limit in cc (e, h)
 
--- messages joined are cut into these messages
+-- joined messages are cut into themselves
 pub messages_joined : (limit : ℕ) (ms : List (List ℕ)) → AllByRecursion (IsMessage limit) ms
     → (messages_in_stream limit (concat ms) ≡ ms) × (rest_of limit (concat ms) ≡ [])
 messages_joined limit ms w = messages_one limit (concat ms) ms []
     (record { joined = sym (append-nil (concat ms)); whole = w; last = none_empty limit })
 
--- one message after another
+-- the first message, and the messages of the bytes after it
 pub messages_whole : (limit : ℕ) (bytes : List ℕ) (n : ℕ) → front limit bytes ≡ Whole n
     → (messages_in_stream limit bytes ≡ take n bytes ∷ messages_in_stream limit (drop n bytes))
     × (rest_of limit bytes ≡ rest_of limit (drop n bytes))

@@ -1,4 +1,4 @@
--- Bytes that leave an outbox without tokens, part by part.
+-- Bytes that leave an outbox in parts, without tokens.
 use Rattle.std.proofs.Common.{◌≡◌, ℕ, zero, suc, ◌+◌, ◌-◌, ◌<◌, ◌≤◌, ◌⊎◌, inl, inr, List, [], ◌∷◌}
 use Rattle.std.proofs.Common.{◌++◌, length, take, drop, Option, Some, None, Ok, Err, refl, sym, ap}
 use Rattle.std.proofs.Common.{subst, ◌∙◌, arith, length-append, length-drop, append_assoc}
@@ -17,7 +17,7 @@ use Rattle.wl_message.proofs.PartedQueue.{some_messages}
 use Rattle.wl_message.proofs.TakenInStep.{passes, bytes_append, tokens_append}
 use Rattle.wl_message.proofs.Steps.{side}
 
--- ---- two parts, one after the other
+-- ---- two consecutive parts
 
 begun_step : (m : QueuedMessage) (ms : List QueuedMessage) (n b : ℕ)
     → begun (suc n - length m.bytes + b) ms ≡ begun (suc n - length m.bytes) ms
@@ -45,7 +45,7 @@ begun_within m ms n b lt =
     omega (arith, lt, length-append m.bytes []) in
     rw none (ap (λ (i : ℕ). begun i ms) p)
 
--- what a + b bytes begin is what a bytes begin, and then what b more do
+-- a + b bytes begin the messages that a bytes begin, and then those that b more bytes begin
 begun_more : (a b : ℕ) (ms : List QueuedMessage) → begun (a + b) ms
     ≡ begun a ms ++ begun (b - (length (all_bytes (begun a ms)) - a)) (drop (length (begun a ms)) ms)
 begun_more zero b [] = refl
@@ -84,7 +84,7 @@ newly_more o a b =
           )
     ]
 
--- what may go without tokens goes whole
+-- if n bytes may go without tokens, all of them go
 pub goes_all : (o : Outgoing) (n : ℕ) → MayGo o n 0 n → (goes o n 0).bytes ≡ n
 goes_all o n may =
     let g = goes_goes o n 0 in
@@ -93,7 +93,7 @@ goes_all o n may =
 all_goes : (o : Outgoing) (n : ℕ) → MayGo o n 0 n → Goes o n 0 (record { bytes = n; tokens = 0 })
 all_goes o n may = record { may = may; longest = λ k m. m.within; with_tokens = omega (arith, may.tokens_within) }
 
--- the rest of what waits is what waits then
+-- after n bytes are gone, the rest is what waits
 pub waiting_after : (o : Outgoing) (n : ℕ) → MayGo o n 0 n → waiting_bytes (after_taking o n) ≡ drop n (waiting_bytes o)
 waiting_after o n may =
     let p = passes o n 0 (record { bytes = n; tokens = 0 }) (all_goes o n may) in
@@ -109,7 +109,7 @@ waiting_after o n may =
     in omega (arith, e, len, length-append (take n (waiting_bytes o)) after.left) in
     sym (ap (drop n) bytes ∙ drop-append-le n (o.left ++ all_bytes begins) (all_bytes after.messages) within)
 
--- two parts are as one
+-- taking two parts is the same as taking both at once
 pub after_more : (o : Outgoing) (a b : ℕ) → MayGo o a 0 a → after_taking (after_taking o a) b ≡ after_taking o (a + b)
 after_more o a b may =
     let p = passes o a 0 (record { bytes = a; tokens = 0 }) (all_goes o a may) in
@@ -145,7 +145,7 @@ after_more o a b may =
       error_to = to d;
     }
 
--- ---- a part of what may go
+-- ---- a part of the bytes that may go
 
 tokens_part : (o : Outgoing) (a b : ℕ) → length (all_tokens (newly_begun o (a + b)))
     ≡ length (all_tokens (newly_begun o a)) + length (all_tokens (newly_begun (after_taking o a) b))
@@ -200,7 +200,7 @@ begins_tokens (suc n) (m ∷ ms) h f g = omega (
       (all_tokens (begun (suc n - length m.bytes) ms)),
 )
 
--- before what may go is gone, the next message needs no token
+-- until everything that may go is gone, the next message needs no token
 pub not_before : (o : Outgoing) (total w : ℕ) → MayGo o total 0 total → w < total → NextHasTokens (after_taking o w) → ⊥
 not_before o total w may h next =
     let after = after_taking o w in
@@ -220,7 +220,7 @@ begun_one m ms h =
     let z : 1 - length m.bytes ≡ 0 = omega (arith, h) in
     ap (λ (i : ℕ). m ∷ begun i ms) z ∙ ap (λ (l : List QueuedMessage). m ∷ l) (begun_none ms)
 
--- what waits where nothing more goes without a token
+-- what waits once nothing more may go without a token
 rest_waits : (left : List ℕ) (ms : List QueuedMessage) → AllByRecursion (λ (m : QueuedMessage). 0 < length m.bytes) ms
     → (0 < length (left ++ all_bytes ms) → 0 < length (all_tokens (begun (1 - length left) ms)))
     → (left ++ all_bytes ms ≡ []) ⊎ ((left ≡ []) × FirstHasTokens ms)
@@ -237,7 +237,7 @@ rest_waits (b ∷ left) ms some more =
     ∙ ap (λ (l : List QueuedMessage). length (all_tokens l)) (begun_none ms) in
     absurd (omega (arith, t, none))
 
--- once all goes that can, either nothing waits or the next message has tokens
+-- once everything that may go is gone, nothing waits or the next message has tokens
 pub stops : (h : Kept) (o : Outgoing) (taken : Amounts) → IsKept h → outgoing h ≡ o
     → Goes o (length (waiting_bytes o)) 0 taken
     → (waiting_bytes (after_taking o taken.bytes) ≡ []) ⊎ NextHasTokens (after_taking o taken.bytes)
@@ -268,7 +268,7 @@ pub is_may : (o : Outgoing) (taken : Amounts) → Goes o (length (waiting_bytes 
     → MayGo o taken.bytes 0 taken.bytes
 is_may o taken g = record { there = g.may.there; within = omega arith; tokens_within = g.may.tokens_within }
 
--- ---- what a flush comes to
+-- ---- the result of a flush
 
 no_tokens : (xs : List ℕ) → length xs ≤ 0 → xs ≡ []
 no_tokens [] h = refl
@@ -302,7 +302,7 @@ failed o held total w o' holds may h written =
       );
     }
 
--- all is gone that can go
+-- everything that may go is gone
 pub ended : (o : Outgoing) (held : Option (List ℕ)) (w : ℕ) (o' : Outgoing) (holds : Option (List ℕ)) → MayGo o w 0 w
     → Written o held w o' holds → (o'.left ≡ []) × (o'.messages ≡ []) → Flushes o held (Ok w) o' holds
 ended o held w o' holds may written none = record {
@@ -330,7 +330,7 @@ needs o held w o' holds may written some rest = record {
   needs_tokens = ((λ t. elim rest [ inl z ↦ absurd (some z) | inr n ↦ n ]), λ next. tt);
 }
 
--- ---- what several writes appended
+-- ---- what several writes append
 
 pub appends_more : (a b c : Option (List ℕ)) (xs : List ℕ) (w n : ℕ) → Appends a b (take w xs)
     → Appends b c (take n (drop w xs)) → Appends a c (take (w + n) xs)
@@ -353,7 +353,7 @@ appends_kept (Some a) None c xs p q = absurd p
 appends_kept (Some a) (Some b) None xs p q = absurd q
 appends_kept (Some a) (Some b) (Some c) xs p q = q ∙ p
 
--- the front of a front
+-- a prefix of a prefix
 pub take_of_front : (n : ℕ) (part xs : List ℕ) → part ≡ take (length part) xs → n ≤ length part
     → take n part ≡ take n xs
 take_of_front n [] xs e h = let z : n ≡ 0 = omega (arith, h) in rw z refl

@@ -1,4 +1,4 @@
--- What stands in front of bytes.
+-- The front of a queue.
 use Rattle.std.proofs.Common.{◌≡◌, ℕ, ◌+◌, ◌-◌, ◌<◌, ◌≤◌, Bool, true, false, cond, List, [], ◌++◌}
 use Rattle.std.proofs.Common.{length, take, drop, refl, sym, ap, subst, ◌∙◌, arith}
 use Rattle.std.proofs.Common.{ltb}
@@ -10,7 +10,7 @@ use Rattle.wl_wire.specs.declared.header.Header.{Header}
 use Rattle.wl_message.specs.Arrived.{HasParts}
 use Rattle.wl_message.specs.Cut.{front, Front, More, Bad, Whole, told_size, is_size, IsSize, HasMessage, message_size}
 
--- the test tells the fact
+-- the test implies the fact
 pub size_is : (limit n : ℕ) → is_size limit n ≡ true → IsSize limit n
 size_is limit n h = record {
   header = grind (arith, nat_tests);
@@ -21,7 +21,7 @@ size_is limit n h = record {
 pub is_size-true : (limit n : ℕ) → IsSize limit n → is_size limit n ≡ true
 is_size-true limit n h = grind (arith, nat_tests, h.header, h.words, h.within)
 
--- the cases of what stands in front
+-- the cases of the front
 pub data Seen (limit : ℕ) (bytes : List ℕ) : Front → Type 0 where
   short : length bytes < 8 → Seen limit bytes More
   long : 8 ≤ length bytes → IsSize limit (told_size bytes) → length bytes < told_size bytes → Seen limit bytes More
@@ -41,7 +41,7 @@ pub seen : (limit : ℕ) (bytes : List ℕ) → Seen limit bytes (front limit by
 unfolding front
 seen limit bytes = seen_at limit bytes _ _ _ refl refl refl
 
--- a whole message in front: its size is told, a message may have it, and so many bytes are there
+-- a whole message at the front: its size is in the header and allowed, and its bytes are there
 pub record Stands (limit : ℕ) (bytes : List ℕ) (n : ℕ) : Type 0 where
   pub told : n ≡ told_size bytes
   pub size : IsSize limit n
@@ -58,7 +58,7 @@ stands_at limit bytes n f (whole q r) e =
 pub front_stands : (limit : ℕ) (bytes : List ℕ) (n : ℕ) → front limit bytes ≡ Whole n → Stands limit bytes n
 front_stands limit bytes n h = stands_at limit bytes n (front limit bytes) (seen limit bytes) h
 
--- a message in front has its size
+-- the size of the message at the front
 has_at : (f : Front) → HasMessage f → f ≡ Whole (message_size f)
 has_at More h = absurd h
 has_at (Bad n) h = absurd h
@@ -68,7 +68,7 @@ pub has_message : (limit : ℕ) (bytes : List ℕ) → HasMessage (front limit b
     → Stands limit bytes (message_size (front limit bytes))
 has_message limit bytes h = front_stands limit bytes _ (has_at (front limit bytes) h)
 
--- the front of bytes is its header and what stands behind that
+-- the bytes of a message are its header and the rest
 pub parts_of : (bytes : List ℕ) (h : Header) → 8 ≤ h.size → h.size ≤ length bytes → take 8 bytes ≡ header_bytes h
     → HasParts bytes h
 parts_of bytes h low there e =
@@ -84,22 +84,22 @@ parts_of bytes h low there e =
 pub header_alone : (xs : List ℕ) → drop 8 (take 8 xs) ≡ []
 header_alone xs = drop_all 8 (take 8 xs) (omega (arith, length-take 8 xs))
 
--- a front that ends in the first of two lists, one after the other, is that list's
+-- a prefix of two joined lists that ends in the first is a prefix of the first
 pub front_of_first : {X : Type 0} (a b c : List X) (n : ℕ) → a ++ b ≡ c → n ≤ length a → take n a ≡ take n c
 front_of_first a b c n e h = sym (take-append-le n a b h) ∙ ap (take n) e
 
--- the front of two lists, one after the other, ends in the first
+-- of such a prefix, nothing is from the second list
 pub front_in_first : {X : Type 0} (a b c : List X) (n : ℕ) → a ++ b ≡ c → n ≤ length a
     → take n a ++ take 0 b ≡ take n c
 front_in_first a b c n e h = append-nil (take n a) ∙ front_of_first a b c n e h
 
--- or goes past it
+-- a prefix that goes past the first list
 pub front_past_first : {X : Type 0} (a b c : List X) (n : ℕ) → a ++ b ≡ c → length a ≤ n
     → a ++ take (n - length a) b ≡ take n c
 front_past_first a b c n e h =
     let k : length a + (n - length a) ≡ n = omega (arith, h) in
     sym (take-append-add a b (n - length a)) ∙ ap (λ (m : ℕ). take m (a ++ b)) k ∙ ap (take n) e
 
--- how long two parts of a front are together
+-- the length of a prefix in two parts
 pub parts_len : {X : Type 0} (a b c : List X) (n : ℕ) → a ++ b ≡ take n c → n ≤ length c → length a + length b ≡ n
 parts_len a b c n e h = sym (length-append a b) ∙ ap length e ∙ length-take-le n c h

@@ -1,4 +1,4 @@
--- A limit is told by its number of bytes.
+-- Two limits with the same number of bytes are equal.
 use Rattle.std.proofs.Common.{◌≡◌}
 use Rattle.std.proofs.Props.{props}
 use mathlib.Core.HLevel.{is_prop→PathP}

@@ -1,4 +1,4 @@
--- An outbox's lists, parted into messages.
+-- The lists in an outbox, split into messages.
 use Rattle.std.proofs.Common.{◌≡◌, ℕ, zero, suc, ◌+◌, ◌-◌, ◌*◌, ◌<◌, ◌≤◌, min, true, false, List}
 use Rattle.std.proofs.Common.{[], ◌∷◌, ◌++◌, length, take, drop, refl, sym, ap, subst, ◌∙◌, arith}
 use Rattle.std.proofs.Common.{length-append, length-drop}
@@ -53,7 +53,7 @@ counts-parts (suc n) (k ∷ ks) = omega (arith, counts-parts n ks)
 
 -- ---- messages
 
--- marks that tell of these bytes and tokens
+-- the marks have these numbers of bytes and tokens in all
 pub record Parts (ks : List Mark) (bs ts : List ℕ) : Type 0 where
   pub bytes : lens ks ≡ length bs
   pub tokens : token_counts ks ≡ length ts
@@ -110,7 +110,7 @@ length-parted : (ks : List Mark) (bs ts : List ℕ) → length (parted ks bs ts)
 length-parted [] bs ts = refl
 length-parted (k ∷ ks) bs ts = ap suc (length-parted ks _ _)
 
--- a message more at the end
+-- one more message at the end
 pub parted-append : (ks : List Mark) (bs ts m t : List ℕ) → Parts ks bs ts
     → parted (ks ++ record { len = length m; tokens = length t } ∷ []) (bs ++ m) (ts ++ t)
     ≡ parted ks bs ts ++ queued m t ∷ []
@@ -130,7 +130,7 @@ parted-append (k ∷ ks) bs ts m t h =
       rest,
     ) refl
 
--- the first messages, and the others
+-- the first n messages, and the others
 pub record Split (n : ℕ) (ks : List Mark) (bs ts : List ℕ) : Type 0 where
   pub bytes : all_bytes (take n (parted ks bs ts)) ≡ take (lens (take n ks)) bs
   pub tokens : all_tokens (take n (parted ks bs ts)) ≡ take (token_counts (take n ks)) ts
@@ -166,7 +166,7 @@ tokens_wait h i = tokens-parted h.marks _ _ (kept_parts h i)
 pub left_len : (h : Kept) → IsKept h → length (take h.left h.bytes) ≡ h.left
 left_len h i = omega (arith, i.bytes, length-take h.left h.bytes)
 
--- a message more
+-- an outbox with one more message
 abbrev pub kept_with : Kept → List ℕ → List ℕ → Kept
 kept_with h m t = record h {
   bytes = h.bytes ++ m;
@@ -223,7 +223,7 @@ pushed_kept h m t i low room token_room = record {
   no_error = i.no_error;
 }
 
--- the error event
+-- an outbox with the error event
 abbrev pub kept_with_error : Kept → List ℕ → Kept
 kept_with_error h m = record h {
   bytes = h.bytes ++ m;
@@ -300,7 +300,7 @@ reaches_kept h b t first r i f e =
     }))
     (λ d. l d - sym f' d) g
 
--- what leaves, by how far the messages that are not begun go
+-- what leaves, computed from how far the messages that are not begun reach into the room
 abbrev pub leaving : Kept → ℕ → ℕ → ℕ → Reach → Leaving
 leaving h b t first r = record {
   taken = record { bytes = b - r.bytes; tokens = t - r.tokens };
@@ -308,7 +308,7 @@ leaving h b t first r = record {
   left = h.left - first + r.left;
 }
 
--- that is what goes
+-- this is what goes
 pub record GoesOut (o : Outgoing) (b t : ℕ) (l : Leaving) : Type 0 where
   pub taken : l.taken ≡ goes o b t
   pub leaving : IsLeaving o l
@@ -332,7 +332,7 @@ goes_out h b t first r i f e =
       };
     }
 
--- the outbox once n bytes and k tokens are gone
+-- the outbox after n bytes and k tokens are gone
 abbrev pub kept_after : Kept → ℕ → ℕ → ℕ → ℕ → Kept
 kept_after h n k begun left = record h {
   bytes = drop n h.bytes;
@@ -343,7 +343,7 @@ kept_after h n k begun left = record h {
   error_to = h.error_to - n;
 }
 
--- how much goes, and what that leaves
+-- how much leaves, and what is left after it
 pub record Leaves (h : Kept) (l : Leaving) : Type 0 where
   pub bytes : l.taken.bytes ≤ length h.bytes
   pub tokens : l.taken.tokens ≤ length h.tokens

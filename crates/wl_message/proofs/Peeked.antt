@@ -1,4 +1,4 @@
--- What can go at one time.
+-- What can go at once.
 use Rattle.std.proofs.Common.{◌≡◌, ℕ, zero, suc, ◌-◌, ◌≤◌, List, [], ◌∷◌, length, take}
 use Rattle.std.proofs.Common.{min, sym, ap, ◌∙◌, arith, inl, inr, length-append, length-take-le}
 use Rattle.std.proofs.lemmas.Bool.{cases_lt}
@@ -7,7 +7,7 @@ use Rattle.wl_message.specs.Outgoing.{QueuedMessage, Outgoing, all_tokens, begun
 use Rattle.wl_message.specs.Outgoing.{waiting_bytes, waiting_tokens}
 use Rattle.wl_message.proofs.Waiting.{as_many}
 
--- more bytes begin no fewer messages
+-- more bytes begin at least as many messages
 begun_more : (m n : ℕ) (ms : List QueuedMessage) → m ≤ n
     → length (all_tokens (begun m ms)) ≤ length (all_tokens (begun n ms))
 begun_more m n [] h = omega arith

@@ -1,4 +1,4 @@
--- Pieces that bring messages in step, as a reader goes through them.
+-- Pieces that bring messages in step, from the view of a reader.
 use Rattle.std.proofs.Common.{◌≡◌, ℕ, ◌+◌, ◌-◌, ◌<◌, ◌≤◌, ◌⊎◌, inl, inr, true, false, ltb, List, []}
 use Rattle.std.proofs.Common.{◌∷◌, ◌++◌, length, take, drop, refl, sym, ap, ◌∙◌, arith}
 use Rattle.std.proofs.Common.{length-append}
@@ -6,22 +6,23 @@ use Rattle.std.proofs.lemmas.Bool.Decides.{nat_tests}
 use Rattle.std.proofs.lemmas.List.{length-drop, length-take}
 use Rattle.wl_message.specs.InStep.{Part, part_bytes, part_tokens, Need, total_size, total_need, InStep}
 
--- a piece without so many of its first bytes and tokens
+-- a piece without its first n bytes and k tokens
 abbrev pub less : Part → ℕ → ℕ → Part
 less p n k = record { bytes = drop n p.bytes; tokens = drop k p.tokens }
 
--- two pieces as one
+-- two pieces joined to one
 abbrev pub joined : Part → Part → Part
 joined p q = record { bytes = p.bytes ++ q.bytes; tokens = p.tokens ++ q.tokens }
 
--- The first message, of which a byte came with the first piece, has its tokens there, or none comes later.
+-- If a byte of the first message came with the first piece, its tokens came too, or no token comes
+-- later.
 pub step_first : (n : Need) (needs : List Need) (p : Part) (parts : List Part) → InStep (n ∷ needs) (p ∷ parts)
     → 0 < length p.bytes
     → (n.tokens ≤ length p.tokens) ⊎ (part_tokens parts ≡ [])
 step_first n needs p parts s h = elim (s [] n needs refl [] p parts refl (omega arith) (omega arith))
     [ inl x ↦ inl (omega arith) | inr x ↦ inr x ]
 
--- Once the first message was read, with its tokens, the others are still in step.
+-- After the first message is read with its tokens, the others are still in step.
 pub step_read : (n : Need) (needs : List Need) (p : Part) (parts : List Part) → InStep (n ∷ needs) (p ∷ parts)
     → n.size ≤ length p.bytes → n.tokens ≤ length p.tokens
     → InStep needs (less p n.size n.tokens ∷ parts)
@@ -75,7 +76,7 @@ joined_at needs p q parts s before this after e high (inr h) =
     elim (s before this after e (p ∷ []) q parts refl (omega arith) (omega arith))
     [ inl x ↦ inl (omega arith) | inr x ↦ inr x ]
 
--- Two pieces that come one directly after the other count as one.
+-- Two consecutive pieces count as one.
 pub step_joined : (needs : List Need) (p q : Part) (parts : List Part) → InStep needs (p ∷ q ∷ parts)
     → InStep needs (joined p q ∷ parts)
 step_joined needs p q parts s before this after e [] here later f low high =
@@ -106,7 +107,7 @@ step_joined needs p q parts s before this after e (y ∷ earlier) here later f l
     elim (s before this after e (p ∷ q ∷ earlier) here later (ap (λ (x : List Part). p ∷ q ∷ x) r) (omega arith)
     (omega arith)) [ inl x ↦ inl (omega arith) | inr x ↦ inr x ]
 
--- A piece of which only some of the bytes are taken at first, with all of its tokens, counts as two.
+-- A piece that is taken in two parts, all tokens with the first part, counts as two.
 pub step_parted : (needs : List Need) (p : Part) (n : ℕ) (parts : List Part) → InStep needs (p ∷ parts)
     → InStep needs (record { bytes = take n p.bytes; tokens = p.tokens }
     ∷ record { bytes = drop n p.bytes; tokens = [] } ∷ parts)

@@ -21,7 +21,7 @@ tokens_append [] ys = refl
 tokens_append (x ∷ xs) ys = ap (λ (l : List ℕ). x.tokens ++ l) (tokens_append xs ys)
     ∙ sym (append_assoc x.tokens (all_tokens xs) (all_tokens ys))
 
--- the messages that n bytes begin have at least n bytes, if there are so many
+-- the messages that n bytes begin have at least n bytes in all, if so many wait
 begun_enough : (n : ℕ) (ms : List QueuedMessage) → n ≤ length (all_bytes ms) → n ≤ length (all_bytes (begun n ms))
 begun_enough n [] h = h
 begun_enough zero (m ∷ ms) h = omega arith
@@ -94,7 +94,7 @@ carried sent o parts b t taken g c =
           ∙ ap (λ (l : List ℕ). l ++ all_tokens begins) c.tokens ∙ sym (tokens_append sent begins);
     }
 
--- a message whose first byte is among the bytes of these has its tokens among theirs
+-- a message whose first byte is among these messages' bytes has its tokens among theirs
 among : (these others before : List Need) (this : Need) (after : List Need) → these ++ others ≡ before ++ this ∷ after
     → total_size before < total_size these
     → total_need before + this.tokens ≤ total_need these
@@ -107,7 +107,7 @@ among (x ∷ these) others (y ∷ before) this after e h =
     let t = ap (λ (n : Need). n.tokens) f in
     omega (arith, among these others before this after d (omega (arith, s)), t)
 
--- where one more piece stands at the end
+-- one more piece is at the end
 abbrev pub EndsWith : List Part → Part → List Part → Part → List Part → Type 0
 EndsWith parts more earlier here later = (later ≡ [])
     ⊎ ((fewer : List Part) × (later ≡ fewer ++ more ∷ []) × (parts ≡ earlier ++ here ∷ fewer))
@@ -144,7 +144,7 @@ need_tokens : (ms : List QueuedMessage) → total_need (map need ms) ≡ length 
 need_tokens [] = refl
 need_tokens (m ∷ ms) = omega (arith, need_tokens ms, length-append m.tokens (all_tokens ms))
 
--- the tokens that came with the pieces up to this one are enough, or none comes later
+-- the tokens of the pieces up to this one are enough, or no token comes later
 abbrev pub Enough : List Need → Need → List Part → Part → List Part → Type 0
 Enough before this earlier here later =
     (total_need before + this.tokens ≤ length (part_tokens earlier) + length here.tokens) ⊎ (part_tokens later ≡ [])
@@ -209,7 +209,7 @@ keeps_step sent waiting left parts more c s before this after e earlier here lat
     keeps_at sent waiting left parts more c s before this after e earlier here later low high
     (ends_with parts more earlier here later f)
 
--- what an outbox gave is in step, whatever messages follow
+-- what an outbox has given is in step, whatever messages follow
 abbrev pub Tidy : List QueuedMessage → List Part → Outgoing → Type 0
 Tidy sent parts o = HaveCarried sent o.left parts × ((waiting : List QueuedMessage)
     → InStep (map need (sent ++ waiting)) parts)

@@ -1,4 +1,4 @@
--- Tokens that are taken out without their messages.
+-- Tokens that are taken without their messages.
 use Rattle.std.proofs.Common.{◌≡◌, ℕ, zero, suc, ◌-◌, ◌≤◌, min, List, [], ◌∷◌, ◌++◌, length, take, drop}
 use Rattle.std.proofs.Common.{refl, sym, ap, ◌∙◌, arith, length-append, append_assoc}
 use Rattle.std.proofs.lemmas.List.{take-append-drop}
@@ -8,7 +8,7 @@ use Rattle.wl_message.specs.Outgoing.{QueuedMessage, Outgoing, all_tokens, begun
 
 -- ---- an inbox
 
--- what is given of what waits, and what stays
+-- what was given before, what is given now, and what still waits
 parted : (given waiting : List ℕ) (n : ℕ) → given ++ waiting ≡ (given ++ take n waiting) ++ drop n waiting
 parted given waiting n =
     ap (λ (l : List ℕ). given ++ l) (sym (take-append-drop n waiting))
@@ -35,7 +35,7 @@ tokens_begun (suc n) (m ∷ ms) =
       length-append m.tokens (all_tokens ms),
     )
 
--- where all tokens find room, all goes
+-- if there is room for all bytes and all tokens, all bytes go
 pub all_go : (o : Outgoing) (t : ℕ) (taken : Amounts) → Goes o (length (waiting_bytes o)) t taken
     → length (waiting_tokens o) ≤ t → length (waiting_bytes o) ≤ taken.bytes
 all_go o t taken g h =
@@ -45,7 +45,7 @@ all_go o t taken g h =
       tokens_within = omega (arith, h, tokens_begun (length (waiting_bytes o) - length o.left) o.messages);
     })
 
--- and as much goes as there is room for bytes
+-- if there is room for all tokens, as many bytes go as there is room for
 pub as_many : (o : Outgoing) (b t : ℕ) (taken : Amounts) → Goes o b t taken → length (waiting_tokens o) ≤ t
     → taken.bytes ≡ min b (length (waiting_bytes o))
 as_many o b t taken g h =

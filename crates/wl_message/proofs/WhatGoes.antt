@@ -1,4 +1,4 @@
--- What goes of messages of which none is begun.
+-- What goes if no message is begun.
 use Rattle.std.proofs.Common.{◌≡◌, ℕ, zero, suc, ◌+◌, ◌-◌, ◌<◌, ◌≤◌, min, Bool, true, false, cond}
 use Rattle.std.proofs.Common.{◌||◌, eqb, ltb, ◌⊎◌, inl, inr, List, [], ◌∷◌, ◌++◌, length, take}
 use Rattle.std.proofs.Common.{refl, sym, ap, subst, ◌∙◌, arith, length-append}
@@ -52,7 +52,7 @@ going_there b t (m ∷ ms) =
     rw e (there_step b t (length m.bytes) (length m.tokens) _ _
     (going_there (b - length m.bytes) (t - length m.tokens) ms))
 
--- the tokens of the messages that n bytes begin
+-- how many tokens the messages have that n bytes begin
 abbrev pub tokens_by : ℕ → List QueuedMessage → ℕ
 tokens_by n ms = length (all_tokens (begun n ms))
 
@@ -101,7 +101,7 @@ going_longest b t (suc n) (m ∷ ms) p q r =
     (tokens_by (suc n - length m.bytes) ms) (omega arith) p (omega (arith, e, r))
     (λ x y. going_longest (b - length m.bytes) (t - length m.tokens) (suc n - length m.bytes) ms x there y)
 
--- ---- the same with what is left of the message begun last
+-- ---- the same, with the rest of a message that is begun
 
 behind : (b l d : ℕ) (f : ℕ → ℕ) → b - l ≡ d → f 0 ≡ 0 → (min b l + f d) - l ≡ f d
 behind b l zero f e z = omega arith
@@ -131,7 +131,7 @@ goes_goes o b t =
       with_tokens = refl;
     }
 
--- what goes is one amount
+-- what goes is determined
 pub goes_one : (o : Outgoing) (b t : ℕ) (taken : Amounts) → Goes o b t taken → taken ≡ goes o b t
 unfolding goes
 goes_one o b t taken g =
@@ -142,7 +142,7 @@ goes_one o b t taken g =
     let f = g.with_tokens ∙ ap (λ (n : ℕ). length (all_tokens (newly_begun o n))) e in
     λ i. record { bytes = e i; tokens = f i }
 
--- ---- how far messages go, told by what is left of the room
+-- ---- how far messages reach, computed from the room that is left
 
 pub record Agrees (ms : List QueuedMessage) (b t n g : ℕ) (r : Reach) : Type 0 where
   pub bytes : r.bytes + g ≡ b
@@ -225,14 +225,14 @@ agrees [] b t n h = agrees_none [] b t n
 agrees (m ∷ ms) b t n h =
     agrees_at m ms b t n _ _ _ _ _ refl refl refl h.0 (agrees ms (b - length m.bytes) (t - length m.tokens) (n + 1) h.1)
 
--- what goes into a room for b bytes and t tokens, told by what is left of it
+-- what goes into a room for b bytes and t tokens, from what is left of the room
 pub record ReachesRoom (o : Outgoing) (b t : ℕ) (r : Reach) : Type 0 where
   pub bytes : r.bytes + going_bytes o b t ≡ b
   pub tokens : r.tokens + length (all_tokens (newly_begun o (going_bytes o b t))) ≡ t
   pub begun : r.begun ≡ length (newly_begun o (going_bytes o b t))
   pub left : r.left + going_bytes o b t ≡ length (o.left ++ all_bytes (newly_begun o (going_bytes o b t)))
 
--- with what is left of the message begun last
+-- the same, with the rest of a message that is begun
 pub reaches : (o : Outgoing) (b t : ℕ) (r : Reach) → AllByRecursion (λ m. 0 < length m.bytes) o.messages
     → r ≡ reach (b - min b (length o.left)) t 0 (marks_of o.messages)
     → ReachesRoom o b t (record {

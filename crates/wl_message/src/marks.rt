@@ -33,7 +33,7 @@ pub(crate) struct Reach {
     pub left: usize,
 }
 
-/// What leaves an outbox, and what it does to the messages.
+/// What leaves an outbox, and how it changes the messages.
 #[derive(Clone, Copy, Debug)]
 pub(crate) struct Leaving {
     pub taken: Taken,

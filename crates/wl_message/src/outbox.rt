@@ -37,7 +37,7 @@ pub struct Outbox<A: Allocator = Global> {
     // How many bytes of ordinary messages may wait.
     capacity: usize,
     limit: Limit,
-    // Whether the error event was added, and which of the bytes are its.
+    // Whether the error event was added, and its place among the bytes.
     has_error: bool,
     error_from: usize,
     error_to: usize,
@@ -314,8 +314,8 @@ impl<A: Allocator> Outbox<A> {
         self.remove(leaving)
     }
 
-    /// The most bytes that can go at one time so that every token goes with the first byte, as in
-    /// `take`, however many of the bytes go; and how many of the waiting tokens these are.
+    /// The most bytes that can be sent at once, and how many of the waiting tokens go with them:
+    /// all with the first byte, as in `take`, even if only some of the bytes are sent.
     pub fn peek(&self) -> Peek<'_>
         ensures { Peeks self.now (result.front.now ++ result.back.now) result.tokens }
     {

@@ -93,7 +93,7 @@ pub(crate) fn copy_first<T: Copy, A: Allocator>(ring: &HeapCircularBuffer<T, A>,
     copy_parts(ring, to);
 }
 
-/// Copies the first items likewise, in two parts.
+/// The same if they are in two parts.
 fn copy_parts<T: Copy, A: Allocator>(ring: &HeapCircularBuffer<T, A>, to: &mut [T])
     requires { length to.old ≤ length ring.now.items }
     ensures { to.new ≡ take (length to.old) ring.now.items }

@@ -1,4 +1,5 @@
--- The chain of freed ids: what taking an id out, putting one first, and writes elsewhere make of it.
+-- The chain of freed ids: how it changes if an id is taken out or put first, or if a slot elsewhere
+-- is written.
 use Rattle.std.proofs.Common.{◌≡◌, ◌≢◌, ℕ, zero, suc, ◌+◌, ◌<◌, ◌≤◌, List, [], ◌∷◌, ◌++◌, refl, sym}
 use Rattle.std.proofs.Common.{◌∙◌, ap, cond, Bool, true, false, length, arith, eqb, ⊎_elim}
 use Rattle.std.proofs.lemmas.Bool.{cases_eq}
@@ -16,7 +17,7 @@ use Rattle.wl_object_map.specs.Slots.{next_in, followed, IsChain, IsPut, IsOlder
 
 -- Neighbours in a list.
 
--- what stands before an id is the head or stands in the list
+-- the newer neighbour of an id in the list is the head or in the list
 newer_stands : (head id : ℕ) (ids : List ℕ) → 0 < times id ids → 0 < times (newer_of head id ids) (head ∷ ids)
 newer_stands head id [] h = absurd (omega arith)
 newer_stands head id (x ∷ xs) h = let t = newer_stands x id xs in grind (arith, common_steps, nat_tests, t, h)
@@ -25,7 +26,7 @@ first_apart : (x : ℕ) (ids : List ℕ) → times x ids ≡ 0 → x ≢ 0 → x
 first_apart x [] t n = n
 first_apart x (y ∷ ys) t n = λ e. let no : false ≡ true = grind (arith, common_steps, nat_tests, t, e) in cc
 
--- what does not stand in the list, and is not 0, stands after none
+-- an id that is not 0 and not in the list is nobody's older neighbour
 older_apart : (id x : ℕ) (ids : List ℕ) → times x ids ≡ 0 → x ≢ 0 → x ≢ older_of id ids
 older_apart id x [] t n = n
 older_apart id x (y ∷ ys) t n = ⊎_elim
@@ -33,7 +34,7 @@ older_apart id x (y ∷ ys) t n = ⊎_elim
     (λ other. λ e. older_apart id x ys (omega arith) n (e ∙ grind (arith, common_steps, nat_tests, other)))
     (cases_eq y id)
 
--- another head changes only what stands before the first
+-- another head changes the newer neighbour of the first id only
 newer_head : (head other id : ℕ) (ids : List ℕ) → 0 < times id ids
     → newer_of head id ids ≡ cond (eqb id (first_or 0 ids)) head (newer_of other id ids)
 newer_head head other id [] h = absurd (omega arith)
@@ -74,7 +75,7 @@ newer_without head id q (x ∷ xs) once null one in_q other =
     let h = newer_without x id q xs tail in
     grind (arith, common_steps, nat_tests, here, w, n, a, h, null, one, in_q, other)
 
--- What the neighbours are, in a list that is split at an id.
+-- The neighbours of an id at which a list is split.
 
 older_in : (id : ℕ) (front rest : List ℕ) → times id front ≡ 0 → older_of id (front ++ id ∷ rest) ≡ first_or 0 rest
 older_in id [] rest out = grind (arith, common_steps, nat_tests)
@@ -85,8 +86,8 @@ newer_in : (head id : ℕ) (front rest : List ℕ) → times id front ≡ 0
 newer_in head id [] rest out = grind (arith, common_steps, nat_tests)
 newer_in head id (x ∷ xs) rest out = let h = newer_in x id xs rest in grind (arith, common_steps, nat_tests, h, out)
 
--- the slot of an id in the chain holds the last of those before it and the first of those after it,
--- 0 where there is none
+-- the slot of an id in the chain holds its two neighbours: the last id before it and the first one
+-- after it, 0 if there is none
 pub neighbours : (slots : List Slot) (first id : ℕ) (front rest : List ℕ) → IsChain slots first (front ++ id ∷ rest)
     → slot_at slots id ≡ Some (Free (last_or 0 front) (first_or 0 rest))
 neighbours slots first id front rest c =
@@ -117,7 +118,7 @@ spelled slots (x ∷ xs) once next =
     in grind (arith, common_steps, nat_tests, e) in
     ap (λ ys. x ∷ ys) (ap (followed (length xs) slots) first ∙ spelled slots xs tail on)
 
--- the chain, followed from its first id for as many ids as it has, spells them
+-- following the chain from its first id visits its ids in order
 pub follows : (slots : List Slot) (first : ℕ) (ids : List ℕ) → IsChain slots first ids → (n : ℕ) → n ≡ length ids
     → followed n slots first ≡ ids
 follows slots first ids c n e =
@@ -134,7 +135,7 @@ null_apart slots first ids c = ⊎_elim
 
 -- Changes of the slots.
 
--- slots that are the same at each id of the chain hold it too
+-- slots that are equal at each id of the chain hold the same chain
 pub kept : (old new : List Slot) (first : ℕ) (ids : List ℕ) → IsChain old first ids
     → ((q : ℕ) → 0 < times q ids → slot_at new q ≡ slot_at old q) → IsChain new first ids
 kept old new first ids c same = record {
@@ -153,7 +154,7 @@ pick_newer : (b : Bool) (x n o : ℕ) → cond b (with_newer x (Some (Free n o))
 pick_newer true x n o = refl
 pick_newer false x n o = refl
 
--- an id is taken out: its neighbours become each other's
+-- an id is taken out: its neighbours are linked to each other
 pub taken_out : (old mid new : List Slot) (first after id n o : ℕ) (ids : List ℕ)
     → IsChain old first ids → 0 < times id ids → slot_at old id ≡ Some (Free n o)
     → IsOlderSet n o old mid

@@ -1,4 +1,4 @@
--- The freed ids as a vector keeps them, the latest last.
+-- The freed ids in a vector, the latest last.
 use Rattle.std.proofs.Common.{◌≡◌, ℕ, ◌+◌, ◌<◌, ◌≤◌, List, [], ◌∷◌, ◌++◌, refl, sym, ◌∙◌, ap, cond}
 use Rattle.std.proofs.Common.{Bool, true, false, reverse, arith}
 use Rattle.std.proofs.lemmas.List.{reverse-append}
@@ -12,7 +12,7 @@ pub times-append : (id : ℕ) (xs ys : List ℕ) → times id (xs ++ ys) ≡ tim
 times-append id [] ys = omega arith
 times-append id (x ∷ xs) ys = let h = times-append id xs ys in omega arith
 
--- how often an id stands does not change with the order
+-- reversing a list keeps how often an id occurs
 pub times-reverse : (id : ℕ) (xs : List ℕ) → times id (reverse xs) ≡ times id xs
 times-reverse id [] = refl
 times-reverse id (x ∷ xs) =
@@ -23,7 +23,7 @@ times-last : (id : ℕ) (ys : List ℕ) → 0 < times id (ys ++ id ∷ [])
 times-last id [] = grind (arith, common_steps, nat_tests)
 times-last id (y ∷ ys) = let h = times-last id ys in omega arith
 
--- a list without the last, which stands there once
+-- a list without its last id, which occurs only there
 pub without-last : (id : ℕ) (ys : List ℕ) → times id (ys ++ id ∷ []) ≤ 1 → without id (ys ++ id ∷ []) ≡ ys
 without-last id [] h = grind (arith, common_steps, nat_tests)
 without-last id (y ∷ ys) h = let w = without-last id ys in let t = times-last id ys
@@ -32,7 +32,7 @@ without-last id (y ∷ ys) h = let w = without-last id ys in let t = times-last 
 one : (p : ℕ → Bool) (x : ℕ) → reverse (filter p (x ∷ [])) ≡ filter p (x ∷ [])
 one p x = elim (p x) as (λ b. reverse (cond b (x ∷ []) []) ≡ cond b (x ∷ []) []) [ true ↦ refl | false ↦ refl ]
 
--- what passes stays in its order
+-- filtering keeps the order
 pub reverse-filter : (p : ℕ → Bool) (xs : List ℕ) → reverse (filter p xs) ≡ filter p (reverse xs)
 reverse-filter p [] = refl
 reverse-filter p (x ∷ xs) =

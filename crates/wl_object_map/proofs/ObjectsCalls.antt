@@ -1,4 +1,4 @@
--- What the calls of the objects of both ranges make of their tables.
+-- How the calls of the objects of both ranges change their tables.
 use Rattle.std.proofs.Common.{◌≡◌, ℕ, ◌<◌, ◌≤◌, sym, ◌∙◌, ap, subst, Bool, true, not, ◌&&◌, inl, inr}
 use Rattle.std.proofs.lemmas.Bool.{cases_Bool}
 use Rattle.std.specs.Prelude.{OnOk, OnErr}
@@ -34,7 +34,7 @@ server_changed change o id l was kept at e =
     })
     ∙ sym (changed_server change o id (of_server id l))
 
--- An opening that may be refused keeps a table sound.
+-- An opening keeps a table sound, even if it is refused.
 
 pub opened_at_or_same : (answer : Result Object TableError) (old new : View) (id : ℕ) (iface : Iface) (version : ℕ)
     → Sound old

@@ -15,11 +15,11 @@ module _ {X : Type 0} where
   find_rows [] q = refl
   find_rows (e ∷ es) q = ap (cond (is_at (nat_cmp q) e.0) (Some e.1)) (find_rows es q)
 
-  -- what the finite map has at an id
+  -- the entry of an id in the finite map
   pub get_rows : (es : List (ℕ × X)) (q : ℕ) → get (from_entries {R = nat_cmp} es) q ≡ lookup (is_at (nat_cmp q)) es
   get_rows es q = get-from_entries nat_cmp_total es q ∙ find_rows es q
 
-  -- entries that have v at k, and else what es have
+  -- entries with v at k, and otherwise those of es
   pub rows_insert : (es fs : List (ℕ × X)) (k : ℕ) (v : X)
       → ((q : ℕ) → lookup (is_at (nat_cmp q)) fs ≡ cond (is_at (nat_cmp k) q) (Some v) (lookup (is_at (nat_cmp q)) es))
       → from_entries {R = nat_cmp} fs ≡ insert (from_entries es) k v
@@ -29,7 +29,7 @@ module _ {X : Type 0} where
       ∙ sym (get-insert nat_cmp_total (from_entries es) k v q
       ∙ ap (cond (is_at (nat_cmp q) k) (Some v)) (get_rows es q)))
 
-  -- entries that have nothing at k, and else what es have
+  -- entries with nothing at k, and otherwise those of es
   pub rows_remove : (es fs : List (ℕ × X)) (k : ℕ)
       → ((q : ℕ) → lookup (is_at (nat_cmp q)) fs ≡ cond (is_at (nat_cmp k) q) None (lookup (is_at (nat_cmp q)) es))
       → from_entries {R = nat_cmp} fs ≡ remove (from_entries es) k
@@ -38,7 +38,7 @@ module _ {X : Type 0} where
       ((eq_by_cmp_equiv nat_cmp_total).symm k q)
       ∙ sym (get-remove nat_cmp_total (from_entries es) k q ∙ ap (cond (is_at (nat_cmp q) k) None) (get_rows es q)))
 
--- views that are alike in each part
+-- views whose parts are all equal
 pub same_view : {m n : FinMap nat_cmp Entry} {xs ys : List ℕ} {t u : ℕ} (births : ℕ) → m ≡ n → xs ≡ ys → t ≡ u
     → ◌≡◌ {A = View} (record { rows = m; freed = xs; used = t; births = births })
     (record { rows = n; freed = ys; used = u; births = births })

@@ -1,4 +1,4 @@
--- The rows of slots as a finite map, and slots after a write or a push.
+-- The rows of slots as a finite map, and slots after writing one and after pushing one.
 use Rattle.std.proofs.Common.{◌≡◌, ◌≢◌, ℕ, zero, suc, ◌+◌, ◌-◌, ◌<◌, ◌≤◌, List, [], ◌∷◌, ◌++◌, refl}
 use Rattle.std.proofs.Common.{sym, ◌∙◌, ap, cond, Bool, true, false, length, arith, eqb, leb}
 use Rattle.std.proofs.Common.{⊎_elim}
@@ -36,7 +36,7 @@ eq-suc a b c d e f = grind (arith, nat_tests, e, f)
 
 -- The rows.
 
--- at an id below the first slot's none, else that of its slot
+-- no row for an id below that of the first slot, otherwise the row of its slot
 abbrev row_past : ℕ → List Slot → ℕ → Option Entry
 row_past id slots q = cond (leb id q) (row_in (slice_get slots (q - id))) None
 
@@ -44,14 +44,14 @@ no_row : (b : Bool) → None ≡ cond b (row_in None) None
 no_row true = refl
 no_row false = refl
 
--- the slot that stands first is that of its id
+-- the row of the first slot's id
 at_first : (id : ℕ) (s : Slot) (slots : List Slot) (q : ℕ) → q ≡ id → row_past id (s ∷ slots) q ≡ row_in (Some s)
 at_first id s slots q e =
     let none : q - id ≡ 0 = omega arith in
     ap (λ b. cond b (row_in (slice_get (s ∷ slots) (q - id))) None) (le_is id q (omega arith))
     ∙ ap (λ n. row_in (slice_get (s ∷ slots) n)) none
 
--- the others are those of the slots behind it
+-- the row of any other id
 at_other : (id : ℕ) (s : Slot) (slots : List Slot) (q : ℕ) → q ≢ id
     → row_past id (s ∷ slots) q ≡ row_past (id + 1) slots q
 at_other id s slots q n = ⊎_elim
@@ -102,14 +102,14 @@ get_row slots (suc q) =
     ∙ ap (λ b. cond b (row_in (slice_get slots (suc q - 1))) None) (le_is 1 (suc q) (omega arith))
     ∙ ap (λ n. row_in (slice_get slots n)) back
 
--- slots whose rows are others' with one more
+-- slots that have one more row than others
 pub rows_with : (old new : List Slot) (id : ℕ) (e : Entry)
     → ((q : ℕ) → row_at new q ≡ cond (eqb q id) (Some e) (row_at old q))
     → rows_from 1 new ≡ insert (rows_from 1 old) id e
 rows_with old new id e h = same_map nat_cmp_total nat_cmp-IsAntisymmetric _ _ (λ q.
     get_row new q ∙ h q ∙ ap (cond (eqb q id) (Some e)) (sym (get_row old q)) ∙ sym (get_put (rows_from 1 old) id e q))
 
--- slots whose rows are others' but for one
+-- slots that lack one row of others
 pub rows_without : (old new : List Slot) (id : ℕ) → ((q : ℕ) → row_at new q ≡ cond (eqb q id) None (row_at old q))
     → rows_from 1 new ≡ remove (rows_from 1 old) id
 rows_without old new id h = same_map nat_cmp_total nat_cmp-IsAntisymmetric _ _ (λ q.
@@ -120,7 +120,7 @@ rows_without old new id h = same_map nat_cmp_total nat_cmp-IsAntisymmetric _ _ (
 some_used : (slots : List Slot) (n : ℕ) (s : Slot) → slice_get slots n ≡ Some s → n < length slots
 some_used slots n s h = slice_get_within slots n s h
 
--- where an id has a row, its slot holds it
+-- if an id has a row, its slot holds it
 pub row_slot : (o : Option Slot) (e : Entry) → row_in o ≡ Some e → o ≡ Some (slot_of_entry e)
 row_slot None e h = cc
 row_slot (Some (Row birth version iface state)) e h =
@@ -132,12 +132,12 @@ row_slot (Some (Row birth version iface state)) e h =
     }) e h)
 row_slot (Some (Free newer older)) e h = cc
 
--- an id with a slot was used
+-- an id with a slot has been used
 pub slot_used : (slots : List Slot) (id : ℕ) (s : Slot) → slot_at slots id ≡ Some s → (0 < id) × (id ≤ length slots)
 slot_used slots zero s h = cc
 slot_used slots (suc n) s h = let u = some_used slots n s h in (omega arith, omega arith)
 
--- past the ids used there are no slots
+-- unused ids have no slots
 pub slot_past : (slots : List Slot) (id : ℕ) → length slots < id → slot_at slots id ≡ None
 slot_past slots zero h = refl
 slot_past slots (suc n) h = slice_get_past slots n (omega arith)
@@ -151,7 +151,7 @@ get-set (x ∷ xs) (suc n) s zero h = sym (ap (λ b. cond b (Some s) (Some x)) (
 get-set (x ∷ xs) (suc n) s (suc k) h = get-set xs n s k (omega arith)
     ∙ ap (λ b. cond b (Some s) (slice_get xs k)) (eq-suc k n (suc k) (suc n) refl refl)
 
--- a write
+-- writing a slot
 pub slot_set : (slots : List Slot) (n id : ℕ) (s : Slot) → id ≡ n + 1 → n < length slots → (q : ℕ)
     → slot_at (slice_set slots n s) q ≡ cond (eqb q id) (Some s) (slot_at slots q)
 slot_set slots n id s e h zero = sym (ap (λ b. cond b (Some s) None) (eq_not 0 id (omega arith)))
@@ -166,7 +166,7 @@ get-push (x ∷ xs) s zero = sym (ap (λ b. cond b (Some s) (Some x)) (eq_not 0 
 get-push (x ∷ xs) s (suc k) = get-push xs s k ∙ ap (λ b. cond b (Some s) (slice_get xs k))
     (eq-suc k (length xs) (suc k) (suc (length xs)) refl refl)
 
--- a push
+-- pushing a slot
 pub slot_push : (slots : List Slot) (s : Slot) (q : ℕ)
     → slot_at (slots ++ s ∷ []) q ≡ cond (eqb q (length slots + 1)) (Some s) (slot_at slots q)
 slot_push slots s zero = sym (ap (λ b. cond b (Some s) None) (eq_not 0 (length slots + 1) (omega arith)))

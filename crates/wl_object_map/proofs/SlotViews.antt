@@ -1,4 +1,4 @@
--- What each call of a table of slots makes of the view that its slots stand for.
+-- How each call of a table of slots changes the view that the slots represent.
 use Rattle.std.proofs.Common.{◌≡◌, ℕ, ◌+◌, ◌-◌, ◌<◌, ◌≤◌, max, List, [], ◌∷◌, ◌++◌, refl, sym, ◌∙◌}
 use Rattle.std.proofs.Common.{ap, subst, cond, Bool, true, false, length, arith, eqb, is_some}
 use Rattle.std.proofs.Common.{⊎_elim, length-append}
@@ -25,7 +25,7 @@ use Rattle.wl_object_map.proofs.Rows.{same_view}
 use Rattle.wl_object_map.proofs.Chain.{length-followed, follows, kept}
 use Rattle.wl_object_map.proofs.SlotRows.{get_row, rows_with, rows_without, slot_used, slot_push}
 
--- What a change makes: the slots stand for that view, and hold the chain of its freed ids.
+-- The result of a change: the slots represent this view, and hold the chain of its freed ids.
 pub record Becomes (slots : List Slot) (first free births : ℕ) (view : View) : Type 0 where
   pub stands_for : view_of slots first free births ≡ view
   pub chain : IsChain slots first view.freed
@@ -42,13 +42,13 @@ row_put : (b : Bool) (e : Entry) (s : Option Slot) → row_in (cond b (Some (slo
 row_put true e s = refl
 row_put false e s = refl
 
--- an id with a row has a place, and is not in the chain
+-- an id with a row has a slot, and is not in the chain
 pub row_place : (slots : List Slot) (first free births id : ℕ) → IsSoundChain slots first free births
     → is_held (view_of slots first free births) id ≡ true
     → (times id (followed free slots first) ≡ 0) × ((0 < id) × (id ≤ length slots))
 row_place slots first free births id h held = held_place (view_of slots first free births) id h.sound held
 
--- as many ids are used as have rows or are free
+-- each used id has a row or is free
 pub counted : (slots : List Slot) (first free births : ℕ) → IsSoundChain slots first free births
     → Rattle.std.specs.FinMap.len (rows_from 1 slots) + free ≡ length slots
 counted slots first free births h = let c = h.sound.count in let l = length-followed free slots first in omega arith
@@ -62,7 +62,7 @@ row_not_free slots first free births id e h at =
     let law = free_or_next-rows (view_of slots first free births) id h.sound in
     grind (common_steps, arith, law, held)
 
--- an id whose slot is free is free
+-- an id whose slot says that it is free is free
 pub free_is_free : (slots : List Slot) (first free births id n o : ℕ) → IsSoundChain slots first free births
     → slot_at slots id ≡ Some (Free n o)
     → true ≡ free_or_next (view_of slots first free births) id
@@ -83,7 +83,7 @@ becomes_opening display = record {
   chain = record { begins = refl; once = λ id. omega arith; linked = λ id p. absurd (omega arith) };
 }
 
--- An opening at a freed id: it was taken out of the chain, and its row was put.
+-- Opening a freed id: the id was taken out of the chain, and then its row was put.
 pub becomes_reopened : (old mid new : List Slot) (first after free births id : ℕ) (iface : Iface) (version : ℕ)
     → IsSoundChain old first free births
     → 0 < times id (followed free old first)
@@ -114,7 +114,7 @@ becomes_reopened old mid new first after free births id iface version h stands t
       chain = chain;
     }
 
--- An opening at the next new id: its row was pushed.
+-- Opening the next unused id: its row was pushed.
 pub becomes_opened : (old new : List Slot) (first free births : ℕ) (iface : Iface) (version : ℕ)
     → IsSoundChain old first free births
     → new ≡ old ++ slot_of_entry (new_row births iface version) ∷ []
@@ -145,7 +145,7 @@ becomes_opened old new first free births iface version h pushed =
       chain = subst (IsChain new first) (sym same) chain;
     }
 
--- A closing: the id was put first into the chain.
+-- Closing: the id was put first in the chain.
 pub becomes_closed : (old new : List Slot) (first after free births id : ℕ)
     → IsSoundChain old first free births
     → is_held (view_of old first free births) id ≡ true
@@ -163,7 +163,7 @@ becomes_closed old new first after free births id h held put rows long =
       chain = chain;
     }
 
--- A zombie: its row was put in place of the live one.
+-- A zombie: its row replaced that of the live object.
 pub becomes_zombied : (old new : List Slot) (first free births id : ℕ) (e : Entry)
     → IsSoundChain old first free births
     → slot_at old id ≡ Some (slot_of_entry e)
@@ -187,7 +187,7 @@ becomes_zombied old new first free births id e h at put long =
       chain = chain;
     }
 
--- An opening in place of a row: the new row was put there.
+-- Replacing an object: the new row was put in place of the old one.
 pub becomes_replaced : (old new : List Slot) (first free births id : ℕ) (iface : Iface) (version : ℕ)
     → IsSoundChain old first free births
     → is_held (view_of old first free births) id ≡ true

@@ -1,4 +1,4 @@
--- The lines of a text, one after another.
+-- Cutting a text into lines, and a line into words.
 use Rattle.std.proofs.Common.{◌≡◌, ◌≢◌, ℕ, ◌-◌, ◌<◌, ◌≤◌, ◌==◌, true, false, cond, List, [], ◌∷◌}
 use Rattle.std.proofs.Common.{◌++◌, length, take, drop, slice_index, refl, arith}
 use Rattle.std.specs.List.{All, slice_split, onto_first}
@@ -41,7 +41,7 @@ lines_last line some clean =
     let e = slice_split_none (λ b. b == 10) line clean' in
     rw e (grind (arith, common_steps))
 
--- the first line of a text, as it is cut at the first line feed
+-- the first line of a text: the part before the first line feed
 pub first_last : (text line rest : List ℕ) → 0 < length text → text ≡ line ++ rest → All (λ b. b ≢ 10) line
     → length rest < 1
     → lines text ≡ line ∷ lines rest
@@ -60,7 +60,7 @@ first_ended text line (b ∷ rest) stripped whole clean feed some strips =
     let r : take (length (b ∷ rest) - 1) (drop 1 (b ∷ rest)) ≡ rest = grind (arith, common_steps) in
     rw (e, r, strips) (lines_ended line rest clean)
 
--- the first word of a line, as it is cut at the first space
+-- the first word of a line: the part before the first space
 pub word_last : (line word rest : List ℕ) → line ≡ word ++ rest → All (λ b. b ≢ 32) word → length rest < 1
     → words line ≡ word ∷ []
 word_last line word [] whole clean none =

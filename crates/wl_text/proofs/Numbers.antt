@@ -1,4 +1,4 @@
--- What decimal digits write.
+-- The numbers that decimal digits spell.
 use Rattle.std.proofs.Common.{◌≡◌, ℕ, ◌<◌, ◌≤◌, ◌^◌, true, false, List, [], ◌∷◌, length, refl, arith}
 use Rattle.std.specs.Prelude.{Some, ◌&&◌}
 use Rattle.std.specs.Char.{digit_value, is_ascii_digit}
@@ -27,7 +27,7 @@ are_digits : (digits : List ℕ) → AllDigits 10 digits → list_all is_ascii_d
 are_digits [] all = refl
 are_digits (c ∷ cs) all = rw (is_digit c all.0, are_digits cs all.1) refl
 
--- a number that digits write is their value
+-- the number that digits spell is their value
 pub number_is : (digits : List ℕ) (n : ℕ) → number_of digits ≡ Some n
     → (1 ≤ length digits) × AllDigits 10 digits × (digits_value 10 digits ≡ n)
 number_is digits n is = elim (list_all is_ascii_digit digits) as
@@ -36,7 +36,7 @@ number_is digits n is = elim (list_all is_ascii_digit digits) as
       | false ↦ λ other. absurd (grind (arith, nat_tests))
     ] refl
 
--- 1 to 9 digits write a number
+-- 1 to 9 digits spell a number
 pub number_some : (digits : List ℕ) → 1 ≤ length digits → length digits ≤ 9 → AllDigits 10 digits
     → number_of digits ≡ Some (digits_value 10 digits)
 number_some digits some few all =

@@ -1,4 +1,4 @@
--- The words of a line spell what is read from them, and no other.
+-- The words of a line spell exactly what is read from them.
 use Rattle.std.proofs.Common.{◌≡◌, ◌≢◌, ℕ, suc, ◌-◌, ◌<◌, ◌≤◌, ◌==◌, Bool, true, false, cond, List}
 use Rattle.std.proofs.Common.{[], ◌∷◌, ◌++◌, length, get_or, take, drop, slice_index, refl, sym, ap}
 use Rattle.std.proofs.Common.{subst, ◌∙◌, inl, inr, ◌⊎◌, Some, None, Option, append-nil, drop-cons}
@@ -126,7 +126,7 @@ spelled_kind letters kind spelled = elim spelled [
   | new_by_server l k ↦ rw (l, k) refl
 ]
 
--- letters are none of space, ( and @
+-- a byte that is not space, ( or @
 abbrev is_letter : ℕ → Bool
 is_letter b = not (b == 32) && not (b == 40) && not (b == 64)
 
@@ -159,7 +159,7 @@ letters_no_open : (letters : List ℕ) (kind : BareKind) → SpellsKind letters 
 letters_no_open letters kind spelled = λ k d lt. (letter_bytes _
     (AllPass-from_list_all is_letter letters (letters_are letters kind spelled) k d lt)).1
 
--- where the first ( of a word stands, or its length
+-- the place of the first ( in a word; the word's length if it has none
 abbrev opens_at : List ℕ → ℕ
 opens_at word = unwrap_or (position (λ b. b == 40) word) (length word)
 
@@ -179,7 +179,7 @@ opens_nowhere word clean =
     (λ lt. absurd (omega arith)) in
     rw at (grind (arith, nat_tests))
 
--- a word from its first ( on
+-- the part of a word from its first ( on
 behind_letters : (word : List ℕ) → (drop (opens_at word) word ≡ [])
     ⊎ ((rest : List ℕ) × (drop (opens_at word) word ≡ 40 ∷ rest))
 behind_letters word = by (position (λ b. b == 40) word) refl
@@ -194,7 +194,7 @@ behind_letters word = by (position (λ b. b == 40) word) refl
         let here : get_or word i 0 ≡ 40 = eqb-true _ _ at.1 in
         inr (drop (suc i) word, drop-cons word i 0 lt ∙ ap (λ (b : ℕ). b ∷ drop (suc i) word) here)
 
--- a name in brackets
+-- a name in brackets is read from a word
 abbrev naming : BareKind → List ℕ → WrittenKind
 naming kind name = record { kind = kind; iface = Some name }
 
@@ -248,7 +248,7 @@ in_brackets kind b tail found is = by _ refl is
           whole = name_ends tail some close;
         }
 
--- letters with nothing behind them
+-- letters with nothing after them
 alone_kind : (kind : BareKind) (found : WrittenKind) → bracketed kind [] ≡ Some found
     → (needs_interface kind ≡ false) × (found ≡ record { kind = kind; iface = None })
 alone_kind kind found is = by (needs_interface kind) refl is

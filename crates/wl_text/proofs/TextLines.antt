@@ -1,4 +1,4 @@
--- The lines of a text say what is read from them, and no other.
+-- The lines of a text declare exactly what is read from them.
 use Rattle.std.proofs.Common.{◌≡◌, ◌≢◌, ℕ, ◌<◌, ◌==◌, Bool, true, false, cond, List, [], ◌∷◌, ◌++◌}
 use Rattle.std.proofs.Common.{length, refl, sym, ap, subst, ◌∙◌, Some, None, Option, append-nil}
 use Rattle.std.proofs.Common.{arith}
@@ -29,7 +29,7 @@ use Rattle.wl_text.proofs.Spelling.{at_sign}
 abbrev NoSpace : List ℕ → Type 0
 NoSpace text = All (λ byte. byte ≢ 32) text
 
--- words, each behind a space
+-- words, each after a space
 abbrev pub spaced : List (List ℕ) → List ℕ
 spaced [] = []
 spaced (word ∷ more) = 32 ∷ (word ++ spaced more)
@@ -41,7 +41,7 @@ AreWords (word ∷ more) = NoSpace word × AreWords more
 no_space : (word : List ℕ) → NoSpace word → All (λ b. (b == 32) ≡ false) word
 no_space word clean = λ k d lt. ne_eqb _ _ (clean k d lt)
 
--- the words of a line that is put together from words
+-- the words of a line that consists of words with spaces between them
 pub words_joined : (word : List ℕ) (more : List (List ℕ)) → NoSpace word → AreWords more
     → words (word ++ spaced more) ≡ word ∷ more
 words_joined word [] clean rest = ap words (append-nil word)
@@ -50,7 +50,7 @@ words_joined word (next ∷ more) clean rest =
     slice_split_at (λ b. b == 32) word 32 (next ++ spaced more) (no_space word clean) refl
     ∙ ap (λ (ws : List (List ℕ)). word ∷ ws) (words_joined next more rest.0 rest.1)
 
--- a line is its words, with spaces between
+-- a line consists of its words, with spaces between them
 pub joined_words : (line word : List ℕ) (more : List (List ℕ)) → words line ≡ word ∷ more → line ≡ word ++ spaced more
 joined_words [] word more is =
     let first : [] ≡ word = cc is in
@@ -75,7 +75,7 @@ joined_words (b ∷ line) word more is = let w = words_some line
         let left : others ≡ more = cc at in
         ap (λ (l : List ℕ). b ∷ l) rest ∙ (rw (← front, ← left) refl)
 
--- words have no spaces
+-- words contain no spaces
 digits_no_space : (digits : List ℕ) → AllDigits 10 digits → NoSpace digits
 digits_no_space [] all = All-nil (λ byte. byte ≢ 32)
 digits_no_space (c ∷ cs) all =
@@ -208,7 +208,7 @@ at_word digits all = All-cons (λ byte. byte ≢ 32) 64 digits (λ e. cc e) (dig
 d_word : NoSpace (codes "D")
 d_word = All-cons (λ byte. byte ≢ 32) 68 [] (λ e. cc e) (All-nil (λ byte. byte ≢ 32))
 
--- the word with a since number is no argument
+-- the word that gives a since number spells no argument
 since_read : (word digits : List ℕ) (number : ℕ) → word ≡ 64 ∷ digits → SpellsNumber digits number
     → tail_of (word ∷ []) ≡ Some (tail_with false number)
 since_read word digits number whole spelled =
@@ -286,7 +286,7 @@ message_says n side (name ∷ more) m is = by (is_text_name name) (tail_of more)
           },
         )
 
--- a literal word
+-- a word given as a literal
 plain_word : (word : List ℕ) → list_all (λ b. not (b == 32)) word ≡ true → NoSpace word
 plain_word word all = λ k d lt e. plain_byte _ (AllPass-from_list_all (λ b. not (b == 32)) word all k d lt) e
   where
@@ -392,7 +392,7 @@ skipped_is : (line : List ℕ) → says_nothing line ≡ true → IsSkipped line
 skipped_is [] is = is_empty refl
 skipped_is (b ∷ more) is = is_comment more (ap (λ (x : ℕ). x ∷ more) (eqb-true _ _ is))
 
--- what a line does to the interfaces so far
+-- how a line changes the interfaces so far
 pub skipped_added : (n : ℕ) (line : List ℕ) → IsSkipped line → (written : List WrittenInterface)
     → line_added n line written ≡ Some written
 skipped_added n line skipped written = rw (skips_it line skipped) refl
@@ -443,7 +443,7 @@ interface_line_added extends n line name version said written =
     added_by_words n line (heading extends ∷ spelled.0) written (heading_speaks line _ extends said.whole) spelled.1
     ∙ by_heading n extends spelled.0 _ written spelled.2
 
--- what a line says
+-- what a line declares
 pub data LineSays (n : ℕ) (line : List ℕ) : Type 0 where
   it_skips : IsSkipped line → LineSays n line
   it_opens : (extends : Bool) (name : List ℕ) (version : ℕ) → IsInterfaceLine line extends name version

@@ -15,11 +15,11 @@ use Rattle.wl_text.proofs.TextLines.{opened, skipped_added, message_line_added}
 use Rattle.wl_text.proofs.TextLines.{interface_line_added, LineSays, it_skips, it_opens}
 use Rattle.wl_text.proofs.TextLines.{it_adds, it_fails, line_says}
 
--- an interface with further messages
+-- an interface with more messages
 abbrev with_more : WrittenInterface → List WrittenMessage → List WrittenMessage → WrittenInterface
 with_more i requests events = record i { requests = i.requests ++ requests; events = i.events ++ events }
 
--- the reading of a line and those below it
+-- reading a line and those below it
 listed_on : (n : ℕ) (line : List ℕ) (more : List (List ℕ)) (written : List WrittenInterface)
     (o : Option (List WrittenInterface)) → line_added n line written ≡ o
     → interfaces_from n (line ∷ more) written ≡ option_map_or (λ all. interfaces_from (n + 1) more all) o (Err n)
@@ -39,7 +39,7 @@ first_then : (side : Bool) (m : WrittenMessage) (i : WrittenInterface) (requests
 first_then true m i requests events = rw (append_assoc i.requests (m ∷ []) requests) refl
 first_then false m i requests events = rw (append_assoc i.events (m ∷ []) events) refl
 
--- what lines say is read, below an interface
+-- what lines declare is read: lines below an interface
 pub said_below : {n : ℕ} {all : List (List ℕ)} {requests events : List WrittenMessage} {interfaces : List
     WrittenInterface} → Say n all requests events interfaces
     → (before : List WrittenInterface) (i : WrittenInterface)
@@ -64,7 +64,7 @@ said_below (interface {n} {line} {more} {i = j} {interfaces} said at rest) befor
     ∙ ap Ok (append_assoc before (i ∷ []) (j ∷ interfaces))
     ∙ ap (λ (x : WrittenInterface). Ok (before ++ x ∷ j ∷ interfaces)) (sym (with_none i))
 
--- and above every interface
+-- the same for lines above every interface
 pub said_first : {n : ℕ} {all : List (List ℕ)} {requests events : List WrittenMessage} {interfaces : List
     WrittenInterface} → Say n all requests events interfaces
     → requests ≡ [] → events ≡ [] → interfaces_from n all [] ≡ Ok interfaces
@@ -78,7 +78,7 @@ said_first (interface {n} {line} {more} {i = j} {interfaces} said at rest) r e =
     ∙ said_below rest [] (opened j.extends n j.name j.version)
     ∙ ap (λ (l : ℕ). Ok (record j { line = l } ∷ interfaces)) (sym at)
 
--- what is read is said
+-- what is read is what the lines declare
 record Below (n : ℕ) (all : List (List ℕ)) (before : List WrittenInterface) (i : WrittenInterface)
     (written : List WrittenInterface) : Type 0 where
   requests : List WrittenMessage
@@ -193,7 +193,7 @@ pub one_list : (text : List ℕ) (written others : List WrittenInterface) → Ta
 one_list text written others x y =
     let same : Ok written ≡ Ok others = sym (said_first x refl refl) ∙ said_first y refl refl in cc same
 
--- a line that may not stand adds nothing
+-- a line that may not follow adds nothing
 added_somewhere : (side : Bool) (m : WrittenMessage) (i : WrittenInterface) (written : List WrittenInterface)
     → message_added side m (i ∷ written) ≡ None → ⊥
 added_somewhere side m i [] is = cc is

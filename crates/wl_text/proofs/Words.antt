@@ -1,4 +1,4 @@
--- What the words of a line say.
+-- The words of a line.
 use Rattle.std.proofs.Common.{◌≡◌, ℕ, Bool, ◌==◌, true, false, cond, List, [], ◌∷◌, ◌++◌, refl, ap, Some, None}
 use Rattle.std.specs.Prelude.{option_map}
 use Rattle.std.specs.List.{onto_first}
@@ -11,7 +11,7 @@ onto_first_some : (b : ℕ) (ps : List (List ℕ)) → (first : List ℕ) × (mo
 onto_first_some b [] = (b ∷ [], [], refl)
 onto_first_some b (p ∷ ps) = (b ∷ p, ps, refl)
 
--- each line has a word
+-- each line has at least one word
 pub words_some : (line : List ℕ) → (first : List ℕ) × (more : List (List ℕ)) × (words line ≡ first ∷ more)
 words_some [] = ([], [], refl)
 words_some (b ∷ line) = elim (b == 32) as (λ t. (first : List ℕ) × (more : List (List ℕ))
@@ -20,16 +20,16 @@ words_some (b ∷ line) = elim (b == 32) as (λ t. (first : List ℕ) × (more :
       | false ↦ onto_first_some b (words line)
     ]
 
--- no since number has a word behind it
+-- a since number is a line's last word
 pub since_alone : (word line : List ℕ) → since_of (word ∷ words line) ≡ None
 since_alone word line = let w = words_some line in rw w.2 refl
 
--- no version has a word behind it
+-- a version is a line's last word
 pub version_alone : (extends : Bool) (n : ℕ) (name digits line : List ℕ)
     → interface_of extends n (name ∷ digits ∷ words line) ≡ None
 version_alone extends n name digits line = let w = words_some line in rw w.2 refl
 
--- a message goes to the last interface
+-- a message is added to the last interface
 pub added_last : (is_request : Bool) (m : WrittenMessage) (xs : List WrittenInterface) (i : WrittenInterface)
     → message_added is_request m (xs ++ i ∷ []) ≡ Some (xs ++ with_written_message is_request m i ∷ [])
 added_last side m [] i = refl

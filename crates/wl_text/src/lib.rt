@@ -1,7 +1,7 @@
-//! Texts that are made of lines, and tables as such a text.
+//! Texts made of lines, and tables as such a text.
 //!
-//! A text is cut into lines, a line into words, and some words are numbers. Of tables this crate
-//! says what each line declares, before any name is looked up. docs/FORMATS.md has the forms of the
+//! A text is cut into lines, a line into words, and some words are numbers. For tables, this crate
+//! says what each line declares, without looking up any name. docs/FORMATS.md has the forms of the
 //! lines. A crate above looks the names up, and tests the declared interfaces by the rules of valid
 //! tables.
 #![tactic(auto)]

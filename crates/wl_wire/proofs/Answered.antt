@@ -1,4 +1,5 @@
--- What is read is spelled so, and a fault that is answered is the first.
+-- A reader's result is right: the value that it finds is spelled by the bytes, and the fault that
+-- it reports is the first one.
 use Rattle.std.proofs.Common.{◌≡◌, ◌≢◌, ℕ, ◌+◌, ◌-◌, ◌^◌, ◌<◌, ◌≤◌, Bool, true, false, List, []}
 use Rattle.std.proofs.Common.{◌∷◌, ◌++◌, length, get_or, take, drop, Some, None, refl, sym, ap}
 use Rattle.std.proofs.Common.{subst, ◌∙◌, arith, append_assoc, inl, inr}
@@ -25,12 +26,12 @@ use Rattle.wl_wire.specs.Reading.{number_at, asked, counted_bytes, text_of, on_f
 use Rattle.wl_wire.proofs.Numbers.{Bytewise, number_at_fits, word-number_at, number-from_word}
 use Rattle.wl_wire.proofs.Numbers.{signed_fits, int_word-signed}
 
--- what an answer has to be
+-- what is true of a reader's result
 abbrev pub IsAnswer : Kind → List ℕ → Result (Argument × ℕ) ArgFault → Type 0
 IsAnswer kind bytes r = MatchResult r (λ x. (x.1 ≤ length bytes) × Spells kind x.0 (take x.1 bytes))
     (IsFirstFault kind bytes)
 
--- what it has to be where all bytes that are asked for are there
+-- the same, if all bytes of the argument are there
 abbrev pub IsAnswerThere : Kind → List ℕ → Result Argument ArgFault → Type 0
 IsAnswerThere kind bytes r = MatchResult r (λ v. Spells kind v (take (asked kind bytes) bytes))
     (IsFirstFault kind bytes)
@@ -71,7 +72,7 @@ text_spelled m bytes f w h z a =
       whole = rw (take-add 4 (padded (m + 1)) bytes, w, short) refl;
     }
 
--- the faults of a string, with so many bytes asked for behind it
+-- the faults of a string, of which `more` further bytes are part
 abbrev IsTextFault : ℕ → List ℕ → ArgFault → Type 0
 IsTextFault more bytes Short = ⊥
 IsTextFault more bytes NullNotAllowed = HoldsCounted more 0 bytes
@@ -85,7 +86,7 @@ zero_in : (xs : List ℕ) → list_any (λ b. b == 0) xs ≡ true → Contains x
 zero_in xs e = let a = Any-from_list_any (λ (b : ℕ). b == 0) xs e
     in (a.0, a.2, subst (λ (y : ℕ). get_or xs a.0 y ≡ y) (eqb-true a.1 0 a.4) a.3)
 
--- the string after a length, whose bytes and padding and `more` bytes behind are there
+-- the string after a length; its bytes, its padding and `more` further bytes are there
 text_answered : (more : ℕ) (bytes : List ℕ) → Bytewise bytes → 4 + padded (number_at bytes) + more ≤ length bytes
     → MatchResult (text_of (number_at bytes) bytes)
     (λ text. SpellsText text (take (4 + padded (number_at bytes)) bytes)) (IsTextFault more bytes)
@@ -122,7 +123,7 @@ string_case null bytes f (Err NullNotAllowed) s = (f (number-from_word 0 bytes s
 string_case null bytes f (Err NoEndingNul) s = s
 string_case null bytes f (Err InnerNul) s = s
 
--- the words behind a name
+-- a new object without an interface: its name, and the two words after it
 named_case : (bytes : List ℕ) → Bytewise bytes → 12 + padded (number_at bytes) ≤ length bytes
     → (r : Result (List ℕ) ArgFault) → MatchResult r
     (λ text. SpellsText text (take (4 + padded (number_at bytes)) bytes)) (IsTextFault 8 bytes)
@@ -153,7 +154,7 @@ named_case bytes w h (Err NullNotAllowed) s = s
 named_case bytes w h (Err NoEndingNul) s = s
 named_case bytes w h (Err InnerNul) s = s
 
--- an argument whose bytes are there
+-- an argument whose bytes are all there
 there_answered : (kind : Kind) (bytes : List ℕ) → Bytewise bytes → asked kind bytes ≤ length bytes
     → IsAnswerThere kind bytes (argument_of kind bytes)
 there_answered kinds.Int bytes w h = is_int (signed_fits (number_at bytes) (number_at_fits bytes))
@@ -190,7 +191,7 @@ there_answered kinds.Array bytes w h = array_front (number_at bytes) bytes (numb
     (word-number_at bytes (omega arith) w) h
 there_answered kinds.Fd bytes w h = is_descriptor refl
 
--- where they are not all there
+-- an argument whose bytes are not all there
 lacks_counted : (more : ℕ) (bytes : List ℕ) → Bytewise bytes → length bytes < 4 + padded (number_at bytes) + more
     → LacksCounted more bytes
 lacks_counted more bytes w h =
@@ -216,7 +217,8 @@ with_length : (kind : Kind) (bytes : List ℕ) → asked kind bytes ≤ length b
 with_length kind bytes h (Ok value) s = (h, s)
 with_length kind bytes h (Err fault) s = s
 
--- What is read of bytes is spelled so, and the fault that is answered is the first.
+-- The value that a reader finds is spelled by the bytes, and the fault that it reports is the first
+-- one.
 pub reading-answers : (kind : Kind) (bytes : List ℕ) → Bytewise bytes → IsAnswer kind bytes (reading kind bytes)
 reading-answers kind bytes w =
     cond_both (nat_lt (length bytes) (asked kind bytes)) (Err Short)

@@ -1,4 +1,4 @@
--- Spellings of values: one for each value that suits a kind, and no two where one begins the other.
+-- Spellings of values: each value that suits a kind has one, and no spelling begins another.
 use Rattle.std.proofs.Common.{◌≡◌, ℕ, suc, ◌+◌, ◌-◌, ◌*◌, ◌/◌, ◌%◌, ◌^◌, ◌<◌, ◌≤◌, List, [], ◌∷◌}
 use Rattle.std.proofs.Common.{◌++◌, length, take, drop, Some, None, refl, sym, ap, ◌∙◌, arith}
 use Rattle.std.proofs.Common.{append_assoc}
@@ -82,7 +82,7 @@ canonical-spells kinds.Array (Array bytes) h = array_spells bytes h
 canonical-spells kinds.Fd (Fd tt) h = is_descriptor refl
 canonical-spells _ _ h = absurd h
 
--- what spells suits the kind, and has the value's length
+-- a value that has a spelling of the kind suits the kind; the spelling has the value's length
 pub spelled-suits : {kind : Kind} {value : Argument} {bytes : List ℕ} → Spells kind value bytes → Suits kind value
 spelled-suits (is_int f e) = f
 spelled-suits (is_uint f e) = f
@@ -118,7 +118,7 @@ spelled-len (is_named {front = front} {version = version} {id = id} s f g e) = l
 spelled-len (is_array {array = array} f p e) = let l = ap length e in omega (arith, l, p.len)
 spelled-len (is_descriptor e) = ap length e
 
--- What is written is read back, whatever follows.
+-- A written value is read back, whatever follows it.
 pub reading-canonical : (kind : Kind) (value : Argument) (rest : List ℕ) → Suits kind value
     → reading kind (canonical value ++ rest) ≡ Ok (value, spelled_len value)
 reading-canonical kind value rest h = let s = canonical-spells kind value h
@@ -159,7 +159,7 @@ header_bytes-at bytes w h =
     ∙ ap (λ (l : List ℕ). word (number_at bytes) ++ l) (sym second_word)
     ∙ ap (λ (l : List ℕ). l ++ drop 4 bytes) (sym first_word) ∙ take-append-drop 4 bytes
 
--- how long a canonical spelling is, of any value
+-- the length of any value's canonical spelling
 
 counted_len : (bytes : List ℕ) (n : ℕ) → length bytes ≤ n
     → length (word n ++ bytes ++ zeros (padded n - length bytes)) ≡ 4 + padded n

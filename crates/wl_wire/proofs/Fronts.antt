@@ -1,4 +1,4 @@
--- What is spelled is what stands at the front.
+-- If a spelling is at the front of bytes, its value is what a reader finds.
 use Rattle.std.proofs.Common.{◌≡◌, ℕ, suc, ◌+◌, ◌-◌, ◌^◌, ◌<◌, ◌≤◌, Bool, true, false, List, []}
 use Rattle.std.proofs.Common.{◌∷◌, ◌++◌, length, get_or, drop, Some, None, refl, sym, ap, ◌∙◌}
 use Rattle.std.proofs.Common.{arith, append_assoc, inl, inr}
@@ -18,7 +18,7 @@ use Rattle.wl_wire.specs.Spelling.{is_new_by_server}
 use Rattle.wl_wire.specs.Reading.{number_at, signed, asked, counted_bytes, text_of, on_found, argument_of, reading}
 use Rattle.wl_wire.proofs.Numbers.{number_at-word, complement_fits, signed-complement}
 
--- where all bytes are there, the argument that they are is what is read
+-- if all bytes are there, a reader finds the argument that they spell
 pub reading-there : (kind : Kind) (bytes : List ℕ) → asked kind bytes ≤ length bytes
     → reading kind bytes ≡ on_found (λ value. (value, asked kind bytes)) (argument_of kind bytes)
 reading-there kind bytes h = rw (le-ltb (length bytes) (asked kind bytes) h) refl
@@ -36,7 +36,7 @@ at_end : (text z : List ℕ) → get_or (text ++ 0 ∷ z) (length text) 0 ≡ 0
 at_end [] z = refl
 at_end (b ∷ text) z = at_end text z
 
--- what a string that spells shows of the bytes that begin with it
+-- what is read from bytes that begin with a spelled string
 pub record TextFront (text front bytes : List ℕ) : Type 0 where
   pub len : length front ≡ 4 + padded (length text + 1)
   pub number : number_at bytes ≡ length text + 1
@@ -65,7 +65,7 @@ text_front {text} {front} rest s =
       found = text_of-is n (front ++ rest) text (ne_eqb n 0 (λ h. omega arith)) (eq-eqb _ 0 last) inner clean;
     }
 
--- an argument of one word
+-- an argument that is one word
 one_word : (kind : Kind) (value : Argument) (n : ℕ) (front rest : List ℕ) → n < 2 ^ 32 → front ≡ word n
     → asked kind (front ++ rest) ≡ 4 → (number_at (front ++ rest) ≡ n → argument_of kind (front ++ rest) ≡ Ok value)
     → reading kind (front ++ rest) ≡ Ok (value, length front)
@@ -99,7 +99,7 @@ null_found : (null : Bool) (bytes : List ℕ) → null ≡ true → number_at by
     → argument_of (kinds.Str null) bytes ≡ Ok (Str None)
 null_found null bytes t e = rw (eq-eqb (number_at bytes) 0 e, t) refl
 
--- the words behind a name
+-- a name, and the two words after it
 named_found : (name front : List ℕ) (version id : ℕ) (rest : List ℕ) → length front ≡ 4 + padded (length name + 1)
     → number_at (front ++ (word version ++ (word id ++ rest))) ≡ length name + 1
     → text_of (length name + 1) (front ++ (word version ++ (word id ++ rest))) ≡ Ok name → version < 2 ^ 32
@@ -126,7 +126,7 @@ array_found array rest bytes f e =
     ∙ take_at array rest (length array) refl in
     ap (λ (l : List ℕ). Ok (Array l)) content
 
--- What is spelled is what is read, whatever follows.
+-- A reader finds the value of a spelling, whatever follows it.
 pub reading-spelled : {kind : Kind} {value : Argument} {front : List ℕ} (rest : List ℕ) → Spells kind value front
     → reading kind (front ++ rest) ≡ Ok (value, length front)
 reading-spelled {front = front} rest (is_int {z = z} f e) =

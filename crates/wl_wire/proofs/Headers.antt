@@ -1,4 +1,4 @@
--- Headers in front of bytes.
+-- Headers at the front of bytes.
 use Rattle.std.proofs.Common.{◌≡◌, ℕ, ◌+◌, ◌*◌, ◌/◌, ◌%◌, ◌<◌, ◌≤◌, List, [], ◌∷◌, length, take, drop, refl, arith}
 use Rattle.std.specs.Prelude.{slice_index}
 use Rattle.std.proofs.lemmas.List.Elements.{All-take}
@@ -8,7 +8,7 @@ use Rattle.wl_wire.specs.Reading.{number_at}
 use Rattle.wl_wire.proofs.Numbers.{Bytewise}
 use Rattle.wl_wire.proofs.Canonicals.{header_bytes-at}
 
--- the header that stands in front, whatever follows
+-- the header at the front, whatever follows it
 pub header_bytes-front : (bytes : List ℕ) → Bytewise bytes → 8 ≤ length bytes
     → header_bytes (header_at bytes) ≡ take 8 bytes
 header_bytes-front (a ∷ b ∷ c ∷ d ∷ e ∷ f ∷ g ∷ h ∷ rest) w l =
@@ -16,7 +16,7 @@ header_bytes-front (a ∷ b ∷ c ∷ d ∷ e ∷ f ∷ g ∷ h ∷ rest) w l =
     (All-take (λ (b : ℕ). b < 256) 8 (a ∷ b ∷ c ∷ d ∷ e ∷ f ∷ g ∷ h ∷ rest) w) refl
 header_bytes-front bytes w l = absurd (omega arith)
 
--- the three numbers that are read there
+-- the three numbers of the header at the front
 pub header-read : (bytes : List ℕ) (object size opcode : ℕ) → Bytewise bytes → 8 ≤ length bytes
     → object ≡ little_number 4 bytes → size ≡ little_number 2 (take 2 (drop 6 bytes))
     → opcode ≡ little_number 2 (take 2 (drop 4 bytes))
@@ -37,7 +37,7 @@ header-read (a ∷ b ∷ c ∷ d ∷ e ∷ f ∷ g ∷ h ∷ rest) object size o
     cc
 header-read bytes object size opcode w l o s p = absurd (omega (arith, l))
 
--- the size's two bytes
+-- the size, from its two bytes
 pub header-size : (bytes : List ℕ) (size : ℕ) → Bytewise bytes → 8 ≤ length bytes
     → size ≡ number_at (drop 4 bytes) / 65536
     → size ≡ slice_index bytes 6 + 256 * slice_index bytes 7

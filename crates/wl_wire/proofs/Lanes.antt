@@ -1,4 +1,4 @@
--- A search for a byte 0 in parts of a text, and in lanes.
+-- A search for a byte 0 in parts of a text, and in lanes of a vector.
 use Rattle.std.proofs.Common.{◌≡◌, ℕ, ◌+◌, ◌*◌, ◌-◌, ◌^◌, not, cond, nat_eq, ltb, ltb-true}
 use Rattle.std.proofs.Common.{ltb-false, w8, map, ◌<◌, ◌≤◌, List, [], ◌∷◌, ◌++◌, Bool, true, false}
 use Rattle.std.proofs.Common.{◌||◌, length, take, drop, refl, sym, ap, ◌∙◌, arith}
@@ -32,21 +32,21 @@ or_parts false b e = refl
 nul_split : (n : ℕ) (xs : List ℕ) → has_nul xs ≡ (has_nul (take n xs) || has_nul (drop n xs))
 nul_split n xs = ap has_nul (sym (take-append-drop n xs)) ∙ list_any-append (λ b. b == 0) (take n xs) (drop n xs)
 
--- a byte 0 in a part is one in the text
+-- a byte 0 in a part is one in the whole text
 pub nul_found : (text : List ℕ) (at n : ℕ) → has_nul (take n (drop at text)) ≡ true → has_nul text ≡ true
 nul_found text at n e =
     nul_split at text ∙ or_true_right (has_nul (take at text)) (has_nul (drop at text))
     (nul_split n (drop at text) ∙ or_true_left (has_nul (take n (drop at text)))
     (has_nul (drop n (drop at text))) e)
 
--- none before the place, and none in the part from there on
+-- no byte is 0 before `at`, nor in the next n bytes
 pub nul_next : (text : List ℕ) (at n : ℕ) → has_nul (take at text) ≡ false → has_nul (take n (drop at text)) ≡ false
     → has_nul (take (at + n) text) ≡ false
 nul_next text at n before here =
     ap has_nul (take-add at n text) ∙ list_any-append (λ b. b == 0) (take at text) (take n (drop at text))
     ∙ or_false_left (has_nul (take at text)) (has_nul (take n (drop at text))) before ∙ here
 
--- none before the place, which lies in the last part or behind it
+-- no byte is 0 before `at`, and the last n bytes begin at or before it
 pub nul_last : (text : List ℕ) (at last n : ℕ) → last ≤ at → last + n ≡ length text → has_nul (take at text) ≡ false
     → has_nul (take n (drop last text)) ≡ has_nul text
 nul_last text at last n low size before =
@@ -59,7 +59,7 @@ nul_last text at last n low size before =
     ap has_nul (take_all n (drop last text) (omega (arith, length-drop last text)))
     ∙ sym (nul_split last text ∙ or_false_left (has_nul (take last text)) (has_nul (drop last text)) front)
 
--- a part in two
+-- a part split into two halves
 pub nul_halves : (text : List ℕ) (at n : ℕ) → has_nul (take (n + n) (drop at text))
     ≡ (has_nul (take n (drop at text)) || has_nul (take n (drop (at + n) text)))
 nul_halves text at n =
@@ -77,7 +77,7 @@ or_turn false true true d = refl
 or_turn false true false d = refl
 or_turn false false c d = refl
 
--- the least lanes of two
+-- the lesser of two lanes, for each lane
 least : (xs ys : List ℕ) → length xs ≡ length ys → has_nul (sel_l (zip2 ltb xs ys) xs ys) ≡ (has_nul xs || has_nul ys)
 least [] [] e = refl
 least [] (y ∷ ys) e = absurd (omega arith)
@@ -87,7 +87,7 @@ least (x ∷ xs) (y ∷ ys) e =
     ap (λ b. b || has_nul (sel_l (zip2 ltb xs ys) xs ys)) (least_zero x y (ltb x y) refl)
     ∙ ap (λ b. (x == 0 || y == 0) || b) more ∙ or_turn (x == 0) (y == 0) (has_nul xs) (has_nul ys)
 
--- what `simd_min` computes of two loads that lie one behind the other, n bytes in all each
+-- what `simd_min` computes for two adjacent loads of n bytes in all
 pub nul_least : (text xs ys : List ℕ) (at n : ℕ) → length xs ≡ 64 → length ys ≡ 64
     → has_nul xs ≡ has_nul (take n (drop at text)) → has_nul ys ≡ has_nul (take n (drop (at + n) text))
     → has_nul (sel_l (map (top 7) (zip2 (λ a b. cond (ltb a b) (2 ^ 8 - 1) 0) xs ys)) xs ys)
@@ -110,7 +110,7 @@ bit_any true m some e = grind (arith, nat_tests)
 bit_any false m true e = grind (arith, nat_tests)
 bit_any false m false e = grind (arith, nat_tests)
 
--- a mask of lanes has a bit where one of them passes
+-- the mask is not 0 if one of the lanes passes
 pub mask_any : (p : ℕ → Bool) (xs : List ℕ) → not (nat_eq (mask_l (map p xs)) 0) ≡ list_any p xs
 mask_any p [] = refl
 mask_any p (x ∷ xs) = bit_any (p x) (mask_l (map p xs)) (list_any p xs) (mask_any p xs)

@@ -1,4 +1,4 @@
--- A search for a byte 0 tells whether there is one.
+-- A search for a byte 0 finds whether there is one.
 use Rattle.std.proofs.Common.{◌≡◌, ℕ, ◌<◌, ◌-◌, ◌^◌, ◌↔◌, List, Option, Some, None, Bool, true}
 use Rattle.std.proofs.Common.{false, is_some, length, not, refl, sym, ap, ◌∙◌, arith}
 use Rattle.std.proofs.lemmas.Bool.{false_from_ne_true, false≢true, true≢false, ne_eqb}

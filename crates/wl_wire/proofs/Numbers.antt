@@ -1,4 +1,4 @@
--- Words and the numbers that they are.
+-- Words and their numbers.
 use Rattle.std.proofs.Common.{◌≡◌, ℕ, ◌+◌, ◌-◌, ◌*◌, ◌/◌, ◌%◌, ◌^◌, ◌<◌, ◌≤◌, List, [], ◌∷◌, ◌++◌}
 use Rattle.std.proofs.Common.{length, take, drop, refl, sym, ap, ◌∙◌, arith, get_or, Fits, w8}
 use Rattle.std.specs.Prelude.{FitsSigned, ℤ, pos, negsuc, nat_lt}
@@ -13,7 +13,7 @@ use Rattle.wl_wire.specs.Reading.{number_at, signed}
 abbrev pub Bytewise : List ℕ → Type 0
 Bytewise bytes = All (λ b. b < 256) bytes
 
--- from what a slice's type says
+-- each element of a slice of u8 is a byte
 pub bytewise_from : (bytes : List ℕ) → ((i : ℕ) → Fits w8 (get_or bytes i 0)) → Bytewise bytes
 bytewise_from bytes f k d h = let e : get_or bytes k d ≡ get_or bytes k 0 = get_or_default bytes k d 0 h in let g = f k
     in omega (arith, g, e)
@@ -42,7 +42,7 @@ word-number_at (a ∷ b ∷ []) h f = absurd (omega arith)
 word-number_at (a ∷ []) h f = absurd (omega arith)
 word-number_at [] h f = absurd (omega arith)
 
--- a number that the first four bytes are is the one that is read there
+-- if the first four bytes are the word of a number, that number is read from them
 pub number-from_word : (n : ℕ) (bytes : List ℕ) → n < 2 ^ 32 → take 4 bytes ≡ word n → number_at bytes ≡ n
 number-from_word n bytes f e = ap number_at (sym (take-append-drop 4 bytes) ∙ ap (λ (l : List ℕ). l ++ drop 4 bytes) e)
     ∙ number_at-word n (drop 4 bytes) f

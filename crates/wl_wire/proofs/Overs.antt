@@ -16,13 +16,13 @@ zeros_behind (suc (suc (suc zero))) h = refl
 zeros_behind (suc (suc (suc (suc zero)))) h = refl
 zeros_behind (suc (suc (suc (suc (suc j))))) h = absurd (omega arith)
 
--- what is written over the rest of bytes, from a place on
+-- a value that replaces the rest of bytes, from a place on
 pub over-rest : {X : Type 0} (a k : ℕ) (out v : List X) → a ≤ length out → k ≡ length out - a → put_mid a k out v ≡ take a out ++ v
 over-rest a k out v low size =
     ap (λ l. take a out ++ (v ++ l)) (drop_all k (drop a out) (omega (arith, length-drop a out)))
     ∙ ap (λ l. take a out ++ l) (append-nil v)
 
--- a length, bytes and zeros: the last word first, then the length, then the bytes
+-- a length, bytes and padding, written in this order: the last word, the length, the bytes
 pub over-padded : (out bytes v u y : List ℕ) (len e k : ℕ) → e ≡ 4 + padded len → e ≤ length out → length bytes ≤ len
     → len ≤ length bytes + 1
     → k ≡ length out - (e - 4) → v ≡ word 0 ++ drop 4 (drop (e - 4) out)
@@ -54,7 +54,7 @@ over-padded out bytes v u y len e k end room few most rest is_last is_len is_byt
     ∙ sym (append_assoc (word len) bytes (zeros (padded len - length bytes) ++ drop (4 + padded len) out))
     ∙ sym (append_assoc (word len ++ bytes) (zeros (padded len - length bytes)) (drop (4 + padded len) out))
 
--- a text and two words behind it
+-- a text, and two words after it
 pub over-named : (out text a b t v w : List ℕ) (n j k : ℕ) → length text ≡ n → length a ≡ 4 → n + 8 ≤ length out
     → t ≡ text ++ drop n out → j ≡ length t - n → v ≡ a ++ drop 4 (drop n t) → k ≡ length (put_mid n j t v) - (n + 4)
     → w ≡ b ++ drop 4 (drop (n + 4) (put_mid n j t v))

@@ -1,4 +1,4 @@
--- The first fault is the one that is answered.
+-- A reader reports the first fault.
 use Rattle.std.proofs.Common.{◌≡◌, ℕ, ◌+◌, ◌-◌, ◌<◌, ◌≤◌, Bool, true, false, List, length, drop}
 use Rattle.std.proofs.Common.{Some, None, refl, ap, subst, ◌∙◌, arith, inl, inr}
 use Rattle.std.specs.Prelude.{slice_index, ◌==◌, ◌&&◌, if◌then◌else◌, Ok, Err, ◌↔◌, Option}
@@ -64,7 +64,7 @@ inner_text more bytes h = ap (λ (n : ℕ). text_of n bytes) (begins_number h.0 
     ∙ inner h.0 bytes (ne_eqb h.0 0 (λ z. let p = h.1 in omega arith)) (eq-eqb _ 0 h.3)
     (list_any_at (λ (b : ℕ). b == 0) (counted_bytes (h.0 - 1) bytes) h.4.0 0 h.4.1 (eq-eqb _ 0 h.4.2))
 
--- a string that is not null, or is not allowed to be
+-- a string that is not null, or may not be null
 string_read : (null : Bool) (bytes : List ℕ) (fault : ArgFault) → ((number_at bytes == 0) && null) ≡ false
     → text_of (number_at bytes) bytes ≡ Err fault → argument_of (kinds.Str null) bytes ≡ Err fault
 string_read null bytes fault n e = ap (λ (b : Bool). if b then Ok (Str None)
@@ -126,7 +126,7 @@ fault-reading kind NullNotAllowed bytes h = absurd h
 fault-reading kind NoEndingNul bytes h = absurd h
 fault-reading kind InnerNul bytes h = absurd h
 
--- and it is the only one
+-- a reader reports a fault if and only if it is the first one
 pub reading-fault : (kind : Kind) (fault : ArgFault) (bytes : List ℕ) → Bytewise bytes
     → (reading kind bytes ≡ Err fault) ↔ IsFirstFault kind bytes fault
 reading-fault kind fault bytes w = (

@@ -1,4 +1,4 @@
--- What the contracts of the readers say, from the answer as a function of the bytes.
+-- The contracts of the readers, from their result as a function of the bytes.
 use Rattle.std.proofs.Common.{◌≡◌, ℕ, ◌≤◌, List, length, take, drop, sym, ap, subst, ◌∙◌}
 use Rattle.std.specs.Prelude.{Result, Ok, Err, IfOk, IfErr}
 use Rattle.std.proofs.lemmas.List.{take-append-drop, length-take-le}
@@ -13,7 +13,7 @@ use Rattle.wl_wire.proofs.Numbers.{Bytewise}
 use Rattle.wl_wire.proofs.Fronts.{reading-spelled}
 use Rattle.wl_wire.proofs.Answered.{IsAnswer, reading-answers}
 
--- what is spelled by the first bytes is what is read
+-- a reader finds the value that the first bytes spell
 pub reading-front : (kind : Kind) (bytes : List ℕ) (value : Argument) (len : ℕ) → len ≤ length bytes
     → Spells kind value (take len bytes) → reading kind bytes ≡ Ok (value, len)
 reading-front kind bytes value len h s = ap (reading kind) (sym (take-append-drop len bytes))
