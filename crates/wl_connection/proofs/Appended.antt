@@ -1,4 +1,4 @@
--- Lists that grow at their end, and what follows what was there before.
+-- Lists that grow at the end, and the part behind the old end.
 use Rattle.std.proofs.Common.{◌≡◌, List, [], ◌++◌, length, take, drop, map, refl, sym, ap, ◌∙◌, arith}
 use Rattle.std.proofs.lemmas.List.{append_assoc, map-append, take-append-drop, take_all, drop_all, take_at, drop_at}
 

@@ -1,4 +1,4 @@
--- What a call that passed its checks makes, opens and ends.
+-- What a call that passed its checks makes, opens and destroys.
 use Rattle.std.proofs.Common.{◌≡◌, ◌≢◌, inl, inr, ℕ, suc, ◌+◌, Bool, true, false, List, []}
 use Rattle.std.proofs.Common.{◌∷◌, length, map, refl, sym, subst, ◌∙◌, ap, cond, eqb}
 use Rattle.std.specs.declared.option.Option.{Option}
@@ -45,7 +45,7 @@ use Rattle.wl_connection.proofs.Displays.{ends-another}
 use Rattle.wl_connection.proofs.Messages.{fits-after}
 use Rattle.wl_connection.proofs.Ends.{NamesRegistry, is_the_destroy, names_registry, the_destroy}
 
--- a call has no argument at an index for which the signature gives no interface
+-- a call has no argument for a new object without an interface in its signature
 not-named : (x : Arg) → suits (kinds.New None) (given_of x) ≡ true → ⊥
 not-named (args.Int z) e = cc
 not-named (args.Uint n) e = cc
@@ -57,7 +57,7 @@ not-named args.New e = cc
 not-named (args.Array bytes) e = cc
 not-named (args.Fd token) e = cc
 
--- one argument of a call that makes nothing is the same on the wire whatever the new id
+-- an argument of a call that makes nothing does not depend on the new id
 one-wired : (n m : ℕ) (kind : Kind) (ks : List Kind) (x : Given) → suits kind x ≡ true → (kind ≡ kinds.New None → ⊥)
     → call_makes (kind ∷ ks) ≡ None → (wired n x ≡ wired m x) × (call_makes ks ≡ None)
 one-wired n m kinds.Int ks (Int z) e f h = (refl, h)
@@ -72,7 +72,7 @@ one-wired n m kinds.Array ks (Array bytes) e f h = (refl, h)
 one-wired n m kinds.Fd ks (Fd token) e f h = (refl, h)
 one-wired n m kind ks x e f h = absurd (cc)
 
--- what a call that makes nothing writes does not depend on a new id
+-- what a call that makes nothing writes does not depend on the new id
 pub same-wired : (n m place : ℕ) (ks : List Kind) (list : List Arg) → wrong_place place ks (given list) ≡ None
     → call_makes ks ≡ None → on_wire n list ≡ on_wire m list
 same-wired n m place [] [] w h = refl
@@ -106,7 +106,7 @@ version-at : (core : Core) (side : Side) (target : Object) (signature : MessageS
 version-at core side target signature list entry row w =
     rw row (call-makes core.tables entry.version (next_id (maker_by side) core.view) 0 signature.kinds list w)
 
--- the object that a call makes is the one that is opened next, if its signature has one
+-- a call makes the object that is opened next, if its signature has a new object
 pub made-next : (core : Core) (side : Side) (target : Object) (opcode : ℕ) (list : List Arg)
     (signature : MessageSignature)
     (entry : Entry)
@@ -117,7 +117,8 @@ made-next core side target opcode list signature entry e row =
     version-at core side target signature list entry row
     (passes core.outbox.limit.bytes core.tables side core.view target opcode (given list) signature e).suit
 
--- what is written is the same with the new object's id as with the next one, also where no object is new
+-- a call writes the same for the id of the object it opens as for the next id, even if it opens
+-- none
 pub wired-next : (core : Core) (side : Side) (target : Object) (opcode : ℕ) (list : List Arg)
     (signature : MessageSignature)
     (id : ℕ) (iface : Option Iface)
@@ -129,7 +130,7 @@ wired-next core side target opcode list signature id None e f h =
     (passes core.outbox.limit.bytes core.tables side core.view target opcode (given list) signature e).suit (sym f)
 wired-next core side target opcode list signature id (Some iface) e f h = ap (λ n. on_wire n list) (h refl)
 
--- the target is live still after an object was opened
+-- the target is still live after an object was opened
 live-opened : (maker : Maker) (view : Objects) (new : Option Iface) (version id : ℕ) → is_live view id ≡ true
     → is_live (opens view (next_object maker view version new)) id ≡ true
 live-opened maker view None version id h = h
@@ -158,7 +159,7 @@ target-live core side target opcode list signature new version e =
     let p = passes core.outbox.limit.bytes core.tables side core.view target opcode (given list) signature e in
     live-opened (maker_by side) core.view new version target.id (ap lives_in p.row ∙ state-lives p.entry.state p.live)
 
--- what the code counts is the room that a call needs
+-- the room that the code tests is the room that a call needs
 pub fits-known : (o : Outgoing) (list : List Arg) (len more other count : ℕ) (b : Bool)
     → len ≡ message_len (on_wire 0 list) → more ≡ other → count ≡ length (tokens_of (given list))
     → b ≡ fits o (len + more) count
@@ -168,7 +169,7 @@ fits-known o list len more other count b whole m tokens e =
     ∙ (ap (λ (n : ℕ). fits o (message_len (on_wire 0 list) + n) count) m
     ∙ ap (fits o (message_len (on_wire 0 list) + other)) tokens))
 
--- there is room for what follows a message
+-- there is room for the event that follows a message
 pub fits-behind : (core written : Core) (view : Objects) (list : List Arg) (target opcode id more : ℕ) (tokens : List ℕ)
     → fits core.outbox (message_len (on_wire 0 list) + more) (length tokens) ≡ true
     → written ≡ with_sent (with_view core view) target opcode (on_wire id list) tokens
@@ -186,7 +187,7 @@ gives-more : {X E : Type 0} (memory : E) (wants more : Bool) (answer result : Re
 gives-more memory wants more answer result f (inl e) = inl e
 gives-more memory wants more answer result f (inr w) = inr (w.0, f w.1, w.2)
 
--- a call that has room is answered as the opening of its object is
+-- if there is room, the result of a call is that of opening its object
 pub answered : (core : Core) (side : Side) (target : Object) (opcode : ℕ) (list : List Arg)
     (signature : MessageSignature)
     (entry : Entry) (result : Result (Option Object) SendError)
@@ -214,7 +215,7 @@ id-where : (maker : Maker) (new : Option Object) (view : Objects) (iface : Optio
 id-where maker new view None h s = absurd (cc)
 id-where maker new view (Some iface) h s = h
 
--- the message in the outbox and the new object in the table
+-- the message is in the outbox, and the new object in the table
 pub written-known : (core opened written : Core) (side : Side) (target : Object) (opcode : ℕ) (list : List Arg)
     (signature : MessageSignature) (entry : Entry) (new : Option Object) (iface : Option Iface) (tokens : List ℕ)
     → checked core.outbox.limit.bytes core.tables side core.view target opcode (given list) ≡ Ok signature
@@ -236,7 +237,7 @@ written-known core opened written side target opcode list signature entry new if
     ∙ ap (with_sent (with_view core (opens core.view (made_at core side target signature (given list)))) target.id opcode
     (on_wire (next_id (maker_by side) core.view) list)) t))
 
--- no message ends wl_display
+-- no message destroys wl_display
 pub ends-other : (core : Core) (side : Side) (target : Object) (opcode : ℕ) (list : List Arg)
     (signature : MessageSignature)
     → Valid core.tables → HasDisplay core.view
@@ -246,7 +247,7 @@ ends-other core side target opcode list signature v d e t =
     let p = passes core.outbox.limit.bytes core.tables side core.view target opcode (given list) signature e in
     ends-another core.tables core.view side target.id opcode p.entry signature v d p.row p.exists t
 
--- and then what the message ends
+-- then the object that the message destroys is closed
 pub ended-known : (core written ended : Core) (side : Side) (target : Object) (opcode : ℕ) (list : List Arg)
     (signature : MessageSignature) (what : Destroys) (id : ℕ)
     → written ≡ with_view (with_sent core target.id opcode (map (wired (next_id (maker_by side) core.view)) (given list))
@@ -260,7 +261,7 @@ ended-known core written ended side target opcode list signature what id w e d i
     e ∙ (λ j. with_following (following side (d j)) (same j)
     (with_view (w j) (destroys side (d j) (same j) (w j).view)))
 
--- ---- what is destroyed is live, and not wl_display
+-- ---- what is destroyed is live and not wl_display
 
 open_row : (maker : Maker) (view : Objects) (new : Option Iface) (version id : ℕ) → NamesRegistry view id
     → is_live (opens view (next_object maker view version new)) id ≡ true

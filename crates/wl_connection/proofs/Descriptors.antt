@@ -1,4 +1,4 @@
--- The descriptors among the values of a message are as many as its signature has.
+-- A message has as many descriptors among its values as among the kinds of its signature.
 use Rattle.std.proofs.Common.{◌≡◌, ℕ, suc, ◌+◌, ◌≤◌, Bool, true, false, cond, List, [], ◌∷◌, ◌++◌}
 use Rattle.std.proofs.Common.{length, drop, refl, sym, ap, ◌∙◌, arith}
 use Rattle.std.specs.Prelude.{nat_lt, if◌then◌else◌, ◌==◌, ◌&&◌}
@@ -129,7 +129,7 @@ all_read r place (kind ∷ ks) bytes =
     has_judged r place kind ks bytes (reading (forgiving_kind r.forgives kind) bytes) (arguments_at r (suc place) ks)
     (read_as (forgiving_kind r.forgives kind) bytes) (λ rest. all_read r (suc place) ks rest)
 
--- ---- they are reported with the first tokens, whatever tokens follow these
+-- ---- descriptors are reported with the first tokens, whatever tokens follow
 
 pub reports_stay : (r : Reader) (tokens more : List ℕ) (vs : List Argument) → fds vs ≤ length tokens
     → reports_of r (tokens ++ more) vs ≡ reports_of r tokens vs

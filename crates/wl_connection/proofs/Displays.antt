@@ -1,4 +1,4 @@
--- wl_display's row stays as it is, and no message destroys wl_display.
+-- The row of wl_display never changes, and no message destroys wl_display.
 use Rattle.std.proofs.Common.{◌≡◌, ◌≢◌, ℕ, zero, suc, Bool, true, false, List, refl, sym, ◌∙◌, ap}
 use Rattle.std.proofs.Common.{cond, eqb, subst, arith}
 use Rattle.std.proofs.lemmas.Bool.Decides.{nat_tests}
@@ -29,7 +29,7 @@ use Rattle.wl_connection.specs.Core.{HasDisplay}
 pub HasDisplay-opening : (range : Bool) → HasDisplay (opening display range)
 HasDisplay-opening range = look-opening display range 1
 
--- an id that has no row is another
+-- an id without a row is not that of wl_display
 not_display : (view : Objects) (id : ℕ) → HasDisplay view → look view id ≡ None → eqb 1 id ≡ false
 not_display view id d n = by_test (eqb 1 id) refl
   where
@@ -50,7 +50,7 @@ pub HasDisplay-opened : (maker : Maker) (view : Objects) (iface : Iface) (versio
 HasDisplay-opened maker view iface version s d = HasDisplay-opened_at view (next_id maker view) iface version s
     (free-next maker view s) d
 
--- an opening that may be refused
+-- an opening that may be refused keeps the row of wl_display
 pub HasDisplay-opening_next : {X E : Type 0} (maker : Maker) (result : Result X E) (before now : Objects)
     (iface : Iface) (version : ℕ) → ObjectsAreSound before → HasDisplay before
     → OnOk result (now ≡ opened maker before iface version) → OnErr result (now ≡ before) → HasDisplay now
@@ -68,7 +68,7 @@ pub HasDisplay-zombied : (view : Objects) (id : ℕ) → id ≢ 1 → HasDisplay
 HasDisplay-zombied view id n d = look-zombied view id 1
     ∙ (ap (λ b. cond b (option_map zombie (look view 1)) (look view 1)) (other id n) ∙ d)
 
--- what a message of wl_display destroys
+-- the messages of wl_display destroy nothing
 nothing-at : (side : Side) (opcode : ℕ) (m : MessageSignature) → slice_get (messages_of side wl_display) opcode ≡ Some m
     → m.destroys ≡ Nothing
 nothing-at Request zero m e = let d = ap (option_map (λ (n : MessageSignature). n.destroys)) e in cc
@@ -98,7 +98,7 @@ is_held-of : (o : Option Entry) → is_some o ≡ false → o ≡ None
 is_held-of None e = refl
 is_held-of (Some x) e = absurd (cc e)
 
--- what `open_at` opens had no row, so it is another
+-- `open_at` opens ids without a row, so never that of wl_display
 pub HasDisplay-open : (view after : Objects) (id : ℕ) (iface : Iface) (version : ℕ) (r : Result Object TableError)
     → OnOk r (after ≡ opened_at view id iface version) → OnErr r (after ≡ view)
     → ((r ≡ Err refusals.InUse) ↔ IsTrue (is_held view id)) → HasDisplay view → HasDisplay after
@@ -112,7 +112,7 @@ HasDisplay-open view after id iface version (Ok object) o e u d = by_test (is_he
         ∙ (ap (λ b. cond b (Some (record { birth = births view id; iface = iface; version = version; state = Live }))
         (look view 1)) (not_display view id d (is_held-of (look view id) h)) ∙ d))
 
--- an object that can be opened at an id of the server's range leaves it
+-- opening an id of the server's range keeps the row of wl_display
 pub HasDisplay-made : (view : Objects) (id : ℕ) (iface : Iface) (version : ℕ) → is_of_server id ≡ true
     → HasDisplay view → HasDisplay (opened_at view id iface version)
 HasDisplay-made view id iface version range d =

@@ -38,7 +38,7 @@ use Rattle.wl_object_map.specs.View.{lives}
 use Rattle.wl_connection.proofs.ReceivedMessage.{is_received}
 use Rattle.wl_connection.proofs.Spelled.{read_row}
 
--- the id at a place of a call, by its argument there
+-- the id that a call names at a place
 pub named_known : (list : List Arg) (place : ℕ) → id_at (on_wire 0 list) place
     ≡ id_named (option_map (λ a. wired 0 (given_of a)) (slice_get list place))
 named_known list place = ap id_named (slice_get-map (wired 0) (given list) place
@@ -59,7 +59,7 @@ found_at Request (suc zero) m k e d = sym (cc e)
 found_at Request (suc (suc n)) m k e d = absurd (cc e)
 found_at Event opcode m k e d = absurd (cc e)
 
--- what destroys an argument is wl_fixes.destroy_registry
+-- the only message that destroys an argument is wl_fixes.destroy_registry
 pub is_the_destroy : (tables : List Interface) (place : ℕ) (side : Side) (opcode : ℕ) (m : MessageSignature) (k : ℕ)
     → Valid tables → signature_at tables place side opcode ≡ Some m → m.destroys ≡ ends_arg k → m ≡ the_destroy
 is_the_destroy tables place side opcode m k v e d = elim (v.argument_ends place side opcode m e) [
@@ -88,7 +88,7 @@ pub no_event : (tables : List Interface) (place : ℕ) (opcode : ℕ) (m : Messa
 no_event tables place opcode m k v e d = let yes : true ≡ false =
     sym (ap destroys_argument d) ∙ ends_no_argument tables place opcode m v e in cc yes
 
--- the live registry that such a call names
+-- the call names a live registry
 pub record NamesRegistry (view : Objects) (id : ℕ) : Type 0 where
   pub entry : Entry
   pub there : look view id ≡ Some entry
@@ -149,12 +149,12 @@ ends_by side Nothing id view h = absurd (cc h)
 ends_by side Target id view h = refl
 ends_by side (ends_arg k) id view h = refl
 
--- ---- the object that such a request names to its reader
+-- ---- the object that wl_fixes.destroy_registry names to its reader
 
 abbrev registry_kind : Kind
 registry_kind = kinds.Obj false (Some registry)
 
--- these values name one object, a wl_registry among these
+-- the values name a wl_registry, and nothing else
 pub record NamesRow (rows : ℕ → Option Entry) (values : List Argument) : Type 0 where
   pub id : ℕ
   pub entry : Entry

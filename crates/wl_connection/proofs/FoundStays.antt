@@ -1,4 +1,4 @@
--- What an end finds at the front stays there when more comes in.
+-- What an end finds at the front is unchanged if more comes in.
 use Rattle.std.proofs.Common.{◌≡◌, ℕ, ◌+◌, ◌*◌, ◌/◌, ◌%◌, ◌<◌, ◌≤◌, ◌⊎◌, inl, inr, Bool, true}
 use Rattle.std.proofs.Common.{false, cond, List, [], ◌++◌, length, length-append, take, drop, refl}
 use Rattle.std.proofs.Common.{sym, ap, subst, ◌∙◌, arith, ltb}
@@ -53,9 +53,9 @@ header_stays xs ys h =
     ∙ number_stays (drop 4 xs) ys (omega (arith, length-drop 4 xs)) in
     λ i. record { object = o i; size = d i / 65536; opcode = d i % 65536 }
 
--- ---- a message, by the number of tokens that wait
+-- ---- the result for a message, depending on how many tokens wait
 
--- At fault however many tokens wait, or a message which takes some, and is at fault for fewer only.
+-- Either a fault however many tokens wait, or a message if its tokens wait and a fault if fewer do.
 pub data Meets (answer : ℕ → Result Received Fault) : Type 0 where
   fails : (fault : Fault) → ((k : ℕ) → answer k ≡ Err fault) → Meets answer
   gives : (m : Received) → fds m.values ≡ takes m → ((k : ℕ) → takes m ≤ k → answer k ≡ Ok m)
@@ -118,9 +118,9 @@ pub meets : (tables : List Interface) (side : Side) (reader : Reader) (header : 
     → Meets (λ w. received tables side reader header body w)
 meets tables side reader header body = by_meets tables side reader header body (reader.object header.object)
 
--- ---- what is found, whatever follows it
+-- ---- what is found, whatever follows
 
--- what is at the front, with more after it
+-- what is at the front, whatever comes in
 pub data Finds (core : Core) (side : Side) : Type 0 where
   nothing : in_front core.inbox ≡ More → Finds core side
   fault : (what : Fault) → ((bytes tokens : List ℕ) → found (with_arrived core bytes tokens) side ≡ Err what)
@@ -131,7 +131,7 @@ pub data Finds (core : Core) (side : Side) : Type 0 where
       → ((bytes tokens : List ℕ) → length (core.inbox.tokens ++ tokens) < takes f.message
       → found (with_arrived core bytes tokens) side ≡ Err faults.MissingDescriptor) → Finds core side
 
--- with more behind them, a whole message's header, body and answer are the same, but for the number of tokens
+-- if more comes in, only the number of waiting tokens changes for a whole message
 whole_found : (core : Core) (side : Side) (n : ℕ) (bytes tokens : List ℕ) → in_front core.inbox ≡ Whole n
     → found (with_arrived core bytes tokens) side
     ≡ found_in n (header_of core.inbox.bytes).opcode
@@ -170,7 +170,7 @@ finds_at core side (Whole n) e = at_whole core side n e
 pub finds : (core : Core) (side : Side) → Finds core side
 finds core side = finds_at core side (in_front core.inbox) refl
 
--- ---- what came at two times, or none
+-- ---- what came in two steps, or none
 
 pub arrived_none : (core : Core) → with_arrived core [] [] ≡ core
 arrived_none core =
@@ -187,7 +187,7 @@ arrived_twice core a s b t =
 
 -- ---- a message that was found
 
--- the message is found there whatever follows it, and all that it takes is there
+-- the message is at the front with all of its tokens, whatever follows
 pub record IsFound (core : Core) (side : Side) (f : Found) : Type 0 where
   pub low : 8 ≤ f.size
   pub there : f.size ≤ length core.inbox.bytes
@@ -248,7 +248,7 @@ found_by core side f e (message g low there count some few) =
 pub is_found : (core : Core) (side : Side) (f : Found) → found core side ≡ Ok (Some f) → IsFound core side f
 is_found core side f e = found_by core side f e (finds core side)
 
--- the message is reported by the tokens that wait first
+-- the report uses only the first waiting tokens
 pub reported_stays : (core : Core) (side : Side) (f : Found) (bytes tokens : List ℕ) → IsFound core side f
     → reported (with_arrived core bytes tokens) side f.message ≡ reported core side f.message
 reported_stays core side f bytes tokens h = reports_stay (reader_in core side) core.inbox.tokens tokens f.message.values
@@ -258,7 +258,7 @@ pub own_stay : (core : Core) (side : Side) (f : Found) (bytes tokens : List ℕ)
     → own_tokens (with_arrived core bytes tokens) f.message ≡ own_tokens core f.message
 own_stay core side f bytes tokens h = take-append-le (takes f.message) core.inbox.tokens tokens h.enough
 
--- its own tokens are enough for its report
+-- the message's own tokens are enough for its report
 pub reported_own : (core : Core) (side : Side) (f : Found) → IsFound core side f
     → reports_of (reader_in core side) (own_tokens core f.message) f.message.values ≡ reported core side f.message
 reported_own core side f h =
@@ -269,7 +269,7 @@ reported_own core side f h =
     sym (reports_stay (reader_in core side) own (drop n core.inbox.tokens) f.message.values
     (omega (arith, len, h.count))) ∙ ap (λ (l : List ℕ). reports_of (reader_in core side) l f.message.values) whole
 
--- what follows it stays after it
+-- what came in after the message is still there once it is read
 pub past_stays : (core : Core) (side : Side) (f : Found) (bytes tokens : List ℕ) → IsFound core side f
     → past_found (with_arrived core bytes tokens) f ≡ with_arrived (past_found core f) bytes tokens
 past_stays core side f bytes tokens h =
@@ -286,15 +286,15 @@ past_stays core side f bytes tokens h =
       };
     }
 
--- fewer bytes wait after it
+-- once it is read, fewer bytes wait
 pub past_shorter : (core : Core) (side : Side) (f : Found) → IsFound core side f
     → length (past_found core f).inbox.bytes < length core.inbox.bytes
 past_shorter core side f h = omega (arith, length-drop f.size core.inbox.bytes, h.low, h.there)
 
 -- ---- a fault
 
--- A fault that stays whatever comes behind it, or a message that lacks tokens, and that stays at
--- fault as long as no token comes.
+-- A fault that stays whatever comes in; or a message that lacks tokens, a fault that stays until a
+-- token comes in.
 pub data Faulty (core : Core) (side : Side) (what : Fault) : Type 0 where
   always : ((bytes tokens : List ℕ) → found (with_arrived core bytes tokens) side ≡ Err what) → Faulty core side what
   lacks : (need : Need) → ((bytes tokens : List ℕ) → Wants (with_arrived core bytes tokens) side need)
@@ -375,7 +375,7 @@ none_by core side e (message g low there count some few) =
       ))
     ]
 
--- where nothing is found yet, less waits than the longest message has
+-- if nothing is found yet, fewer bytes wait than the longest message has
 pub none_short : (core : Core) (side : Side) → found core side ≡ Ok None
     → length core.inbox.bytes < core.inbox.limit.bytes
 none_short core side e = none_by core side e (finds core side)

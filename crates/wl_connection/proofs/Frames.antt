@@ -1,4 +1,4 @@
--- What is at the front of an end that has found the frame of a message.
+-- What is at the front of an end that found a frame.
 use Rattle.std.proofs.Common.{◌≡◌, ℕ, ◌<◌, ◌≤◌, List, ◌++◌, length, take, drop, get_or, sym, ap, ◌∙◌}
 use Rattle.std.proofs.Common.{arith}
 use Rattle.std.proofs.lemmas.List.{take-append-drop, append_assoc}
@@ -20,7 +20,7 @@ use Rattle.wl_connection.specs.Core.{Core}
 use Rattle.wl_connection.specs.Receiving.{reader_in, found, found_at, found_in, header_of}
 use Rattle.wl_connection.proofs.ReceivedMessage.{first-tokens}
 
--- a frame as it was found
+-- the frame found
 pub record IsFrame (core : Core) (h : Header) (body : List ℕ) (waiting : ℕ) : Type 0 where
   pub header : IsHeader h
   pub whole : in_front core.inbox ≡ Whole h.size
@@ -48,18 +48,18 @@ pub framed : (core : Core) (o : Option Frame) (f : Frame) → o ≡ Some f → T
     → IsFrame core f.header f.body.now f.tokens
 framed core o f e t h = let k = rw e at t in record { header = h; whole = k.0; parts = k.1; tokens = k.2 }
 
--- a message takes no more tokens than it has arguments
+-- a message takes at most as many tokens as it has arguments
 pub descriptors-le : (ks : List Kind) → descriptors ks ≤ length ks
 descriptors-le ks = count_by-le-length is_descriptor_kind ks
 
--- the body of a message in front of the same end
+-- the body of the message at the front, at an equal end
 pub same-body : (core inner : Core) (size : ℕ) → inner ≡ core → in_front core.inbox ≡ Whole size
     → drop 8 (take (message_size (in_front inner.inbox)) inner.inbox.bytes) ≡ drop 8 (take size core.inbox.bytes)
 same-body core inner size same whole =
     ap (λ (k : Core). drop 8 (take (message_size (in_front k.inbox)) k.inbox.bytes)) same
     ∙ ap (λ (f : Front). drop 8 (take (message_size f) core.inbox.bytes)) whole
 
--- the tokens that such a message takes, by the first that wait
+-- the tokens of that message are the first waiting ones
 pub same-tokens : (core inner : Core) (n : ℕ) (tokens : List ℕ) → inner ≡ core → n ≤ 20 → n ≤ length core.inbox.tokens
     → length tokens ≡ 20
     → ((place : ℕ) → place < n → place < 20 → get_or tokens place 0 ≡ get_or inner.inbox.tokens place 0)

@@ -1,5 +1,5 @@
--- What an event makes, by valid tables: an object of an interface that no event destroys and that is
--- not wl_registry. The tables then have such events.
+-- What an event makes if the tables are valid: an object whose interface no event destroys, and
+-- which is not wl_registry. Tables with such an event let the server make objects.
 use Rattle.std.proofs.Common.{◌≡◌, ◌≢◌, ℕ, inl, inr, true, false, List, [], ◌∷◌, refl, ap, subst, ◌∙◌}
 use Rattle.std.proofs.lemmas.Bool.{cases_Bool}
 use Rattle.std.proofs.lemmas.List.Elements.{All-contains_itself, All-head, All-tail}
@@ -30,7 +30,7 @@ module _ (P : Kind → Type 0) (tables : List Interface) (version : ℕ) where
       subst (λ (x : NewObject). P (kinds.NewByServer x.iface)) same p
   one_kind kind ks value m none p e = absurd (cc e)
 
-  -- what holds of each kind of an event holds of the one that makes the object
+  -- a property of all kinds of an event holds for the kind that makes the object
   made_kind : (ks : List Kind) (values : List Argument) (m : NewObject) → new_objects ks ≡ [] → All P ks
       → made tables version ks values ≡ Some m → P (kinds.NewByServer m.iface)
   made_kind [] values m none all e = absurd (cc e)
@@ -41,14 +41,14 @@ module _ (P : Kind → Type 0) (tables : List Interface) (version : ℕ) where
         | inr behind ↦ made_kind ks values m (without_client kind ks none) (All-tail P kind ks all) behind
       ]
 
--- what is known of the interface of what an event makes
+-- what is known about the interface of an object that an event makes
 pub record IsMadeByEvent (tables : List Interface) (iface : Iface) : Type 0 where
   pub named : has_server_objects tables ≡ true
   pub lasting : NoEventEnds tables iface
   pub by_some : IsMadeBySome tables iface
   pub other : iface ≢ registry
 
--- V11, of one kind of a message
+-- V11, for one kind of a message
 abbrev pub MadeRightly : List Interface → Kind → Type 0
 MadeRightly tables kind = (iface : Iface) (i : Interface) → kind ≡ kinds.NewByServer iface
     → interface_at tables iface.0 ≡ Some i → (has_destroying_event i ≡ false) × ¬ IsFixedPlace iface.0

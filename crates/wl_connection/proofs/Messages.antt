@@ -1,4 +1,4 @@
--- What an end writes is whole messages, and what room they leave.
+-- An end writes whole messages; the room that they leave.
 use Rattle.std.proofs.Common.{◌≡◌, ℕ, ◌+◌, ◌<◌, ◌≤◌, true, List, [], ◌∷◌, ◌++◌, length, sym, ap, arith, length-append}
 use Rattle.std.proofs.lemmas.Bool.Decides.{nat_tests}
 use Rattle.std.proofs.lemmas.Grind.{common_steps}
@@ -21,19 +21,19 @@ whole_within limit object opcode values o h =
     (sym (length-message object opcode values)) (omega (arith, h, limit.in_range.1)) (omega arith)
     (record { header = least; words = message-words values; within = h })
 
--- each limit allows 4096 bytes
+-- every limit allows 4096 bytes
 pub whole : (limit : Limit) (object opcode : ℕ) (values : List Argument) → opcode < 65536 → message_len values ≤ 4096
     → IsMessage limit.bytes (message_bytes object opcode values)
 whole limit object opcode values o h = whole_within limit object opcode values o (omega (arith, h, limit.in_range.0))
 
--- what fits is no more than there is room for
+-- what fits is no more than the room
 pub fits-bytes : (o : Outgoing) (bytes tokens : ℕ) → fits o bytes tokens ≡ true → bytes ≤ room_of o
 fits-bytes o bytes tokens h = grind (arith, common_steps, nat_tests, h)
 
 pub fits-tokens : (o : Outgoing) (bytes tokens : ℕ) → fits o bytes tokens ≡ true → tokens ≤ token_room_of o
 fits-tokens o bytes tokens h = grind (arith, common_steps, nat_tests, h)
 
--- what fits with more bytes still fits, and leaves room for those
+-- a message that fits with more bytes also fits alone, and leaves room for them
 pub fits-less : (o : Outgoing) (bytes more tokens : ℕ) → fits o (bytes + more) tokens ≡ true
     → fits o bytes tokens ≡ true
 fits-less o bytes more tokens h = grind (arith, common_steps, nat_tests, h)

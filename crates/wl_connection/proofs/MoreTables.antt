@@ -1,4 +1,4 @@
--- What an end knows still holds over tables that extend its own.
+-- What an end knows still holds for tables that extend its own.
 use Rattle.std.proofs.Common.{◌≡◌, ℕ, List, [], true, Some, None, Option, Result, Ok, Err, refl, subst}
 use Rattle.std.specs.Str.Lines.{lines}
 use Rattle.std.proofs.lemmas.List.Elements.{All-contains}
@@ -21,7 +21,7 @@ use Rattle.wl_connection.specs.MoreTables.{Extend}
 use Rattle.wl_connection.specs.ServerRange.{EventsMakeMade, IsMadeBySome, NoEventEnds, NoEventEndsMade}
 use Rattle.wl_connection.proofs.MadeByEvent.{MadeRightly, ended_by}
 
--- a message stays
+-- a message is unchanged
 pub stays : (tables more : List Interface) → Extend tables more → (place : ℕ) (side : Side) (opcode : ℕ)
     (m : MessageSignature) → signature_at tables place side opcode ≡ Some m
     → signature_at more place side opcode ≡ Some m
@@ -30,7 +30,7 @@ stays tables more extend place side opcode m e =
     let there = extend place at.interface at.at in
     signature_from more place side opcode there.0 m there.1 (there.4 side opcode m at.of)
 
--- so does an event that makes objects of an interface
+-- an interface that an event makes is still made by it
 by_some_stays : (tables more : List Interface) → Extend tables more → (iface : Iface) → IsMadeBySome tables iface
     → IsMadeBySome more iface
 by_some_stays tables more extend iface by = record {
@@ -41,7 +41,7 @@ by_some_stays tables more extend iface by = record {
   has = by.has;
 }
 
--- of what some event makes, none destroys it
+-- no event destroys an object that an event makes
 lasts : (tables : List Interface) → Valid tables → (iface : Iface) → IsMadeBySome tables iface → NoEventEnds tables iface
 lasts tables v iface by =
     let rule = All-contains (MadeRightly tables) by.event.kinds (kinds.NewByServer iface)
@@ -58,7 +58,7 @@ pub lasting_extended : (tables more : List Interface) → Valid more → Extend 
 lasting_extended tables more v extend view by id e of_server row =
     lasts more v e.iface (by_some_extended tables more extend view by id e of_server row)
 
--- tables by which the server makes objects are extended by such tables
+-- if the server makes objects by some tables, it does by tables that extend them
 pub has_more : (tables more : List Interface) → Extend tables more → has_server_objects tables ≡ true
     → has_server_objects more ≡ true
 has_more tables more extend e =
@@ -72,7 +72,7 @@ has_more tables more extend e =
       has = has.has;
     })
 
--- what a text makes of tables extends them, since places and opcodes stay
+-- tables with a text added extend the tables, as places and opcodes are unchanged
 pub text_extends : ((tables : List Interface) (written : List WrittenInterface) → Extend tables (extended tables written))
     → (tables more : List Interface) (text : List ℕ) → outcome tables text ≡ Ok more → Extend tables more
 text_extends stay tables more text is = by_read (interfaces_from 1 (lines text) []) is

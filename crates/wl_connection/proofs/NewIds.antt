@@ -1,4 +1,4 @@
--- What a message that was read makes has an id that is free, and the limits leave room for it.
+-- What a message makes that was read: its id is free, and the limits leave room for it.
 use Rattle.std.proofs.Common.{◌≡◌, ◌⊎◌, ℕ, suc, inl, inr, Bool, true, false, List, [], ◌∷◌, drop, refl, sym, ap}
 use Rattle.std.proofs.Common.{subst, ◌∙◌}
 use Rattle.std.specs.Prelude.{option_map}
@@ -43,7 +43,7 @@ own_id None own id m h = absurd (cc h)
 own_id (Some iface) own id m h =
     let same : record { id = id; iface = iface; version = own } ≡ m = cc h in ap (λ (x : NewObject). x.id) same
 
--- what one argument makes has an id that is free for the kind's maker
+-- the id of the object that an argument makes is free for the kind's maker
 one_free : (tables : List Interface) (r : Reader) (version place : ℕ) (kind : Kind) (value : Argument) (m : NewObject)
     → value_fault r place kind value ≡ None → made_by tables version kind value ≡ Some m
     → by_maker kind (r.new_id m.id) (r.new_server_id m.id) ≡ Free
@@ -59,7 +59,7 @@ one_free tables r version place kind value m f h = absurd (cc h)
 
 -- ---- all arguments
 
--- the first argument that was read, and those after it
+-- the first argument read, and those after it
 record ReadsFirst (r : Reader) (place : ℕ) (kind : Kind) (ks : List Kind) (values : List Argument) (rest : List ℕ)
     : Type 0 where
   value : Argument
@@ -108,7 +108,7 @@ pub one_of : (o other : Option NewObject) (m : NewObject) → or_else o other �
 one_of None other m h = inr h
 one_of (Some n) other m h = inl h
 
--- a message of kinds that are so, of which each that makes an object makes one for this maker
+-- a message whose kinds make objects of one maker only
 module _ (Only : List Kind → Type 0) (pick : NewId → NewId → NewId) (tables : List Interface) (version : ℕ)
     (tail : (kind : Kind) (ks : List Kind) → Only (kind ∷ ks) → Only ks)
     (head : (kind : Kind) (ks : List Kind) (value : Argument) (m : NewObject) (a b : NewId) → Only (kind ∷ ks)
@@ -126,7 +126,7 @@ module _ (Only : List Kind → Type 0) (pick : NewId → NewId → NewId) (table
         | inr b ↦ made_free r (suc place) ks f.at f.more rest m (tail kind ks o) f.others b
       ]
 
--- ---- a request makes objects of the client's, an event those of the server's
+-- ---- a request makes objects in the client's range, an event in the server's
 
 without_server : (kind : Kind) (ks : List Kind) → server_objects (kind ∷ ks) ≡ [] → server_objects ks ≡ []
 without_server kinds.Int ks h = h
@@ -178,7 +178,7 @@ free_by true true h = (refl, refl)
 free_by true false h = absurd (cc h)
 free_by false room h = absurd (cc h)
 
--- what a request makes: an id of the client's range that is free there, with room for it
+-- a request makes an object at a free id of the client's range, with room for it
 pub new_free_at_server : (tables : List Interface) (view : Objects) (h : Header) (body : List ℕ) (waiting : ℕ)
     (m : Received) (new : NewObject) → Valid tables
     → received tables Request (reader_of tables Request view) h body waiting ≡ Ok m
@@ -194,7 +194,7 @@ new_free_at_server tables view h body waiting m new v e is =
     (v.server_makes.requests m.entry.iface.0 h.opcode m.signature p.signature)
     (read_row tables Request reader h body waiting m (look view h.object) e) is)
 
--- what an event makes: an id of the server's range that it may take, with room for it
+-- an event makes an object at an id that the server may use, with room for it
 pub new_free_at_client : (tables : List Interface) (view : Objects) (h : Header) (body : List ℕ) (waiting : ℕ)
     (m : Received) (new : NewObject) → Valid tables
     → received tables Event (reader_of tables Event view) h body waiting ≡ Ok m

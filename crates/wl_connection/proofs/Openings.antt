@@ -1,4 +1,4 @@
--- A call that opens no object.
+-- Calls that open no object.
 use Rattle.std.proofs.Common.{◌≡◌, ◌≢◌, inl, inr, ℕ, ◌+◌, Bool, true, false, List, [], ◌∷◌, map}
 use Rattle.std.proofs.Common.{refl, sym, ap, subst, ◌∙◌}
 use Rattle.std.specs.declared.option.Option.{Option}
@@ -31,7 +31,7 @@ use Rattle.wl_connection.specs.Outcomes.{AnswersOrMemory}
 use Rattle.wl_connection.specs.Sending.{IsSendAnswer, OpensNothing, answer_of, opening_answer}
 use Rattle.wl_connection.specs.Sending.{opens_object, made_at, version_at, following_len, fits}
 
--- what is refused before the room is looked at
+-- not refused with S10 or S11
 abbrev IsEarly : Result MessageSignature SendError → Type 0
 IsEarly (Ok m) = Unit {0}
 IsEarly (Err why) = (why ≢ refusals.NoIds) × (why ≢ refusals.Memory)
@@ -108,7 +108,7 @@ nothing_unless : (b : Bool) (r : Result (Option Object) SendError) → OpensNoth
 nothing_unless true r h = (λ e. cc e, λ e. cc e)
 nothing_unless false r h = h
 
--- what is returned where nothing is opened
+-- the result if nothing is opened
 pub opens_nothing : (core : Core) (side : Side) (target : Object) (opcode : ℕ) (given : List Given)
     (result : Result (Option Object) SendError)
     → IsSendAnswer core side target opcode given result
@@ -122,7 +122,7 @@ opens_nothing core side target opcode given result (inl e) h =
     given) h))
 opens_nothing core side target opcode given result (inr m) h = absurd (let yes = m.1 in cc (yes, h))
 
--- kinds without a new object, of either maker
+-- kinds without a new object of either maker
 none_made : (ks : List Kind) → new_objects ks ≡ [] → server_objects ks ≡ [] → made_objects ks ≡ []
 none_made [] h g = refl
 none_made (kinds.Int ∷ ks) h g = none_made ks h g
@@ -135,7 +135,7 @@ none_made (kinds.NewByServer iface ∷ ks) h g = absurd (cc g)
 none_made (kinds.Array ∷ ks) h g = none_made ks h g
 none_made (kinds.Fd ∷ ks) h g = none_made ks h g
 
--- a message without a new object opens none
+-- a message without a new object opens nothing
 opens_none_as : (b : Bool) (o : Option MessageSignature)
     → ((m : MessageSignature) → o ≡ Some m → is_some (makes m) ≡ false)
     → (limit : ℕ) (view : Objects) (given : List Given) (entry : Entry)
@@ -162,14 +162,14 @@ opens_none_as false (Some m) h limit view given entry =
     by_test true o lost = refl
     by_test false o lost = by_wrong o lost
 
--- in tables without new objects of the server an event has no new object
+-- if the server makes no objects by the tables, an event has no new object
 pub event_makes_none : (tables : List Interface) → Valid tables → has_server_objects tables ≡ false
     → (place opcode : ℕ) (m : MessageSignature) → signature_at tables place Event opcode ≡ Some m
     → is_some (makes m) ≡ false
 event_makes_none tables v none place opcode m at = ap (λ l. is_some (first l)) (none_made m.kinds
     (v.few_objects_made.events place opcode m at) (none_by_server tables none place opcode m at))
 
--- so no event that is written opens an object there
+-- so writing an event opens nothing
 event_by : (limit : ℕ) (tables : List Interface) (view : Objects) (opcode : ℕ) (given : List Given) (o : Option Entry)
     → Valid tables → has_server_objects tables ≡ false
     → opens_object (checked_by limit tables Event view opcode given o) ≡ false

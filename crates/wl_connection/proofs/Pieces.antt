@@ -1,4 +1,4 @@
--- Pieces, and what was taken of them up to one.
+-- Pieces, and how much of them was taken.
 use Rattle.std.proofs.Common.{◌≡◌, ℕ, get_or, map, ◌≤◌, zero, suc, ◌+◌, ◌<◌, ◌⊎◌, inl, inr, List}
 use Rattle.std.proofs.Common.{[], ◌∷◌, ◌++◌, length, take, drop, refl, sym, ap, subst, ◌∙◌, arith}
 use Rattle.std.proofs.lemmas.List.{append_assoc, append-nil}
@@ -8,7 +8,7 @@ use Rattle.wl_message.specs.InStep.{part, Part, part_bytes, part_tokens}
 use Rattle.wl_connection.specs.Core.{no_room}
 use Rattle.wl_connection.specs.Streams.{IsTaken, taken_bytes, taken_tokens, NoneFits}
 
--- ---- a piece among the others
+-- ---- one piece among the others
 
 same_first : (p q : Part) (ps qs : List Part) → p ∷ ps ≡ q ∷ qs → p ≡ q
 same_first p q ps qs h = cc h
@@ -66,13 +66,13 @@ part_tokens-next (q ∷ ps) zero p rest h = append-nil q.tokens ∙ ap (λ (x : 
 part_tokens-next (q ∷ ps) (suc i) p rest h = ap (λ (l : List ℕ). q.tokens ++ l) (part_tokens-next ps i p rest h)
     ∙ sym (append_assoc q.tokens (part_tokens (take i ps)) p.tokens)
 
--- where no piece is left
+-- no piece remains
 pub none_fits_end : (room : ℕ) (pieces : List Part) (i : ℕ) → length pieces ≤ i → NoneFits room pieces i
 none_fits_end room [] i h = tt
 none_fits_end room (p ∷ ps) zero h = absurd (omega arith)
 none_fits_end room (p ∷ ps) (suc i) h = none_fits_end room ps i (omega arith)
 
--- ---- whole pieces alone
+-- ---- whole pieces only
 
 pub is_taken_none : (pieces : List Part) (i : ℕ) → i ≤ length pieces → IsTaken pieces i no_room
 is_taken_none [] zero h = (refl, refl)
@@ -92,7 +92,7 @@ taken_tokens-none [] (suc i) = refl
 taken_tokens-none (p ∷ ps) zero = refl
 taken_tokens-none (p ∷ ps) (suc i) = ap (λ (l : List ℕ). p.tokens ++ l) (taken_tokens-none ps i)
 
--- ---- pieces as they lie in memory
+-- ---- pieces in memory
 
 pub parts_len : (pieces : List Piece) → length (map part pieces) ≡ length pieces
 parts_len [] = refl
@@ -104,7 +104,7 @@ part_at [] i d h = absurd (omega arith)
 part_at (p ∷ ps) zero d h = refl
 part_at (p ∷ ps) (suc i) d h = part_at ps i d (omega arith)
 
--- not all tokens of a piece find room
+-- not all tokens of a piece fit
 pub few_fit : (room told : ℕ) (pieces : List Piece) (i : ℕ) (d : Piece) → i < length pieces
     → told < length (get_or pieces i d).tokens.now → told ≡ room → NoneFits room (map part pieces) i
 few_fit room told pieces i d h few e = none_fits_at room (map part pieces) i (part (get_or pieces i d))

@@ -1,4 +1,4 @@
--- What an end reads goes on as more comes in.
+-- What an end reads does not change if more comes in.
 use Rattle.std.proofs.Common.{◌≡◌, ℕ, suc, ◌+◌, ◌-◌, ◌<◌, ◌≤◌, inl, inr, Bool, true, false, cond, List}
 use Rattle.std.proofs.Common.{[], ◌∷◌, ◌++◌, length, take, drop, refl, sym, ap, subst, ◌∙◌, arith}
 use Rattle.std.specs.Prelude.{min, nat_le}
@@ -50,7 +50,7 @@ until_then e state middle end reports others (Some errors.Failed) h g = some_rea
 until_then e state middle end reports others (Some errors.Memory) h g = (some_then h g.0, g.1)
 until_then e state middle end reports others (Some errors.OutFull) h g = some_reads h g
 
--- ---- what came at two times
+-- ---- what came in two steps
 
 pub arrived_again : {S R : Type 0} (e : Reading S R) → IsCoreOf e.core e.with_core → (state : S) (a s b t : List ℕ)
     → with_arrivals e (with_arrivals e state a s) b t ≡ with_arrivals e state (a ++ b) (s ++ t)
@@ -64,13 +64,13 @@ pub arrived_nothing : {S R : Type 0} (e : Reading S R) → IsCoreOf e.core e.wit
     → with_arrivals e state [] [] ≡ state
 arrived_nothing e laws state = ap (e.with_core state) (arrived_none (e.core state)) ∙ laws.kept state
 
--- an end with more that came in has failed where it had
+-- taking in more does not change whether an end has failed
 arrived_open : {S R : Type 0} (e : Reading S R) → IsCoreOf e.core e.with_core → (state : S) (bytes tokens : List ℕ)
     → (e.core (with_arrivals e state bytes tokens)).failed ≡ (e.core state).failed
 arrived_open e laws state bytes tokens = ap (λ (c : Core). c.failed)
     (laws.new state (with_arrived (e.core state) bytes tokens))
 
--- ---- what is read whatever follows it
+-- ---- what is read, whatever comes in later
 
 pub on_none : {S R : Type 0} (e : Reading S R) (state : S) → ReadsOn e state [] state
 on_none e state bytes tokens = nothing
@@ -85,7 +85,7 @@ on_one e state end report h n bytes tokens =
     more (h.stays bytes tokens) n (subst (λ s. ReadsSome e s [] (with_arrivals e end bytes tokens))
     (sym (h.leaves_more bytes tokens)) nothing)
 
--- with more after it that is there
+-- the same with something that came in later
 on_more : {S R : Type 0} (e : Reading S R) → IsCoreOf e.core e.with_core
     → (state end : S) (reports : List R) (bytes tokens : List ℕ) → ReadsOn e state reports end
     → ReadsOn e (with_arrivals e state bytes tokens) reports (with_arrivals e end bytes tokens)
@@ -95,7 +95,7 @@ on_more e laws state end reports bytes tokens h others marks =
     (subst (λ s. ReadsSome e (with_arrivals e state (bytes ++ others) (tokens ++ marks)) reports s)
     (sym (arrived_again e laws end bytes tokens others marks)) (h (bytes ++ others) (tokens ++ marks)))
 
--- with nothing after it
+-- the same with nothing later
 pub on_alone : {S R : Type 0} (e : Reading S R) → IsCoreOf e.core e.with_core → (state end : S) (reports : List R)
     → ReadsOn e state reports end → ReadsSome e state reports end
 on_alone e laws state end reports h =
@@ -109,14 +109,14 @@ pub on_until : {S R : Type 0} (e : Reading S R) → IsCoreOf e.core e.with_core
 on_until e laws state middle end reports others stop h g =
     until_then e state middle end reports others stop (on_alone e laws state middle reports h) g
 
--- nothing is left to read
+-- nothing remains to read
 pub on_to_none : {S R : Type 0} (e : Reading S R) → IsCoreOf e.core e.with_core → (state end : S) (reports : List R)
     → ReadsOn e state reports end → ReadsNothing e end → Reads e state reports None end
 on_to_none e laws state end reports h n =
     subst (λ rs. Reads e state rs None end) (append-nil reports)
     (some_reads (on_alone e laws state end reports h) (none n.is))
 
--- ---- reports that are appended
+-- ---- reports appended to a list
 
 pub pushed_kept : {X : Type 0} (xs before reserved after : List X) (x : X) → take (length xs) before ≡ xs
     → reserved ≡ before → after ≡ reserved ++ x ∷ [] → take (length xs) after ≡ xs
@@ -138,7 +138,7 @@ pub on_first : {S R X : Type 0} (e : Reading S R) (seen : X → R) (state : S) (
     → ReadsOn e state (appended seen xs xs) state
 on_first e seen state xs = subst (λ rs. ReadsOn e state rs state) (sym (none_behind seen xs)) (on_none e state)
 
--- a message more
+-- one more report
 pub on_pushed : {S R X : Type 0} (e : Reading S R) (seen : X → R) (state middle end : S)
     (xs before reserved after : List X) (x : X) → ReadsOn e state (appended seen xs before) middle
     → ReadsReport e middle (seen x) end → (e.core end).failed ≡ false → take (length xs) before ≡ xs → reserved ≡ before
@@ -148,7 +148,7 @@ on_pushed e seen state middle end xs before reserved after x h g n k r p =
     (on_then e state middle end (appended seen xs before) (seen x ∷ []) h
     (on_one e middle end (seen x) g (sym g.ends ∙ n)))
 
--- the last message
+-- the last report
 pub reads_pushed : {S R X : Type 0} (e : Reading S R) → IsCoreOf e.core e.with_core
     → (seen : X → R) (state middle end : S) (xs before reserved after : List X) (x : X)
     → ReadsOn e state (appended seen xs before) middle
@@ -159,7 +159,7 @@ reads_pushed e laws seen state middle end xs before reserved after x h g n k r p
     (some_reads (on_alone e laws state middle (appended seen xs before) h)
     (subst (λ s. Reads e middle (seen x ∷ []) None s) (sym g.leaves) (last g.is (sym g.ends ∙ n))))
 
--- what was read at two times
+-- what was read in two runs
 pub on_again : {S R X : Type 0} (e : Reading S R) (seen : X → R) (state middle end : S) (xs before after : List X)
     → ReadsOn e state (appended seen xs before) middle → take (length xs) before ≡ xs
     → take (length before) after ≡ before → ReadsOn e middle (appended seen before after) end
@@ -177,7 +177,7 @@ until_again e laws seen state middle end xs before after stop h k m g =
     subst (λ rs. ReadsUntil e state rs stop end) (sym (behind_again seen xs before after k m))
     (on_until e laws state middle end (appended seen xs before) (appended seen before after) stop h g)
 
--- a stop, where nothing more was read
+-- a stop, with nothing more read
 pub until_stop : {S R X : Type 0} (e : Reading S R) → IsCoreOf e.core e.with_core
     → (seen : X → R) (state middle end : S) (xs before reserved : List X) (stop : Option NextError)
     → ReadsOn e state (appended seen xs before) middle
@@ -187,7 +187,7 @@ until_stop e laws seen state middle end xs before reserved stop h g r =
     (subst (λ rs. ReadsUntil e state rs stop end) (append-nil (appended seen xs before))
     (on_until e laws state middle end (appended seen xs before) [] stop h g))
 
--- what is read where there is no room for a report
+-- the result if there is no room for a report
 pub waiting_then : {S R X Y : Type 0} (e : Reading S R) → IsCoreOf e.core e.with_core
     → (seen : X → R) (state middle end : S) (xs before reserved : List X) (r : Result Y (Option NextError))
     → ReadsOn e state (appended seen xs before) middle
@@ -201,13 +201,13 @@ waiting_then e laws seen state middle end xs before reserved (Ok x) h g r = (
 waiting_then e laws seen state middle end xs before reserved (Err stop) h g r =
     (until_stop e laws seen state middle end xs before reserved stop h g.0 r, g.1)
 
--- ---- one reading
+-- ---- one call that reads
 
 pub report_read : {S R X : Type 0} (e : Reading S R) (seen : X → R) (state end : S) (o : Option X) (x : X) → o ≡ Some x
     → ReadsNext e seen state (Ok o) end → ReadsReport e state (seen x) end
 report_read e seen state end o x is h = subst (λ (p : Option _). ReadsNext e seen state (Ok p) end) is h
 
--- nothing is read where there is nothing to report
+-- nothing is read if there is nothing to report
 pub nothing_read : {S R X : Type 0} (e : Reading S R) (seen : X → R) (state end : S) (o : Option X)
     → (HasReport e state → ⊥) → ReadsNext e seen state (Ok o) end → ReadsOn e state [] end × ReadsNothing e end
 nothing_read e seen state end (Some x) n h = absurd (n (seen x, h.is))
@@ -223,7 +223,7 @@ pub feeds_open : (core : Core) (bytes tokens : List ℕ) → core.failed ≡ fal
     → feeds core bytes tokens ≡ fed core.inbox bytes tokens
 feeds_open core bytes tokens h = ap (λ (b : Bool). cond b no_room (fed core.inbox bytes tokens)) h
 
--- tokens that find room are all taken
+-- tokens for which there is room are all taken
 pub fed_tokens : (core : Core) (bytes tokens : List ℕ) (r : Amounts) → core.failed ≡ false
     → length tokens ≤ free_tokens core.inbox → r ≡ feeds core bytes tokens → r.tokens ≡ length tokens
 fed_tokens core bytes tokens r h room e =
@@ -243,9 +243,9 @@ pub fed_bytes : (core : Core) (bytes tokens : List ℕ) (r : Amounts) → core.f
 fed_bytes core bytes tokens r h room e = ap (λ (f : Amounts). f.bytes) (e ∙ feeds_open core bytes tokens h)
     ∙ fed_by core.inbox bytes tokens room
 
--- ---- a piece
+-- ---- feeding a piece
 
--- once it was fed at first
+-- after the first feed of a piece
 pub fed_first : {S R X : Type 0} (e : Reading S R) (seen : X → R) (state new : S) (bytes tokens : List ℕ) (r : Amounts)
     (xs : List X) → (e.core state).failed ≡ false → length tokens ≤ free_tokens (e.core state).inbox
     → r ≡ feeds (e.core state) bytes tokens → new ≡ with_arrivals e state (take r.bytes bytes) (take r.tokens tokens)
@@ -258,7 +258,7 @@ fed_first e seen state new bytes tokens r xs s room f n =
     subst (λ x. ReadsOn e (with_arrivals e state (take r.bytes bytes) tokens) (appended seen xs xs) x) same
     (on_first e seen (with_arrivals e state (take r.bytes bytes) tokens) xs)
 
--- once more of it was fed
+-- after another feed of the same piece
 pub fed_more : {S R : Type 0} (e : Reading S R) → IsCoreOf e.core e.with_core
     → (state middle new : S) (bytes tokens rest others : List ℕ) (k n : ℕ) (reports : List R)
     → ReadsOn e (with_arrivals e state (take k bytes) tokens) reports middle
@@ -277,19 +277,19 @@ fed_more e laws state middle new bytes tokens rest others k n reports h a r o =
     (sym a)
     (on_more e laws (with_arrivals e state (take k bytes) tokens) middle reports more others h))
 
--- it has not failed, as before
+-- feeding does not make the end fail
 pub fed_open : {S R : Type 0} (e : Reading S R) → IsCoreOf e.core e.with_core → (state new : S) (bytes tokens : List ℕ)
     → (e.core state).failed ≡ false → new ≡ with_arrivals e state bytes tokens → (e.core new).failed ≡ false
 fed_open e laws state new bytes tokens h n = ap (λ s. (e.core s).failed) n ∙ arrived_open e laws state bytes tokens ∙ h
 
--- the bytes from a place on
+-- the rest of the bytes, from a place on
 pub rest_is : (k : ℕ) (bytes : List ℕ) → take (length bytes - k) (drop k bytes) ≡ drop k bytes
 rest_is k bytes = take_all (length bytes - k) (drop k bytes) (omega (arith, length-drop k bytes))
 
 pub rest_len : (k : ℕ) (bytes : List ℕ) → length (take (length bytes - k) (drop k bytes)) ≡ length bytes - k
 rest_len k bytes = ap (λ (l : List ℕ). length l) (rest_is k bytes) ∙ length-drop k bytes
 
--- A byte finds room where no whole message waits.
+-- There is room for a byte if no whole message waits.
 pub fed_some : (core : Core) (bytes : List ℕ) (r : Amounts) → core.failed ≡ false
     → length core.inbox.bytes < core.inbox.limit.bytes → core.inbox.limit.bytes ≤ core.inbox.capacity → 0 < length bytes
     → r ≡ feeds core bytes [] → 0 < r.bytes
@@ -305,16 +305,16 @@ fed_within core bytes r h f =
 
 -- ---- all pieces
 
--- All that came before each of the first pieces, so many of them, is read.
+-- For each of the first `count` pieces, all that came before it is read.
 abbrev pub AreReadBefore : {S R : Type 0} → Reading S R → S → List Part → ℕ → Type 0
 AreReadBefore e state pieces count = (place : ℕ) → place < count → IsReadBefore e state pieces place
 
--- none at first
+-- true of no piece
 pub none_before : {S R : Type 0} (e : Reading S R) (state : S) (pieces : List Part)
     → AreReadBefore e state pieces 0
 none_before e state pieces place h = absurd (omega (arith, h))
 
--- one more, once what waits was read to the end
+-- one more piece, after everything waiting was read
 pub one_before : {S R : Type 0} (e : Reading S R) (state : S) (pieces : List Part) (i j : ℕ) → j ≡ suc i
     → AreReadBefore e state pieces i → IsReadBefore e state pieces i → AreReadBefore e state pieces j
 one_before e state pieces i j is before this place h =
@@ -339,19 +339,19 @@ read_to_here e laws state middle pieces i j reports is before on empty =
       goes_on = empty.sound;
     })
 
--- a piece that was begun, where nothing was taken of the next
+-- a piece that is begun comes before the next one if nothing was taken of that
 begun_between : (place i : ℕ) (stop : Option NextError)
     → IsBegun (record { pieces = i; part = no_room; stop = stop }) place → place < i
 begun_between place i stop (inl h) = h
 begun_between place i stop (inr h) = absurd (h.1 refl)
 
--- and where something was taken of it
+-- it may be the next one if something was taken of that
 begun_within : (place i : ℕ) (some : Amounts) (stop : Option NextError)
     → IsBegun (record { pieces = i; part = some; stop = stop }) place → place < suc i
 begun_within place i some stop (inl h) = omega (arith, h)
 begun_within place i some stop (inr h) = omega (arith, h.0)
 
--- where the reading ends between two pieces
+-- reading ends between two pieces
 pub ends_between : {S R : Type 0} (e : Reading S R) (state end : S) (pieces : List Part) (i : ℕ) (reports : List R)
     (answer : ReadAll) (stop : Option NextError) → i ≤ length pieces
     → answer ≡ record { pieces = i; part = no_room; stop = stop }
@@ -371,7 +371,7 @@ ends_between e state end pieces i reports answer stop within is h n before =
       to_the_end = λ s f. (refl, n s f);
     })
 
--- in the midst of a piece
+-- reading ends within a piece
 pub ends_within : {S R : Type 0} (e : Reading S R) → IsCoreOf e.core e.with_core
     → (state middle end : S) (pieces : List Part) (i : ℕ) (p : Part) (rest : List Part) (before others : List R)
     (some : Amounts) (stop : Option NextError)
@@ -402,7 +402,7 @@ ends_within e laws state middle end pieces i p rest before others some stop d h 
       to_the_end = λ s f. absurd (cc (n s, f));
     }
 
--- a piece more
+-- one more piece
 pub reads_piece : {S R : Type 0} (e : Reading S R) → IsCoreOf e.core e.with_core
     → (state middle end : S) (pieces : List Part) (i j : ℕ) (p : Part) (rest : List Part) (before others : List R)
     → drop i pieces ≡ p ∷ rest → j ≡ suc i
@@ -424,7 +424,7 @@ reads_piece e laws state middle end pieces i j p rest before others d is h g =
     (on_then e (with_arrivals e first p.bytes p.tokens) (with_arrivals e middle p.bytes p.tokens) end before others
     (on_more e laws first middle before p.bytes p.tokens h) g))
 
--- the room that an end says it has
+-- the room that an end reports
 pub room_is : (core : Core) (r : Amounts) → core.failed ≡ false → r ≡ in_room core → r.tokens ≡ free_tokens core.inbox
 room_is core r h e = ap (λ (f : Amounts). f.tokens) (e
     ∙ ap (λ (b : Bool). cond b no_room (record { bytes = free_bytes core.inbox; tokens = free_tokens core.inbox })) h)

@@ -1,4 +1,4 @@
--- What is known of a message that was received.
+-- What is known about a received message.
 use Rattle.std.proofs.Common.{◌≡◌, ◌≢◌, ℕ, zero, suc, ◌<◌, ◌≤◌, Bool, true, false, List, [], ◌∷◌}
 use Rattle.std.proofs.Common.{length, take, drop, get_or, Some, None, refl, sym, ap, subst, ◌∙◌}
 use Rattle.std.proofs.Common.{arith}
@@ -26,9 +26,8 @@ use Rattle.wl_connection.specs.Receiving.{is_none}
 use Rattle.wl_connection.specs.Outcomes.{answers_with}
 use Rattle.wl_sigs.specs.Rules.{is_empty}
 
--- What a message that was received says: its target has a row, its signature is that of the
--- target's interface, its tokens wait, and
--- it has no more values than its signature has kinds.
+-- A received message: its target has a row, its signature is that of the target's interface, its
+-- tokens wait, and it has no more values than its signature has kinds.
 pub record IsReceived (tables : List Interface) (side : Side) (reader : Reader) (header : Header) (waiting : ℕ)
     (m : Received) : Type 0 where
   pub row : reader.object header.object ≡ Some m.entry
@@ -38,7 +37,7 @@ pub record IsReceived (tables : List Interface) (side : Side) (reader : Reader) 
   pub tokens : descriptors m.signature.kinds ≤ waiting
   pub values : length m.values ≤ length m.signature.kinds
 
--- ---- there are no more values than kinds
+-- ---- a message has no more values than kinds
 
 abbrev Few : ℕ → Result (List Argument × List ℕ) Fault → Type 0
 Few n (Err fault) = Unit {0}
@@ -143,7 +142,7 @@ pub is_received : (tables : List Interface) (side : Side) (reader : Reader) (hea
 is_received tables side reader header body waiting m h =
     of-row tables side reader header body waiting m (reader.object header.object) refl h
 
--- ---- what is reported needs the first tokens alone
+-- ---- a report uses only the first tokens
 
 first-at : (xs : List ℕ) → head_or xs 0 ≡ get_or xs 0 0
 first-at [] = refl
@@ -185,7 +184,7 @@ reports-same r (suc n) a b (value ∷ values) l h =
     (lefts n a b value h) in
     λ i. one i ∷ more i
 
--- the first tokens of lists that agree so far
+-- equal prefixes of two lists of tokens
 pub first-tokens : (n : ℕ) (a b : List ℕ) → n ≤ length a → n ≤ length b → SameFirst n a b → take n a ≡ take n b
 first-tokens zero a b p q f = refl
 first-tokens (suc n) [] b p q f = absurd (omega (arith, p))
@@ -195,14 +194,14 @@ first-tokens (suc n) (x ∷ a) (y ∷ b) p q f =
     let more = first-tokens n a b (omega (arith, p)) (omega (arith, q)) (λ k l. f (suc k) (omega (arith, l))) in
     λ i. one i ∷ more i
 
--- ---- a message with arguments is reported with some
+-- ---- a message with arguments is reported with arguments
 
 pub some_reported : (r : Reader) (tokens : List ℕ) (values : List Argument) → values ≢ []
     → not (is_none (reports_of r tokens values)) ≡ true
 some_reported r tokens [] h = absurd (h refl)
 some_reported r tokens (v ∷ values) h = refl
 
--- what a read answers, where that is a report of some kind
+-- a call that returns a report of some kind
 pub some_report : {R : Type 0} (is : R → Bool) (x : Result (Option R) NextError) → answers_with is x ≡ true
     → (report : R) × (x ≡ Ok (Some report)) × (is report ≡ true)
 some_report is (Ok (Some report)) h = (report, refl, h)

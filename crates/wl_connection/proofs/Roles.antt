@@ -1,4 +1,4 @@
--- What follows from what an end is to the other: what it reads next, and that it goes on reading.
+-- What each end is to the other: what it reads next, and that this is unchanged if more comes in.
 use Rattle.std.proofs.Common.{◌≡◌, ◌≢◌, ℕ, ◌<◌, inl, inr, Bool, true, false, cond, List, [], length}
 use Rattle.std.proofs.Common.{refl, sym, ap, subst, ◌∙◌}
 use Rattle.std.specs.declared.option.Option.{Option}
@@ -19,11 +19,11 @@ use Rattle.wl_connection.specs.Roles.{Role, front_answer, role_answer, front_lef
 use Rattle.wl_connection.proofs.FoundStays.{IsFound, is_found, past_shorter, none_short}
 use Rattle.wl_connection.proofs.ReceivedMessage.{some_report}
 
--- the end with more behind what waits
+-- the end after more came in
 abbrev pub later : {S R : Type 0} → Role S R → S → List ℕ → List ℕ → S
 later role state bytes tokens = with_arrivals (role_reading role) state bytes tokens
 
--- a fault in front stays whatever comes, or as long as it is found there
+-- a fault at the front stays whatever comes in, or as long as it is found there
 pub data FrontFault {S R : Type 0} (role : Role S R) (state : S) (what : Fault) : Type 0 where
   own : ((bytes tokens : List ℕ) → role.in_front (later role state bytes tokens) ≡ Err what)
       → FrontFault role state what
@@ -31,8 +31,8 @@ pub data FrontFault {S R : Type 0} (role : Role S R) (state : S) (what : Fault) 
       → ((bytes tokens : List ℕ) → found (with_arrived (role.core state) bytes tokens) role.reads ≡ Err what
       → role.in_front (later role state bytes tokens) ≡ Err what) → FrontFault role state what
 
--- What stands in front is what is found. What comes behind it changes nothing of it, and stays
--- behind it. After the last report the end has failed.
+-- The front is what is found. What comes in later does not change it, and is still there after it.
+-- After the last report the end has failed.
 pub record IsRole {S R : Type 0} (role : Role S R) : Type 0 where
   pub laws : IsCoreOf role.core role.with_core
   pub none_found : (state : S) → role.in_front state ≡ Ok None → found (role.core state) role.reads ≡ Ok None
@@ -58,7 +58,7 @@ pub record IsRole {S R : Type 0} (role : Role S R) : Type 0 where
   pub past_failed : (state : S) (f : Found) → (role.core state).failed ≡ false
       → (role.core (role.past state f)).failed ≡ role.is_last (role.report (role.core state) f)
 
--- ---- what an end answers and leaves, by whether it has failed
+-- ---- what an end returns and leaves, if it has not failed
 
 module _ {S R : Type 0} (role : Role S R) where
   pub answers : (state : S) → (role.core state).failed ≡ false
@@ -82,7 +82,7 @@ module _ {S R : Type 0} (role : Role S R) where
   pub sound_none : (state : S) → role_answer role state ≡ Ok None → (role.core state).failed ≡ false
   sound_none state e = not_failed state (role.core state).failed refl (λ h. cc (h, e))
 
--- the message that is read next: it is found, and what is answered and left
+-- the next message: it is found and reported, and this is left
 pub record ReadsMessage {S R : Type 0} (role : Role S R) (state : S) (r : R) : Type 0 where
   pub sound : (role.core state).failed ≡ false
   pub message : Found
@@ -136,7 +136,7 @@ module _ {S R : Type 0} (role : Role S R) where
   pub none_leaves : (state : S) → role_answer role state ≡ Ok None → role_after role state ≡ state
   none_leaves state e = leaves role state (sound_none role state e) ∙ ap (front_left role state) (nothing_there state e)
 
-  -- a message that finds no room for what its reading writes stays
+  -- a message stays if there is no room for what reading it writes
   full_at : (state : S) (f : Found) (b : Bool) → role.is_full (role.core state) f ≡ b
       → cond b (Err errors.OutFull) (Ok (Some (role.report (role.core state) f))) ≡ Err errors.OutFull
       → front_left role state (Ok (Some f)) ≡ state
@@ -166,12 +166,12 @@ module _ {S R : Type 0} (role : Role S R) where
   never_in_front state why (Ok None) o n e = cc e
   never_in_front state why (Ok (Some f)) o n e = never_by state f (role.is_full (role.core state) f) why o e
 
-  -- an end that has not failed answers no error but a fault and that its outbox is full
+  -- an end that has not failed returns no error other than a fault or that its outbox is full
   never : (state : S) (why : NextError) → (role.core state).failed ≡ false → why ≢ errors.OutFull
       → ((what : Fault) (offset : ℕ) → why ≢ errors.Fault what offset) → role_answer role state ≢ Err why
   never state why s o n e = never_in_front state why (role.in_front state) o n (sym (answers role state s) ∙ e)
 
--- ---- what comes behind what is read stays there
+-- ---- what comes in later is still there after a message is read
 
 module _ {S R : Type 0} (role : Role S R) (i : IsRole role) where
   pub later_sound : (state : S) (bytes tokens : List ℕ) → (role.core state).failed ≡ false
@@ -210,9 +210,9 @@ module _ {S R : Type 0} (role : Role S R) (i : IsRole role) where
       ∙ i.past_stays state m.message bytes tokens (found_there state r m)
       ∙ ap (λ (s : S). later role s bytes tokens) (sym m.left)
 
-  -- ---- what is read next
+  -- ---- the next message
 
-  -- a message that is read has bytes
+  -- reading a message removes bytes
   pub fewer_wait : (state : S) (r : R) → role_answer role state ≡ Ok (Some r)
       → length (role.core (role_after role state)).inbox.bytes < length (role.core state).inbox.bytes
   fewer_wait state r e =
@@ -239,7 +239,7 @@ module _ {S R : Type 0} (role : Role S R) (i : IsRole role) where
             ∙ ap role.is_last m.is;
       }
 
-  -- where no whole message waits, less waits than the longest one has
+  -- if no whole message waits, fewer bytes wait than the longest message has
   no_report : (state : S) → role_answer role state ≡ Ok None → ReadsNothing (role_reading role) state
   no_report state e = record {
     is = e;
@@ -267,7 +267,7 @@ module _ {S R : Type 0} (role : Role S R) (i : IsRole role) where
       (sym (l ∙ full_leaves role state (sym e))) (full (sym e))
   told_error needs state new errors.OutFull s (inr e) l = absurd (cc e.0)
 
--- what one reading is, where memory may be refused for a report
+-- one call that reads and may lack memory for a report
 pub next_read : {S R X : Type 0} (role : Role S R) (i : IsRole role) (needs : R → Bool) (seen : X → R) (state new : S)
     (r : Answer X) → (role.core state).failed ≡ false
     → AnswersOrMemory errors.Memory (answers_with needs (role_answer role state)) (role_answer role state)

@@ -1,5 +1,5 @@
--- The server's range of ids at an end: whether it has a table of its own stays, and no event destroys
--- an object that the server made, whatever the end reads and writes.
+-- The server's range at an end: no reading or writing changes whether it has a table of its own,
+-- and no event destroys an object that the server made.
 use Rattle.std.proofs.Common.{◌≡◌, ℕ, Bool, true, false, List, [], refl, sym, ap, subst, ◌∙◌, cond, eqb}
 use Rattle.std.proofs.Common.{arith, inl, inr, map}
 use Rattle.std.proofs.lemmas.Bool.Decides.{nat_tests}
@@ -38,16 +38,17 @@ use Rattle.wl_connection.specs.ServerRange.{HoldsOfMade, NoEventEnds, NoEventEnd
 use Rattle.wl_connection.proofs.CheckedSends.{made-next}
 use Rattle.wl_connection.proofs.MadeByEvent.{IsMadeByEvent, made_by_event}
 
--- an opening that may be refused leaves whether there is a table of the range
+-- an opening that may be refused does not change whether the range has a table
 pub range_of : {X E : Type 0} (result : Result X E) (before now changed : Objects) → OnOk result (now ≡ changed) → OnErr result (now ≡ before)
     → changed.has_server_range ≡ before.has_server_range → now.has_server_range ≡ before.has_server_range
 range_of (Ok x) before now changed ok err kept = ap (λ (o : Objects). o.has_server_range) ok ∙ kept
 range_of (Err why) before now changed ok err kept = ap (λ (o : Objects). o.has_server_range) err
 
--- What holds of the interface of each object that the server made, as that no event destroys it.
+-- A property of the interface of each object that the server made, for instance that no event
+-- destroys it.
 
 module _ (P : Iface → Type 0) where
-  -- a new end has none
+  -- a new end has no such object
   pub made_opening : (range : Bool) → HoldsOfMade P (opening display range)
   made_opening range id e of_server row =
       let low = is_from id of_server in
@@ -101,13 +102,13 @@ opens_made tables v place opcode version m values None at is = tt
 opens_made tables v place opcode version m values (Some new) at is =
     λ of_server. made_by_event tables v place opcode version m values new at is
 
--- what holds of each interface by which that is made
+-- a weaker property
 pub opens_by : (P Q : Iface → Type 0) → ((iface : Iface) → P iface → Q iface) → (o : Option NewObject)
     → OpensHolding P o → OpensHolding Q o
 opens_by P Q by None h = tt
 opens_by P Q by (Some new) h = λ of_server. by new.iface (h of_server)
 
--- a request makes no object of the server's
+-- a request makes no object in the server's range
 opens_none : (P : Iface → Type 0) (core : Core) (target : Object) (opcode : ℕ) (list : List CallArg) (m : MessageSignature)
     → ObjectsAreSound core.view
     → checked core.outbox.limit.bytes core.tables Request core.view target opcode (given list) ≡ Ok m
@@ -122,7 +123,7 @@ opens_none P core target opcode list m s e =
     by_iface None version = tt
     by_iface (Some iface) version = λ of_server. absurd (cc (next_of_client core.view s, of_server))
 
--- what a call makes that passed its checks
+-- what a checked call makes
 opens_lasting : (core : Core) (side : Side) (target : Object) (opcode : ℕ) (list : List CallArg) (m : MessageSignature)
     → Valid core.tables → ObjectsAreSound core.view
     → checked core.outbox.limit.bytes core.tables side core.view target opcode (given list) ≡ Ok m
@@ -136,7 +137,7 @@ opens_lasting core Event target opcode list m v s e =
     (opens_made core.tables v p.entry.iface.0 opcode (version_at (look core.view target.id)) m
     (map (wired (next_id Server core.view)) (given list)) new p.exists refl)
 
--- whatever is sent
+-- an event that follows a message does not change the objects
 followed_view : (b : Bool) (id : ℕ) (k : Core) → (with_following b id k).view ≡ k.view
 followed_view true id k = refl
 followed_view false id k = refl
@@ -145,7 +146,7 @@ followed_tables : (b : Bool) (id : ℕ) (k : Core) → (with_following b id k).t
 followed_tables true id k = refl
 followed_tables false id k = refl
 
--- a call leaves the tables
+-- a call does not change the tables
 pub tables_sent : (core : Core) (side : Side) (target : Object) (opcode : ℕ) (list : List CallArg)
     → (after_send core side target opcode (given list)).tables ≡ core.tables
 tables_sent core side target opcode list =
@@ -181,15 +182,15 @@ pub lasting_sent : (core : Core) (side : Side) (target : Object) (opcode : ℕ) 
 lasting_sent core side target opcode list v s h = made_sent (NoEventEnds core.tables) core side target opcode list
     (λ m e. opens_lasting core side target opcode list m v s e) h
 
--- a request leaves what holds of the objects that the server made
+-- a request keeps the property
 pub made_requested : (P : Iface → Type 0) (core : Core) (target : Object) (opcode : ℕ) (list : List CallArg)
     → ObjectsAreSound core.view → HoldsOfMade P core.view
     → HoldsOfMade P (after_send core Request target opcode (given list)).view
 made_requested P core target opcode list s h = made_sent P core Request target opcode list
     (λ m e. opens_none P core target opcode list m s e) h
 
--- An end that frees no id of the server's range frees none by what it opens, nor by what it makes a
--- zombie: so a client frees none.
+-- Ids of the server's range are freed neither by opening objects nor by making zombies. So a client
+-- frees none.
 
 abbrev FreesNone : Objects → Type 0
 FreesNone view = view.server.freed ≡ []
@@ -209,7 +210,7 @@ freed_zombied view id h = by_range (is_of_server id)
     by_range true = h
     by_range false = h
 
--- closing an object of the client's leaves the range
+-- closing an object of the client's range keeps the server's
 pub freed_closed : (view : Objects) (id : ℕ) → is_of_server id ≡ false → FreesNone view → FreesNone (closed view id)
 freed_closed view id client h = rw client h
 

@@ -1,4 +1,4 @@
--- Whole messages are spelled by their values.
+-- Whole messages are spellings of their values.
 use Rattle.std.proofs.Common.{◌≡◌, ◌≢◌, ℕ, suc, ◌+◌, ◌-◌, ◌*◌, ◌/◌, ◌%◌, ◌<◌, ◌≤◌, ◌^◌, Bool, true}
 use Rattle.std.proofs.Common.{false, cond, List, [], ◌∷◌, ◌++◌, length, map, take, drop, Some, None}
 use Rattle.std.proofs.Common.{refl, sym, ap, subst, ◌∙◌, arith, append_assoc}
@@ -49,7 +49,7 @@ use Rattle.wl_connection.proofs.ReceivedMessage.{is_received}
 
 -- ---- what is written
 
--- an object that can be named has a row, and so another id than 0
+-- an object that can be named has a row, so its id is not 0
 row_of : (birth : ℕ) (o : Option Entry) → is_live_as birth o ≡ true → is_some o ≡ true
 row_of birth None h = absurd (cc h)
 row_of birth (Some e) h = refl
@@ -112,7 +112,7 @@ calls_spell core side target opcode list signature s e r =
       each = written-spelled n 0 signature.kinds list low p.suit r (λ object k d h. nulls k d h object);
     }
 
--- values that suit their kinds, one for each
+-- each value suits its kind
 abbrev pub EachSuits : List Kind → List Argument → Type 0
 EachSuits [] [] = Unit {0}
 EachSuits (kind ∷ kinds) (value ∷ values) = Suits kind value × EachSuits kinds values
@@ -126,7 +126,7 @@ suited-spelled (kind ∷ kinds) [] s = absurd s
 suited-spelled (kind ∷ kinds) (value ∷ values) s =
     spelling.more (canonical-spells kind value s.0) (suited-spelled kinds values s.1) refl
 
--- a message that an end writes of itself
+-- a message that an end writes on its own account
 pub own-spelled : (kinds : List Kind) (object opcode : ℕ) (values : List Argument) → EachSuits kinds values
     → message_len values ≤ 4096 → MessageSpells usual_limit kinds object opcode values
     (message_bytes object opcode values)
@@ -233,7 +233,7 @@ read_row tables side reader header body waiting m None h = absurd (cc h)
 read_row tables side reader header body waiting m (Some entry) h =
     read_entry side reader header body waiting m entry (signature_at tables entry.iface.0 side header.opcode) h
 
--- ---- the header of a message in front
+-- ---- the header of the message at the front
 
 record HasHeader (bytes : List ℕ) : Type 0 where
   is : IsHeader (header_of bytes)
@@ -256,7 +256,7 @@ has_header bytes w l =
     ap header_at s ∙ header_at-bytes (header_at first) (drop 8 bytes) i in
     record { is = subst IsHeader (sym same) i; first = sym e ∙ ap header_bytes (sym same) }
 
--- the size that the header tells
+-- the size in the header
 told_header : (n o : ℕ) → n < 65536 → o < 65536 → (n * 65536 + o) / 65536 % 256 + 256 *
     ((n * 65536 + o) / 16777216 % 256) ≡ n
 told_header n o p q = omega arith
@@ -323,7 +323,7 @@ found_spells core side f w e =
       each = meets-spelled (met reader 0 f.message.signature.kinds body f.message.values [] wide r) refl;
     }
 
--- ---- messages one after another
+-- ---- consecutive messages
 
 pub begin_none : (limit : ℕ) (bytes : List ℕ) → BeginWith limit bytes 0 bytes
 begin_none limit bytes = record { messages = []; as_many = refl; whole = tt; joined = refl }

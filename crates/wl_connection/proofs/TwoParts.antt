@@ -1,4 +1,4 @@
--- Tokens that are taken out of both queues.
+-- Taking tokens out of both queues.
 use Rattle.std.proofs.Common.{◌≡◌, ℕ, ◌+◌, ◌-◌, ◌≤◌, ◌⊎◌, inl, inr, min, List, [], ◌++◌, length}
 use Rattle.std.proofs.Common.{take, drop, sym, ap, ap₂, ◌∙◌, arith, length-append}
 use Rattle.std.proofs.Common.{append_assoc}
@@ -11,7 +11,7 @@ use Rattle.wl_message.specs.Outgoing.{waiting_tokens}
 use Rattle.wl_message.proofs.TakenInStep.{passes, tokens_append}
 use Rattle.wl_message.proofs.Steps.{side}
 
--- what n places take of two lists, of which the second comes once the first is empty
+-- n tokens of two lists, where the second is used once the first is empty
 pub two_parts : (unread unsent : List ℕ) (k d : ℕ) → k ≤ length unread → (d ≡ 0) ⊎ (length unread ≤ k)
     → take (k + d) (unread ++ unsent) ≡ take k unread ++ take d unsent
 two_parts unread unsent k d le (inl none) =
@@ -23,21 +23,21 @@ two_parts unread unsent k d le (inr whole) =
     ∙ ap₂ (λ (l m : List ℕ). l ++ take d m) (take-append-le k unread unsent le)
     (drop-append-le k unread unsent le ∙ ap (λ (l : List ℕ). l ++ unsent) (drop_all k unread whole))
 
--- two parts that are written into a slice one after the other
+-- two parts, written into a slice one after the other
 pub written : (unread unsent old : List ℕ) (k d : ℕ) → k ≤ length unread → (d ≡ 0) ⊎ (length unread ≤ k)
     → take k unread ++ (take d unsent ++ drop d (drop k old)) ≡ take (k + d) (unread ++ unsent) ++ drop (k + d) old
 written unread unsent old k d le apart =
     sym (append_assoc (take k unread) (take d unsent) (drop d (drop k old)))
     ∙ ap₂ (λ (l m : List ℕ). l ++ m) (sym (two_parts unread unsent k d le apart)) (drop-drop d k old)
 
--- of n places some are left only where the first list is empty
+-- the second list is used only if the first is taken whole
 pub places : (n k d m : ℕ) → k ≡ min n m → d ≤ n - k → (d ≡ 0) ⊎ (m ≤ k)
 places n k d m is few = elim (side n m) [
   | inl h ↦ inl (omega (arith, is, few, h))
   | inr h ↦ inr (omega (arith, is, h))
 ]
 
--- the same into the slice itself; the second part is what follows the first
+-- the same in the slice itself; the second part goes after the first
 pub both_written : (unread unsent old first second : List ℕ) (k d : ℕ) → k ≡ min (length old) (length unread)
     → first ≡ take k unread ++ drop k old
     → d ≤ length (take (length first - k) (drop k first))
@@ -59,7 +59,7 @@ both_written unread unsent old first second k d is first_is few second_is =
     ∙ ap (λ (m : List ℕ). take k unread ++ m) (append-nil (take d unsent ++ drop d (drop k old)))
     ∙ written unread unsent old k d (omega (arith, is)) (places (length old) k d (length unread) is bound)
 
--- where no token is left all were taken
+-- if no token remains, all were taken
 pub all_taken : (o : Outgoing) (b t : ℕ) (taken : Amounts) → Goes o b t taken
     → waiting_tokens (after_taking o taken.bytes) ≡ [] → taken.tokens ≡ length (waiting_tokens o)
 all_taken o b t taken g none =

@@ -1,4 +1,4 @@
--- What is asked of a message that an end writes.
+-- The conditions for a message that an end writes.
 use Rattle.std.proofs.Common.{ℕ, ◌≤◌, length, subst}
 use Rattle.wl_message.specs.declared.limit.Limit.{Limit}
 use Rattle.wl_message.specs.Cut.{IsMessage}

@@ -201,8 +201,8 @@ pub trait End {
         self.core().outbox.goes(bytes, tokens)
     }
 
-    /// The most bytes that can go at one time so that every token goes with the first byte, as in
-    /// `take`, however many of the bytes go; and how many of the waiting tokens these are. `sent`
+    /// The most bytes that can be sent at once, and how many of the waiting tokens go with them:
+    /// all with the first byte, as in `take`, even if only some of the bytes are sent. `sent`
     /// removes what was sent. Works at a failed end too.
     final fn peek(&self) -> Peek<'_>
         ensures { Peeks (core self.now).outbox (result.front.now ++ result.back.now) result.tokens }

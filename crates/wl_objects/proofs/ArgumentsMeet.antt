@@ -1,4 +1,4 @@
--- What is read of a message's arguments is what meets the reader, and the fault is the first that stands.
+-- Reading a message's arguments gives values that meet the reader's rules, or the first fault.
 use Rattle.std.proofs.Common.{◌≡◌, ℕ, suc, ◌<◌, List, [], ◌∷◌, ◌++◌, length, drop, take, Some, None}
 use Rattle.std.proofs.Common.{refl, sym, ap, subst, ◌∙◌}
 use Rattle.std.specs.Prelude.{Option}
@@ -24,7 +24,7 @@ use Rattle.wl_objects.specs.Spelling.{MeetsKinds, FirstFault}
 abbrev Bytewise : List ℕ → Type 0
 Bytewise bytes = All (λ b. b < 256) bytes
 
--- what an answer says, as a relation
+-- the meaning of a reader's result, as a relation
 abbrev Says : Reader → ℕ → List Kind → List ℕ → Result (List Argument × List ℕ) Fault → Type 0
 Says r place ks bytes (Ok found) = MeetsKinds r place ks bytes found.0 found.1
 Says r place ks bytes (Err fault) = FirstFault r place ks bytes fault
@@ -77,7 +77,7 @@ pub faulty : (r : Reader) (place : ℕ) (ks : List Kind) (bytes : List ℕ) (fau
 faulty r place ks bytes fault w e = subst (λ (x : Result (List Argument × List ℕ) Fault). Says r place ks bytes x) e
     (says r place ks bytes w)
 
--- an argument that is spelled at the front, and rightly, leaves what lies behind it
+-- reading goes on after an argument that is spelled at the front and without fault
 one-right : (r : Reader) (place : ℕ) (kind : Kind) (ks : List Kind) (bytes front behind : List ℕ) (v : Argument)
     → Spells (forgiving_kind r.forgives kind) v front → value_fault r place kind v ≡ None → bytes ≡ front ++ behind
     → arguments_at r place (kind ∷ ks) bytes ≡ before v (arguments_at r (suc place) ks behind)

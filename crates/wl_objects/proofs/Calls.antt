@@ -1,4 +1,4 @@
--- What is left of a call's arguments, from a place on.
+-- The arguments of a call, from a place on.
 use Rattle.std.proofs.Common.{◌≡◌, ℕ, suc, ◌+◌, ◌<◌, ◌≤◌, Bool, true, false, List, [], ◌∷◌, length}
 use Rattle.std.proofs.Common.{get_or, drop, Some, None, refl, arith, add-one, drop-cons}
 use Rattle.std.specs.Prelude.{Option, map}
@@ -56,7 +56,7 @@ pub wrong-next : (i : ℕ) (ks : List Kind) (list : List Arg) (k : Kind) (a : Ar
     ≡ wrong_place (i + 1) (drop (i + 1) ks) (given (drop (i + 1) list))
 wrong-next i ks list k a p q e t = rw (add-one, drop-cons ks i k p, drop-cons list i a q, ← e, t) refl
 
--- a call is refused for an argument of the wrong kind, whatever else stands against it
+-- a call with an argument of the wrong kind is refused for that, whatever else is wrong with it
 pub refused-wrong : (limit place : ℕ) (wrong lost : Option ℕ) (len : ℕ) (m : MessageSignature) → wrong ≡ Some place
     → Err (WrongArgs place) ≡ unless_wrong limit wrong lost len m
 refused-wrong limit place wrong lost len m e = rw e refl
@@ -116,7 +116,7 @@ range-next i list a q e here more =
     All-same InRange (given (drop i list)) (given_of a ∷ given (drop (i + 1) list)) cut
     (All-cons InRange (given_of a) (given (drop (i + 1) list)) here more)
 
--- the length of an argument is the same whatever the new object's id
+-- the length of an argument does not depend on the new object's id
 len-one : (id : ℕ) (x : Given) → spelled_len (wired id x) ≡ spelled_len (wired 0 x)
 len-one id (Int z) = refl
 len-one id (Uint n) = refl

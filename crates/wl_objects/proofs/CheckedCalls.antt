@@ -1,4 +1,4 @@
--- What a call that passed its checks gives the writer of its message.
+-- What the checks of a call promise to the writer of its message.
 use Rattle.std.proofs.Common.{◌≡◌, ℕ, suc, ◌<◌, ◌≤◌, true, List, [], ◌∷◌, length, map}
 use Rattle.std.proofs.Common.{Some, None, refl, sym, ◌∙◌, subst, arith}
 use Rattle.std.specs.Prelude.{option_map}
@@ -17,7 +17,7 @@ use Rattle.wl_objects.specs.Messages.{made}
 use Rattle.wl_objects.proofs.Calls.{len-least, len-any}
 use Rattle.wl_objects.proofs.WrittenArrives.{if-none, text_is}
 
--- an argument of the kind has a spelling, where that is short
+-- an argument of the kind has a spelling, if that is short
 fits-one : (n : ℕ) (kind : Kind) (x : Given) → suits kind x ≡ true → spelled_len (wired n x) ≤ 65543 → Fits (wired n x)
 fits-one n kinds.Int (Int z) e h = tt
 fits-one n kinds.Uint (Uint m) e h = tt
@@ -51,7 +51,7 @@ same-number place (kind ∷ ks) (x ∷ list) w =
     let suit = if-none (suits kind x) (wrong_place (suc place) ks list) place w in
     let more : length list ≡ length ks = same-number (suc place) ks list suit.1 in omega arith
 
--- no argument of a call stands where the signature gives no interface
+-- a call has no argument for a new object without an interface in its signature
 not_named : (x : Arg) → suits (kinds.New None) (given_of x) ≡ true → ⊥
 not_named (args.Int z) e = cc
 not_named (args.Uint n) e = cc
@@ -81,7 +81,7 @@ call-one tables version id kinds.Array ks (Array bytes) values e n h = h
 call-one tables version id kinds.Fd ks (Fd token) values e n h = h
 call-one tables version id kind ks x values e n h = absurd (cc)
 
--- the object that a call makes is the one new object of its signature
+-- the object that a call makes is the one new object in its signature
 pub call-makes : (tables : List Interface) (version id place : ℕ) (ks : List Kind) (list : List Arg)
     → wrong_place place ks (given list) ≡ None
     → made tables version ks (on_wire id list) ≡ option_map
@@ -95,14 +95,15 @@ call-makes tables version id place (kind ∷ ks) (x ∷ list) w =
     (λ (e : kind ≡ kinds.New None). not_named x (subst (λ (k : Kind). suits k (given_of x) ≡ true) e suit.0))
     (call-makes tables version id (suc place) ks list suit.1)
 
--- what a call's arguments come to tells the writer of its message that each has a spelling
+-- the checks of a call promise that each argument has a spelling, and that the message fits within
+-- the limit
 pub measured-fits : (limit : ℕ) (ks : List Kind) (list : List Arg) (m : Measured) → limit < 65536
     → IsMeasured ks list limit m → (id : ℕ) → EachFits (on_wire id list) × (message_len (on_wire id list) ≤ limit)
 measured-fits limit ks list m most is id =
     let len : message_len (on_wire id list) ≤ limit = omega (arith, is.len, is.short, len-any id (given list)) in
     (each-fits id 0 ks (given list) is.right (omega arith), len)
 
--- the length is the same whatever the new object's id
+-- the message's length does not depend on the new object's id
 pub measured-len : (limit : ℕ) (ks : List Kind) (list : List Arg) (m : Measured) → IsMeasured ks list limit m → (id : ℕ)
     → m.len ≡ message_len (on_wire id list)
 measured-len limit ks list m is id = is.len ∙ sym (len-any id (given list))

@@ -32,7 +32,7 @@ pub made-end : (tables : List Interface) (version i : ℕ) (ks : List Kind) (lef
     → made tables version (drop i ks) left ≡ None
 made-end tables version i ks left p = rw (drop_all i ks p) refl
 
--- ---- kinds that make nothing
+-- ---- kinds that make no object
 
 made_by-other : (tables : List Interface) (version : ℕ) (kind : Kind) (value : Argument) → is_new_object kind ≡ false
     → made_by tables version kind value ≡ None
@@ -68,7 +68,7 @@ neither : (a b : Bool) → a || b ≡ false → (a ≡ false) × (b ≡ false)
 neither false b e = (refl, e)
 neither true b e = absurd (cc)
 
--- where no kind is a new object, the message makes none
+-- a message makes no object if no kind is a new object
 pub made-nothing : (tables : List Interface) (version : ℕ) (ks : List Kind) (values : List Argument)
     → list_any is_new_object ks ≡ false → made tables version ks values ≡ None
 made-nothing tables version [] [] e = refl
@@ -77,7 +77,7 @@ made-nothing tables version (kind ∷ ks) values e =
     let parts = neither (is_new_object kind) (list_any is_new_object ks) e in
     skip-one tables version kind ks values parts.0 ∙ made-nothing tables version ks (drop 1 values) parts.1
 
--- the value at a place, and those behind it
+-- the value at a place, and those after it
 pub left-at : (values : List Argument) (i : ℕ) (v : Argument) → Some v ≡ slice_get values i
     → drop i values ≡ v ∷ drop (i + 1) values
 left-at values i v e =
@@ -85,7 +85,7 @@ left-at values i v e =
     let at : get_or values i v ≡ v = get_or_from_slice_get values i v v (sym e) in
     drop-cons values i v inside ∙ rw (at, add-one) refl
 
--- there is none
+-- no value at a place
 pub left-none : (values : List Argument) (i : ℕ) → None ≡ slice_get values i → drop i values ≡ []
 left-none [] zero e = refl
 left-none [] (suc i) e = refl

@@ -1,4 +1,4 @@
--- A number that was read, as it is kept.
+-- A number that was read, as a parsed argument.
 use Rattle.std.proofs.Common.{◌≡◌, ℕ, ◌+◌, ◌-◌, ◌≤◌, Bool, true, false, List, length, drop, Some, None}
 use Rattle.std.proofs.Common.{◌⊎◌, inl, inr, refl, sym, ap, arith}
 use Rattle.std.proofs.Common.{◌⊎◌, inl, inr, arith}
@@ -18,7 +18,7 @@ use Rattle.wl_wire.specs.declared.value.ValueRef.TheVariants as spelled_as
 use Rattle.wl_wire.specs.Reading.{number_at, signed, reading}
 use Rattle.wl_objects.specs.Parsed.{located, IsParsedNumber, is_int, is_uint, is_fixed}
 
--- the bytes are there, and the number is the one that the first four are
+-- the bytes are there, and the number is the one in the first four
 abbrev Read : Kind → List ℕ → ValueRef → Type 0
 Read kind bytes value =
     (4 ≤ length bytes) × ((start place : ℕ) → IsParsedNumber kind bytes (located start place value))
@@ -67,7 +67,7 @@ fixed-located bytes (spelled_as.NewNamed iface version id) e start place = absur
 fixed-located bytes (spelled_as.Array array) e start place = absurd (cc)
 fixed-located bytes spelled_as.Fd e start place = absurd (cc)
 
--- what is read where four bytes are there, or fewer
+-- the result for a number, if four bytes are there and if fewer are
 abbrev answer : Bool → Argument → Result (Argument × ℕ) ArgFault
 answer b number = let whole : Argument × ℕ = (number, 4) in if b then Err Short else Ok whole
 
@@ -95,7 +95,7 @@ fixed-read bytes value n e =
     let found = there (nat_lt (length bytes) 4) bytes value n (Fixed (signed (number_at bytes))) refl e in
     (found.0, fixed-located bytes value found.1)
 
--- from a place on
+-- the same, from a place in the body
 from : (k : Kind) (start : ℕ) (body : List ℕ) (value : ValueRef) → Read k (drop start body) value
     → (start + 4 ≤ length body)
     × ((text place : ℕ) → IsParsedNumber k (drop start body) (located text place value))

@@ -1,4 +1,4 @@
--- One argument after another, parsed.
+-- Parsing one argument after another.
 use Rattle.std.proofs.Common.{◌≡◌, ℕ, zero, suc, ◌+◌, ◌<◌, ◌≤◌, Bool, true, false, List, []}
 use Rattle.std.proofs.Common.{◌∷◌, ◌++◌, length, take, drop, get_or, map, Some, None, refl, sym, ap}
 use Rattle.std.proofs.Common.{◌∙◌, arith, add-one, drop-cons, append_assoc, drop-drop}
@@ -47,7 +47,7 @@ same-fixed : (forgives : Bool) → forgiving_kind forgives kinds.Fixed ≡ kinds
 same-fixed true = refl
 same-fixed false = refl
 
--- a number that was read first is what the general way reads
+-- a number read by the fast path is what the general path reads
 pub number-one : (r q : Reader) (i place birth : ℕ) (k : Kind) (bytes body : List ℕ) (p : ParsedArg)
     → nat_lt (length bytes) 4 ≡ false → IsParsedNumber k bytes p
     → Ok (both_of body birth p, 4) ≡ made_of_one r place
@@ -88,7 +88,7 @@ same-place body p v place e = ap (λ (b : Bool). if b then place + 1 else place)
 
 -- ---- one step
 
--- what was judged, where one argument was parsed
+-- the judgement of one argument that was parsed
 abbrev Judged : Reader → ℕ → Both → ℕ → Result (Argument × ℕ) Fault → Type 0
 Judged r place x n y = (v : Argument) × (y ≡ Ok (v, n)) × (x ≡ both r place v)
 
@@ -124,7 +124,7 @@ behind-both : (xs ys : List Both) (y : Result (List Both × List ℕ) Fault)
 behind-both xs ys (Err fault) = refl
 behind-both xs ys (Ok found) = rw append_assoc refl
 
--- one argument more
+-- one more argument
 more : (r q : Reader) (i end n place birth : ℕ) (ks : List Kind) (k : Kind) (body : List ℕ) (items : List ParsedArg)
     (p : ParsedArg) (v : Argument)
     → i < length ks → i < length items
@@ -245,7 +245,7 @@ are_parsed r body parsed values e = record {
       ∙ (ap (reports_in tokens) e ∙ reports-of r 0 tokens values);
 }
 
--- what was parsed, where it was parsed whole
+-- all arguments were parsed
 record AreMade (r : Reader) (list : List Both) (rest : List ℕ)
     (x : Result (List Argument × List ℕ) Fault) : Type 0 where
   values : List Argument

@@ -1,4 +1,5 @@
--- The places that stand against a call's arguments, found one argument after another, are the first that are wrong.
+-- The first places at which a call's arguments are wrong, found by going through the arguments
+-- once.
 use Rattle.std.proofs.Common.{◌≡◌, ℕ, zero, suc, ◌+◌, ◌<◌, ◌≤◌, Bool, true, false, List, [], ◌∷◌}
 use Rattle.std.proofs.Common.{length, map, Some, None, refl, sym, ap, subst, ◌∙◌, ◌↔◌, arith}
 use Rattle.std.specs.Prelude.{Option, if◌then◌else◌, nat_lt}
@@ -57,7 +58,7 @@ wrong_back kind x ks list n (one_too_many a t) = one_too_many a t
 
 -- ---- S5
 
--- the place is counted from where the walk began
+-- the place is counted from where the search began
 record WrongFrom (place : ℕ) (ks : List Kind) (list : List Given) (found : ℕ) : Type 0 where
   ahead : ℕ
   at : found ≡ place + ahead
@@ -147,7 +148,7 @@ pub first-wrong : (ks : List Kind) (list : List Given) (found : ℕ) → IsFirst
     → wrong_place 0 ks list ≡ Some found
 first-wrong ks list found f = first-from 0 ks list found f ∙ ap (λ (n : ℕ). Some n) (omega arith)
 
--- all suit exactly where no place is answered
+-- no place is found if and only if all arguments suit
 
 pub none-wrong : (place : ℕ) (ks : List Kind) (list : List Given) → wrong_place place ks list ≡ None
     → (length list ≡ length ks) × ((k : ℕ) → k < length ks → SuitsAt ks list k)
@@ -275,16 +276,16 @@ pub first-lost : (rows : ℕ → Option Entry) (ks : List Kind) (list : List Giv
     → IsFirstLost rows ks list found → lost_place rows 0 ks list ≡ Some found
 first-lost rows ks list found f = lost_ahead rows 0 ks list found f ∙ ap (λ (n : ℕ). Some n) (omega arith)
 
--- ---- a call that comes to its arguments
+-- ---- the result of a call's arguments
 
--- an answer that comes behind S2, S3 and S4
+-- a result that comes after S2, S3 and S4 were tested
 abbrev IsLate : Result MessageSignature SendError → Type 0
 IsLate (Err refusals.Stale) = ⊥
 IsLate (Err refusals.NoSuchMessage) = ⊥
 IsLate (Err refusals.TooOld) = ⊥
 IsLate _ = Unit {0}
 
--- what the arguments come to
+-- the result of the arguments
 abbrev judged_list : ℕ → Objects → List Given → MessageSignature → Result MessageSignature SendError
 judged_list limit view list m = unless_wrong limit (wrong_place 0 m.kinds list) (lost_place (look view) 0 m.kinds list)
     (message_len (map (wired 0) list)) m

@@ -1,4 +1,4 @@
--- The bytes of a value lie behind its first word.
+-- The bytes of a value follow its first word.
 use Rattle.std.proofs.Common.{◌≡◌, ℕ, ◌+◌, List, [], ◌∷◌, ◌++◌, length, take, drop, refl, sym, subst}
 use Rattle.std.proofs.Common.{Some, None, arith, append_assoc, drop-drop}
 use Rattle.std.specs.Borrow.{Bor}
@@ -16,7 +16,7 @@ use Rattle.wl_wire.specs.Spelling.{is_descriptor}
 use Rattle.wl_objects.specs.Reading.{Reader, value_fault}
 use Rattle.wl_objects.specs.Parsed.{body_part, both_of, located, made_unless, Lies, LiesBehind}
 
--- what begins with the text, before more
+-- bytes that begin with the text
 behind : (text rest padding more : List ℕ) → rest ≡ (text ++ 0 ∷ []) ++ padding
     → text ≡ take (length text) (rest ++ more)
 behind text rest padding more e = rw (e, append_assoc, append_assoc)
@@ -46,16 +46,16 @@ spelled-lies more (is_array {array} {rest} {bytes} f p e) =
     record { same = rw e (array-lies array rest p.padding more p.whole); fits = f }
 spelled-lies more (is_descriptor e) = tt
 
--- what is read lies there
+-- the bytes of a value that is read are there
 pub read-lies : (k : Kind) (v : Argument) (n : ℕ) (bytes : List ℕ) → Spells k v (take n bytes) → Lies bytes v
 read-lies k v n bytes s = subst (λ (b : List ℕ). Lies b v) (take-append-drop n bytes) (spelled-lies (drop n bytes) s)
 
--- what lies behind a first word is the part that starts there
+-- the bytes after a first word are the part of the body that begins there
 pub part-lies : (body text : List ℕ) (start : ℕ) → LiesBehind (drop start body) text
     → body_part body (start + 4) (length text) ≡ text
 part-lies body text start e = sym (subst (λ (b : List ℕ). text ≡ take (length text) b) (drop-drop 4 start body) e.same)
 
--- A value that is no object and no new one is what its spelling alone tells.
+-- A value that is neither an object nor a new one depends on its spelling alone.
 pub located-made : (r q : Reader) (body : List ℕ) (start i place : ℕ) (kind : Kind) (value : ValueRef)
     → Lies (drop start body) (lent value)
     → ((id : ℕ) → value ≡ spelled_as.Obj id → ⊥) → ((id : ℕ) → value ≡ spelled_as.New id → ⊥)

@@ -1,5 +1,5 @@
--- Whole messages: their lengths, what spells them, what stands against a call, and how one end's
--- message is read by the other.
+-- Whole messages: their lengths, their spellings, what is wrong with a call, and how one end reads
+-- what the other wrote.
 use Rattle.std.proofs.Common.{◌≡◌, ◌≢◌, ℕ, suc, ◌+◌, ◌%◌, ◌<◌, ◌≤◌, ◌^◌, Bool, true, false, List}
 use Rattle.std.proofs.Common.{[], ◌∷◌, ◌++◌, length, map, Some, None, refl, sym, ap, subst, ◌∙◌}
 use Rattle.std.proofs.Common.{arith, length-append}
@@ -80,13 +80,13 @@ message-words (value ∷ values) =
 
 -- ---- spellings
 
--- what meets a reader with nothing left is spelled whole
+-- arguments that are read with nothing left are spelled by the whole body
 pub meets-spelled : {r : Reader} {place : ℕ} {ks : List Kind} {bytes : List ℕ} {values : List Argument} {rest : List ℕ}
     → MeetsKinds r place ks bytes values rest → rest ≡ [] → SpellsAll (map (forgiving_kind r.forgives) ks) values bytes
 meets-spelled {r} spelling.none e = spelling.none e
 meets-spelled {r} (spelling.more s f m b) e = spelling.more s (meets-spelled m e) b
 
--- what is written spells its values
+-- what is written spells the values
 pub written-spelled : (n place : ℕ) (ks : List Kind) (list : List Given) → n < 2 ^ 32 → wrong_place place ks list ≡ None
     → All InRange list
     → ((object : Object) → All (λ x. x ≡ Obj (Some object) → object.id ≢ 0) list)
@@ -121,7 +121,7 @@ checked-places limit None (Some place) len signature found e = absurd (cc)
 checked-places limit None None len signature found e = let o = checked-of limit [] len signature found e
     in (refl, refl, o.0, o.1)
 
--- what a signature and a row give
+-- what a checked call says about a signature and a row
 checked-signature : (limit : ℕ) (view : Objects) (list : List Given) (entry : Entry) (at : Option MessageSignature)
     (found : MessageSignature) → checked_as limit view list entry at ≡ Ok found
     → (at ≡ Some found) × (found.since ≤ entry.version) × (wrong_place 0 found.kinds list ≡ None)

@@ -1,4 +1,4 @@
--- Messages written over the bytes where they are to lie.
+-- Writing a message over the bytes of a slice.
 use Rattle.std.proofs.Common.{◌≡◌, ℕ, ◌+◌, ◌-◌, ◌<◌, ◌≤◌, List, [], ◌++◌, length, get_or, take}
 use Rattle.std.proofs.Common.{drop, refl, sym, ap, ◌∙◌, arith, append_assoc, add-one, drop-cons}
 use Rattle.std.proofs.lemmas.List.{append-nil, take_all, drop_all, take_at, length-take-le, length-append}
@@ -21,7 +21,7 @@ pub bind_len : (bind : BindMessage) → length (bind_message bind)
     ≡ message_len (values_of_bind bind)
 bind_len bind = length-message bind.registry 0 (values_of_bind bind)
 
--- what stands before the place, and is written from there on
+-- the bytes before the place, and those written from there on
 pub written-next : (at n k : ℕ) (out c x rest : List ℕ) → at ≤ length out → length c ≡ n → x ≡ c ++ rest
     → take (at + n) (put_mid at k out x) ≡ take at out ++ c
 written-next at n k out c x rest low long is =
@@ -41,7 +41,7 @@ pub fits-next : (id i : ℕ) (args : List Arg) (a : Arg) → i < length args →
     → EachFits (on_wire id (drop (i + 1) args))
 fits-next id i args a p h = rw add-one ((rw (drop-cons args i a p) at h).1)
 
--- one argument more
+-- one more argument
 pub written-more : (id i at n k : ℕ) (args : List Arg) (a : Arg) (out x rest : List ℕ) (v : Argument) → i < length args
     → v ≡ wired id (given_of (get_or args i a)) → n ≡ spelled_len v
     → x ≡ canonical v ++ rest → at ≤ length out → take at out ++ spelled (on_wire id (drop i args))
@@ -55,7 +55,7 @@ written-more id i at n k args a out x rest v p is len spells low before =
     ∙ ap (λ l. take at out ++ l) (sym (spelled-at id i args a p))
     ∙ before
 
--- all of them
+-- all arguments
 pub written-all : (id i at : ℕ) (args : List Arg) (out : List ℕ) → length args ≤ i
     → at + message_len (on_wire id (drop i args)) ≡ length out + 8
     → take at out ++ spelled (on_wire id (drop i args)) ≡ spelled (on_wire id args) → out ≡ spelled (on_wire id args)

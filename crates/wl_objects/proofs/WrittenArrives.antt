@@ -1,4 +1,4 @@
--- What is written arrives.
+-- What is written is what arrives.
 use Rattle.std.proofs.Common.{◌≡◌, ◌≢◌, ℕ, suc, ◌+◌, ◌<◌, ◌^◌, Bool, true, false, List, [], ◌∷◌}
 use Rattle.std.proofs.Common.{◌++◌, length, drop, map, Some, None, refl, sym, subst, arith}
 use Rattle.std.proofs.Common.{append_assoc}
@@ -37,7 +37,7 @@ no_nul text e k d h z =
 pub text_is : (text : List ℕ) → has_no_nul text ≡ true → length text + 1 < 2 ^ 32 → IsText text
 text_is text e h = record { no_nul = no_nul text e; len = h }
 
--- an argument of the kind stands on the wire as a value of the kind
+-- an argument that suits the kind has a value on the wire that suits it
 pub suits-wired : (n : ℕ) (kind : Kind) (x : Given) → suits kind x ≡ true → InRange x → n < 2 ^ 32
     → (object_null : (object : Object) → x ≡ Obj (Some object) → object.id ≢ 0) → Suits kind (wired n x)
 suits-wired n kinds.Int (Int z) e h b o = h
@@ -79,7 +79,7 @@ object-right writer r place kind object f held e =
     let some : nat_eq object.id 0 ≡ false = ne_eqb object.id 0 held.not_null in
     rw (f, some, held.held, same) refl
 
--- nothing is wrong with an argument that the reader expects
+-- an argument that the reader expects is without fault
 pub value-right : (writer : ℕ → Option Entry) (r : Reader) (n place : ℕ) (kind : Kind) (x : Given) → r.forgives ≡ false
     → suits kind x ≡ true → can_name writer kind x ≡ true → IsExpected writer r n kind x
     → value_fault r place kind (wired n x) ≡ None
@@ -138,7 +138,7 @@ object-reported writer r n token object held =
     let some : nat_eq object.id 0 ≡ false = ne_eqb object.id 0 held.not_null in
     rw (some, held.held, held.birth) refl
 
--- one argument is reported as the writer meant it, where the token is its own
+-- an argument is reported as the writer meant it, if the token is its own
 report-one : (writer : ℕ → Option Entry) (r : Reader) (n : ℕ) (kind : Kind) (x : Given) (list : List Given)
     (more : List ℕ) → IsExpected writer r n kind x
     → reported_argument r (head_or (tokens_of (x ∷ list) ++ more) 0) (wired n x) ≡ arrived_value r n x
@@ -180,7 +180,7 @@ arrive-reported writer r n place (kind ∷ ks) (x ∷ list) more w h =
       arrive-reported writer r n (suc place) ks list more suit.1 h.1,
     ) refl
 
--- an argument of the kind takes a token exactly where the kind does
+-- an argument takes a token if and only if its kind does
 taken-one : (kind : Kind) (x : Given) (ks : List Kind) (list : List Given) → suits kind x ≡ true
     → descriptors ks ≡ length (tokens_of list) → descriptors (kind ∷ ks) ≡ length (tokens_of (x ∷ list))
 taken-one kinds.Int (Int z) ks list e h = h

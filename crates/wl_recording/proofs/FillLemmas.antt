@@ -1,4 +1,4 @@
--- Room for a piece, and its bytes later.
+-- Reserving room for a piece, and writing its bytes later.
 use Rattle.std.proofs.Common.{◌≡◌, ℕ, ◌-◌, ◌<◌, List, [], ◌∷◌, ◌++◌, length, refl, sym, ap, ◌∙◌}
 use Rattle.std.proofs.Common.{inl, inr, append_assoc, arith, replicate, take}
 use Rattle.std.proofs.lemmas.Bool.{cases_lt, ne_eqb, lt-ltb, le-ltb}
@@ -25,7 +25,7 @@ with_last_bytes-push (first ∷ []) piece bytes = refl
 with_last_bytes-push (first ∷ next ∷ more) piece bytes =
     ap (λ (rest : List Piece). first ∷ rest) (with_last_bytes-push (next ∷ more) piece bytes)
 
--- The bytes that pass are those of the last piece, and the rest does not hang on them.
+-- Only the last piece has the bytes; nothing else depends on them.
 last_of_passed : (direction : Direction) (tokens : ℕ) → (front : List Piece) × (count : ℕ)
     × ((bytes : List ℕ) → 0 < length bytes → passed direction bytes tokens
     ≡ front ++ record { direction = direction; bytes = bytes; tokens = count } ∷ [])
@@ -44,7 +44,7 @@ last_of_passed direction tokens = elim (cases_lt 65535 tokens) [
   )
 ]
 
--- the last piece of what passed has its bytes
+-- the last piece recorded has these bytes
 pub last_len-passed : (before : List Piece) (direction : Direction) (bytes : List ℕ) (tokens : ℕ) → 0 < length bytes
     → last_len (before ++ passed direction bytes tokens) ≡ length bytes
 last_len-passed before direction bytes tokens some =
@@ -55,7 +55,7 @@ last_len-passed before direction bytes tokens some =
           (record { direction = direction; bytes = bytes; tokens = last.1 } ∷ []),
     ) (last_len-push (before ++ last.0) _)
 
--- zeros, and then the bytes over them, are what passed
+-- zeros that are then overwritten by the bytes record the same as the bytes
 pub filled_passed : (before : List Piece) (direction : Direction) (bytes : List ℕ) (tokens : ℕ) → 0 < length bytes
     → with_last_bytes (before ++ passed direction (replicate (length bytes) 0) tokens) bytes
     ≡ before ++ passed direction bytes tokens
@@ -72,11 +72,11 @@ filled_passed before direction bytes tokens some =
     (with_last_bytes-push (before ++ last.0) blank bytes
     ∙ append_assoc before last.0 (record blank { bytes = bytes } ∷ []))
 
--- what is written over the whole of a vector
+-- bytes written over a whole vector
 pub written_over : (bytes held : List ℕ) (n : ℕ) → length bytes ≡ n → take n (bytes ++ held) ≡ bytes
 written_over bytes held n same = rw (take-append-le n bytes held (omega arith), take_all n bytes (omega arith)) refl
 
--- other bytes in the last piece
+-- the last piece with other bytes
 pub rewritten : (front old : List Piece) (last : Piece) (bytes given : List ℕ) → old ≡ front ++ last ∷ []
     → bytes ≡ given
     → front ++ record last { bytes = bytes } ∷ [] ≡ with_last_bytes old given

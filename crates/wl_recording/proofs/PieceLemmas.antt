@@ -1,4 +1,4 @@
--- A line tells one piece at most.
+-- A line is at most one piece.
 use Rattle.std.proofs.Common.{◌≡◌, ◌≢◌, ℕ, ◌<◌, true, List, [], ◌∷◌, ◌++◌, length, slice_index}
 use Rattle.std.proofs.Common.{refl, sym, ap, subst, ◌∙◌, arith}
 use Rattle.std.specs.Prelude.{codes, Result, Ok, Err, OnErr, Option, Some, None, MatchOption}
@@ -23,7 +23,7 @@ NoSpace text = All (λ byte. byte ≢ 32) text
 abbrev pub AtSpace : List ℕ → Type 0
 AtSpace text = 0 < length text → slice_index text 0 ≡ 32
 
--- a text is cut before its first space in one way only
+-- a text has one split before its first space
 pub cut_once : (a b a' b' : List ℕ) → NoSpace a → AtSpace b → NoSpace a' → AtSpace b' → a ++ b ≡ a' ++ b'
     → (a ≡ a') × (b ≡ b')
 cut_once [] b [] b' clean at clean' at' same = (refl, same)
@@ -42,7 +42,7 @@ cut_once (x ∷ a) b (y ∷ a') b' clean at clean' at' same =
     (All-tail (λ byte. byte ≢ 32) y a' clean') at' tails in
     (rw (heads, r.0) refl, r.1)
 
--- what stands for bytes has no space
+-- the digits of bytes contain no space
 pub bytes_no_space : (digits bytes : List ℕ) → SpellsBytes digits bytes → NoSpace digits
 bytes_no_space digits bytes spelled = elim spelled [
   | no_bytes is none ↦ rw is (All-cons (λ byte. byte ≢ 32) 45 [] (λ e. cc e) (All-nil (λ byte. byte ≢ 32)))
@@ -52,14 +52,14 @@ bytes_no_space digits bytes spelled = elim spelled [
       in let no : is_hex_digit 32 ≡ true = subst P space digit in cc no) digits (decode_of-ok digits bytes is).1
 ]
 
--- what stands for tokens begins with a space, if it is not empty
+-- the count of tokens is empty or begins with a space
 pub tokens_at_space : (count : List ℕ) (tokens : ℕ) → SpellsTokens count tokens → AtSpace count
 tokens_at_space count tokens spelled = elim spelled [
   | no_tokens is none ↦ λ some. absurd (omega (arith, ap length is))
   | some_tokens digits is least most all value low high ↦ λ some. rw is refl
 ]
 
--- the parts of a line that tells a piece are those at its first space
+-- the parts of a piece's line are those around its second space
 pub parts_of : (line rest front back : List ℕ) (direction : Direction) (piece : Piece) → (told : IsPiece line piece)
     → line ≡ sign direction ∷ 32 ∷ rest
     → rest ≡ front ++ back → NoSpace front → AtSpace back → (told.digits ≡ front) × (told.count ≡ back)
@@ -68,7 +68,7 @@ parts_of line rest front back direction piece told whole cut clean at =
     cut_once told.digits told.count front back (bytes_no_space _ _ told.bytes)
     (tokens_at_space _ _ told.tokens) clean at same
 
--- two directions with one sign are the same
+-- a sign belongs to one direction
 pub one_direction : (d e : Direction) → sign d ≡ sign e → d ≡ e
 one_direction ToServer ToServer same = refl
 one_direction ToServer ToClient same = absurd (omega arith)
@@ -102,7 +102,7 @@ one_count count a b x y = elim x [
   ]
 ]
 
--- a count is the number behind its plus sign
+-- a count is the number after the plus sign
 pub number_of-count : (count digits : List ℕ) (tokens : ℕ) → count ≡ codes " +" ++ digits → SpellsTokens count tokens
     → number_of digits ≡ Some tokens
 number_of-count count digits tokens whole spelled = elim spelled [
@@ -120,7 +120,7 @@ same_pieces : (p q : Piece) → p.direction ≡ q.direction → p.bytes ≡ q.by
 same_pieces p q d b t =
     let e : piece_with p.direction p.bytes p.tokens ≡ piece_with q.direction q.bytes q.tokens = rw (d, b, t) refl in e
 
--- a line tells one piece at most
+-- a line is at most one piece
 pub one_piece : (line : List ℕ) (p q : Piece) → IsPiece line p → IsPiece line q → p ≡ q
 one_piece line p q x y =
     let cut = parts_of line (y.digits ++ y.count) y.digits y.count q.direction p x y.whole refl
@@ -129,7 +129,7 @@ one_piece line p q x y =
     same_pieces p q (one_direction _ _ signs) (one_bytes y.digits p.bytes q.bytes (rw cut.0 at x.bytes) y.bytes)
     (one_count y.count p.tokens q.tokens (rw cut.1 at x.tokens) y.tokens)
 
--- a line that is skipped tells none
+-- a skipped line is no piece
 pub skipped_tells_none : (line : List ℕ) (p : Piece) → IsSkipped line → IsPiece line p → ⊥
 skipped_tells_none line p skipped told = elim skipped [
   | is_empty none ↦ let no : [] ≡ sign p.direction ∷ 32 ∷ (told.digits ++ told.count) = sym none ∙ told.whole in cc no
@@ -141,12 +141,12 @@ skipped_tells_none line p skipped told = elim skipped [
   not_a_sign ToServer e = omega arith
   not_a_sign ToClient e = omega arith
 
--- what holds of an option that is no `Some`
+-- a fact about `None`
 pub at_none : {X P : Type 0} (Q : X → Type 0) (o : Option X) → ((x : X) → o ≡ Some x → ⊥) → MatchOption o P Q → P
 at_none Q None never h = h
 at_none Q (Some x) never h = absurd (never x refl)
 
--- what holds anyway holds of an error that is passed on
+-- a fact that holds anyway, stated of an error that is passed on
 pub on_err : {X E P : Type 0} (r : Result X E) → P → OnErr r P
 on_err (Ok x) holds = tt
 on_err (Err e) holds = holds

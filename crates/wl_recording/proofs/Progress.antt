@@ -40,7 +40,7 @@ pub told_line : (text rest after : List ℕ) (number : ℕ) (line : List ℕ) (p
 told_line text rest after number line pieces piece p first shorter told =
     one_more text rest after number line pieces (piece ∷ []) p first shorter (tells told ends)
 
--- the line is bad
+-- the next line is bad
 pub bad_line : (text rest after : List ℕ) (number : ℕ) (line : List ℕ) (pieces : List Piece)
     → IsReadUpTo text rest number pieces → lines rest ≡ line ∷ lines after
     → (IsSkipped line → ⊥) → ((piece : Piece) → IsPiece line piece → ⊥) → IsFirstBad text (number + 1)
@@ -57,13 +57,13 @@ bad_line text rest after number line pieces p first not_skipped not_piece = reco
   ];
 }
 
--- nothing is left
+-- no line remains
 pub all_read : (text rest : List ℕ) (number : ℕ) (pieces : List Piece) → IsReadUpTo text rest number pieces
     → length rest ≡ 0 → TextRecords text pieces
 all_read text [] number pieces p none = rw (p.whole, append-nil) p.told
 all_read text (byte ∷ rest) number pieces p none = absurd (omega arith)
 
--- a line that was reached tells a piece
+-- the line just read is a piece
 pub reached_piece : (text rest : List ℕ) (number : ℕ) (line : List ℕ) (pieces : List Piece) (piece : Piece)
     → IsReached text rest number line pieces → IsPiece line piece
     → IsReadUpTo text rest number (pieces ++ piece ∷ [])
@@ -71,7 +71,7 @@ reached_piece text rest number line pieces piece r told =
     subst (λ (n : ℕ). IsReadUpTo text rest n (pieces ++ piece ∷ [])) (sym r.next)
     (told_line text r.front rest r.before line pieces piece r.read r.first r.shorter told)
 
--- or it is bad
+-- the line just read is bad
 pub reached_bad : (text rest : List ℕ) (number : ℕ) (line : List ℕ) (pieces : List Piece)
     → IsReached text rest number line pieces → ((piece : Piece) → IsPiece line piece → ⊥)
     → IsFirstBad text number

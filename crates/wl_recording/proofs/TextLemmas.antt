@@ -1,4 +1,4 @@
--- A text tells one list of pieces, or has one first bad line.
+-- A text is one list of pieces, or has one first bad line.
 use Rattle.std.proofs.Common.{◌≡◌, ℕ, ◌<◌, ◌≤◌, List, [], ◌∷◌, ◌++◌, length, get_or, refl, sym, ap}
 use Rattle.std.proofs.Common.{◌∙◌, inl, inr, ◌⊎◌, arith, subst}
 use Rattle.std.specs.Prelude.{Result, Ok, Err, IfOk, IfErr, IsErrAnd}
@@ -15,14 +15,14 @@ use Rattle.wl_recording.specs.Line.{SpellsBytes, no_bytes, some_bytes, SpellsTok
 use Rattle.wl_recording.specs.Text.{LinesTell, ends, skips, tells, TextRecords, IsGood, IsFirstBad}
 use Rattle.wl_recording.proofs.PieceLemmas.{one_piece, skipped_tells_none}
 
--- the pieces of lines, one after another
+-- the pieces of two runs of lines
 pub tell_append : {front back : List (List ℕ)} {first rest : List Piece} → LinesTell front first → LinesTell back rest
     → LinesTell (front ++ back) (first ++ rest)
 tell_append ends later = later
 tell_append (skips skipped more) later = skips skipped (tell_append more later)
 tell_append (tells told more) later = tells told (tell_append more later)
 
--- lines tell one list of pieces at most
+-- lines are at most one list of pieces
 pub tell_once : {all : List (List ℕ)} {pieces others : List Piece} → LinesTell all pieces → LinesTell all others
     → pieces ≡ others
 tell_once ends ends = refl
@@ -32,7 +32,7 @@ tell_once (tells told more) (skips skipped' more') = absurd (skipped_tells_none 
 tell_once (tells told more) (tells told' more') =
     rw (one_piece _ _ _ told told', tell_once more more') refl
 
--- none of them is bad
+-- such lines contain no bad one
 pub tell_good : {all : List (List ℕ)} {pieces : List Piece} → LinesTell all pieces → All IsGood all
 tell_good ends = All-nil IsGood
 tell_good (skips skipped more) = All-cons IsGood _ _ (inl skipped) (tell_good more)
@@ -50,7 +50,7 @@ tokens_small count tokens spelled = elim spelled [
   | some_tokens digits is least most all value low high ↦ high
 ]
 
--- and a line can tell each of them
+-- each of their pieces can be a line
 pub tell_tellable : {all : List (List ℕ)} {pieces : List Piece} → LinesTell all pieces → All IsTellable pieces
 tell_tellable ends = All-nil IsTellable
 tell_tellable (skips skipped more) = tell_tellable more
@@ -58,7 +58,7 @@ tell_tellable (tells told more) =
     All-cons IsTellable _ _ (record { bytes = bytes_small _ _ told.bytes; tokens = tokens_small _ _ told.tokens })
     (tell_tellable more)
 
--- a text that tells pieces has no bad line
+-- a text of pieces has no bad line
 pub told_not_bad : (text : List ℕ) (pieces : List Piece) (n : ℕ) → TextRecords text pieces → IsFirstBad text n → ⊥
 told_not_bad text pieces n told bad =
     let good : All IsGood (bad.before ++ bad.line ∷ bad.after) = rw bad.whole at (tell_good told) in
@@ -66,7 +66,7 @@ told_not_bad text pieces n told bad =
     (omega (arith, length-append bad.before (bad.line ∷ bad.after))) good in
     bad.bad (rw (get_or_at bad.before bad.line bad.after [] (length bad.before) refl) at here)
 
--- a place before the first bad line has a good one
+-- the lines before the first bad one are good
 earlier : (text : List ℕ) (n m : ℕ) (x : IsFirstBad text n) (y : IsFirstBad text m) → length x.before < length y.before
     → ⊥
 earlier text n m x y lt =
@@ -77,7 +77,7 @@ earlier text n m x y lt =
     rw y.whole (get_or_append_left y.before (y.line ∷ y.after) [] (length x.before) lt) in
     x.bad (rw (sym at_y ∙ at_x) at good)
 
--- a text has one first bad line at most
+-- a text has at most one first bad line
 pub one_first_bad : (text : List ℕ) (n m : ℕ) → IsFirstBad text n → IsFirstBad text m → n ≡ m
 one_first_bad text n m x y =
     elim (cases_lt (length x.before) (length y.before)) [
@@ -88,7 +88,7 @@ one_first_bad text n m x y =
       ]
     ]
 
--- why a text is refused, or out of memory
+-- why a text is refused: its first bad line, or out of memory
 abbrev pub IsRefused : List ℕ → RecordingError → Type 0
 IsRefused text e = (e ≡ Memory) ⊎ ((n : ℕ) × (e ≡ BadLine n) × IsFirstBad text n)
 

@@ -1,4 +1,4 @@
--- What is written is told.
+-- What is written is read back.
 use Rattle.std.proofs.Common.{◌≡◌, ◌≢◌, ℕ, zero, suc, ◌+◌, ◌-◌, ◌^◌, ◌<◌, ◌≤◌, ◌==◌, true, false}
 use Rattle.std.proofs.Common.{List, [], ◌∷◌, ◌++◌, length, get_or, take, refl, sym, append_assoc}
 use Rattle.std.proofs.Common.{arith}
@@ -22,7 +22,7 @@ use Rattle.wl_recording.specs.Line.{no_tokens, some_tokens, bytes_text, tokens_t
 use Rattle.wl_recording.specs.Text.{ends, tells, TextRecords, recording_text}
 use Rattle.wl_text.proofs.Cuts.{lines_ended}
 
--- a byte that is no line feed and no carriage return
+-- a byte other than the control characters, such as line feed and carriage return
 abbrev pub IsInk : ℕ → Type 0
 IsInk byte = 32 ≤ byte
 
@@ -45,7 +45,7 @@ bytes_ink (byte ∷ more) small =
     All-weaker (λ c. is_hex_digit c ≡ true) IsInk hex_ink (encode_lower (byte ∷ more))
     (decode_of-ok (encode_lower (byte ∷ more)) (byte ∷ more) (decode_of-encode_lower (byte ∷ more) small)).1
 
--- the count of tokens, by whether there are any
+-- the text of a number of tokens: none, or some
 tokens_cases : (P : List ℕ → Type 0) (tokens : ℕ) → (tokens ≡ 0 → P [])
     → (1 ≤ tokens → P (codes " +" ++ decimal tokens)) → P (tokens_text tokens)
 tokens_cases P zero none some = none refl
@@ -92,7 +92,7 @@ strip_ink line some ink =
     let other : (get_or line (length line - 1) 0 == 13) ≡ false = ne_eqb _ _ (omega (arith, last)) in
     rw other refl
 
--- the text of pieces tells them
+-- the text of pieces records them
 pub text_told : (pieces : List Piece) → All IsTellable pieces → TextRecords (recording_text pieces) pieces
 text_told [] fit = ends
 text_told (piece ∷ pieces) fit =
@@ -112,14 +112,14 @@ text_of_push (first ∷ pieces) piece =
     let more = text_of_push pieces piece in
     rw more (sym (append_assoc (line_of first) (10 ∷ recording_text pieces) (line_of piece ++ 10 ∷ [])))
 
--- the same for a loop over what is kept
+-- the same inside a loop over kept pieces
 pub text_more : {A : Type 0} (seen : A → Piece) (all : List A) (i : ℕ) (x : A) → i < length all → x ≡ get_or all i x
     → recording_text (map seen (take (i + 1) all)) ≡ recording_text (map seen (take i all))
     ++ (line_of (seen x) ++ 10 ∷ [])
 text_more seen all i x lt is =
     rw (map_more seen all i x lt, ← is) (text_of_push (map seen (take i all)) (seen x))
 
--- a piece of bytes that are told apart from where they lie
+-- a piece whose bytes are known as a list
 pub tellable_with : (direction : Direction) (bytes same : List ℕ) (tokens : ℕ) → bytes ≡ same → IsBytes same
     → tokens ≤ 65535
     → IsTellable (record { direction = direction; bytes = bytes; tokens = tokens })

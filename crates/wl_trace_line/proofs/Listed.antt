@@ -1,4 +1,4 @@
--- Texts that are printed one after another, with a comma and a space between each two.
+-- Texts printed in a list, with a comma and a space between them.
 use Rattle.std.proofs.Common.{◌≡◌, ℕ, zero, suc, List, [], ◌∷◌, ◌++◌, ◌+◌, ◌<◌, ◌≤◌, length, get_or}
 use Rattle.std.proofs.Common.{drop, codes, refl, ap, ◌∙◌, sym, append_assoc, append-nil, add-one, drop-cons}
 use Rattle.std.proofs.Common.{arith, cond, true, false, Option}
@@ -14,7 +14,7 @@ use Rattle.wl_trace_line.specs.Argument.{argument_text, placed_text}
 use Rattle.wl_trace_line.specs.Line.{told_interface, taken_with, trace_texts}
 use Rattle.wl_trace_line.specs.Report.{wire_argument, descriptor_number, report_texts}
 
--- what is printed for texts that follow n others
+-- what is printed for texts that come after n others
 abbrev pub listed_behind : ℕ → List (List ℕ) → List ℕ
 listed_behind zero texts = comma_separated texts
 listed_behind (suc n) texts = flat_map (λ text. codes ", " ++ text) texts
@@ -28,7 +28,7 @@ nothing_behind : (n : ℕ) → listed_behind n [] ≡ []
 nothing_behind zero = refl
 nothing_behind (suc n) = refl
 
--- From one state to the next some texts are printed; of the whole, these are left to print.
+-- Some texts were printed between two states; these are the remaining ones.
 abbrev pub Printed : {S : Type 0} → (S → List ℕ → S → Type 0) → S → S → ℕ → List (List ℕ) → List ℕ
     → Type 0
 Printed takes s t n texts whole =
@@ -36,13 +36,13 @@ Printed takes s t n texts whole =
 
 module _ {S : Type 0} (takes : S → List ℕ → S → Type 0) (s t : S) (n : ℕ) (texts : List (List ℕ)) (whole : List ℕ)
     (printed : Printed takes s t n texts whole) where
-  -- nothing is left to print
+  -- no text remains
   pub printed_all : texts ≡ [] → takes s whole t
   printed_all e =
       let all : whole ≡ printed.0 = sym printed.2 ∙ rw (e, nothing_behind n) (append-nil printed.0) in
       rw all printed.1
 
-  -- one text more is printed
+  -- one more text is printed
   pub printed_more : ((s t u : S) (a b : List ℕ) → takes s a t → takes t b u → takes s (a ++ b) u) → (u : S)
       (text : List ℕ) (more : List (List ℕ)) → texts ≡ text ∷ more → takes t (placed_text n text) u
       → Printed takes s u (n + 1) more whole
@@ -80,12 +80,12 @@ module _ (tables : List Interface) (n : ℕ) (ks : List Kind) (k : Kind) where
     pub report_without_values : n < length ks → left ≡ [] → report_texts tables (drop n ks) left ≡ []
     report_without_values p e = rw (drop-cons ks n k p, e) refl
 
--- an argument takes one token at most
+-- an argument takes at most one token
 pub taken_after-le : (taken : ℕ) (value : Argument) → taken_with taken value ≤ taken + 1
 taken_after-le taken value = elim (is_descriptor value) as
     (λ b. cond b (taken + 1) taken ≤ taken + 1) [ true ↦ omega arith | false ↦ omega arith ]
 
--- of what is printed at a place
+-- the first text is printed without a comma
 pub placed_first : (n : ℕ) (text : List ℕ) → n ≡ 0 → placed_text n text ≡ text
 placed_first zero text e = refl
 placed_first (suc n) text e = absurd (omega (arith, e))

@@ -1,4 +1,4 @@
--- What was printed, where the last call did not fail.
+-- What was printed, if the last call did not fail.
 use Rattle.std.proofs.Common.{Result, Ok, Err, OnOk}
 
 pub after : {T E P Q : Type 0} (r : Result T E) → (P → Q) → OnOk r P → OnOk r Q

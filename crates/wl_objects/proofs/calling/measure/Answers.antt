@@ -23,7 +23,7 @@ returns-then-kinds-args-clause-answer g c signature =
     refused-wrong c.args.limit (length c.args.kinds.now) _ _ _ signature
     (sym c.kinds.invariant.right ∙ more ∙ ap Some end)
 
--- where a number is given for one: its length alone counts
+-- for a number argument only the length counts
 pub kinds-preserved-in-Some : goal.kinds-preserved-in-Some
 kinds-preserved-in-Some g c =
     let i = c.kinds.place in

@@ -6,7 +6,7 @@ use Rattle.wl_objects.specs.Carried.{InRange}
 use Rattle.wl_objects.specs.Writing.{given, wrong_place, lost_place, on_wire, message_len, tokens_of, call_makes}
 use Rattle.wl_objects.proofs.calling.measure.Given as goal
 
--- what was found in the arguments before, with what is left of them, is what there is in all
+-- the findings so far, with those for the remaining arguments, are the findings for all
 abbrev pub invariant-kinds : goal.invariant-kinds
 invariant-kinds g l = record {
   before : l.place ≤ length l.args;

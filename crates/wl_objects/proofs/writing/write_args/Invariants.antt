@@ -2,7 +2,7 @@ use Rattle.std.proofs.Common.{◌≡◌, ◌≤◌, ◌+◌, ◌++◌, drop, tak
 use Rattle.wl_objects.specs.Writing.{on_wire, message_len, spelled, EachFits}
 use Rattle.wl_objects.proofs.writing.write_args.Given as goal
 
--- what is written so far, and what the arguments that are left spell
+-- the bytes written so far, and the spelling of the remaining arguments
 abbrev pub invariant-arguments : goal.invariant-arguments
 invariant-arguments l = record {
   within : l.at ≤ length l.out;

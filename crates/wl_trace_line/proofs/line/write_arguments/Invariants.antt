@@ -4,7 +4,7 @@ use Rattle.wl_trace_line.specs.Line.{trace_texts}
 use Rattle.wl_trace_line.proofs.Listed.{Printed}
 use Rattle.wl_trace_line.proofs.line.write_arguments.Given as goal
 
--- what is printed, and what is left to print; each argument takes one token at most
+-- the texts printed so far, and the remaining ones; each argument takes at most one token
 abbrev pub invariant-kinds : goal.invariant-kinds
 invariant-kinds g l = let held = (g.L.Lookup.reader l.lookup).object in record {
   printed : Printed g.S.Sink.takes l.initial.out l.out l.place

@@ -11,7 +11,7 @@ use Rattle.wl_trace_line.proofs.memory.write_decimals.Goals as goal
 short : (n : ℕ) (digits : List ℕ) → n < 10 ^ 8 → digits ≡ decimal n → length digits ≤ 8
 short n digits small is = rw is (length-decimal-le 8 n (omega arith) small (omega (arith, small)))
 
--- the zeros that are taken, and the digits
+-- the leading zeros, and the digits
 padded : (n : ℕ) (digits : List ℕ) → digits ≡ decimal n
     → take (8 - length digits) (drop (length digits) (replicate 8 48)) ++ digits ≡ decimal_to 8 n
 padded n digits is =

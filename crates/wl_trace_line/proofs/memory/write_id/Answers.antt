@@ -7,7 +7,7 @@ use Rattle.std.proofs.lemmas.List.{get_or-take, get_or-replicate, length-drop}
 use Rattle.std.proofs.lemmas.Grind.{common_steps}
 use Rattle.wl_trace_line.proofs.memory.write_id.Goals as goal
 
--- the sign is what precedes the digits
+-- the sign precedes the digits
 signed : (text digits : List ℕ) (start : ℕ) → 1 ≤ start → start + length digits ≡ 11 → 0 < length digits
     → drop start text ≡ digits ++ drop 11 (replicate 11 64) → take start text ≡ take start (replicate 11 64)
     → take (11 - (start - 1)) (drop (start - 1) text) ≡ 64 ∷ digits

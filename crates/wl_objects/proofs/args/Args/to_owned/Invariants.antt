@@ -3,7 +3,7 @@ use Rattle.wl_objects.specs.Seen.{got_values}
 use Rattle.wl_objects.specs.Parsed.{seen_args}
 use Rattle.wl_objects.proofs.args.Args.to_owned.Given as goal
 
--- what was copied, and what is left to copy
+-- the arguments copied so far, and those still to copy
 abbrev pub invariant-left : goal.invariant-left
 invariant-left g l = got_values l.items.items ++ seen_args l.left ≡ seen_args l.self
 

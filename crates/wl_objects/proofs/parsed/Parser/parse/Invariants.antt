@@ -3,7 +3,7 @@ use Rattle.wl_objects.specs.Reading.{arguments_at, forgiving}
 use Rattle.wl_objects.specs.Parsed.{all_parsed, behind_those, made_of}
 use Rattle.wl_objects.proofs.parsed.Parser.parse.Given as goal
 
--- what was parsed stands in the array, and what is left decides
+-- the array holds what was parsed so far, and the remaining arguments decide the result
 abbrev pub invariant-kinds : goal.invariant-kinds
 invariant-kinds g l =
     (behind_those (all_parsed l.self.body.now (g.L.Lookup.reader l.self.lookup.now).birth (take l.place l.items))

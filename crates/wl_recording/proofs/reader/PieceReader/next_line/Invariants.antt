@@ -3,7 +3,7 @@ use Rattle.wl_recording.specs.Piece.{Piece}
 use Rattle.wl_recording.specs.Text.{IsReadUpTo}
 use Rattle.wl_recording.proofs.reader.PieceReader.next_line.Given as goal
 
--- the lines so far are skipped, so they tell what was told before them
+-- the lines read by this call so far are skipped
 abbrev pub invariant-lines : goal.invariant-lines
 invariant-lines l = record {
   read : (text : List ℕ) (pieces : List Piece) → IsReadUpTo text l.initial.self.rest.now l.initial.self.number pieces

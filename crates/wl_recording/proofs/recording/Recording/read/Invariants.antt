@@ -4,7 +4,7 @@ use Rattle.wl_recording.specs.Piece.{recorded_piece}
 use Rattle.wl_recording.specs.Text.{IsReadUpTo}
 use Rattle.wl_recording.proofs.recording.Recording.read.Given as goal
 
--- the pieces so far are those of the lines so far
+-- the pieces so far are those of the lines read so far
 abbrev pub invariant-pieces : goal.invariant-pieces
 invariant-pieces g l = IsReadUpTo l.text l.reader.rest.now l.reader.number (map recorded_piece l.pieces.items)
 
